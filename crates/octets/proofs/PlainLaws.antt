@@ -1,0 +1,68 @@
+-- The laws of plain octets. Assumes nothing.
+use mathlib.Core.Path.{_≡_, refl, sym, ap, _∙_}
+use mathlib.Core.Bool.{Bool, true, false, not, _&&_, _||_, and-true, and-false, and-assoc, or-true}
+use mathlib.Core.List.{List, [], _∷_}
+use Prim.Native.Nat.{ℕ, zero, suc, _+_, _<_, _≤_}
+use native.Mathlib.Numerals.{add-one}
+use native.Mathlib.Omega.{arith}
+use lib.Dec.{eqb, ltb, leb}
+use lib.Bits.{bitOr, bitAnd, or-zero-r, or-add-and, and-le-l}
+use lib.ListN.{length, getD, drop, drop-of-length-le}
+use lib.Seq.{drop-cons}
+use borrow.Author.Tests.{ne-eqb, eqb-true, ltb-false, le-leb}
+use Rattle.octets.specs.Classes.{bit, within, valued}
+use Rattle.octets.specs.Scan.{after, scan}
+use Rattle.octets.proofs.Chars.{ascii}
+use Rattle.octets.specs.Characters.{odd, allPlain, allowed, unit, firstBad}
+
+-- a mark is kept once it is set
+or-mark : (a : ℕ) (t : Bool) → eqb (bitOr a (bit t 1)) 0 ≡ (eqb a 0 && not t)
+or-mark a true = ne-eqb (bitOr a 1) 0 (λ e. omega (arith, or-add-and a 1, and-le-l a 1)) ∙ sym (and-false (eqb a 0))
+or-mark a false = ap (λ (n : ℕ). eqb n 0) (or-zero-r a) ∙ sym (and-true (eqb a 0))
+
+module _ (s : List ℕ) (i : ℕ) where
+  plain-at : i < length s → allPlain (drop i s) ≡ (not (odd (getD s i 0)) && allPlain (drop (i + 1) s))
+  unfolding allPlain
+  plain-at h = rw (add-one, drop-cons s i 0)
+
+  pub plain-step : i < length s → (a x : ℕ) → x ≡ bit (odd (getD s i 0)) 1
+      → (eqb a 0 && allPlain (drop i s)) ≡ (eqb (bitOr a x) 0 && allPlain (drop (i + 1) s))
+  plain-step h a x e =
+      ap (λ (t : Bool). eqb a 0 && t) (plain-at h)
+      ∙ sym (and-assoc (eqb a 0) (not (odd (getD s i 0))) (allPlain (drop (i + 1) s)))
+      ∙ ap (λ (t : Bool). t && allPlain (drop (i + 1) s)) (sym (or-mark a (odd (getD s i 0))) ∙ ap (λ (n : ℕ). eqb (bitOr a n) 0) (sym e))
+
+  pub plain-end : length s ≤ i → (a : ℕ) → (eqb a 0 && allPlain (drop i s)) ≡ eqb a 0
+  unfolding allPlain
+  plain-end h a = rw (drop-of-length-le s h, and-true)
+
+-- plain text has no octet that is not allowed
+plain-octet : (x : ℕ) → odd x ≡ false → (x < 127) × (valued x ≡ true)
+unfolding odd valued
+plain-octet x e = by (ltb 126 x) (ltb x 32) (eqb x 9) refl refl refl e
+  where
+    by : (a b n : Bool) → ltb 126 x ≡ a → ltb x 32 ≡ b → eqb x 9 ≡ n → (a || (b && not n)) ≡ false
+        → (x < 127) × ((eqb x 9 || (within 32 126 x || leb 128 x)) ≡ true)
+    by true b n p q r z = let w : _≡_ {A = ℕ} 0 1 = cc in absurd (omega arith)
+    by false true true p q r z = (omega (arith, eqb-true x 9 r), simp r)
+    by false true false p q r z = let w : _≡_ {A = ℕ} 0 1 = cc in absurd (omega arith)
+    by false false n p q r z =
+        let h = ltb-false 126 x p in
+        let g = ltb-false x 32 q in
+        (omega arith, simp (le-leb 32 x g, le-leb x 126 h, or-true))
+
+plain-unit : (lf : Bool) (x : ℕ) (xs : List ℕ) → odd x ≡ false → unit (allowed lf) (x ∷ xs) ≡ 1
+unfolding unit allowed
+plain-unit lf x xs e =
+    let o = plain-octet x e in
+    simp (o .1) (ascii (x ∷ xs) 0 (omega arith) (omega arith))
+
+pub plain-all : (lf : Bool) (s : List ℕ) → allPlain s ≡ true → firstBad (allowed lf) s ≡ length s
+unfolding allPlain firstBad scan
+plain-all lf [] e = refl
+plain-all lf (x ∷ xs) e = by (odd x) refl e (plain-all lf xs)
+  where
+    by : (o : Bool) → odd x ≡ o → (not o && allPlain xs) ≡ true
+        → (allPlain xs ≡ true → scan (unit (allowed lf)) xs 0 ≡ length xs) → scan (unit (allowed lf)) (x ∷ xs) 0 ≡ suc (length xs)
+    by true o z f = let w : _≡_ {A = ℕ} 0 1 = cc in absurd (omega arith)
+    by false o z f = ap (λ (n : ℕ). after n (scan (unit (allowed lf)) xs)) (plain-unit lf x xs o) ∙ ap suc (f z)

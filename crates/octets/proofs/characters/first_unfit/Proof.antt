@@ -1,0 +1,65 @@
+-- `octets::characters::first_unfit` meets its contract. Assumes nothing.
+use borrow.Author.Needs.{needs}
+use mathlib.Core.Path.{_≡_, sym, _∙_}
+use Prim.Native.Nat.{_≤_, _+_, _-_}
+use native.Mathlib.Nat.{zero-add}
+use native.Mathlib.Omega.{arith}
+use lib.ListN.{length, drop}
+use Rattle.octets.specs.Characters.{allowed, firstBad}
+use Rattle.octets.proofs.Chars.{bad-stop, bad-step, bad-end, unit-inside}
+use Rattle.octets.proofs.characters.first_unfit.Statement.{statement}
+use Rattle.octets.proofs.characters.first_unfit.Tie as tie
+
+abbrev Inv-loop : tie.InvT-loop
+Inv-loop t s lf i₀ i = (i ≤ length s) × (firstBad (allowed lf) s ≡ i + firstBad (allowed lf) (drop i s))
+
+abbrev μ-loop : tie.MeasureT-loop
+μ-loop t s lf i₀ i = length s - i
+
+loop-holds : tie.Need-loop-holds Inv-loop μ-loop
+loop-holds c = (search needs, sym (zero-add _))
+
+unit-length-requires : tie.Need-unit-length-requires Inv-loop μ-loop
+unit-length-requires c κs = search needs
+
+returns : tie.Need-returns Inv-loop μ-loop
+returns c =
+    let l = c .before .before .before in
+    let s = l .before .before .args .s .now in
+    sym (l .loop .inv .1 ∙ bad-stop (allowed (l .before .before .args .lf)) s (l .loop .i) (sym (c .before .unit-length .ensures) ∙ c .if1 .taken))
+
+add-i : tie.Need-add-i Inv-loop μ-loop
+add-i c =
+    let l = c .before .before .before in
+    omega (arith, unit-inside (allowed (l .before .before .args .lf)) (l .before .before .args .s .now) (l .loop .i) (c .before .unit-length .result) (c .before .unit-length .ensures) (l .loop .inv .0))
+
+loop-less : tie.Need-loop-less Inv-loop μ-loop
+loop-less c =
+    let l = c .before .before .before in
+    omega arith
+
+loop-again : tie.Need-loop-again Inv-loop μ-loop
+loop-again c =
+    let l = c .before .before .before in
+    let s = l .before .before .args .s .now in
+    let e = c .before .unit-length .ensures in
+    (unit-inside (allowed (l .before .before .args .lf)) s (l .loop .i) (c .before .unit-length .result) e (l .loop .inv .0), l .loop .inv .1 ∙ bad-step (allowed (l .before .before .args .lf)) s (l .loop .i) (c .before .unit-length .result) e (c .if1 .left) (l .loop .inv .0))
+
+returns-2 : tie.Need-returns-2 Inv-loop μ-loop
+returns-2 c =
+    let l = c .before in
+    sym (l .loop .inv .1 ∙ bad-end (allowed (l .before .before .args .lf)) (l .before .before .args .s .now) (l .loop .i) (c .loop-test .left))
+
+pub first-unfit-spec : {M : Type 1} → statement M
+first-unfit-spec =
+    tie.close
+    (tie.spec
+    Inv-loop
+    μ-loop
+    loop-holds
+    unit-length-requires
+    returns
+    add-i
+    loop-less
+    loop-again
+    returns-2)

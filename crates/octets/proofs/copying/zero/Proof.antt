@@ -1,0 +1,56 @@
+-- `octets::copying::zero` meets its contract. Assumes nothing.
+use denote.Ref.{now}
+use Prim.Native.Nat.{_-_, _≤_}
+use mathlib.Core.Path.{_≡_, refl}
+use mathlib.Core.List.{_++_}
+use native.Mathlib.Omega.{arith}
+use lib.ListN.{length, take, drop, replicate, length-set}
+use borrow.Author.Needs.{needs}
+use Rattle.octets.proofs.Copies.{zero-step, zero-done}
+use Rattle.octets.proofs.copying.zero.Statement.{statement}
+use Rattle.octets.proofs.copying.zero.Tie as tie
+
+abbrev Inv-loop : tie.InvT-loop
+Inv-loop dst₀ i₀ dst i = (i ≤ length dst₀) × (length dst ≡ length dst₀) × (dst ≡ take i (replicate (length dst₀) 0) ++ drop i dst₀)
+
+abbrev μ-loop : tie.MeasureT-loop
+μ-loop dst₀ i₀ dst i = length dst₀ - i
+
+loop-holds : tie.Need-loop-holds Inv-loop μ-loop
+loop-holds c = (search needs, refl, refl)
+
+slice-write-dst : tie.Need-slice-write-dst Inv-loop μ-loop
+slice-write-dst c = omega arith
+
+add-i : tie.Need-add-i Inv-loop μ-loop
+add-i c = omega arith
+
+loop-less : tie.Need-loop-less Inv-loop μ-loop
+loop-less c = omega arith
+
+loop-again : tie.Need-loop-again Inv-loop μ-loop
+loop-again c = let a = c .before .before .args in
+    let l = c .before .loop in
+    (search needs, simp length-set (l .inv .1), zero-step (now (a .dst)) (l .dst) (l .i) (omega arith) (l .inv .2))
+
+same-length : tie.Need-same-length Inv-loop μ-loop
+same-length c = c .before .loop .inv .1
+
+returns : tie.Need-returns Inv-loop μ-loop
+returns c = let a = c .before .before .args in
+    let l = c .before .loop in
+    zero-done (now (a .dst)) (l .dst) (l .i) (omega arith) (omega arith) (l .inv .2)
+
+pub zero-spec : {M : Type 1} → statement M
+zero-spec =
+    tie.close
+    (tie.spec
+    Inv-loop
+    μ-loop
+    loop-holds
+    slice-write-dst
+    add-i
+    loop-less
+    loop-again
+    same-length
+    returns)

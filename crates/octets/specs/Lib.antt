@@ -1,0 +1,6 @@
+pub mod Pick
+pub mod Scan
+pub mod Room
+pub mod Classes
+pub mod Characters
+pub mod Rfc3629
