@@ -4,5 +4,6 @@ pub mod Masks
 pub mod Scans
 pub mod Chars
 pub mod PlainLaws
+pub mod CaseLaws
 pub mod Copies
 pub mod Writes

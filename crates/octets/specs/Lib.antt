@@ -2,5 +2,6 @@ pub mod Pick
 pub mod Scan
 pub mod Room
 pub mod Classes
+pub mod Cases
 pub mod Characters
 pub mod Rfc3629

@@ -1,0 +1,4 @@
+pub mod FoldLaws
+pub mod HopLaws
+pub mod QuickLaws
+pub mod LineLaws

@@ -1,0 +1,36 @@
+-- Folds, by document 01: CR LF followed by one space or tab. The logical line at the start of a list, and a list without its folds.
+-- Assumes nothing.
+use Prim.Native.Nat.{ℕ}
+use mathlib.Core.Bool.{Bool, not, _&&_, _||_}
+use mathlib.Core.List.{List, [], _∷_}
+use lib.Dec.{eqb}
+use lib.ListN.{getD}
+use Rattle.octets.specs.Pick.{pick}
+use Rattle.octets.specs.Scan.{scan, gather}
+
+-- a fold starts here
+unfoldable pub foldAt : List ℕ → Bool
+foldAt l = eqb (getD l 0 0) 13 && (eqb (getD l 1 0) 10 && (eqb (getD l 2 0) 32 || eqb (getD l 2 0) 9))
+
+-- a fold is passed whole, a CR of no fold ends the line
+unfoldable pub lineStep : List ℕ → ℕ
+lineStep l = pick (foldAt l) 3 (pick (eqb (getD l 0 0) 13) 0 1)
+
+-- the length of the first logical line, with its folds and without its end
+unfoldable pub lineLength : List ℕ → ℕ
+lineLength l = scan lineStep l 0
+
+-- how many octets a step of unfolding passes
+unfoldable pub passed : List ℕ → ℕ
+passed l = pick (foldAt l) 3 1
+
+-- what it keeps of them
+unfoldable pub kept : List ℕ → List ℕ
+kept l = pick (foldAt l) [] (getD l 0 0 ∷ [])
+
+-- the list without its folds; each CR LF is looked at once
+unfoldable pub unfolded : List ℕ → List ℕ
+unfolded l = gather passed kept l 0
+
+unfoldable pub notCr : ℕ → Bool
+notCr b = not (eqb b 13)

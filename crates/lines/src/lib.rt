@@ -1,0 +1,3 @@
+// Logical lines: folds, unfolding, and the line rule.
+pub mod folds;
+pub mod hops;
