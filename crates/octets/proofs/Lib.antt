@@ -6,4 +6,5 @@ pub mod Chars
 pub mod PlainLaws
 pub mod CaseLaws
 pub mod Copies
+pub mod RoomLaws
 pub mod Writes
