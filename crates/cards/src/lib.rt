@@ -1,0 +1,2 @@
+// Cards: the state within a card, the parts of a line with its row and kind, and the judgement of one line.
+pub mod state;
