@@ -6,3 +6,4 @@ pub mod ParseLaws
 pub mod PartLaws
 pub mod Steps
 pub mod FirstSteps
+pub mod Inside

@@ -2,12 +2,12 @@
 use mathlib.Core.Path.{_≡_, refl, sym, ap, _∙_}
 use mathlib.Core.Bool.{Bool, true, false}
 use mathlib.Core.List.{List, [], _∷_}
-use Prim.Native.Nat.{ℕ, zero, suc, _+_, _-_, _<_}
+use Prim.Native.Nat.{ℕ, zero, suc, _+_, _-_, _<_, _≤_}
 use native.Mathlib.Nat.{not-suc-le-zero}
 use native.Mathlib.Numerals.{sub-one}
 use native.Mathlib.Omega.{arith}
 use lib.Dec.{eqb}
-use lib.ListN.{drop}
+use lib.ListN.{length, drop}
 use lib.Seq.{drop-drop, drop-nil}
 use Rattle.octets.specs.Pick.{pick}
 use Rattle.lines.specs.Parse.{Parse, got, bad, next, guard, hd, many}
@@ -84,3 +84,17 @@ module _ {A : Type 0} (c : ℕ) (p : List ℕ → Parse A) (ok : ℕ → Bool) (
       (λ t q. guard-inv (ok (hd l)) _ _ q (λ t₁ q₁.
       let ek : k ≡ 0 = cc in
       rw ek t₁))
+
+  -- each part takes an octet at least
+  pub many-count : (n : ℕ) (l : List ℕ) (xs : List A) (k : ℕ) → many c p ok e n l ≡ got xs k → length xs ≤ k
+  unfolding many
+  many-count zero l xs k h = absurd (bad-got h)
+  many-count (suc n) l xs k h =
+      pick-inv (eqb (hd l) c) _ _ h
+      (λ t q. next-inv (p (drop 1 l)) _ q (λ a i p₁ q₁. next-inv (many c p ok e n (drop i (drop 1 l))) _ q₁ (λ ys j p₂ q₂.
+      let ea : xs ≡ a ∷ ys = cc in
+      let ek : k ≡ suc (i + j) = cc in
+      rw (ea, ek) (omega (arith, many-count n (drop i (drop 1 l)) ys j p₂)))))
+      (λ t q. guard-inv (ok (hd l)) _ _ q (λ t₁ q₁.
+      let ea : xs ≡ [] = cc in
+      rw ea (omega arith)))

@@ -7,13 +7,13 @@ use Prim.Native.Nat.{ℕ, suc, _+_, _<_, _≤_}
 use native.Mathlib.Omega.{arith}
 use lib.Dec.{eqb, ltb}
 use lib.ListN.{length, take, drop, length-append}
-use lib.Seq.{length-take-le}
+use lib.Seq.{drop-drop, length-take-le}
 use borrow.Author.Tests.{eqb-true, ltb-true}
 use Rattle.octets.specs.Classes.{run, more, named}
-use Rattle.lines.specs.Parse.{Parse, got, hd}
+use Rattle.lines.specs.Parse.{got, hd}
 use Rattle.lines.specs.Grammar.{Value, Param, groupText}
-use Rattle.lines.specs.Rule.{word, value, Values, orEnd, isColon, moreValues, values, param, params, Head, head}
-use Rattle.lines.proofs.ParseLaws.{guard-inv, pick-inv, next-inv, many-stop}
+use Rattle.lines.specs.Rule.{word, value, Values, ends, orEnd, isColon, moreValues, values, param, params, Head, head}
+use Rattle.lines.proofs.ParseLaws.{guard-inv, pick-inv, next-inv, drop-suc, many-stop}
 
 more-le : (b : Bool) (m n : ℕ) → m ≤ n → more b m ≤ suc n
 more-le true m n h = omega arith
@@ -59,6 +59,21 @@ param-parts l p k h f =
     let ea : a ≡ p .name = ap (λ (x : Param). x .name) (sym ep) in
     let ef : v ≡ p .first = ap (λ (x : Values). x .first) (sym ev) ∙ ap (λ (x : Param). x .first) (sym ep) in
     f n i (p₁ ∙ ap (λ (x : List ℕ). got x n) ea) (eqb-true _ 61 t) (p₃ ∙ ap (λ (x : Value). got x i) ef))))))
+
+-- after a parameter a `;` or a `:` stands
+pub param-stop : (l : List ℕ) (p : Param) (k : ℕ) → param l ≡ got p k → ends (hd (drop k l)) ≡ true
+unfolding param values moreValues
+param-stop l p k h =
+    next-inv (word 41 l) _ h (λ a n p₁ q₁. guard-inv (eqb (hd (drop n l)) 61) _ _ q₁ (λ t q₂.
+    let r : List ℕ = drop 1 (drop n l) in
+    next-inv (values r) _ q₂ (λ vs j p₂ q.
+    next-inv (value r) _ p₂ (λ v i p₃ q₃.
+    next-inv (moreValues (suc (length (drop i r))) (drop i r)) _ q₃ (λ ws m p₄ q₄.
+    let ej : j ≡ i + m = cc in
+    let ek : k ≡ n + suc j = cc in
+    let there : drop m (drop i r) ≡ drop k l =
+    drop-drop m i r ∙ ap (λ (x : ℕ). drop x r) (sym ej) ∙ drop-suc j (drop n l) ∙ drop-drop (suc j) n l ∙ ap (λ (x : ℕ). drop x l) (sym ek) in
+    rw (sym there) (many-stop 44 value ends (orEnd 42 43) _ (drop i r) ws m p₄))))))
 
 pub group-dot : (a b : List ℕ) → 0 < length a → groupText a ++ b ≡ a ++ 46 ∷ b
 unfolding groupText

@@ -1,8 +1,8 @@
 -- The readings at a place of a line, by what the code tests there. Assumes nothing.
 use mathlib.Core.Path.{_≡_, refl, sym, ap, _∙_, subst}
-use mathlib.Core.Bool.{Bool, true, false, _||_}
-use mathlib.Core.List.{List, [], _∷_, _++_}
-use Prim.Native.Nat.{ℕ, zero, suc, _+_, _-_, _<_, _≤_}
+use mathlib.Core.Bool.{Bool, true, false}
+use mathlib.Core.List.{List, [], _∷_}
+use Prim.Native.Nat.{ℕ, suc, _+_, _-_, _<_, _≤_}
 use native.Mathlib.Nat.{add-zero}
 use native.Mathlib.Omega.{arith}
 use lib.Dec.{eqb, ltb}
@@ -13,8 +13,8 @@ use Rattle.octets.specs.Classes.{run, has, named, quoted, bare}
 use Rattle.octets.proofs.Runs.{run-has}
 use Rattle.octets.proofs.Masks.{has-named, has-bare, has-quoted}
 use Rattle.lines.specs.Parse.{Parse, got, bad, next, guard, hd, many}
-use Rattle.lines.specs.Grammar.{Value, plain, inQuotes, Param, Line, groupText, nameEnd}
-use Rattle.lines.specs.Rule.{word, closing, value, Values, ends, orEnd, isColon, moreValues, values, param, params, Head, head, parseLine}
+use Rattle.lines.specs.Grammar.{Value, inQuotes, Param, nameEnd}
+use Rattle.lines.specs.Rule.{word, closing, value, ends, orEnd, isColon, moreValues, values, param, params, Head, head, parseLine}
 use Rattle.lines.specs.Places.{place, listed, headed, outcome}
 use Rattle.lines.specs.declared.rule.Part.{Part}
 use Rattle.lines.specs.declared.rule.Part.the-variants.{Upto, Named, Listed, Parsed, Fault}

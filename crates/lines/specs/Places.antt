@@ -1,7 +1,9 @@
 -- What the code answers of a reading: places and counts in the line, or the fault. Assumes nothing.
 use Prim.Native.Nat.{ℕ, _+_}
 use mathlib.Core.List.{List}
+use lib.Dec.{eqb}
 use lib.ListN.{length}
+use Rattle.octets.specs.Pick.{pick}
 use Rattle.lines.specs.Parse.{Parse, got, bad}
 use Rattle.lines.specs.Grammar.{Line, nameEnd}
 use Rattle.lines.specs.Rule.{Head}
@@ -27,3 +29,7 @@ headed (bad e) = Fault e
 abbrev pub outcome : Parse Line → Part
 outcome (got x k) = Parsed (length (x .group)) (nameEnd x) (length (x .params)) k
 outcome (bad e) = Fault e
+
+-- where the name starts: after the group and its dot, where there is a group
+abbrev pub nameStart : ℕ → ℕ
+nameStart g = pick (eqb g 0) 0 (g + 1)

@@ -3,9 +3,9 @@ use Rattle.lines.proofs.Steps.{place-upto, place-fault, past}
 use Rattle.lines.proofs.FirstSteps.{first-none, first-bad, name-end, first-hit, first-on}
 use Rattle.lines.specs.First.{firstOf}
 use Rattle.lines.specs.Rule.{param}
-use lib.ListN.{length, drop, getD, length-drop}
+use lib.ListN.{length, drop, length-drop}
 use native.Mathlib.Omega.{arith}
-use Prim.Native.Nat.{ℕ, suc, _+_, _-_, _<_, _≤_}
+use Prim.Native.Nat.{ℕ, suc, _+_, _-_, _<_}
 use mathlib.Core.Path.{_≡_, sym, ap, _∙_, refl}
 use borrow.Author.Needs.{needs}
 use Rattle.lines.proofs.rule.param_first.Statement.{statement}

@@ -3,10 +3,10 @@ use Rattle.lines.proofs.Steps.{place-upto, hand-up, past, head-bad, hea
 use Rattle.lines.specs.declared.rule.Part.the-variants.{Named}
 use Rattle.lines.specs.Rule.{word}
 use Rattle.lines.specs.Parse.{got}
-use lib.ListN.{length, drop, getD, length-drop}
+use lib.ListN.{drop}
 use native.Mathlib.Omega.{arith}
-use Prim.Native.Nat.{ℕ, suc, _+_, _-_, _<_, _≤_}
-use mathlib.Core.Path.{_≡_, sym, ap, _∙_, refl}
+use Prim.Native.Nat.{_+_}
+use mathlib.Core.Path.{_≡_, sym, ap, _∙_}
 use borrow.Author.Needs.{needs}
 use Rattle.lines.proofs.rule.read_head.Statement.{statement}
 use Rattle.lines.proofs.rule.read_head.Tie as tie

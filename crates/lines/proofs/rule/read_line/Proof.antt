@@ -1,11 +1,9 @@
 -- `lines::rule::read_line` meets its contract. Assumes nothing.
 use Rattle.lines.proofs.Steps.{headed-named, headed-up, listed-list, listed-up, colon-inside, line-bad, line-bad-params, line-answer}
-use Rattle.lines.specs.declared.rule.Part.the-variants.{Parsed}
 use Rattle.lines.specs.Rule.{head, params}
-use lib.ListN.{length, drop, getD, length-drop}
+use lib.ListN.{length, drop}
 use native.Mathlib.Omega.{arith}
-use Prim.Native.Nat.{ℕ, suc, _+_, _-_, _<_, _≤_}
-use mathlib.Core.Path.{_≡_, sym, ap, _∙_, refl}
+use Prim.Native.Nat.{suc}
 use borrow.Author.Needs.{needs}
 use Rattle.lines.proofs.rule.read_line.Statement.{statement}
 use Rattle.lines.proofs.rule.read_line.Tie as tie

@@ -2,10 +2,10 @@
 use Rattle.lines.proofs.Steps.{place-upto, hand-up, past, param-bad, param-none, param-values}
 use Rattle.lines.specs.Places.{place}
 use Rattle.lines.specs.Rule.{word, values}
-use lib.ListN.{length, drop, getD, length-drop}
+use lib.ListN.{drop, getD}
 use native.Mathlib.Omega.{arith}
-use Prim.Native.Nat.{ℕ, suc, _+_, _-_, _<_, _≤_}
-use mathlib.Core.Path.{_≡_, sym, ap, _∙_, refl}
+use Prim.Native.Nat.{ℕ, _+_}
+use mathlib.Core.Path.{sym, ap, _∙_}
 use borrow.Author.Needs.{needs}
 use Rattle.lines.proofs.rule.read_param.Statement.{statement}
 use Rattle.lines.proofs.rule.read_param.Tie as tie

@@ -2,7 +2,7 @@
 use Rattle.lines.proofs.Steps.{place-upto, hand-up, params-bad, params-on, params-colon, params-else, params-end}
 use Rattle.lines.specs.Places.{listed}
 use Rattle.lines.specs.Rule.{param, params}
-use lib.ListN.{length, drop, getD, length-drop}
+use lib.ListN.{length, drop, length-drop}
 use native.Mathlib.Omega.{arith}
 use Prim.Native.Nat.{ℕ, suc, _+_, _-_, _<_, _≤_}
 use mathlib.Core.Path.{_≡_, sym, ap, _∙_, refl}

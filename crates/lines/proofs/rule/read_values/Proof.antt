@@ -4,7 +4,7 @@ use Rattle.lines.specs.Places.{place}
 use Rattle.lines.specs.Rule.{value, values, moreValues}
 use lib.ListN.{length, drop, length-drop}
 use native.Mathlib.Omega.{arith}
-use Prim.Native.Nat.{ℕ, suc, _+_, _-_, _<_, _≤_}
+use Prim.Native.Nat.{ℕ, suc, _+_, _-_, _<_}
 use mathlib.Core.Path.{_≡_, sym, ap, _∙_}
 use borrow.Author.Needs.{needs}
 use Rattle.lines.proofs.rule.read_values.Statement.{statement}

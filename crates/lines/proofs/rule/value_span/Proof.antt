@@ -1,9 +1,6 @@
 -- `lines::rule::value_span` meets its contract. Assumes nothing.
 use Rattle.lines.proofs.FirstSteps.{spanned-none, spanned-bare, spanned-quoted}
-use lib.ListN.{length, drop, getD, length-drop}
-use native.Mathlib.Omega.{arith}
-use Prim.Native.Nat.{ℕ, suc, _+_, _-_, _<_, _≤_}
-use mathlib.Core.Path.{_≡_, sym, ap, _∙_, refl}
+use mathlib.Core.Path.{sym}
 use borrow.Author.Needs.{needs}
 use Rattle.lines.proofs.rule.value_span.Statement.{statement}
 use Rattle.lines.proofs.rule.value_span.Tie as tie
