@@ -1,11 +1,9 @@
 -- The parts of a content line, as the card layer and the records need them. Assumes nothing.
-use Prim.Native.Nat.{ℕ, _+_}
+use Prim.Native.Nat.{ℕ}
 use mathlib.Core.Path.{_≡_}
-use mathlib.Core.List.{List, []}
+use mathlib.Core.List.{List}
 use mathlib.Core.Option.{Option, none, some}
-use lib.Dec.{eqb}
 use lib.ListN.{length}
-use Rattle.octets.specs.Pick.{pick}
 use Rattle.lines.specs.Parse.{Parse, got, bad}
 use Rattle.lines.specs.Grammar.{Value, Param, Line, nameEnd}
 use Rattle.lines.specs.Rule.{parseLine}
@@ -16,10 +14,6 @@ use Rattle.properties.specs.Rows.{rowOf, lineKind, valueName}
 use Rattle.cards.specs.declared.parts.Parts.{Parts}
 use Rattle.cards.specs.declared.parts.Told.{Told}
 use Rattle.cards.specs.declared.parts.Told.the-variants.{Line as line, Fault as fault}
-
--- where the name starts: past a group and its dot
-unfoldable pub nameStart : ℕ → ℕ
-nameStart group = pick (eqb group 0) 0 (group + 1)
 
 -- the first value of the first VALUE parameter, quotes taken off
 abbrev pub octetsOf : Option Value → Option (List ℕ)

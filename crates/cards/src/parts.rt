@@ -3,11 +3,9 @@ ghost use mathlib.Core.Path.{_≡_};
 ghost use Prim.Native.Nat.{_≤_, _<_};
 ghost use lib.ListN.{length};
 ghost use Rattle.octets.specs.Classes.{Classes};
-ghost use Rattle.lines.specs.Parse.{got};
-ghost use Rattle.lines.specs.Rule.{parseLine};
-ghost use Rattle.lines.specs.Grammar.{nameEnd};
 ghost use Rattle.properties.specs.Rows.{Lists, lineKind};
-ghost use Rattle.cards.specs.Parts.{nameStart, faultOf, Accepted, firstValue, toldOf};
+ghost use Rattle.lines.specs.Places.{nameStart};
+ghost use Rattle.cards.specs.Parts.{faultOf, Accepted, firstValue, toldOf};
 
 use lines::rule::{First, Part};
 
