@@ -16,7 +16,7 @@ use Rattle.lines.specs.Rule.{word, closing, value, Values, ends, orEnd, isColon
 use Rattle.lines.proofs.ParseLaws.{pick-no}
 use Rattle.lines.proofs.PartLaws.{group-dot}
 use Rattle.language.specs.Faults.{Full}
-use Rattle.language.proofs.Pieces.{many-complete}
+use Rattle.language.proofs.Pieces.{valuesText, many-complete}
 
 pub run-append : (p : ℕ → Bool) (xs r : List ℕ) → Each (Is p) xs → p (hd r) ≡ false → run p (xs ++ r) ≡ length xs
 unfolding run Each
@@ -96,9 +96,6 @@ ended-full (inQuotes xs) r s = tt
 
 pub value-complete : (v : Value) (r : List ℕ) → GoodValue v → AfterValue (hd r) → value (valueText v ++ r) ≡ got v (length (valueText v))
 value-complete v r w s = value-whole v r w (ended-full v r s)
-
-abbrev valuesText : Values → List ℕ
-valuesText vs = valueText (vs .first) ++ led 44 valueText (vs .more)
 
 start-led : (xs : List Value) (r : List ℕ) → AfterParam (hd r) → AfterValue (hd (led 44 valueText xs ++ r))
 unfolding led

@@ -16,7 +16,7 @@ use Rattle.lines.specs.Rule.{word, closing, value, ends, isColon, orEnd, moreVa
 use Rattle.lines.proofs.ParseLaws.{bad-got, guard-inv, guard-yes, pick-inv, next-inv, many-end, drop-suc}
 use Rattle.lines.proofs.PartLaws.{run-le, word-taken, param-stop}
 use Rattle.language.specs.Faults.{Full, ValuesFault, ParamsFault, LineFault}
-use Rattle.language.proofs.Pieces.{hd-cons}
+use Rattle.language.proofs.Pieces.{hd-cons, part-then}
 use Rattle.language.proofs.Sound.{run-each, word-sound, value-sound, param-sound, head-sound}
 
 module _ {A C : Type 0} where
@@ -143,7 +143,7 @@ param-fault l e h =
     (λ t q. subst (λ (m : ℕ). ParamsFault m l) q (rw (one .1) (ParamsFault.no-equals a (drop n l) (one .0) (word-stop 41 l a n p₁) t)))
     (λ t q. next-fault (values (drop 1 (drop n l))) _ q
     (λ b.
-    let line : l ≡ a ++ 61 ∷ drop 1 (drop n l) = one .1 ∙ ap (λ (s : List ℕ). a ++ s) (hd-cons 61 (drop n l) (omega arith) (eqb-true _ 61 t)) in
+    let line = part-then 61 l a n (omega arith) (one .1) t in
     rw line (ParamsFault.in-values e a (drop 1 (drop n l)) (one .0) (values-fault (drop 1 (drop n l)) e b)))
     (λ vs k p₂ q₂. no-fault q₂)))
 
@@ -168,7 +168,7 @@ params-fault (suc n) l e lt semi h =
     let lt′ : length (drop i (drop 1 l)) < n = rw (length-drop, length-drop) (omega (arith, ap length start)) in
     pick-inv (eqb (hd r) 59) true false refl
     (λ t₁ z.
-    let line : drop 1 l ≡ paramText p ++ 59 ∷ drop 1 r = one .1 ∙ ap (λ (s : List ℕ). paramText p ++ s) (hd-cons 59 r (omega arith) (eqb-true (hd r) 59 t₁)) in
+    let line = part-then 59 (drop 1 l) (paramText p) i (omega arith) (one .1) t₁ in
     rw line (ParamsFault.later e p (drop 1 r) (one .0) (params-fault n r e lt′ t₁ b)))
     (λ t₁ z.
     let full : many 59 param isColon (orEnd 40 43) n r ≡ got [] 0 =
@@ -190,7 +190,7 @@ head-fault l e h =
     (λ t q. next-fault (word 40 (drop 1 (drop n l))) _ q
     (λ b.
     let w = word-fault 40 (drop 1 (drop n l)) e b in
-    let line : l ≡ a ++ 46 ∷ drop 1 (drop n l) = one .1 ∙ ap (λ (s : List ℕ). a ++ s) (hd-cons 46 (drop n l) (omega arith) (eqb-true _ 46 t)) in
+    let line = part-then 46 l a n (omega arith) (one .1) t in
     subst (λ (m : ℕ). LineFault m l) (w .0) (rw line (LineFault.no-name-after-group a (drop 1 (drop n l)) (one .0) (w .1))))
     (λ b m p₂ q₂. no-fault q₂))
     (λ t q. no-fault q))
@@ -225,7 +225,7 @@ line-fault l e h =
     next-fault (params (suc (length r)) r) _ q₁
     (λ b. pick-inv (eqb (hd r) 59) true false refl
     (λ t z.
-    let line : l ≡ a ++ 59 ∷ drop 1 r = one .2 ∙ ap (λ (s : List ℕ). a ++ s) (hd-cons 59 r (omega arith) (eqb-true (hd r) 59 t)) in
+    let line = part-then 59 l a n (omega arith) (one .2) t in
     rw line (LineFault.in-params e (y .group) (y .name) (drop 1 r) (one .0) (one .1) (params-fault (suc (length r)) r e (omega arith) t b)))
     (λ t z. guard-fault (isColon (hd r)) (orEnd 40 43 r) (got [] 0) (sym (many-end 59 param isColon (orEnd 40 43) (suc (length r)) r (omega arith) t) ∙ b)
     (λ t₁ q.

@@ -10,7 +10,8 @@ use lib.ListN.{length, drop, length-append}
 use lib.Seq.{drop-drop, drop-append-seam}
 use borrow.Author.Tests.{eq-eqb, eqb-true}
 use Rattle.lines.specs.Parse.{Parse, got, hd, many}
-use Rattle.lines.specs.Grammar.{Each, led}
+use Rattle.lines.specs.Grammar.{Each, led, valueText}
+use Rattle.lines.specs.Rule.{Values}
 use Rattle.lines.proofs.ParseLaws.{bad-got, guard-inv, pick-inv, next-inv, pick-yes, pick-no, guard-yes, next-got, drop-suc}
 
 -- a list that is a part and its rest, where the rest is another part and its rest
@@ -27,6 +28,14 @@ hd-cons c (x ∷ xs) pos h = ap (λ (y : ℕ). y ∷ xs) h
 pub lead : (c : ℕ) (l b : List ℕ) (j : ℕ) → 0 < c → eqb (hd l) c ≡ true → drop 1 l ≡ b ++ drop j (drop 1 l) → l ≡ (c ∷ b) ++ drop (suc j) l
 lead c l b j pos h q =
     hd-cons c l pos (eqb-true (hd l) c h) ∙ ap (λ (r : List ℕ). c ∷ r) (q ∙ ap (λ (r : List ℕ). b ++ r) (drop-suc j l))
+
+-- a part, an octet after it, and the rest
+pub part-then : (c : ℕ) (l a : List ℕ) (n : ℕ) → 0 < c → l ≡ a ++ drop n l → eqb (hd (drop n l)) c ≡ true → l ≡ a ++ c ∷ drop 1 (drop n l)
+part-then c l a n pos p t = p ∙ ap (λ (s : List ℕ). a ++ s) (hd-cons c (drop n l) pos (eqb-true (hd (drop n l)) c t))
+
+-- the values of a parameter as they are written
+abbrev pub valuesText : Values → List ℕ
+valuesText vs = valueText (vs .first) ++ led 44 valueText (vs .more)
 
 module _ {A : Type 0} (c : ℕ) (p : List ℕ → Parse A) (ok : ℕ → Bool) (e : List ℕ → ℕ) (o : A → List ℕ) (W : A → Type 0) where
   -- what is accepted is good parts, written each after the octet c

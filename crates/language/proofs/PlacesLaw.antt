@@ -16,7 +16,7 @@ use Rattle.lines.specs.Places.{outcome, nameStart}
 use Rattle.lines.specs.declared.rule.Part.the-variants.{Parsed}
 use Rattle.lines.proofs.ParseLaws.{next-inv}
 use Rattle.lines.proofs.PartLaws.{word-taken, group-dot}
-use Rattle.language.specs.Placed.{Placed}
+use Rattle.language.specs.Placed.{Placed, Starts}
 use Rattle.language.proofs.Sound.{line-sound}
 use Rattle.language.proofs.Complete.{line-complete}
 
@@ -72,13 +72,6 @@ places-law l g n c v = (there (parseLine l) refl, λ h. back (h .0) (h .1) (h .2
     back x w e p =
         let u = ap outcome (ap parseLine e ∙ line-complete x w) in
         cc
-
--- an accepted line starts with a letter, a digit or a hyphen: it is not empty, and no space or tab stands first
-pub record Starts (l : List ℕ) : Type 0 where
-  pub named-first : named (hd l) ≡ true
-  pub some : 0 < length l
-  pub no-space : hd l ≡ 32 → ⊥
-  pub no-tab : hd l ≡ 9 → ⊥
 
 first-octet : (l : List ℕ) → 0 < run named l → named (hd l) ≡ true
 unfolding run

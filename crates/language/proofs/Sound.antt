@@ -15,7 +15,7 @@ use Rattle.lines.specs.Grammar.{led, valueText, paramText, groupText, front, re
 use Rattle.lines.specs.Rule.{word, closing, value, Values, ends, orEnd, isColon, moreValues, values, param, params, Head, head, parseLine}
 use Rattle.lines.proofs.ParseLaws.{guard-inv, pick-inv, next-inv}
 use Rattle.lines.proofs.PartLaws.{word-taken, group-dot, params-stop}
-use Rattle.language.proofs.Pieces.{chain, lead, many-sound}
+use Rattle.language.proofs.Pieces.{chain, lead, valuesText, many-sound}
 
 front-more : (p : ℕ → Bool) (x : ℕ) (xs : List ℕ) (b : Bool) → p x ≡ b → Each (Is p) (take (run p xs) xs)
     → Each (Is p) (take (more b (run p xs)) (x ∷ xs))
@@ -55,9 +55,6 @@ value-sound l v k h =
     let ea : v ≡ plain (take (run bare l) l) = cc in
     let ek : k ≡ run bare l = cc in
     rw (ea, ek) (run-each bare l, sym (take-append-drop (run bare l) l)))
-
-abbrev valuesText : Values → List ℕ
-valuesText vs = valueText (vs .first) ++ led 44 valueText (vs .more)
 
 pub values-sound : (l : List ℕ) (vs : Values) (k : ℕ) → values l ≡ got vs k
     → GoodValue (vs .first) × Each GoodValue (vs .more) × (l ≡ valuesText vs ++ drop k l)
