@@ -24,6 +24,17 @@ use Rattle.lines.proofs.rule.Part.{the-type}
 use Rattle.lines.proofs.PartLaws.{word-taken, head-count, params-stop}
 use Rattle.lines.proofs.ParseLaws.{next-got, next-bad, pick-yes, pick-no, guard-yes, guard-no, many-end, many-bad, many-on}
 
+-- an answer of none of the variants ks, where ks are all but the one that an accepted reading has, is a fault
+module _ {A : Type 0} (f : Parse A → Part) (ks : List ℕ) (other : (a : A) (k : ℕ) → OneOf ks (tagOf the-type (f (got a k))) → ⊥) where
+  only-fault : {C : Type 0} (m : Parse A) {r : Part} → r ≡ f m → OneOf ks (tagOf the-type r) → ((x : ℕ) → m ≡ bad x → C) → C
+  only-fault (bad x) h k g = g x refl
+  only-fault (got a n) h k g = absurd (other a n (subst (λ (t : Part). OneOf ks (tagOf the-type t)) h k))
+
+  -- and is handed up unchanged
+  fault-up : ((x : ℕ) → f (bad x) ≡ Fault x) → (m : Parse A) {r g : Part} → r ≡ f m → OneOf ks (tagOf the-type r)
+      → ((x : ℕ) → m ≡ bad x → g ≡ Fault x) → r ≡ g
+  fault-up fb m h k g = only-fault m h k (λ x q. h ∙ ap f q ∙ fb x ∙ sym (g x q))
+
 -- what the code learns of a reading whose answer it takes apart
 module _ {A : Type 0} where
   pub place-upto : {C : Type 0} (at : ℕ) (m : Parse A) {r : Part} {e : ℕ} → r ≡ place at m → r ≡ Upto e
@@ -33,16 +44,11 @@ module _ {A : Type 0} where
 
   pub place-fault : {C : Type 0} (at : ℕ) (m : Parse A) {r : Part} → r ≡ place at m → OneOf (1 ∷ 2 ∷ 3 ∷ 4 ∷ []) (tagOf the-type r)
       → ((x : ℕ) → m ≡ bad x → C) → C
-  place-fault at (bad x) h k f = f x refl
-  place-fault at (got a n) h k f =
-      absurd (miss (1 ∷ 2 ∷ 3 ∷ 4 ∷ []) 0 tt (subst (λ (t : Part). OneOf (1 ∷ 2 ∷ 3 ∷ 4 ∷ []) (tagOf the-type t)) h k))
+  place-fault at = only-fault (place at) (1 ∷ 2 ∷ 3 ∷ 4 ∷ []) (λ a k. miss (1 ∷ 2 ∷ 3 ∷ 4 ∷ []) 0 tt)
 
-  -- an answer that is no end is a fault, handed up unchanged
   pub hand-up : (at : ℕ) (m : Parse A) {r g : Part} → r ≡ place at m → OneOf (1 ∷ 2 ∷ 3 ∷ 4 ∷ []) (tagOf the-type r)
       → ((x : ℕ) → m ≡ bad x → g ≡ Fault x) → r ≡ g
-  hand-up at (bad x) h k f = h ∙ sym (f x refl)
-  hand-up at (got a n) h k f =
-      absurd (miss (1 ∷ 2 ∷ 3 ∷ 4 ∷ []) 0 tt (subst (λ (t : Part). OneOf (1 ∷ 2 ∷ 3 ∷ 4 ∷ []) (tagOf the-type t)) h k))
+  hand-up at = fault-up (place at) (1 ∷ 2 ∷ 3 ∷ 4 ∷ []) (λ a k. miss (1 ∷ 2 ∷ 3 ∷ 4 ∷ []) 0 tt) (λ x. refl)
 
   pub place-shift : {B : Type 0} (m : Parse A) (at b : ℕ) (f : A → B) (h : ℕ → ℕ) → ((j : ℕ) → at + h j ≡ b + j)
       → place at (next m (λ a j. got (f a) (h j))) ≡ place b m
@@ -280,9 +286,7 @@ headed-named (bad x) p q f = let z : _≡_ {A = ℕ} 0 1 = cc in absurd (omega a
 
 pub headed-up : (m : Parse Head) {r g : Part} → r ≡ headed m → OneOf (0 ∷ 2 ∷ 3 ∷ 4 ∷ []) (tagOf the-type r)
     → ((x : ℕ) → m ≡ bad x → g ≡ Fault x) → r ≡ g
-headed-up (bad x) h k f = h ∙ sym (f x refl)
-headed-up (got a n) h k f =
-    absurd (miss (0 ∷ 2 ∷ 3 ∷ 4 ∷ []) 1 tt (subst (λ (t : Part). OneOf (0 ∷ 2 ∷ 3 ∷ 4 ∷ []) (tagOf the-type t)) h k))
+headed-up = fault-up headed (0 ∷ 2 ∷ 3 ∷ 4 ∷ []) (λ a k. miss (0 ∷ 2 ∷ 3 ∷ 4 ∷ []) 1 tt) (λ x. refl)
 
 module _ {A : Type 0} (c at : ℕ) where
   pub listed-list : {C : Type 0} (m : Parse (List A)) {r : Part} {d e : ℕ} → r ≡ listed c at m → r ≡ Listed d e
@@ -292,9 +296,7 @@ module _ {A : Type 0} (c at : ℕ) where
 
   pub listed-up : (m : Parse (List A)) {r g : Part} → r ≡ listed c at m → OneOf (0 ∷ 1 ∷ 3 ∷ 4 ∷ []) (tagOf the-type r)
       → ((x : ℕ) → m ≡ bad x → g ≡ Fault x) → r ≡ g
-  listed-up (bad x) h k f = h ∙ sym (f x refl)
-  listed-up (got a n) h k f =
-      absurd (miss (0 ∷ 1 ∷ 3 ∷ 4 ∷ []) 2 tt (subst (λ (t : Part). OneOf (0 ∷ 1 ∷ 3 ∷ 4 ∷ []) (tagOf the-type t)) h k))
+  listed-up = fault-up (listed c at) (0 ∷ 1 ∷ 3 ∷ 4 ∷ []) (λ a k. miss (0 ∷ 1 ∷ 3 ∷ 4 ∷ []) 2 tt) (λ x. refl)
 
 not-over : (a b : ℕ) (t : Bool) → ltb b a ≡ t → (a ≤ b → ⊥) → b < a
 not-over a b true e f = ltb-true b a e

@@ -153,7 +153,8 @@ fn read_head(t: &[u8; 256], s: &[u8]) -> Part
     if s[n] != 46 {
         return Part::Named(0, n);
     }
-    let second = read_word(t, s, n + 1, 40);
+    let start = n + 1;
+    let second = read_word(t, s, start, 40);
     let Part::Upto(e) = second else {
         return second;
     };
@@ -186,11 +187,11 @@ fn value_span(t: &[u8; 256], s: &[u8], at: usize) -> First
         return First::Between(at, at);
     }
     if s[at] != 34 {
-        let e = octets::classes::span(t, s, at, 8);
-        return First::Between(at, e);
+        let end = octets::classes::span(t, s, at, 8);
+        return First::Between(at, end);
     }
-    let e = octets::classes::span(t, s, at + 1, 16);
-    First::Between(at + 1, e)
+    let end = octets::classes::span(t, s, at + 1, 16);
+    First::Between(at + 1, end)
 }
 
 // The first value of the first parameter of that name, without case, from the end of the line's name on.

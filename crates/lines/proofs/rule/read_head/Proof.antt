@@ -43,8 +43,8 @@ returns-3 c =
     let e : k ≡ n = omega arith in
     sym (head-plain s w n (q ∙ ap (got w) e) other))
 
-add-read-word : tie.Need-add-read-word
-add-read-word c = search needs
+add-start : tie.Need-add-start
+add-start c = search needs
 
 read-word-requires-2 : tie.Need-read-word-requires-2
 read-word-requires-2 c κs = search needs
@@ -85,7 +85,7 @@ read-head-spec =
     returns-2
     shared-slice-read-if2
     returns-3
-    add-read-word
+    add-start
     read-word-requires-2
     enum-known-second
     returns-4
