@@ -9,9 +9,10 @@ ghost use Rattle.properties.specs.Rows.{Lists};
 ghost use Rattle.properties.specs.States.{Scanner};
 ghost use Rattle.cards.specs.State.{inOrder};
 ghost use Rattle.cards.specs.Judge.{framing, laden, entered, judgeParts, judgeLine};
-
-use crate::parts::{Parts, Told};
-use crate::state::{Card, Step};
+use crate::parts::Parts;
+use crate::parts::Told;
+use crate::state::Card;
+use crate::state::Step;
 use properties::values::Fault;
 
 // Whether a line of the row may stand here.
@@ -89,7 +90,14 @@ fn judge_parts(steps: &[u8; 1016], x: Parts, value: &[u8], at: usize, c: Card) -
 }
 
 // Judges the line s, which starts at `at` in the input.
-pub fn judge_line(t: &[u8; 256], rows: &[u8; 624], steps: &[u8; 1016], s: &[u8], at: usize, c: Card) -> Step
+pub fn judge_line(
+    t: &[u8; 256],
+    rows: &[u8; 624],
+    steps: &[u8; 1016],
+    s: &[u8],
+    at: usize,
+    c: Card,
+) -> Step
     requires { ⌜ Classes (now t) ⌝ }
     requires { ⌜ Lists (now rows) ⌝ }
     requires { ⌜ Scanner (now steps) ⌝ }

@@ -6,8 +6,8 @@ ghost use Rattle.octets.specs.Classes.{Classes};
 ghost use Rattle.properties.specs.Rows.{Lists, lineKind};
 ghost use Rattle.lines.specs.Places.{nameStart};
 ghost use Rattle.cards.specs.Parts.{faultOf, Accepted, firstValue, toldOf};
-
-use lines::rule::{First, Part};
+use lines::rule::First;
+use lines::rule::Part;
 
 pub struct Parts {
     // The property's number, 0 for a name that is not listed.

@@ -16,7 +16,7 @@ first-bad-requires c κs = search needs
 
 returns : tie.Need-returns
 unfolding judgeLine
-returns c = 
+returns c =
     simp (lt-ltb (firstBad (allowed false) (c .before .before .before .args .s .now)) (length (c .before .before .before .args .s .now)) (rw (← c .before .first-bad .ensures) (c .if1 .taken)))
 
 parts-of-requires : tie.Need-parts-of-requires
@@ -30,7 +30,7 @@ enum-told c = search needs
 
 returns-2 : tie.Need-returns-2
 unfolding judgeLine
-returns-2 c = 
+returns-2 c =
     let a = c .before .before .before .before .before .before .args in
     refused (a .c) (a .at) (a .s .now) (rw (← c .before .before .before .before .first-bad .ensures) (c .before .before .before .if1 .left)) (sym (c .enum-told .given .1) ∙ c .before .before .parts-of .ensures)
 
@@ -48,12 +48,12 @@ part-judge-parts-end : tie.Need-part-judge-parts-end
 part-judge-parts-end c = search needs
 
 judge-parts-requires : tie.Need-judge-parts-requires
-judge-parts-requires c κs = 
+judge-parts-requires c κs =
     let s = c .before .before .before .before .before .before .before .before in
     (s .pre .1 .1 .0, (there (c .before) .low, s .pre .1 .1 .1 .1))
 
 returns-3 : tie.Need-returns-3
-returns-3 c = 
+returns-3 c =
     let s = c .before .before .before .before .before .before .before .before .before in
     c .judge-parts .ensures
     ∙ judged (s .args .c) (s .args .at) (s .args .s .now) (rw (← c .before .before .before .before .before .before .before .first-bad .ensures) (c .before .before .before .before .before .before .if1 .left)) _ (there (c .before .before))

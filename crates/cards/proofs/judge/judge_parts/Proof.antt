@@ -33,9 +33,10 @@ returns-3 : tie.Need-returns-3
 unfolding judgeParts
 returns-3 c =
     simp (
-    sym (c .before .before .before .before .before .before .in-order .ensures) ∙ not-false (c .before .before .before .before .before .before .in-order .result) (c .before .before .before .before .before .if1 .left),
-    sym (c .before .before .before .before .is-laden .ensures) ∙ c .before .before .before .if2 .left,
-    sym (c .before .before .judge-value .ensures) ∙ c .enum-told2 .given .1)
+      sym (c .before .before .before .before .before .before .in-order .ensures) ∙ not-false (c .before .before .before .before .before .before .in-order .result) (c .before .before .before .before .before .if1 .left),
+      sym (c .before .before .before .before .is-laden .ensures) ∙ c .before .before .before .if2 .left,
+      sym (c .before .before .judge-value .ensures) ∙ c .enum-told2 .given .1,
+    )
 
 enter-requires : tie.Need-enter-requires
 enter-requires c κs = search needs
@@ -44,9 +45,10 @@ returns-4 : tie.Need-returns-4
 unfolding judgeParts
 returns-4 c =
     simp (
-    sym (c .before .before .before .before .before .before .before .in-order .ensures) ∙ not-false (c .before .before .before .before .before .before .before .in-order .result) (c .before .before .before .before .before .before .if1 .left),
-    sym (c .before .before .before .before .before .is-laden .ensures) ∙ c .before .before .before .before .if2 .left,
-    sym (c .before .before .before .judge-value .ensures) ∙ c .before .enum-told .given .1)
+      sym (c .before .before .before .before .before .before .before .in-order .ensures) ∙ not-false (c .before .before .before .before .before .before .before .in-order .result) (c .before .before .before .before .before .before .if1 .left),
+      sym (c .before .before .before .before .before .is-laden .ensures) ∙ c .before .before .before .before .if2 .left,
+      sym (c .before .before .before .judge-value .ensures) ∙ c .before .enum-told .given .1,
+    )
     (c .enter .ensures)
 
 pub judge-parts-spec : {M : Type 1} → statement M

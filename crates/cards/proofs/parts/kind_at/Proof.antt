@@ -15,7 +15,7 @@ takes-value-requires : tie.Need-takes-value-requires
 takes-value-requires c κs = search needs
 
 returns : tie.Need-returns
-returns c = 
+returns c =
     let a = c .before .before .before .before .args in
     c .before .before .kind-of .ensures .0
     ∙ no-value (a .row) (firstValue (a .s .now)) (sym (c .before .takes-value .ensures) ∙ not-true (c .before .takes-value .result) (c .if1 .taken))
@@ -34,7 +34,7 @@ enum-told c = search needs
 
 returns-2 : tie.Need-returns-2
 unfolding octets
-returns-2 c = 
+returns-2 c =
     let a = c .before .before .before .before .before .before .before .before .args in
     c .before .before .before .before .before .before .kind-of .ensures .0
     ∙ value-none (a .row) (firstValue (a .s .now))

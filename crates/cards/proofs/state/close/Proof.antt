@@ -14,7 +14,7 @@ returns c = simp (not-true (c .before .before .args .c .named) (c .if1 .taken))
 
 returns-2 : tie.Need-returns-2
 unfolding closed
-returns-2 c = 
+returns-2 c =
     let k = c .before .before .before .before .before .args .c in
     simp (not-false (k .named) (c .before .before .before .if1 .left), c .before .before .if2 .taken, not-true (k .group) (c .if3 .taken))
 
@@ -35,7 +35,7 @@ kept c =
 
 returns-3 : tie.Need-returns-3
 unfolding closed
-returns-3 c = 
+returns-3 c =
     simp (not-false (c .before .before .before .before .before .args .c .named) (c .before .before .before .if1 .left), kept (c .before .before))
 
 pub close-spec : {M : Type 1} → statement M

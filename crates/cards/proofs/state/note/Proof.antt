@@ -54,8 +54,13 @@ unfolding noted
 returns-2 c =
     let l = c .before .before .before .before .before .before in
     simp (← l .before .once-bit .ensures, new l)
-    (cc (c .before .before .before .before .phase-after .ensures, c .before .before .before .either .ensures, c .before .before .either2 .ensures,
-    c .before .either3 .ensures, c .before .before .before .before .before .says-group .ensures))
+    (cc (
+      c .before .before .before .before .phase-after .ensures,
+      c .before .before .before .either .ensures,
+      c .before .before .either2 .ensures,
+      c .before .either3 .ensures,
+      c .before .before .before .before .before .says-group .ensures,
+    ))
 
 pub note-spec : {M : Type 1} → statement M
 note-spec =

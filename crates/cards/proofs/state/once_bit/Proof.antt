@@ -39,14 +39,15 @@ returns-8 c = rw (c .match .keys8)
 returns-9 : tie.Need-returns-9
 unfolding onceBit
 returns-9 c = simp (
-    ne-eqb (c .before .args .row) 4 (c .match .rest .0 .0 .0 .0 .0 .0 .0 .1),
-    ne-eqb (c .before .args .row) 7 (c .match .rest .0 .0 .0 .0 .0 .0 .1),
-    ne-eqb (c .before .args .row) 10 (c .match .rest .0 .0 .0 .0 .0 .1),
-    ne-eqb (c .before .args .row) 11 (c .match .rest .0 .0 .0 .0 .1),
-    ne-eqb (c .before .args .row) 12 (c .match .rest .0 .0 .0 .1),
-    ne-eqb (c .before .args .row) 28 (c .match .rest .0 .0 .1),
-    ne-eqb (c .before .args .row) 29 (c .match .rest .0 .1),
-    ne-eqb (c .before .args .row) 31 (c .match .rest .1))
+  ne-eqb (c .before .args .row) 4 (c .match .rest .0 .0 .0 .0 .0 .0 .0 .1),
+  ne-eqb (c .before .args .row) 7 (c .match .rest .0 .0 .0 .0 .0 .0 .1),
+  ne-eqb (c .before .args .row) 10 (c .match .rest .0 .0 .0 .0 .0 .1),
+  ne-eqb (c .before .args .row) 11 (c .match .rest .0 .0 .0 .0 .1),
+  ne-eqb (c .before .args .row) 12 (c .match .rest .0 .0 .0 .1),
+  ne-eqb (c .before .args .row) 28 (c .match .rest .0 .0 .1),
+  ne-eqb (c .before .args .row) 29 (c .match .rest .0 .1),
+  ne-eqb (c .before .args .row) 31 (c .match .rest .1),
+)
 
 pub once-bit-spec : {M : Type 1} → statement M
 once-bit-spec =
