@@ -172,6 +172,10 @@ line-kind-low n (some v) h = by (takesValue n)
     by true = named-low (same v (octets "text")) (same v (octets "uri"))
     by false = kind-low n h
 
+pub row-of-line : (y : Line) → rowOfLine y < 39
+unfolding rowOfLine
+row-of-line y = row-low (y .name)
+
 pub kind-of-line : (y : Line) → kindOfLine y < 9
 unfolding kindOfLine rowOfLine
 kind-of-line y = line-kind-low (rowOf (y .name)) (valueParam y) (row-low (y .name))
