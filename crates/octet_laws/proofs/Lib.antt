@@ -1,0 +1,3 @@
+pub mod Starts
+pub mod Walks
+pub mod Utf8
