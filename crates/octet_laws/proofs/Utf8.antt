@@ -1,17 +1,17 @@
 -- RFC 3629, section 4: `charLength` and `firstBad` say of every list what the grammar says. No list is left out: a number above
 -- 255 is in no range of the grammar. Assumes nothing.
-use Prim.Native.Nat.{ℕ, zero, suc, _+_, _≤_}
-use mathlib.Core.Path.{_≡_, refl, sym, ap, _∙_}
+use Prim.Native.Nat.{ℕ, zero, suc, _≤_}
+use mathlib.Core.Path.{_≡_, refl, sym, _∙_}
 use mathlib.Core.Logic.{_↔_}
 use mathlib.Core.Bool.{Bool, true, false}
-use mathlib.Core.List.{List, [], _∷_, _++_}
+use mathlib.Core.List.{List, [], _∷_}
 use native.Mathlib.Omega.{arith}
 use lib.ListN.{length, take, drop}
 use lib.Seq.{take-append-seam, take-length}
 use Rattle.octets.specs.Scan.{scan}
 use Rattle.octets.specs.Classes.{valued}
 use Rattle.octets.specs.Characters.{lengthBy, second, tail, rest, charLength, allowed, unit, firstBad}
-use Rattle.octets.specs.Rfc3629.{Character, Characters}
+use Rattle.octets.specs.Rfc3629.{Characters}
 use Rattle.octets.proofs.Chars.{bad-le}
 use Rattle.octet_laws.specs.Texts.{Begins, Text, Stops, Each}
 use Rattle.octet_laws.proofs.Starts.{char-found, char-parts}

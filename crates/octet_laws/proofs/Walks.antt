@@ -1,15 +1,14 @@
 -- A text as its longest run of allowed characters and what follows, and where `firstBad` stops. Assumes nothing.
-use Prim.Native.Nat.{ℕ, zero, suc, _+_, _≤_, _<_}
+use Prim.Native.Nat.{ℕ, zero, suc, _+_, _≤_}
 use mathlib.Core.Path.{_≡_, refl, sym, ap, _∙_, subst}
 use mathlib.Core.Bool.{Bool, true, or-true}
-use mathlib.Core.List.{List, [], _∷_, _++_, append-nil, append-assoc}
-use native.Mathlib.Nat.{zero-add, add-zero, add-assoc}
+use mathlib.Core.List.{List, [], _∷_, _++_, append-assoc}
+use native.Mathlib.Nat.{zero-add, add-zero}
 use native.Mathlib.Omega.{arith}
 use lib.Dec.{leb}
 use lib.ListN.{length, getD, take, drop, length-append, take-append-drop, List·getD-append}
 use lib.Seq.{drop-append-seam, take-at, drop-at, length-take-le}
 use borrow.Author.Tests.{leb-true, le-leb}
-use Rattle.octets.specs.Pick.{pick}
 use Rattle.octets.specs.Classes.{valued}
 use Rattle.octets.specs.Characters.{charLength, allowed, unit, firstBad}
 use Rattle.octets.specs.Rfc3629.{Character, Characters}

@@ -1,13 +1,12 @@
 -- `octets::characters::char_length` meets its contract. Assumes nothing.
 use borrow.Author.Needs.{needs}
 use mathlib.Core.Path.{_≡_, sym, _∙_}
-use mathlib.Core.Bool.{Bool, true, false}
 use mathlib.Core.List.{List}
 use Prim.Native.Nat.{ℕ, _+_, _-_}
 use native.Mathlib.Omega.{arith}
 use lib.ListN.{length, getD, drop}
 use borrow.Author.Tests.{lt-ltb, le-ltb, le-leb, lt-leb}
-use Rattle.octets.specs.Characters.{charLength, second, tail}
+use Rattle.octets.specs.Characters.{charLength}
 use Rattle.octets.proofs.Chars.{shape, char-at, is-not, is-so}
 use Rattle.octets.proofs.characters.char_length.Statement.{statement}
 use Rattle.octets.proofs.characters.char_length.Tie as tie

@@ -34,9 +34,7 @@ add-i c =
     omega (arith, unit-inside (allowed (l .before .before .args .lf)) (l .before .before .args .s .now) (l .loop .i) (c .before .unit-length .result) (c .before .unit-length .ensures) (l .loop .inv .0))
 
 loop-less : tie.Need-loop-less Inv-loop μ-loop
-loop-less c =
-    let l = c .before .before .before in
-    omega arith
+loop-less c = omega arith
 
 loop-again : tie.Need-loop-again Inv-loop μ-loop
 loop-again c =

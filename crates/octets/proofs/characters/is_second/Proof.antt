@@ -1,6 +1,6 @@
 -- `octets::characters::is_second` meets its contract. Assumes nothing.
 use borrow.Author.Needs.{needs}
-use borrow.Author.Tests.{lt-ltb, le-ltb, le-leb, lt-leb, eq-eqb, ne-eqb}
+use borrow.Author.Tests.{eq-eqb, ne-eqb}
 use Rattle.octets.specs.Characters.{second}
 use Rattle.octets.proofs.characters.is_second.Statement.{statement}
 use Rattle.octets.proofs.characters.is_second.Tie as tie

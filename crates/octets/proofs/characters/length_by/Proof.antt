@@ -1,6 +1,5 @@
 -- `octets::characters::length_by` meets its contract. Assumes nothing.
-use borrow.Author.Needs.{needs}
-use borrow.Author.Tests.{lt-ltb, le-ltb, le-leb, lt-leb, eq-eqb, ne-eqb}
+use borrow.Author.Tests.{lt-ltb, le-ltb}
 use Rattle.octets.specs.Characters.{lengthBy}
 use Rattle.octets.proofs.characters.length_by.Statement.{statement}
 use Rattle.octets.proofs.characters.length_by.Tie as tie
