@@ -13,7 +13,7 @@ use Rattle.octets.specs.Characters.{lengthBy, second, tail, rest, charLength}
 use Rattle.octets.specs.Rfc3629.{In, Character, utf8-1, utf8-2, utf8-3-e0, utf8-3-low, utf8-3-ed, utf8-3-high, utf8-4-f0, utf8-4-mid, utf8-4-f4}
 use Rattle.octet_laws.specs.Texts.{Begins, Each}
 
-pub and-both : (x y : Bool) → (x && y) ≡ true → (x ≡ true) × (y ≡ true)
+and-both : (x y : Bool) → (x && y) ≡ true → (x ≡ true) × (y ≡ true)
 and-both true y e = (refl, e)
 and-both false y e = let z : _≡_ {A = ℕ} 0 1 = cc in absurd (omega arith)
 
@@ -100,7 +100,7 @@ module _ (a : ℕ) where
     unfolding second
     second-else n = simp (ne-eqb a 0xE0 (n .0), ne-eqb a 0xED (n .1), ne-eqb a 0xF0 (n .2), ne-eqb a 0xF4 (n .3))
 
--- three and four octets whose tests pass are a character of the grammar
+-- octets whose tests pass are a character of the grammar
 by-tests-two : (a b : ℕ) → In 0xC2 0xDF a → second a b ≡ true → Character (a ∷ b ∷ [])
 by-tests-two a b h s =
     let g = in-low 0xC2 0xDF a h in

@@ -21,7 +21,7 @@ pub begins : (l c : List ℕ) → Begins l c → charLength l ≡ length c
 begins l c g = ap charLength (g .1 .1) ∙ char-length c (g .1 .0) (g .0)
 
 -- the first octet of a character is that of the text it begins
-pub first-octet : (l c : List ℕ) → Begins l c → getD l 0 0 ≡ getD c 0 0
+first-octet : (l c : List ℕ) → Begins l c → getD l 0 0 ≡ getD c 0 0
 first-octet l c g =
     ap (λ (t : List ℕ). getD t 0 0) (g .1 .1) ∙ List·getD-append c (g .1 .0) 0 0 (char-parts c (g .0) .0)
 
@@ -46,7 +46,7 @@ module _ (p : ℕ → Bool) where
       by zero e = e
       by (suc n) e = let f = unit-found l n e in absurd (s (f .0) (f .1) (f .2))
 
-  pub zero-stops : (l : List ℕ) → unit p l ≡ 0 → Stops p l
+  zero-stops : (l : List ℕ) → unit p l ≡ 0 → Stops p l
   zero-stops l e c g ok = omega (arith, unit-begins l c g ok, char-parts c (g .0) .0)
 
   pub bad-none : (l : List ℕ) → unit p l ≡ 0 → firstBad p l ≡ 0
@@ -66,12 +66,12 @@ module _ (p : ℕ → Bool) where
       omega (arith, e, text-passed l b t, length-append c l)
 
   -- the allowed characters that a text starts with, and what follows
-  pub record Split (l : List ℕ) : Type 0 where
-    pub passed : List ℕ
-    pub left : List ℕ
-    pub whole : l ≡ passed ++ left
-    pub text : Text p passed
-    pub stop : unit p left ≡ 0
+  record Split (l : List ℕ) : Type 0 where
+    passed : List ℕ
+    left : List ℕ
+    whole : l ≡ passed ++ left
+    text : Text p passed
+    stop : unit p left ≡ 0
 
   split-in : (k : ℕ) (l : List ℕ) → length l ≤ k → Split l
   split-in zero l h = record { passed = []; left = l; whole = refl; text = none; stop = omega (arith, unit-fits p l) }
@@ -93,10 +93,10 @@ module _ (p : ℕ → Bool) where
             stop = s .stop;
           }
 
-  pub split : (l : List ℕ) → Split l
+  split : (l : List ℕ) → Split l
   split l = split-in (length l) l (omega arith)
 
-  pub split-place : (l : List ℕ) (s : Split l) → firstBad p l ≡ length (s .passed)
+  split-place : (l : List ℕ) (s : Split l) → firstBad p l ≡ length (s .passed)
   split-place l s =
       ap (firstBad p) (s .whole) ∙ text-passed (s .passed) (s .left) (s .text)
       ∙ ap (λ (n : ℕ). length (s .passed) + n) (bad-none (s .left) (s .stop)) ∙ add-zero (length (s .passed))
