@@ -1,0 +1,4 @@
+pub mod Marks
+pub mod Escapes
+pub mod Outcomes
+pub mod Stands
