@@ -14,8 +14,8 @@ use borrow.Author.Tests.{ne-eqb, not-false}
 use mir.Val.{boolByte}
 use Rattle.octets.specs.Classes.{bit, run, more}
 use Rattle.octets.proofs.Runs.{run-step}
-use Rattle.text.specs.Escapes.{special}
-use Rattle.text.specs.Marks.{marked, unmarked, marks}
+use Rattle.text.specs.Escapes.{marked}
+use Rattle.text.specs.Marks.{unmarked, marks}
 
 -- tests joined as bits
 or-bytes : (x y : Bool) → bitOr (boolByte x) (boolByte y) ≡ boolByte (x || y)

@@ -6,7 +6,8 @@ use native.Mathlib.Omega.{arith}
 use lib.ListN.{length, take, drop, length-append, length-drop, length-take, drop-of-length-le}
 use lib.Seq.{take-all, drop-drop, length-take-le}
 use borrow.Rule.Slice.PartMut.{putMid}
-use Rattle.octets.proofs.Writes.{Written, room, put}
+use Rattle.octets.specs.Room.{overlay}
+use Rattle.octets.proofs.Writes.{Written, room, put, finish}
 
 -- a tail that came back with u at its start
 pub placed : (xs : List ℕ) (w : ℕ) (u ys : List ℕ) (n : ℕ) → w ≤ length xs → ys ≡ u ++ drop n (take (length xs - w) (drop w xs))
@@ -32,3 +33,9 @@ module _ (F : List ℕ → List ℕ) (s d₀ d : List ℕ) (i j e : ℕ) (end : 
   pub run-put : (d′ : List ℕ) → d′ ≡ take j d ++ take (e - i) (drop i s) ++ drop (j + length (take (e - i) (drop i s))) d
       → Written (F s) (F (drop e s)) d₀ d′ (j + (e - i))
   run-put d′ q = rw run-length at (put h (take (e - i) (drop i s)) (F (drop e s)) d′ r run-room q)
+
+-- nothing is left to write
+pub all-written : {whole rest d₀ d : List ℕ} {w : ℕ} → Written whole rest d₀ d w → rest ≡ [] → d ≡ overlay whole d₀
+all-written {whole} {rest} {d₀} {d} {w} h e =
+    let f = finish (rw e at h) in
+    f .1 ∙ ap (λ (k : ℕ). whole ++ drop k d₀) (f .0)

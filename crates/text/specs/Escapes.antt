@@ -12,13 +12,17 @@ use Rattle.octets.specs.Scan.{scan, gather}
 unfoldable pub special : ℕ → Bool
 special b = eqb b 92 || (eqb b 44 || eqb b 59)
 
+-- the octets that escaping changes: these and 0A
+unfoldable pub marked : ℕ → Bool
+marked b = special b || eqb b 10
+
 -- what follows the backslash where an octet is escaped: `n` for 0A, else the octet itself
 unfoldable pub letter : ℕ → ℕ
 letter b = pick (eqb b 10) 110 b
 
 -- what escaping writes for an octet
 unfoldable pub inEscape : ℕ → List ℕ
-inEscape b = pick (special b || eqb b 10) (92 ∷ letter b ∷ []) (b ∷ [])
+inEscape b = pick (marked b) (92 ∷ letter b ∷ []) (b ∷ [])
 
 -- a text with each octet so written
 unfoldable pub escaped : List ℕ → List ℕ

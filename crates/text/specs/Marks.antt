@@ -1,14 +1,9 @@
--- Marked octets, those that escaping changes. Assumes nothing.
+-- Marked octets, those that escaping changes: how many a text has. Assumes nothing.
 use Prim.Native.Nat.{ℕ, _+_}
-use mathlib.Core.Bool.{Bool, not, _||_}
+use mathlib.Core.Bool.{Bool, not}
 use mathlib.Core.List.{List, [], _∷_}
-use lib.Dec.{eqb}
 use Rattle.octets.specs.Classes.{bit}
-use Rattle.text.specs.Escapes.{special}
-
--- backslash, comma, semicolon or 0A
-unfoldable pub marked : ℕ → Bool
-marked b = special b || eqb b 10
+use Rattle.text.specs.Escapes.{marked}
 
 unfoldable pub unmarked : ℕ → Bool
 unmarked b = not (marked b)

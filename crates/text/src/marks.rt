@@ -6,7 +6,8 @@ ghost use Prim.Native.Nat.{ℕ, _+_, _<_, _≤_};
 ghost use lib.Dec.{eqb};
 ghost use lib.ListN.{length, take, drop, getD};
 ghost use Rattle.octets.specs.Classes.{bit, run};
-ghost use Rattle.text.specs.Marks.{marked, unmarked, marks};
+ghost use Rattle.text.specs.Escapes.{marked};
+ghost use Rattle.text.specs.Marks.{unmarked, marks};
 
 // 1 for a marked octet, 0 for any other.
 pub fn mark_bit(b: u8) -> u8

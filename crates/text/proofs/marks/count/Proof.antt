@@ -4,7 +4,8 @@ use Prim.Native.Nat.{_≤_, _+_, _-_}
 use native.Mathlib.Nat.{zero-add}
 use native.Mathlib.Omega.{arith}
 use lib.ListN.{length, drop, getD}
-use Rattle.text.specs.Marks.{marked, marks}
+use Rattle.text.specs.Escapes.{marked}
+use Rattle.text.specs.Marks.{marks}
 use Rattle.text.proofs.MarkLaws.{bit-le, count-step, count-end}
 use Rattle.text.proofs.marks.count.Statement.{statement}
 use Rattle.text.proofs.marks.count.Tie as tie

@@ -1,6 +1,5 @@
 use lib.Dec.{eqb}
-use Rattle.text.specs.Escapes.{special}
-use Rattle.text.specs.Marks.{marked}
+use Rattle.text.specs.Escapes.{special, marked}
 use Rattle.text.proofs.MarkLaws.{four-bits}
 use borrow.Author.Needs.{needs}
 use Rattle.text.proofs.marks.mark_bit.Statement.{statement}

@@ -6,7 +6,7 @@ use native.Mathlib.Omega.{arith}
 use lib.ListN.{length, getD}
 use borrow.Author.Count.{below-none, below-more}
 use borrow.Author.Tests.{not-false, eqb-true}
-use Rattle.text.specs.Marks.{marked}
+use Rattle.text.specs.Escapes.{marked}
 use Rattle.text.proofs.MarkLaws.{or-left, or-right, bit-no}
 use Rattle.text.proofs.marks.near.Statement.{statement}
 use Rattle.text.proofs.marks.near.Tie as tie
