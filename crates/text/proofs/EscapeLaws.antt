@@ -14,7 +14,7 @@ use borrow.Author.Tests.{ltb-true, ltb-false, eq-eqb, ne-eqb, not-true, not-fals
 use Rattle.octets.specs.Pick.{pick}
 use Rattle.octets.specs.Classes.{bit, run, more}
 use Rattle.octets.specs.Scan.{after, scan, gather}
-use Rattle.octets.proofs.Scans.{scan-stop, scan-step, scan-end, gather-step, gather-end}
+use Rattle.octets.proofs.Scans.{scan-le, scan-stop, scan-step, scan-end, gather-step, gather-end}
 use Rattle.text.specs.Escapes.{special, marked, letter, inEscape, escaped, code, meant, escapeAt, textStep, firstFault, passed, standing, unescaped}
 use Rattle.text.specs.Marks.{unmarked, marks}
 use Rattle.text.proofs.MarkLaws.{none-run}
@@ -261,3 +261,7 @@ pub escaped-length : (l : List ℕ) → length (escaped l) ≡ length l + marks 
 unfolding escaped marks
 escaped-length [] = refl
 escaped-length (x ∷ xs) = length-append (inEscape x) (escaped xs) ∙ omega (arith, in-length x, escaped-length xs)
+
+pub fault-le : (l : List ℕ) → firstFault l ≤ length l
+unfolding firstFault
+fault-le l = scan-le textStep l 0

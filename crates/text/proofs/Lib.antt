@@ -1,3 +1,4 @@
 pub mod MarkLaws
 pub mod EscapeLaws
 pub mod PieceLaws
+pub mod OutcomeLaws

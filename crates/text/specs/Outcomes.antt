@@ -16,9 +16,12 @@ checked p t room left =
     pick (ltb 16384 (length t)) (refuse 1 16384 room)
     (pick (ltb (firstBad p t) (length t)) (refuse 31 (firstBad p t) room) left)
 
+-- 30 at the first bare comma or backslash of no escape, then the outcome that is left
+unfoldable pub faultless : List ℕ → List ℕ → Filled → Filled
+faultless t room left = pick (ltb (firstFault t) (length t)) (refuse 30 (firstFault t) room) left
+
 unfoldable pub escapeOutcome : List ℕ → List ℕ → Filled
 escapeOutcome t room = checked (allowed true) t room (fillBounded (escaped t) room)
 
 unfoldable pub unescapeOutcome : List ℕ → List ℕ → Filled
-unescapeOutcome t room =
-    checked (allowed false) t room (pick (ltb (firstFault t) (length t)) (refuse 30 (firstFault t) room) (fill (unescaped t) room))
+unescapeOutcome t room = checked (allowed false) t room (faultless t room (fill (unescaped t) room))

@@ -1,3 +1,16 @@
+use mathlib.Core.Path.{_≡_, refl, sym, ap, _∙_}
+use mathlib.Core.Bool.{true}
+use mathlib.Core.List.{_++_}
+use Prim.Native.Nat.{ℕ, _+_}
+use native.Mathlib.Omega.{arith}
+use lib.ListN.{length, drop}
+use Rattle.octets.specs.Room.{fillBounded}
+use Rattle.octets.specs.Characters.{allowed}
+use Rattle.octets.proofs.RoomLaws.{fill-short, fill-fits, over-bound, within-bound}
+use Rattle.text.specs.Escapes.{escaped}
+use Rattle.text.specs.Outcomes.{escapeOutcome}
+use Rattle.text.proofs.EscapeLaws.{escaped-length}
+use Rattle.text.proofs.OutcomeLaws.{too-long, bad-octet, good}
 use borrow.Author.Needs.{needs}
 use Rattle.text.proofs.escape.Statement.{statement}
 use Rattle.text.proofs.escape.Tie as tie
@@ -10,7 +23,10 @@ use Rattle.text.proofs.marks.count.Reads as count-reads
 
 -- src/lib.rt:16:9
 returns : tie.Need-returns
-returns c = ?
+unfolding escapeOutcome
+returns c =
+    let a = c .before .before .before .args in
+    too-long (allowed true) (a .text .now) (a .out .now) (fillBounded (escaped (a .text .now)) (a .out .now)) (c .if1 .taken)
 
 -- src/lib.rt:18:13
 table-requires : tie.Need-table-requires
@@ -22,7 +38,10 @@ first-bad-requires c κs = search needs
 
 -- src/lib.rt:21:9
 returns-2 : tie.Need-returns-2
-returns-2 c = ?
+unfolding escapeOutcome
+returns-2 c =
+    let a = c .before .before .before .before .before .before .before .args in
+    bad-octet (allowed true) (a .text .now) (a .out .now) (fillBounded (escaped (a .text .now)) (a .out .now)) (omega arith) (c .before .first-bad .result) (c .before .first-bad .ensures) (c .if2 .taken)
 
 -- src/lib.rt:23:26
 count-requires : tie.Need-count-requires
@@ -30,19 +49,37 @@ count-requires c κs = search needs
 
 -- src/lib.rt:23:13
 add-n : tie.Need-add-n
-add-n c = search needs
+add-n c =
+    omega (arith, c .count .ensures .1)
 
 -- src/lib.rt:25:9
 returns-3 : tie.Need-returns-3
-returns-3 c = ?
+unfolding escapeOutcome
+returns-3 c =
+    let a = c .before .before .before .before .before .before .before .before .before .args in
+    let t = a .text .now in
+    let n = length t + c .before .count .result in
+    let e : n ≡ length (escaped t) = ap (λ (k : ℕ). length t + k) (c .before .count .ensures .0) ∙ sym (escaped-length t) in
+    over-bound (escaped t) (a .out .now) n e (c .if3 .taken)
+    ∙ good (allowed true) t (a .out .now) (fillBounded (escaped t) (a .out .now)) (omega arith) (c .before .before .before .first-bad .result) (c .before .before .before .first-bad .ensures) (omega arith)
 
 -- src/lib.rt:28:9
 returns-4 : tie.Need-returns-4
-returns-4 c = ?
+unfolding escapeOutcome
+returns-4 c =
+    let a = c .before .before .before .before .before .before .before .before .before .before .args in
+    let t = a .text .now in
+    let n = length t + c .before .before .count .result in
+    let e : n ≡ length (escaped t) = ap (λ (k : ℕ). length t + k) (c .before .before .count .ensures .0) ∙ sym (escaped-length t) in
+    fill-short (escaped t) (a .out .now) n e (c .if4 .taken)
+    ∙ within-bound (escaped t) (a .out .now) n e (omega arith)
+    ∙ good (allowed true) t (a .out .now) (fillBounded (escaped t) (a .out .now)) (omega arith) (c .before .before .before .before .first-bad .result) (c .before .before .before .before .first-bad .ensures) (omega arith)
 
 -- src/lib.rt:30:5
 write-requires : tie.Need-write-requires
-write-requires c κs = ?
+write-requires c κs =
+    let t = c .before .before .before .before .before .before .before .before .before .before .before .args .text .now in
+    omega (arith, escaped-length t, c .before .before .before .count .ensures .0)
 
 -- src/lib.rt:12:1
 same-length : tie.Need-same-length
@@ -50,7 +87,15 @@ same-length c = search needs
 
 -- src/lib.rt:12:1
 returns-5 : tie.Need-returns-5
-returns-5 c = ?
+unfolding escapeOutcome
+returns-5 c =
+    let a = c .before .before .before .before .before .before .before .before .before .before .before .before .before .before .args in
+    let t = a .text .now in
+    let n = length t + c .before .before .before .before .before .before .count .result in
+    let e : n ≡ length (escaped t) = ap (λ (k : ℕ). length t + k) (c .before .before .before .before .before .before .count .ensures .0) ∙ sym (escaped-length t) in
+    fill-fits (escaped t) (a .out .now) n e (omega arith) (c .before .before .write .last .1 .0) (c .before .before .write .ensures ∙ ap (λ (k : ℕ). escaped t ++ drop k (a .out .now)) (sym e))
+    ∙ within-bound (escaped t) (a .out .now) n e (omega arith)
+    ∙ good (allowed true) t (a .out .now) (fillBounded (escaped t) (a .out .now)) (omega arith) (c .before .before .before .before .before .before .before .before .first-bad .result) (c .before .before .before .before .before .before .before .before .first-bad .ensures) (omega arith)
 
 pub escape-spec : {M : Type 1} → statement M
 escape-spec =

@@ -1,3 +1,8 @@
+use mathlib.Core.Path.{_≡_, sym, ap, _∙_}
+use lib.ListN.{length}
+use borrow.Author.Tests.{eqb-true}
+use Rattle.text.specs.Marks.{marks}
+use Rattle.text.proofs.EscapeLaws.{none-unescaped, none-fault}
 use borrow.Author.Needs.{needs}
 use Rattle.text.proofs.unescaping.measure.Statement.{statement}
 use Rattle.text.proofs.unescaping.measure.Tie as tie
@@ -12,7 +17,10 @@ none-requires c κs = search needs
 
 -- src/unescaping.rt:124:9
 returns : tie.Need-returns
-returns c = ?
+returns c =
+    let s = c .before .before .before .args .text .now in
+    let z = eqb-true (marks s) 0 (sym (c .before .none .ensures) ∙ c .if1 .taken) in
+    (sym (none-fault s z), λ e. ap length (sym (none-unescaped s z)))
 
 -- src/unescaping.rt:126:5
 measure-runs-requires : tie.Need-measure-runs-requires

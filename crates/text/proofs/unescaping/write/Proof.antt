@@ -1,3 +1,12 @@
+use mathlib.Core.Path.{_≡_, sym, ap, _∙_}
+use mathlib.Core.List.{List}
+use Prim.Native.Nat.{ℕ}
+use native.Mathlib.Omega.{arith}
+use lib.ListN.{length}
+use borrow.Author.Tests.{eqb-true}
+use Rattle.octets.specs.Room.{overlay}
+use Rattle.text.specs.Marks.{marks}
+use Rattle.text.proofs.EscapeLaws.{none-unescaped}
 use borrow.Author.Needs.{needs}
 use Rattle.text.proofs.unescaping.write.Statement.{statement}
 use Rattle.text.proofs.unescaping.write.Tie as tie
@@ -13,7 +22,10 @@ none-requires c κs = search needs
 
 -- src/unescaping.rt:154:9
 copy-in-requires : tie.Need-copy-in-requires
-copy-in-requires c κs = ?
+copy-in-requires c κs =
+    let s = c .before .before .before .before .before .args .text .now in
+    let e = none-unescaped s (eqb-true (marks s) 0 (sym (c .before .before .none .ensures) ∙ c .before .if1 .taken)) in
+    omega (arith, ap length e, c .before .before .before .before .before .pre)
 
 -- src/unescaping.rt:155:9
 same-length : tie.Need-same-length
@@ -21,7 +33,11 @@ same-length c = search needs
 
 -- src/unescaping.rt:155:9
 returns : tie.Need-returns
-returns c = ?
+returns c =
+    let a = c .before .before .before .before .before .before .before .before .args in
+    let s = a .text .now in
+    let e = none-unescaped s (eqb-true (marks s) 0 (sym (c .before .before .before .before .before .none .ensures) ∙ c .before .before .before .before .if1 .taken)) in
+    c .before .before .copy-in .ensures ∙ ap (λ (w : List ℕ). overlay w (a .out .now)) (sym e)
 
 -- src/unescaping.rt:157:5
 write-runs-requires : tie.Need-write-runs-requires
