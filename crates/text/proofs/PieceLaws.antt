@@ -1,41 +1,31 @@
--- Writing piece by piece: a run of octets that stay, and what came back of a lent tail. Assumes nothing.
-use mathlib.Core.Path.{_≡_, refl, sym, ap, _∙_}
-use mathlib.Core.List.{List, [], _∷_, _++_, append-nil, append-assoc}
-use Prim.Native.Nat.{ℕ, _+_, _-_, _<_, _≤_}
+-- Writing one octet or two next, and the end. Assumes nothing.
+use mathlib.Core.Path.{_≡_, ap, _∙_}
+use mathlib.Core.List.{List, [], _∷_, _++_}
+use Prim.Native.Nat.{ℕ, _+_, _≤_}
+use native.Mathlib.Numerals.{add-one}
 use native.Mathlib.Omega.{arith}
-use lib.ListN.{length, take, drop, length-append, length-drop, length-take, drop-of-length-le}
-use lib.Seq.{take-all, drop-drop, length-take-le}
-use borrow.Rule.Slice.PartMut.{putMid}
+use lib.ListN.{length, drop, set}
+use lib.Seq.{sets-eq}
 use Rattle.octets.specs.Room.{overlay}
 use Rattle.octets.proofs.Writes.{Written, room, put, finish}
 
--- a tail that came back with u at its start
-pub placed : (xs : List ℕ) (w : ℕ) (u ys : List ℕ) (n : ℕ) → w ≤ length xs → ys ≡ u ++ drop n (take (length xs - w) (drop w xs))
-    → putMid w (length xs - w) xs ys ≡ take w xs ++ u ++ drop (w + n) xs
-placed xs w u ys n h e =
-    let over : length (drop w xs) ≤ length xs - w = rw (length-drop w xs) (omega arith) in
-    let all : take (length xs - w) (drop w xs) ≡ drop w xs = take-all (length xs - w) (drop w xs) over in
-    let none : drop (length xs - w) (drop w xs) ≡ [] = drop-of-length-le (drop w xs) over in
-    let back : ys ≡ u ++ drop (w + n) xs = e ∙ ap (λ (r : List ℕ). u ++ drop n r) all ∙ ap (λ (r : List ℕ). u ++ r) (drop-drop n w xs) in
-    ap (λ (r : List ℕ). take w xs ++ (ys ++ r)) none
-    ∙ ap (λ (r : List ℕ). take w xs ++ r) (append-nil ys ∙ back)
-    ∙ sym (append-assoc (take w xs) u (drop (w + n) xs))
+module _ {whole rest d₀ d : List ℕ} {w : ℕ} (h : Written whole rest d₀ d w) where
+  module _ (fits : length whole ≤ length d₀) (rest′ : List ℕ) where
+    pub one-room : (a : ℕ) → rest ≡ (a ∷ []) ++ rest′ → w + 1 ≤ length d
+    one-room a e = omega (arith, room h fits, ap length e)
 
--- a run from i to e is written at j, where F is written of the whole and of each rest
-module _ (F : List ℕ → List ℕ) (s d₀ d : List ℕ) (i j e : ℕ) (end : e ≤ length s) (h : Written (F s) (F (drop i s)) d₀ d j)
-    (r : F (drop i s) ≡ take (e - i) (drop i s) ++ F (drop e s)) (fits : length (F s) ≤ length d₀) where
-  run-length : length (take (e - i) (drop i s)) ≡ e - i
-  run-length = length-take-le (e - i) (drop i s) (rw (length-drop i s) (omega arith))
+    pub put-one : (a : ℕ) → rest ≡ (a ∷ []) ++ rest′ → Written whole rest′ d₀ (set d w a) (w + 1)
+    put-one a e = put h (a ∷ []) rest′ (set d w a) e (one-room a e) (sets-eq (a ∷ []) d w (one-room a e))
 
-  pub run-room : j + length (take (e - i) (drop i s)) ≤ length d
-  run-room = omega (arith, room h fits, ap length r ∙ length-append (take (e - i) (drop i s)) (F (drop e s)))
+    pub two-room : (a b : ℕ) → rest ≡ (a ∷ b ∷ []) ++ rest′ → w + 2 ≤ length d
+    two-room a b e = omega (arith, room h fits, ap length e)
 
-  pub run-put : (d′ : List ℕ) → d′ ≡ take j d ++ take (e - i) (drop i s) ++ drop (j + length (take (e - i) (drop i s))) d
-      → Written (F s) (F (drop e s)) d₀ d′ (j + (e - i))
-  run-put d′ q = rw run-length at (put h (take (e - i) (drop i s)) (F (drop e s)) d′ r run-room q)
+    pub put-two : (a b : ℕ) → rest ≡ (a ∷ b ∷ []) ++ rest′ → Written whole rest′ d₀ (set (set d w a) (w + 1) b) (w + 2)
+    put-two a b e =
+        put h (a ∷ b ∷ []) rest′ (set (set d w a) (w + 1) b) e (two-room a b e)
+        (ap (λ (k : ℕ). set (set d w a) k b) (add-one w) ∙ sets-eq (a ∷ b ∷ []) d w (two-room a b e))
 
--- nothing is left to write
-pub all-written : {whole rest d₀ d : List ℕ} {w : ℕ} → Written whole rest d₀ d w → rest ≡ [] → d ≡ overlay whole d₀
-all-written {whole} {rest} {d₀} {d} {w} h e =
-    let f = finish (rw e at h) in
-    f .1 ∙ ap (λ (k : ℕ). whole ++ drop k d₀) (f .0)
+  pub all-written : rest ≡ [] → d ≡ overlay whole d₀
+  all-written e =
+      let f = finish (rw e at h) in
+      f .1 ∙ ap (λ (k : ℕ). whole ++ drop k d₀) (f .0)

@@ -1,6 +1,7 @@
 -- Escaping, by document 01: backslash, comma and semicolon get a backslash, 0A becomes `\n`; and text with the escapes of refusal 30,
 -- its first fault and what it stands for. Assumes nothing.
-use Prim.Native.Nat.{ℕ}
+use Prim.Native.Nat.{ℕ, _<_}
+use mathlib.Core.Path.{_≡_}
 use mathlib.Core.Bool.{Bool, _&&_, _||_}
 use mathlib.Core.List.{List, [], _∷_, _++_}
 use lib.Dec.{eqb}
@@ -8,9 +9,12 @@ use lib.ListN.{getD}
 use Rattle.octets.specs.Pick.{pick}
 use Rattle.octets.specs.Scan.{scan, gather}
 
+abbrev pub backslash : ℕ → Bool
+backslash b = eqb b 92
+
 -- backslash, comma or semicolon
 unfoldable pub special : ℕ → Bool
-special b = eqb b 92 || (eqb b 44 || eqb b 59)
+special b = backslash b || (eqb b 44 || eqb b 59)
 
 -- the octets that escaping changes: these and 0A
 unfoldable pub marked : ℕ → Bool
@@ -23,6 +27,10 @@ letter b = pick (eqb b 10) 110 b
 -- what escaping writes for an octet
 unfoldable pub inEscape : ℕ → List ℕ
 inEscape b = pick (marked b) (92 ∷ letter b ∷ []) (b ∷ [])
+
+-- a table of 256 entries has the letters, and 0 for an octet that stays as it is
+unfoldable pub Letters : List ℕ → Type 0
+Letters t = (k : ℕ) → k < 256 → getD t k 0 ≡ pick (marked k) (letter k) 0
 
 -- a text with each octet so written
 unfoldable pub escaped : List ℕ → List ℕ
@@ -39,11 +47,11 @@ meant b = pick (eqb b 110 || eqb b 78) 10 b
 
 -- an escape starts here
 unfoldable pub escapeAt : List ℕ → Bool
-escapeAt l = eqb (getD l 0 0) 92 && code (getD l 1 0)
+escapeAt l = backslash (getD l 0 0) && code (getD l 1 0)
 
 -- an escape is passed whole; a bare comma and a backslash of no escape are faults; any other octet stands for itself
 unfoldable pub textStep : List ℕ → ℕ
-textStep l = pick (escapeAt l) 2 (pick (eqb (getD l 0 0) 92 || eqb (getD l 0 0) 44) 0 1)
+textStep l = pick (escapeAt l) 2 (pick (backslash (getD l 0 0) || eqb (getD l 0 0) 44) 0 1)
 
 -- the offset of the first fault; the length where there is none
 unfoldable pub firstFault : List ℕ → ℕ

@@ -1,4 +1,5 @@
-pub mod Marks
 pub mod Escapes
+pub mod Counts
+pub mod Pairs
 pub mod Outcomes
 pub mod Stands

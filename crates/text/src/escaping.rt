@@ -1,57 +1,56 @@
-// Writing text with its escapes: runs of octets that stay, and an escape for each marked octet.
+// Writing text with its escapes.
 ghost use mathlib.Core.Path.{_≡_};
-ghost use mathlib.Core.List.{[], _∷_, _++_};
-ghost use Prim.Native.Nat.{_+_, _≤_};
-ghost use lib.ListN.{length, take, drop};
+ghost use Prim.Native.Nat.{_≤_};
+ghost use lib.ListN.{length};
 ghost use Rattle.octets.specs.Room.{overlay};
-ghost use Rattle.text.specs.Escapes.{escaped, letter};
+ghost use Rattle.text.specs.Escapes.{Letters, escaped};
 
-// What follows the backslash in the escape of an octet.
-fn letter_of(b: u8) -> u8
-    ensures { λ r. ⌜ r ≡ letter b ⌝ }
+// What follows the backslash in the escape of each octet, and 0 for one that stays as it is.
+fn letters() -> [u8; 256]
+    ensures { λ r. ⌜ Letters r ⌝ }
 {
-    if b == 10 {
-        return 110;
-    }
-    b
+    let mut t = [0u8; 256];
+    t[10] = 110;
+    t[44] = 44;
+    t[59] = 59;
+    t[92] = 92;
+    t
 }
 
-// Writes a backslash and an octet to the place `at`.
-fn put_escape(out: &mut [u8], at: usize, b: u8)
-    requires { ⌜ at + 2 ≤ length (now out) ⌝ }
-    ensures { λ _. ⌜ now (out .exit) ≡ take at (now (out .entry)) ++ (92 ∷ b ∷ []) ++ drop (at + 2) (now (out .entry)) ⌝ }
-{
-    out[at] = 92;
-    out[at + 1] = b;
-}
-
-// Writes the escaped form of a text that has marked octets to the start of out.
-fn write_runs(text: &[u8], out: &mut [u8])
+// Writes the escaped form to the start of out, octet by octet.
+fn write_octets(t: &[u8; 256], text: &[u8], out: &mut [u8])
+    requires { ⌜ Letters (now t) ⌝ }
     requires { ⌜ length (escaped (now text)) ≤ length (now out) ⌝ }
     ensures { λ _. ⌜ now (out .exit) ≡ overlay (escaped (now (text .entry))) (now (out .entry)) ⌝ }
 {
     let mut i: usize = 0;
     let mut j: usize = 0;
-    let mut e = crate::marks::next(text, 0);
-    while e < text.len() {
-        crate::marks::put(out, j, &text[i..e]);
-        j += e - i;
-        put_escape(out, j, letter_of(text[e]));
-        j += 2;
-        i = e + 1;
-        e = crate::marks::next(text, i);
+    while i < text.len() {
+        let b = text[i];
+        let x = t[b as usize];
+        if x == 0 {
+            out[j] = b;
+            j += 1;
+            i += 1;
+        } else {
+            out[j] = 92;
+            out[j + 1] = x;
+            j += 2;
+            i += 1;
+        }
     }
-    crate::marks::put(out, j, &text[i..e]);
 }
 
-// Writes the escaped form to the start of out.
-pub fn write(text: &[u8], out: &mut [u8])
-    requires { ⌜ length (escaped (now text)) ≤ length (now out) ⌝ }
+// Writes the escaped form, which has n octets, to the start of out.
+pub fn write(text: &[u8], out: &mut [u8], n: usize)
+    requires { ⌜ n ≡ length (escaped (now text)) ⌝ }
+    requires { ⌜ n ≤ length (now out) ⌝ }
     ensures { λ _. ⌜ now (out .exit) ≡ overlay (escaped (now (text .entry))) (now (out .entry)) ⌝ }
 {
-    if crate::marks::none(text) {
+    if n == text.len() {
         octets::copying::copy_in(out, text);
         return;
     }
-    write_runs(text, out);
+    let t = letters();
+    write_octets(&t, text, out);
 }

@@ -1,6 +1,6 @@
 // Text: escaping, and unescaping, which gives back what was escaped.
+mod counts;
 mod escaping;
-mod marks;
 mod unescaping;
 ghost use mathlib.Core.Path.{_≡_};
 ghost use Rattle.octets.specs.Room.{filled};
@@ -20,14 +20,14 @@ pub fn escape(text: &[u8], out: &mut [u8]) -> Written
     if bad < text.len() {
         return Written::Refused(31, bad);
     }
-    let n = text.len() + marks::count(text);
+    let n = text.len() + counts::marks(text);
     if 16384 < n {
         return Written::Refused(16, 16384);
     }
     if out.len() < n {
         return Written::Refused(15, n);
     }
-    escaping::write(text, out);
+    escaping::write(text, out, n);
     Written::Wrote(n)
 }
 
@@ -52,6 +52,6 @@ pub fn unescape(text: &[u8], out: &mut [u8]) -> Written
     if out.len() < n {
         return Written::Refused(15, n);
     }
-    unescaping::write(text, out);
+    unescaping::write(text, out, n);
     Written::Wrote(n)
 }

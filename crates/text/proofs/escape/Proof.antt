@@ -9,7 +9,7 @@ use Rattle.octets.specs.Characters.{allowed}
 use Rattle.octets.proofs.RoomLaws.{fill-short, fill-fits, over-bound, within-bound}
 use Rattle.text.specs.Escapes.{escaped}
 use Rattle.text.specs.Outcomes.{escapeOutcome}
-use Rattle.text.proofs.EscapeLaws.{escaped-length}
+use Rattle.text.proofs.LengthLaws.{escaped-length}
 use Rattle.text.proofs.OutcomeLaws.{too-long, bad-octet, good}
 use borrow.Author.Needs.{needs}
 use Rattle.text.proofs.escape.Statement.{statement}
@@ -18,8 +18,8 @@ use Rattle.text.proofs.escape.Reads as reads
 use Rattle.text.proofs.escape.Lts as lts
 use Rattle.octets.proofs.characters.first_bad.Reads as first-bad-reads
 use Rattle.octets.proofs.classes.table.Reads as table-reads
+use Rattle.text.proofs.counts.marks.Reads as marks-reads
 use Rattle.text.proofs.escaping.write.Reads as write-reads
-use Rattle.text.proofs.marks.count.Reads as count-reads
 
 -- src/lib.rt:16:9
 returns : tie.Need-returns
@@ -44,13 +44,13 @@ returns-2 c =
     bad-octet (allowed true) (a .text .now) (a .out .now) (fillBounded (escaped (a .text .now)) (a .out .now)) (omega arith) (c .before .first-bad .result) (c .before .first-bad .ensures) (c .if2 .taken)
 
 -- src/lib.rt:23:26
-count-requires : tie.Need-count-requires
-count-requires c κs = search needs
+marks-requires : tie.Need-marks-requires
+marks-requires c κs = search needs
 
 -- src/lib.rt:23:13
 add-n : tie.Need-add-n
 add-n c =
-    omega (arith, c .count .ensures .1)
+    omega (arith, c .marks .ensures .1)
 
 -- src/lib.rt:25:9
 returns-3 : tie.Need-returns-3
@@ -58,8 +58,8 @@ unfolding escapeOutcome
 returns-3 c =
     let a = c .before .before .before .before .before .before .before .before .before .args in
     let t = a .text .now in
-    let n = length t + c .before .count .result in
-    let e : n ≡ length (escaped t) = ap (λ (k : ℕ). length t + k) (c .before .count .ensures .0) ∙ sym (escaped-length t) in
+    let n = length t + c .before .marks .result in
+    let e : n ≡ length (escaped t) = ap (λ (k : ℕ). length t + k) (c .before .marks .ensures .0) ∙ sym (escaped-length t) in
     over-bound (escaped t) (a .out .now) n e (c .if3 .taken)
     ∙ good (allowed true) t (a .out .now) (fillBounded (escaped t) (a .out .now)) (omega arith) (c .before .before .before .first-bad .result) (c .before .before .before .first-bad .ensures) (omega arith)
 
@@ -69,8 +69,8 @@ unfolding escapeOutcome
 returns-4 c =
     let a = c .before .before .before .before .before .before .before .before .before .before .args in
     let t = a .text .now in
-    let n = length t + c .before .before .count .result in
-    let e : n ≡ length (escaped t) = ap (λ (k : ℕ). length t + k) (c .before .before .count .ensures .0) ∙ sym (escaped-length t) in
+    let n = length t + c .before .before .marks .result in
+    let e : n ≡ length (escaped t) = ap (λ (k : ℕ). length t + k) (c .before .before .marks .ensures .0) ∙ sym (escaped-length t) in
     fill-short (escaped t) (a .out .now) n e (c .if4 .taken)
     ∙ within-bound (escaped t) (a .out .now) n e (omega arith)
     ∙ good (allowed true) t (a .out .now) (fillBounded (escaped t) (a .out .now)) (omega arith) (c .before .before .before .before .first-bad .result) (c .before .before .before .before .first-bad .ensures) (omega arith)
@@ -79,7 +79,7 @@ returns-4 c =
 write-requires : tie.Need-write-requires
 write-requires c κs =
     let t = c .before .before .before .before .before .before .before .before .before .before .before .args .text .now in
-    omega (arith, escaped-length t, c .before .before .before .count .ensures .0)
+    (ap (λ (k : ℕ). length t + k) (c .before .before .before .marks .ensures .0) ∙ sym (escaped-length t), omega arith)
 
 -- src/lib.rt:12:1
 same-length : tie.Need-same-length
@@ -91,8 +91,8 @@ unfolding escapeOutcome
 returns-5 c =
     let a = c .before .before .before .before .before .before .before .before .before .before .before .before .before .before .args in
     let t = a .text .now in
-    let n = length t + c .before .before .before .before .before .before .count .result in
-    let e : n ≡ length (escaped t) = ap (λ (k : ℕ). length t + k) (c .before .before .before .before .before .before .count .ensures .0) ∙ sym (escaped-length t) in
+    let n = length t + c .before .before .before .before .before .before .marks .result in
+    let e : n ≡ length (escaped t) = ap (λ (k : ℕ). length t + k) (c .before .before .before .before .before .before .marks .ensures .0) ∙ sym (escaped-length t) in
     fill-fits (escaped t) (a .out .now) n e (omega arith) (c .before .before .write .last .1 .0) (c .before .before .write .ensures ∙ ap (λ (k : ℕ). escaped t ++ drop k (a .out .now)) (sym e))
     ∙ within-bound (escaped t) (a .out .now) n e (omega arith)
     ∙ good (allowed true) t (a .out .now) (fillBounded (escaped t) (a .out .now)) (omega arith) (c .before .before .before .before .before .before .before .before .first-bad .result) (c .before .before .before .before .before .before .before .before .first-bad .ensures) (omega arith)
@@ -105,7 +105,7 @@ escape-spec =
     table-requires
     first-bad-requires
     returns-2
-    count-requires
+    marks-requires
     add-n
     returns-3
     returns-4

@@ -7,8 +7,7 @@ use lib.ListN.{length, drop}
 use Rattle.octets.specs.Room.{fill}
 use Rattle.octets.specs.Characters.{allowed}
 use Rattle.octets.proofs.RoomLaws.{fill-short, fill-fits}
-use Rattle.octets.proofs.Scans.{scan-le}
-use Rattle.text.specs.Escapes.{unescaped, firstFault, textStep}
+use Rattle.text.specs.Escapes.{unescaped}
 use Rattle.text.specs.Outcomes.{faultless, unescapeOutcome}
 use Rattle.text.proofs.EscapeLaws.{fault-le}
 use Rattle.text.proofs.OutcomeLaws.{too-long, bad-octet, good, a-fault, no-fault}
@@ -76,9 +75,7 @@ returns-4 c =
 write-requires : tie.Need-write-requires
 write-requires c κs =
     let t = c .before .before .before .before .before .before .before .before .before .before .before .args .text .now in
-    let m = c .before .before .before .measure in
-    let e : m .result .kept ≡ length (unescaped t) = m .ensures .1 (omega (arith, fault-le t)) in
-    omega arith
+    (c .before .before .before .measure .ensures .1 (omega (arith, fault-le t)), omega arith)
 
 -- src/lib.rt:35:1
 same-length : tie.Need-same-length

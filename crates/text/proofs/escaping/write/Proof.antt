@@ -3,51 +3,46 @@ use mathlib.Core.List.{List}
 use Prim.Native.Nat.{ℕ}
 use native.Mathlib.Omega.{arith}
 use lib.ListN.{length}
-use borrow.Author.Tests.{eqb-true}
 use Rattle.octets.specs.Room.{overlay}
-use Rattle.text.specs.Marks.{marks}
-use Rattle.text.proofs.EscapeLaws.{none-escaped}
+use Rattle.text.proofs.LengthLaws.{same-escaped}
 use borrow.Author.Needs.{needs}
 use Rattle.text.proofs.escaping.write.Statement.{statement}
 use Rattle.text.proofs.escaping.write.Tie as tie
 use Rattle.text.proofs.escaping.write.Reads as reads
 use Rattle.text.proofs.escaping.write.Lts as lts
 use Rattle.octets.proofs.copying.copy_in.Reads as copy-in-reads
-use Rattle.text.proofs.escaping.write_runs.Reads as write-runs-reads
-use Rattle.text.proofs.marks.none.Reads as none-reads
+use Rattle.text.proofs.escaping.letters.Reads as letters-reads
+use Rattle.text.proofs.escaping.write_octets.Reads as write-octets-reads
 
--- src/escaping.rt:52:8
-none-requires : tie.Need-none-requires
-none-requires c κs = search needs
-
--- src/escaping.rt:53:9
+-- src/escaping.rt:51:9
 copy-in-requires : tie.Need-copy-in-requires
 copy-in-requires c κs =
-    let s = c .before .before .before .before .before .args .text .now in
-    let e = none-escaped s (eqb-true (marks s) 0 (sym (c .before .before .none .ensures) ∙ c .before .if1 .taken)) in
-    omega (arith, ap length e, c .before .before .before .before .before .pre)
+    omega arith
 
--- src/escaping.rt:54:9
+-- src/escaping.rt:52:9
 same-length : tie.Need-same-length
 same-length c = search needs
 
--- src/escaping.rt:54:9
+-- src/escaping.rt:52:9
 returns : tie.Need-returns
 returns c =
-    let a = c .before .before .before .before .before .before .before .before .args in
-    let s = a .text .now in
-    let e = none-escaped s (eqb-true (marks s) 0 (sym (c .before .before .before .before .before .none .ensures) ∙ c .before .before .before .before .if1 .taken)) in
+    let a = c .before .before .before .before .before .before .before .args in
+    let e = same-escaped (a .text .now) (sym (c .before .before .before .before .before .before .before .pre .0) ∙ c .before .before .before .before .if1 .taken) in
     c .before .before .copy-in .ensures ∙ ap (λ (w : List ℕ). overlay w (a .out .now)) (sym e)
 
--- src/escaping.rt:56:5
-write-runs-requires : tie.Need-write-runs-requires
-write-runs-requires c κs = search needs
+-- src/escaping.rt:54:13
+letters-requires : tie.Need-letters-requires
+letters-requires c κs = search needs
 
--- src/escaping.rt:48:1
+-- src/escaping.rt:55:5
+write-octets-requires : tie.Need-write-octets-requires
+write-octets-requires c κs = search needs
+
+-- src/escaping.rt:45:1
 same-length-2 : tie.Need-same-length-2
 same-length-2 c = search needs
 
--- src/escaping.rt:48:1
+-- src/escaping.rt:45:1
 returns-2 : tie.Need-returns-2
 returns-2 c = search needs
 
@@ -55,10 +50,10 @@ pub write-spec : {M : Type 1} → statement M
 write-spec =
     tie.close
     (tie.spec
-    none-requires
     copy-in-requires
     same-length
     returns
-    write-runs-requires
+    letters-requires
+    write-octets-requires
     same-length-2
     returns-2)
