@@ -82,14 +82,22 @@ pub fn table() -> [u8; 1016]
 }
 
 // The state in which a value of each kind starts.
-pub const STARTS: [u8; 9] = *b"\x1d\x1e\x1f\x03\x05\x0e\x22\x23\x13";
-
 fn start(kind: usize) -> u8
     requires { ⌜ kind < 9 ⌝ }
     ensures { λ r. ⌜ r < 38 ⌝ }
     ensures { λ r. ⌜ stateShape r ≡ shapeOf kind ⌝ }
 {
-    STARTS[kind]
+    match kind {
+        0 => 29,
+        1 => 30,
+        2 => 31,
+        3 => 3,
+        4 => 5,
+        5 => 14,
+        6 => 34,
+        7 => 35,
+        _ => 19,
+    }
 }
 
 pub fn wide(x: u8) -> usize
