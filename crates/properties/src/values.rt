@@ -10,6 +10,7 @@ ghost use Rattle.properties.specs.Quiet.{allIn, countOf};
 ghost use Rattle.properties.specs.Kinds.{shapeOf, kindScan, valueScan};
 ghost use Rattle.properties.specs.States.{stateShape, Scanner};
 
+// A value fits, or the first octet from which nothing could, or the end.
 pub enum Fault {
     Fits,
     Breaks(usize),
@@ -100,13 +101,14 @@ fn start(kind: usize) -> u8
     }
 }
 
+// An octet as an index.
 pub fn wide(x: u8) -> usize
     ensures { λ r. ⌜ r ≡ x ⌝ }
 {
     x as usize
 }
 
-// 1 for a, for b, else 0.
+// 1 for the octets a and b, else 0.
 fn mark_bit(a: u8, b: u8, x: u8) -> u8
     ensures { λ r. ⌜ r ≡ bit (not (neither a b x)) 1 ⌝ }
 {
