@@ -48,10 +48,10 @@ pub fn unescape(text: &[u8], out: &mut [u8]) -> Written
     if fault < text.len() {
         return Written::Refused(30, fault);
     }
-    let n = m.kept;
-    if out.len() < n {
-        return Written::Refused(15, n);
+    let kept = m.kept;
+    if out.len() < kept {
+        return Written::Refused(15, kept);
     }
-    unescaping::write(text, out, n);
-    Written::Wrote(n)
+    unescaping::write(text, out, kept);
+    Written::Wrote(kept)
 }

@@ -123,16 +123,16 @@ pub fn measure(text: &[u8]) -> Measured
     measure_each(text)
 }
 
-// Writes what a text stands for to the start of out, octet by octet.
+// Writes what a text without faults stands for to the start of out, octet by octet.
 fn write_octets(text: &[u8], out: &mut [u8])
+    requires { ⌜ firstFault (now text) ≡ length (now text) ⌝ }
     requires { ⌜ length (unescaped (now text)) ≤ length (now out) ⌝ }
     ensures { λ _. ⌜ now (out .exit) ≡ overlay (unescaped (now (text .entry))) (now (out .entry)) ⌝ }
 {
     let mut i: usize = 0;
     let mut j: usize = 0;
     while i < text.len() {
-        let whole = escape_at(text, i);
-        if whole {
+        if text[i] == 92 {
             out[j] = meant_by(text[i + 1]);
             j += 1;
             i += 2;
@@ -144,8 +144,9 @@ fn write_octets(text: &[u8], out: &mut [u8])
     }
 }
 
-// Writes what a text stands for, which has n octets, to the start of out.
+// Writes what a text without faults stands for, which has n octets, to the start of out.
 pub fn write(text: &[u8], out: &mut [u8], n: usize)
+    requires { ⌜ firstFault (now text) ≡ length (now text) ⌝ }
     requires { ⌜ n ≡ length (unescaped (now text)) ⌝ }
     requires { ⌜ n ≤ length (now out) ⌝ }
     ensures { λ _. ⌜ now (out .exit) ≡ overlay (unescaped (now (text .entry))) (now (out .entry)) ⌝ }
