@@ -2,10 +2,10 @@
 mod counts;
 mod escaping;
 mod unescaping;
+
 ghost use mathlib.Core.Path.{_≡_};
 ghost use Rattle.octets.specs.Room.{filled};
 ghost use Rattle.text.specs.Outcomes.{escapeOutcome, unescapeOutcome};
-
 use octets::rooms::Written;
 
 // Writes the text with its escapes, or refuses with 1, 31, 16 or 15.

@@ -109,7 +109,10 @@ fn measure_each(text: &[u8]) -> Measured
             i += 1;
         }
     }
-    Measured { fault: i, kept: kept }
+    Measured {
+        fault: i,
+        kept: kept,
+    }
 }
 
 // Measures a text.
@@ -118,7 +121,10 @@ pub fn measure(text: &[u8]) -> Measured
     ensures { λ r. ⌜ (r .fault ≡ firstFault (now (text .entry))) × (r .fault ≡ length (now (text .entry)) → r .kept ≡ length (unescaped (now (text .entry)))) ⌝ }
 {
     if all_pairs(text) {
-        return Measured { fault: text.len(), kept: text.len() - crate::counts::backslashes(text) };
+        return Measured {
+            fault: text.len(),
+            kept: text.len() - crate::counts::backslashes(text),
+        };
     }
     measure_each(text)
 }

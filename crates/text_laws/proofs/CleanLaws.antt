@@ -144,7 +144,7 @@ clean (x ∷ xs) (suc k) h t e =
 clean (x ∷ xs) zero h t e =
     after-suc (unit (allowed true) (x ∷ xs)) (length xs) (scan (unit (allowed true)) xs) e
     (λ m p q. begin x m xs (unit-out (allowed true) (x ∷ xs) m p)
-      (clean xs m (le-of-suc-le-suc (unit-out (allowed true) (x ∷ xs) m p .fits)) (λ i l. inner-high (allowed true) m (x ∷ xs) (unit-out (allowed true) (x ∷ xs) m p) i l) q))
+    (clean xs m (le-of-suc-le-suc (unit-out (allowed true) (x ∷ xs) m p .fits)) (λ i l. inner-high (allowed true) m (x ∷ xs) (unit-out (allowed true) (x ∷ xs) m p) i l) q))
 
 -- a text that escape takes has an escaped form that unescape takes
 pub clean-escaped : (t : List ℕ) → firstBad (allowed true) t ≡ length t → firstBad (allowed false) (escaped t) ≡ length (escaped t)

@@ -26,8 +26,10 @@ loop-holds c =
 
 shared-slice-read-n : tie.Need-shared-slice-read-n Inv-loop μ-loop
 shared-slice-read-n c = search needs
+
 cast-n : tie.Need-cast-n Inv-loop μ-loop
 cast-n c = search needs
+
 add-n : tie.Need-add-n Inv-loop μ-loop
 add-n c =
     let b = backslash (getD (c .before .before .before .args .s .now) (c .before .before .loop .i) 0) in
@@ -35,8 +37,10 @@ add-n c =
 
 add-i : tie.Need-add-i Inv-loop μ-loop
 add-i c = search needs
+
 loop-less : tie.Need-loop-less Inv-loop μ-loop
 loop-less c = search needs
+
 loop-again : tie.Need-loop-again Inv-loop μ-loop
 loop-again c =
     let l = c .before .before .loop in
@@ -46,6 +50,7 @@ loop-again c =
 
 cast-result : tie.Need-cast-result Inv-loop μ-loop
 cast-result c = search needs
+
 returns : tie.Need-returns Inv-loop μ-loop
 returns c =
     let l = c .before .loop in

@@ -25,8 +25,10 @@ loop-holds c =
 
 shared-slice-read-mark-bit : tie.Need-shared-slice-read-mark-bit Inv-loop μ-loop
 shared-slice-read-mark-bit c = search needs
+
 mark-bit-requires : tie.Need-mark-bit-requires Inv-loop μ-loop
 mark-bit-requires c κs = search needs
+
 cast-n : tie.Need-cast-n Inv-loop μ-loop
 cast-n c =
     omega (arith, bit-le (marked (getD (c .before .before .before .before .before .args .s .now) (c .before .before .before .loop .i) 0)))
@@ -37,8 +39,10 @@ add-n c =
 
 add-i : tie.Need-add-i Inv-loop μ-loop
 add-i c = search needs
+
 loop-less : tie.Need-loop-less Inv-loop μ-loop
 loop-less c = search needs
+
 loop-again : tie.Need-loop-again Inv-loop μ-loop
 loop-again c =
     let l = c .before .before .before .loop in
@@ -47,6 +51,7 @@ loop-again c =
 
 cast-result : tie.Need-cast-result Inv-loop μ-loop
 cast-result c = search needs
+
 returns : tie.Need-returns Inv-loop μ-loop
 returns c =
     let l = c .before .loop in

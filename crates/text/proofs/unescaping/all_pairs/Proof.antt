@@ -26,14 +26,19 @@ loop-holds c =
 
 shared-slice-read-pair-bit : tie.Need-shared-slice-read-pair-bit Inv-loop μ-loop
 shared-slice-read-pair-bit c = search needs
+
 pair-bit-requires : tie.Need-pair-bit-requires Inv-loop μ-loop
 pair-bit-requires c κs = search needs
+
 shared-slice-read-before : tie.Need-shared-slice-read-before Inv-loop μ-loop
 shared-slice-read-before c = search needs
+
 add-i : tie.Need-add-i Inv-loop μ-loop
 add-i c = search needs
+
 loop-less : tie.Need-loop-less Inv-loop μ-loop
 loop-less c = search needs
+
 loop-again : tie.Need-loop-again Inv-loop μ-loop
 loop-again c =
     let l = c .before .before .before .before .loop in

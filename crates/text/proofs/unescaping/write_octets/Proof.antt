@@ -62,6 +62,7 @@ loop-holds c =
 
 shared-slice-read-if1 : tie.Need-shared-slice-read-if1 Inv-loop μ-loop
 shared-slice-read-if1 c = search needs
+
 add-meant-by : tie.Need-add-meant-by Inv-loop μ-loop
 add-meant-by c =
     omega (arith, inside (c))
@@ -72,6 +73,7 @@ shared-slice-read-meant-by c =
 
 meant-by-requires : tie.Need-meant-by-requires Inv-loop μ-loop
 meant-by-requires c κs = search needs
+
 slice-write-out : tie.Need-slice-write-out Inv-loop μ-loop
 slice-write-out c =
     omega (arith, room-for-escape (c .before .before))
@@ -97,6 +99,7 @@ loop-again c =
 
 shared-slice-read-out : tie.Need-shared-slice-read-out Inv-loop μ-loop
 shared-slice-read-out c = search needs
+
 slice-write-out-2 : tie.Need-slice-write-out-2 Inv-loop μ-loop
 slice-write-out-2 c =
     omega (arith, room-for-octet (c .before))
@@ -107,8 +110,10 @@ add-j-2 c =
 
 add-i-2 : tie.Need-add-i-2 Inv-loop μ-loop
 add-i-2 c = search needs
+
 loop-less-2 : tie.Need-loop-less-2 Inv-loop μ-loop
 loop-less-2 c = search needs
+
 loop-again-2 : tie.Need-loop-again-2 Inv-loop μ-loop
 loop-again-2 c =
     let s = c .before .before .before .before .before .before .before .args .text .now in
