@@ -61,6 +61,9 @@ record Taken (t room : List ℕ) (m : ℕ) (after : List ℕ) : Type 0 where
 apart : {A : Type 0} (n p m : ℕ) → Refused n p ≡ Wrote m → A
 apart n p m e = let z : _≡_ {A = ℕ} 0 1 = cc in absurd (omega arith)
 
+same-count : (n m : ℕ) → Wrote n ≡ Wrote m → m ≡ n
+same-count n m e = cc
+
 refused : {A : Type 0} (room after : List ℕ) (n p m : ℕ) → refuse n p room ≡ filled (Wrote m) after → A
 refused room after n p m e = apart n p m (ap (λ (f : Filled). f .answer) e)
 
@@ -76,7 +79,7 @@ taken t room after m = by (ltb 16384 (length t)) (ltb (firstBad (allowed true) t
     by false false p true q d e = refused room after 16 16384 m e
     by false false p false q true e = refused room after 15 (length (escaped t)) m e
     by false false p false q false e =
-        record { clean = omega (arith, ltb-false (firstBad (allowed true) t) (length t) p, bad-le (allowed true) t); bound = ltb-false 16384 (length (escaped t)) q; count = cc; wrote = cc }
+        record { clean = omega (arith, ltb-false (firstBad (allowed true) t) (length t) p, bad-le (allowed true) t); bound = ltb-false 16384 (length (escaped t)) q; count = same-count (length (escaped t)) m (ap (λ (f : Filled). f .answer) e); wrote = sym (ap (λ (f : Filled). f .room) e) }
 
 -- the escaped form of a text that escape takes gives the text back
 pub back : (t room : List ℕ) → firstBad (allowed true) t ≡ length t → length (escaped t) ≤ 16384 → length t ≤ length room
