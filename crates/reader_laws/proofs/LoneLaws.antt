@@ -74,6 +74,7 @@ module _ (o x : ℕ) (ne : o ≡ 13 → ⊥) where
       first : Alone o x y → ⊥
       first (cr e h) = h (eqb-true y 10 r)
       first (lf e h) = eqb-false x 10 p e
+
       second : Alone x y (getD ys 0 0) → ⊥
       second (cr e h) = omega (arith, eqb-true y 10 r)
       second (lf e h) = h (eqb-true x 13 q)

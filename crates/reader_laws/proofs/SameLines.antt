@@ -27,8 +27,16 @@ use Rattle.reader_laws.specs.Lines.{Clean, All}
 pub accepted : (i : List ℕ) (k n : ℕ) → Accepting i k n → judgeOf i ≡ Accepted k n
 unfolding judgeOf verdictOf
 accepted i k n a =
-    simp (le-ltb 16384 (length i) (a .short), ne-eqb (length i) 0 (a .some), le-ltb (firstLone i) (length i) (rw (a .unlone) (omega arith)), a .ends, a .walked,
-      eq-eqb (a .last .phase) 0 (a .outside), a .cards, a .lines)
+    simp (
+      le-ltb 16384 (length i) (a .short),
+      ne-eqb (length i) 0 (a .some),
+      le-ltb (firstLone i) (length i) (rw (a .unlone) (omega arith)),
+      a .ends,
+      a .walked,
+      eq-eqb (a .last .phase) 0 (a .outside),
+      a .cards,
+      a .lines,
+    )
 
 ends-some : (i : List ℕ) → endsCrLf i ≡ true → length i ≡ 0 → ⊥
 unfolding endsCrLf
