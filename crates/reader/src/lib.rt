@@ -1,0 +1,54 @@
+// The reader: judges an input of cards, and writes its copy and its records.
+ghost use mathlib.Core.Path.{_≡_};
+ghost use Rattle.reader.specs.Outcome.{verdictOf, judgeOf};
+use cards::state::Step;
+
+mod ends;
+mod walk;
+
+// The counts of cards and lines, or a refusal's number and place.
+pub enum Verdict {
+    Accepted(usize, usize),
+    Refused(u32, usize),
+}
+
+// What the last line leaves, at the end of an input of n octets: 9 inside a card.
+fn concluded(n: usize, last: Step) -> Verdict
+    ensures { λ r. ⌜ r ≡ verdictOf n last ⌝ }
+{
+    match last {
+        Step::Next(c) => {
+            if c.phase == 0 {
+                return Verdict::Accepted(c.cards, c.lines);
+            }
+            Verdict::Refused(9, n)
+        }
+        Step::Refused(k, p) => Verdict::Refused(k, p),
+    }
+}
+
+// The verdict on an input, 1 to 12 or the counts.
+pub fn judge(input: &[u8]) -> Verdict
+    ensures { λ r. ⌜ r ≡ judgeOf (now (input .entry)) ⌝ }
+{
+    if 16384 < input.len() {
+        return Verdict::Refused(1, 16384);
+    }
+    if input.len() == 0 {
+        return Verdict::Refused(2, 0);
+    }
+    let lone = ends::first_lone(input);
+    if lone < input.len() {
+        return Verdict::Refused(3, lone);
+    }
+    let ended = ends::ends_cr_lf(input);
+    if !ended {
+        return Verdict::Refused(4, input.len());
+    }
+    let t = octets::classes::table();
+    let names = [0u8; 468];
+    let sorts = [0u8; 256];
+    let steps = [0u8; 464];
+    let last = walk::walk(&t, &names, &sorts, &steps, input);
+    concluded(input.len(), last)
+}
