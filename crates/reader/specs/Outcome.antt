@@ -15,6 +15,7 @@ use Rattle.cards.specs.declared.state.Step.the-variants.{Next, Refused as Halte
 use Rattle.cards.specs.declared.parts.Told.{Told}
 use Rattle.cards.specs.declared.parts.Told.the-variants.{Line, Fault}
 use Rattle.reader.specs.Lone.{firstLone, endsCrLf}
+use Rattle.reader.specs.declared.writing.Record.{Record}
 use Rattle.reader.specs.declared.Verdict.{Verdict}
 use Rattle.reader.specs.declared.Verdict.the-variants.{Accepted, Refused}
 
@@ -59,6 +60,10 @@ unfoldable pub recordBy : ℕ → ℕ → Told → List ℕ
 recordBy w n (Line x) =
     x .row ∷ w ∷ n ∷ x .group ∷ (x .name - nameStart (x .group)) ∷ x .params ∷ (w + x .value) ∷ x .kind ∷ []
 recordBy w n (Fault k) = 0 ∷ 0 ∷ 0 ∷ 0 ∷ 0 ∷ 0 ∷ 0 ∷ 0 ∷ []
+
+-- the same as the code holds them
+abbrev pub numbers : Record → List ℕ
+numbers r = r .number ∷ r .start ∷ r .len ∷ r .group ∷ r .name ∷ r .params ∷ r .value ∷ r .kind ∷ []
 
 unfoldable pub recordOf : ℕ → List ℕ → List ℕ
 recordOf w l = recordBy w (length l) (toldOf l)

@@ -1,10 +1,12 @@
 // The reader: judges an input of cards, and writes its copy and its records.
 ghost use mathlib.Core.Path.{_≡_};
-ghost use Rattle.reader.specs.Outcome.{verdictOf, judgeOf};
+ghost use Rattle.reader.specs.Outcome.{verdictOf, judgeOf, took, readOutcome};
 use cards::state::Step;
 
 mod ends;
+mod sizes;
 mod walk;
+mod writing;
 
 // The counts of cards and lines, or a refusal's number and place.
 pub enum Verdict {
@@ -51,4 +53,27 @@ pub fn judge(input: &[u8]) -> Verdict
     let steps = [0u8; 464];
     let last = walk::walk(&t, &names, &sorts, &steps, input);
     concluded(input.len(), last)
+}
+
+// The verdict on an input, 1 to 14 or the counts; where it is accepted, its copy and its records are written to the start of their
+// rooms, and on a refusal nothing is.
+pub fn read(input: &[u8], copy: &mut [u8], records: &mut [u32]) -> Verdict
+    ensures { λ r. ⌜ took r (now (copy .exit)) (now (records .exit)) ≡ readOutcome (now (input .entry)) (now (copy .entry)) (now (records .entry)) ⌝ }
+{
+    let v = judge(input);
+    let Verdict::Accepted(cards, lines) = v else {
+        return v;
+    };
+    let octets = sizes::copy_length(input);
+    if copy.len() < octets {
+        return Verdict::Refused(13, octets);
+    }
+    let numbers = lines * 8;
+    if records.len() < numbers {
+        return Verdict::Refused(14, numbers);
+    }
+    let t = octets::classes::table();
+    let names = [0u8; 468];
+    writing::write_lines(&t, &names, input, copy, records);
+    Verdict::Accepted(cards, lines)
 }
