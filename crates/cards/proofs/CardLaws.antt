@@ -13,7 +13,8 @@ use Rattle.cards.specs.declared.state.Step.the-variants.{Next, Refused}
 use Rattle.cards.specs.declared.parts.Parts.{Parts}
 use Rattle.cards.specs.declared.parts.Told.{Told}
 use Rattle.cards.specs.declared.parts.Told.the-variants.{Line, Fault}
-use Rattle.cards.specs.Judge.{judgeLine, toldOf, nameStart}
+use Rattle.cards.specs.Judge.{judgeLine}
+use Rattle.cards.specs.Parts.{toldOf, nameStart}
 
 picked : (t : Bool) (n p : ℕ) (x c : Card) → pick t (Refused n p) (Next x) ≡ Next c → x ≡ c
 picked true n p x c e = let z : _≡_ {A = ℕ} 0 1 = cc in absurd (omega arith)

@@ -1,4 +1,4 @@
--- Stub: the judgement of one line and its parts. Assumes nothing.
+-- Stub: the judgement of one line. Assumes nothing.
 use Prim.Native.Nat.{ℕ, _+_}
 use mathlib.Core.List.{List}
 use lib.Dec.{eqb}
@@ -7,8 +7,6 @@ use Rattle.octets.specs.Pick.{pick}
 use Rattle.cards.specs.declared.state.Card.{Card}
 use Rattle.cards.specs.declared.state.Step.{Step}
 use Rattle.cards.specs.declared.state.Step.the-variants.{Next, Refused}
-use Rattle.cards.specs.declared.parts.Told.{Told}
-use Rattle.cards.specs.declared.parts.Told.the-variants.{Line, Fault}
 
 unfoldable pub judgeLine : Card → ℕ → List ℕ → Step
 judgeLine c at l =
@@ -22,10 +20,3 @@ judgeLine c at l =
       cards = c .cards;
       lines = c .lines + 1;
     }))
-
-unfoldable pub toldOf : List ℕ → Told
-toldOf l = pick (eqb (length l) 0) (Fault 40) (Line (record { row = 0; group = 0; name = 0; params = 0; value = 0; kind = 0 }))
-
--- where the name starts in a line whose group has so many octets
-unfoldable pub nameStart : ℕ → ℕ
-nameStart group = pick (eqb group 0) 0 (group + 1)

@@ -10,7 +10,7 @@ use borrow.Rule.Slice.PartMut.{putMid}
 use Rattle.lines.specs.Folds.{lineLength, unfolded}
 use Rattle.lines.specs.Logical.{rawLines}
 use Rattle.lines.proofs.FoldLaws.{unfold-shorter}
-use Rattle.cards.specs.Judge.{toldOf}
+use Rattle.cards.specs.Parts.{toldOf}
 use Rattle.cards.specs.declared.parts.Told.{Told}
 use Rattle.cards.specs.declared.parts.Told.the-variants.{Line, Fault}
 use Rattle.reader.specs.Outcome.{ended, recordBy, recordOf, recordsFrom}

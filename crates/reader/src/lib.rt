@@ -48,10 +48,9 @@ pub fn judge(input: &[u8]) -> Verdict
         return Verdict::Refused(4, input.len());
     }
     let t = octets::classes::table();
-    let names = [0u8; 468];
-    let sorts = [0u8; 256];
-    let steps = [0u8; 464];
-    let last = walk::walk(&t, &names, &sorts, &steps, input);
+    let rows = properties::rows::table();
+    let steps = properties::values::table();
+    let last = walk::walk(&t, &rows, &steps, input);
     concluded(input.len(), last)
 }
 
@@ -73,7 +72,7 @@ pub fn read(input: &[u8], copy: &mut [u8], records: &mut [u32]) -> Verdict
         return Verdict::Refused(14, numbers);
     }
     let t = octets::classes::table();
-    let names = [0u8; 468];
-    writing::write_lines(&t, &names, input, copy, records);
+    let rows = properties::rows::table();
+    writing::write_lines(&t, &rows, input, copy, records);
     Verdict::Accepted(cards, lines)
 }

@@ -7,7 +7,7 @@ ghost use lib.ListN.{length, take, drop};
 ghost use Rattle.octets.specs.Classes.{Classes};
 ghost use Rattle.octets.specs.Room.{overlay};
 ghost use Rattle.lines.specs.Folds.{unfolded};
-ghost use Rattle.cards.specs.Judge.{nameStart};
+ghost use Rattle.properties.specs.Rows.{Lists};
 ghost use Rattle.reader.specs.Outcome.{copyOf, numbers, recordOf, recordsOf};
 use crate::walk::line_at;
 use cards::parts::Told;
@@ -24,24 +24,14 @@ pub struct Record {
     pub kind: u32,
 }
 
-// Where the name starts in a line whose group has so many octets: after the group and its dot.
-fn name_start(group: usize) -> usize
-    requires { ⌜ group ≤ 16384 ⌝ }
-    ensures { λ r. ⌜ r ≡ nameStart group ⌝ }
-{
-    if group == 0 {
-        return 0;
-    }
-    group + 1
-}
-
 // The record of the logical line l, which starts at w in the copy.
-fn record_of(t: &[u8; 256], names: &[u8; 468], l: &[u8], w: usize) -> Record
+fn record_of(t: &[u8; 256], rows: &[u8; 624], l: &[u8], w: usize) -> Record
     requires { ⌜ Classes (now t) ⌝ }
+    requires { ⌜ Lists (now rows) ⌝ }
     requires { ⌜ w + length (now l) ≤ 16384 ⌝ }
     ensures { λ r. ⌜ numbers r ≡ recordOf w (now (l .entry)) ⌝ }
 {
-    let told = cards::parts::parts_of(t, names, l);
+    let told = cards::parts::parts_of(t, rows, l);
     let Told::Line(x) = told else {
         return Record {
             number: 0,
@@ -54,7 +44,7 @@ fn record_of(t: &[u8; 256], names: &[u8; 468], l: &[u8], w: usize) -> Record
             kind: 0,
         };
     };
-    let from = name_start(x.group);
+    let from = cards::parts::name_start(x.group);
     Record {
         number: x.row as u32,
         start: w as u32,
@@ -109,8 +99,9 @@ fn put_line(s: &[u8], folded: bool, copy: &mut [u8], w: usize) -> usize
 }
 
 // Writes the copy and the records of s to the start of their rooms, which are large enough.
-pub fn write_lines(t: &[u8; 256], names: &[u8; 468], s: &[u8], copy: &mut [u8], out: &mut [u32])
+pub fn write_lines(t: &[u8; 256], rows: &[u8; 624], s: &[u8], copy: &mut [u8], out: &mut [u32])
     requires { ⌜ Classes (now t) ⌝ }
+    requires { ⌜ Lists (now rows) ⌝ }
     requires { ⌜ length (now s) ≤ 16384 ⌝ }
     requires { ⌜ (length (copyOf (now s)) ≤ length (now copy)) × (length (recordsOf (now s)) ≤ length (now out)) ⌝ }
     ensures { λ _. ⌜ now (copy .exit) ≡ overlay (copyOf (now (s .entry))) (now (copy .entry)) ⌝ }
@@ -124,7 +115,7 @@ pub fn write_lines(t: &[u8; 256], names: &[u8; 468], s: &[u8], copy: &mut [u8], 
         let end = span.end;
         let folded = span.cr != end;
         let e = put_line(&s[at..end], folded, copy, w);
-        let r = record_of(t, names, &copy[w..e], w);
+        let r = record_of(t, rows, &copy[w..e], w);
         put_record(out, k, r);
         w = e + 2;
         k += 8;

@@ -37,6 +37,12 @@ returns-4 c =
 table-requires : tie.Need-table-requires
 table-requires c κs = search needs
 
+table-requires-2 : tie.Need-table-requires-2
+table-requires-2 c κs = search needs
+
+table-requires-3 : tie.Need-table-requires-3
+table-requires-3 c κs = search needs
+
 walk-requires : tie.Need-walk-requires
 walk-requires c κs = search needs
 
@@ -46,8 +52,8 @@ concluded-requires c κs = search needs
 returns-5 : tie.Need-returns-5
 unfolding judgeOf
 returns-5 c =
-    let e = c .before .before .before .before .before .before .before .before .before .before .first-lone .ensures in
-    c .concluded .ensures ∙ ap (verdictOf _) (c .before .walk .ensures) ∙ sym (simp (le-ltb _ _ (c .before .before .before .before .before .before .before .before .before .before .before .before .if1 .left), ne-eqb _ _ (c .before .before .before .before .before .before .before .before .before .before .before .if2 .left), le-ltb _ _ (rw e at (c .before .before .before .before .before .before .before .before .before .if3 .left)), sym (c .before .before .before .before .before .before .before .before .ends-cr-lf .ensures) ∙ not-false _ (c .before .before .before .before .before .before .before .if4 .left)))
+    let e = c .before .before .before .before .before .before .before .before .before .before .before .first-lone .ensures in
+    c .concluded .ensures ∙ ap (verdictOf _) (c .before .walk .ensures) ∙ sym (simp (le-ltb _ _ (c .before .before .before .before .before .before .before .before .before .before .before .before .before .if1 .left), ne-eqb _ _ (c .before .before .before .before .before .before .before .before .before .before .before .before .if2 .left), le-ltb _ _ (rw e at (c .before .before .before .before .before .before .before .before .before .before .if3 .left)), sym (c .before .before .before .before .before .before .before .before .before .ends-cr-lf .ensures) ∙ not-false _ (c .before .before .before .before .before .before .before .before .if4 .left)))
 
 pub judge-spec : {M : Type 1} → statement M
 judge-spec =
@@ -60,6 +66,8 @@ judge-spec =
     ends-cr-lf-requires
     returns-4
     table-requires
+    table-requires-2
+    table-requires-3
     walk-requires
     concluded-requires
     returns-5)

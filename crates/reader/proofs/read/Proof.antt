@@ -44,16 +44,22 @@ returns-3 c =
 table-requires : tie.Need-table-requires
 table-requires c κs = search needs
 
+table-requires-2 : tie.Need-table-requires-2
+table-requires-2 c κs = search needs
+
 write-lines-requires : tie.Need-write-lines-requires
 write-lines-requires c κs =
-    let a = c .before .before .before .before .before .before .before .before .before .before .before .before .before .before .before .args in
-    let e = sym (c .before .before .before .before .before .before .before .before .before .before .before .judge .ensures) ∙ c .before .before .before .before .before .before .before .before .before .v .given .1 in (
-      c .before .before .before .before .table .ensures,
+    let a = c .before .before .before .before .before .before .before .before .before .before .before .before .before .before .before .before .args in
+    let e = sym (c .before .before .before .before .before .before .before .before .before .before .before .before .judge .ensures) ∙ c .before .before .before .before .before .before .before .before .before .before .v .given .1 in (
+      c .before .before .before .before .before .table .ensures,
       (
-        accepting (a .input .now) _ _ e .short,
+        c .before .before .before .before .table2 .ensures,
         (
-          omega (arith, c .before .before .before .before .before .before .before .copy-length .ensures, c .before .before .before .before .before .before .if1 .left),
-          omega (arith, numbers-counted (a .input .now) (a .copy .now) (a .records .now) _ _ _ e (c .before .before .before .before .before .before .before .copy-length .ensures), c .before .before .before .before .before .if2 .left),
+          accepting (a .input .now) _ _ e .short,
+          (
+            omega (arith, c .before .before .before .before .before .before .before .before .copy-length .ensures, c .before .before .before .before .before .before .before .if1 .left),
+            omega (arith, numbers-counted (a .input .now) (a .copy .now) (a .records .now) _ _ _ e (c .before .before .before .before .before .before .before .before .copy-length .ensures), c .before .before .before .before .before .before .if2 .left),
+          ),
         ),
       ),
     )
@@ -66,10 +72,10 @@ same-length-2 c = search needs
 
 returns-4 : tie.Need-returns-4
 returns-4 c =
-    let a = c .before .before .before .before .before .before .before .before .before .before .before .before .before .before .before .before .before .before .before .before .args in
-    let e = sym (c .before .before .before .before .before .before .before .before .before .before .before .before .before .before .before .before .judge .ensures) ∙ c .before .before .before .before .before .before .before .before .before .before .before .before .before .before .v .given .1 in
+    let a = c .before .before .before .before .before .before .before .before .before .before .before .before .before .before .before .before .before .before .before .before .before .args in
+    let e = sym (c .before .before .before .before .before .before .before .before .before .before .before .before .before .before .before .before .before .judge .ensures) ∙ c .before .before .before .before .before .before .before .before .before .before .before .before .before .before .before .v .given .1 in
     let w = c .before .before .before .before .write-lines .ensures in
-    read-written (a .input .now) (a .copy .now) (a .records .now) _ _ _ e (c .before .before .before .before .before .before .before .before .before .before .before .before .copy-length .ensures) (c .before .before .before .before .before .before .before .before .before .before .before .if1 .left) (c .before .before .before .before .before .before .before .before .before .before .if2 .left) _ _ (w .0) (w .1)
+    read-written (a .input .now) (a .copy .now) (a .records .now) _ _ _ e (c .before .before .before .before .before .before .before .before .before .before .before .before .before .copy-length .ensures) (c .before .before .before .before .before .before .before .before .before .before .before .before .if1 .left) (c .before .before .before .before .before .before .before .before .before .before .before .if2 .left) _ _ (w .0) (w .1)
 
 pub read-spec : {M : Type 1} → statement M
 read-spec =
@@ -84,6 +90,7 @@ read-spec =
     mul-numbers
     returns-3
     table-requires
+    table-requires-2
     write-lines-requires
     same-length
     same-length-2

@@ -9,12 +9,12 @@ returns : tie.Need-returns
 unfolding judgeLine
 returns c = simp (eq-eqb _ _ (c .if1 .taken))
 
-add-t8 : tie.Need-add-t8
-add-t8 c = search needs
+add-t7 : tie.Need-add-t7
+add-t7 c = search needs
 
 returns-2 : tie.Need-returns-2
 unfolding judgeLine
 returns-2 c = simp (ne-eqb _ _ (c .before .if1 .left))
 
 pub judge-line-spec : {M : Type 1} → statement M
-judge-line-spec = tie.close (tie.spec returns add-t8 returns-2)
+judge-line-spec = tie.close (tie.spec returns add-t7 returns-2)

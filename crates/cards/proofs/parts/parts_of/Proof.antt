@@ -1,6 +1,6 @@
 -- Stub: `cards::parts::parts_of` meets its contract. Assumes nothing.
 use borrow.Author.Tests.{eq-eqb, ne-eqb}
-use Rattle.cards.specs.Judge.{toldOf}
+use Rattle.cards.specs.Parts.{toldOf}
 use Rattle.cards.proofs.parts.parts_of.Statement.{statement}
 use Rattle.cards.proofs.parts.parts_of.Tie as tie
 

@@ -18,11 +18,11 @@ use Rattle.reader.proofs.walk.walk.Statement.{statement}
 use Rattle.reader.proofs.walk.walk.Tie as tie
 
 abbrev Inv-loop : tie.InvT-loop
-Inv-loop t names sorts steps s scratch₀ c₀ at₀ scratch c at =
+Inv-loop t rows steps s scratch₀ c₀ at₀ scratch c at =
     (length scratch ≡ 16384) × (c .cards ≤ c .lines) × (c .lines ≤ at) × (judgeLines (rawLines s) 0 freshCard ≡ judgeLines (rawLines (drop at s)) at c)
 
 abbrev μ-loop : tie.MeasureT-loop
-μ-loop t names sorts steps s scratch₀ c₀ at₀ scratch c at =
+μ-loop t rows steps s scratch₀ c₀ at₀ scratch c at =
     length s - at
 
 -- one turn, judged
@@ -65,14 +65,24 @@ judge-span-requires c κs =
     let a = c .before .before .before .before .before .before .before .before .args in
     let l = c .before .before .before .before .before .loop in
     let v = c .before .before .before .line-at in
+    let z = c .before .before .before .before .before .before .before .before .pre in
     let part = take (v .result .end - l .at) (drop (l .at) (a .s .now)) in
     let n = part-length (a .s .now) (l .at) (v .result .end) (c .before .before .before .before .loop-test .taken) (v .ensures .1) (v .ensures .2) in (
-      c .before .before .before .before .before .before .before .before .pre .0,
+      z .0,
       (
-        (l .inv .1, omega (arith, l .inv .2, c .before .before .before .before .before .before .before .before .pre .1)),
+        z .1 .0,
         (
-          omega (arith, unfold-shorter part, l .inv .0, c .before .before .before .before .before .before .before .before .pre .1),
-          whole (a .s .now) (l .at) (v .result .cr) (v .result .end) (v .ensures .0),
+          z .1 .1 .0,
+          (
+            (l .inv .1, omega (arith, l .inv .2, z .1 .1 .1)),
+            (
+              omega (arith, n, z .1 .1 .1),
+              (
+                omega (arith, unfold-shorter part, l .inv .0, z .1 .1 .1),
+                whole (a .s .now) (l .at) (v .result .cr) (v .result .end) (v .ensures .0),
+              ),
+            ),
+          ),
         ),
       ),
     )

@@ -4,7 +4,7 @@ use mathlib.Core.List.{[], _∷_}
 use Prim.Native.Nat.{ℕ, _+_, _-_, _≤_, _<_}
 use native.Mathlib.Omega.{arith}
 use lib.ListN.{length}
-use Rattle.cards.specs.Judge.{nameStart}
+use Rattle.cards.specs.Parts.{nameStart}
 use Rattle.cards.proofs.CardLaws.{told-fits, name-long}
 use Rattle.reader.specs.Outcome.{recordBy, recordOf}
 use borrow.Author.Needs.{needs}
@@ -41,7 +41,7 @@ returns c =
 
 name-start-requires : tie.Need-name-start-requires
 name-start-requires c κs =
-    omega (arith, within (c .before), c .before .before .before .before .before .pre .1)
+    omega (arith, within (c .before), c .before .before .before .before .before .pre .1 .1)
 
 cast-t8 : tie.Need-cast-t8
 cast-t8 c =
@@ -49,15 +49,15 @@ cast-t8 c =
 
 cast-t9 : tie.Need-cast-t9
 cast-t9 c =
-    omega (arith, c .before .before .before .before .before .before .before .pre .1)
+    omega (arith, c .before .before .before .before .before .before .before .pre .1 .1)
 
 cast-t11 : tie.Need-cast-t11
 cast-t11 c =
-    omega (arith, c .before .before .before .before .before .before .before .pre .1)
+    omega (arith, c .before .before .before .before .before .before .before .pre .1 .1)
 
 cast-t12 : tie.Need-cast-t12
 cast-t12 c =
-    omega (arith, within (c .before .before .before .before), c .before .before .before .before .before .before .before .before .pre .1)
+    omega (arith, within (c .before .before .before .before), c .before .before .before .before .before .before .before .before .pre .1 .1)
 
 sub-t13 : tie.Need-sub-t13
 sub-t13 c =
@@ -65,19 +65,19 @@ sub-t13 c =
 
 cast-t14 : tie.Need-cast-t14
 cast-t14 c =
-    omega (arith, within (c .before .before .before .before .before), c .before .before .before .before .before .before .before .before .before .pre .1)
+    omega (arith, within (c .before .before .before .before .before), c .before .before .before .before .before .before .before .before .before .pre .1 .1)
 
 cast-t15 : tie.Need-cast-t15
 cast-t15 c =
-    omega (arith, within (c .before .before .before .before .before .before), c .before .before .before .before .before .before .before .before .before .before .pre .1)
+    omega (arith, within (c .before .before .before .before .before .before), c .before .before .before .before .before .before .before .before .before .before .pre .1 .1)
 
 add-t16 : tie.Need-add-t16
 add-t16 c =
-    omega (arith, within (c .before .before .before .before .before .before .before), c .before .before .before .before .before .before .before .before .before .before .before .pre .1)
+    omega (arith, within (c .before .before .before .before .before .before .before), c .before .before .before .before .before .before .before .before .before .before .before .pre .1 .1)
 
 cast-t17 : tie.Need-cast-t17
 cast-t17 c =
-    omega (arith, within (c .before .before .before .before .before .before .before), c .before .before .before .before .before .before .before .before .before .before .before .pre .1)
+    omega (arith, within (c .before .before .before .before .before .before .before), c .before .before .before .before .before .before .before .before .before .before .before .pre .1 .1)
 
 cast-t18 : tie.Need-cast-t18
 cast-t18 c =

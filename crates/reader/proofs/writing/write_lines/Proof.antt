@@ -16,13 +16,13 @@ use Rattle.reader.proofs.writing.write_lines.Statement.{statement}
 use Rattle.reader.proofs.writing.write_lines.Tie as tie
 
 abbrev Inv-loop : tie.InvT-loop
-Inv-loop t names s copy₀ out₀ at₀ w₀ k₀ copy out at w k =
+Inv-loop t rows s copy₀ out₀ at₀ w₀ k₀ copy out at w k =
     (w ≤ at)
     × Written (copyOf s) (ended (map unfolded (rawLines (drop at s)))) copy₀ copy w
     × Written (recordsOf s) (recordsFrom w (map unfolded (rawLines (drop at s)))) out₀ out k
 
 abbrev μ-loop : tie.MeasureT-loop
-μ-loop t names s copy₀ out₀ at₀ w₀ k₀ copy out at w k =
+μ-loop t rows s copy₀ out₀ at₀ w₀ k₀ copy out at w k =
     length s - at
 
 abbrev At : Type 0
@@ -57,7 +57,7 @@ octets-fit : (c : At) → W c + (length (U c) + 2) ≤ length (c .before .before
 octets-fit c =
     omega (
       arith,
-      room (c .before .before .loop .inv .1) (c .before .before .before .before .before .before .pre .1 .1 .0),
+      room (c .before .before .loop .inv .1) (c .before .before .before .before .before .before .pre .1 .1 .1 .0),
       copy-length-turn (S c) (P c) (c .line-at .result .end) (c .before .loop-test .taken) (c .line-at .ensures .1) (c .line-at .ensures .2),
     )
 
@@ -65,7 +65,7 @@ numbers-fit : (c : At) → c .before .before .loop .k + 8 ≤ length (c .before 
 numbers-fit c =
     omega (
       arith,
-      room (c .before .before .loop .inv .2) (c .before .before .before .before .before .before .pre .1 .1 .1),
+      room (c .before .before .loop .inv .2) (c .before .before .before .before .before .before .pre .1 .1 .1 .1),
       ap length (rt c) ∙ length-append (recordOf (W c) (U c)) (recordsFrom (W c + length (U c) + 2) (R c)),
       record-length (W c) (U c),
     )
@@ -114,7 +114,7 @@ part-record-of-end c =
 record-of-requires : tie.Need-record-of-requires Inv-loop μ-loop
 record-of-requires c κs =
     let q = ap length (written (c .before .before .before .before)) in
-    (c .before .before .before .before .before .before .before .before .before .before .before .before .before .before .pre .0, omega (arith, q, short (c .before .before .before .before .before .before .before .before), c .before .before .before .before .before .before .before .before .before .before .loop .inv .0, c .before .before .before .before .before .before .before .before .before .before .before .before .before .before .pre .1 .0))
+    (c .before .before .before .before .before .before .before .before .before .before .before .before .before .before .pre .0, (c .before .before .before .before .before .before .before .before .before .before .before .before .before .before .pre .1 .0, omega (arith, q, short (c .before .before .before .before .before .before .before .before), c .before .before .before .before .before .before .before .before .before .before .loop .inv .0, c .before .before .before .before .before .before .before .before .before .before .before .before .before .before .pre .1 .1 .0)))
 
 put-record-requires : tie.Need-put-record-requires Inv-loop μ-loop
 put-record-requires c κs =
@@ -122,7 +122,7 @@ put-record-requires c κs =
 
 add-w : tie.Need-add-w Inv-loop μ-loop
 add-w c =
-    omega (arith, c .before .before .before .before .before .before .before .before .before .put-line .ensures .0, short (c .before .before .before .before .before .before .before .before .before .before .before .before .before), c .before .before .before .before .before .before .before .before .before .before .before .before .before .before .before .loop .inv .0, c .before .before .before .before .before .before .before .before .before .before .before .before .before .before .before .before .before .before .before .pre .1 .0)
+    omega (arith, c .before .before .before .before .before .before .before .before .before .put-line .ensures .0, short (c .before .before .before .before .before .before .before .before .before .before .before .before .before), c .before .before .before .before .before .before .before .before .before .before .before .before .before .before .before .loop .inv .0, c .before .before .before .before .before .before .before .before .before .before .before .before .before .before .before .before .before .before .before .pre .1 .1 .0)
 
 add-k : tie.Need-add-k Inv-loop μ-loop
 add-k c =
@@ -130,7 +130,7 @@ add-k c =
 
 add-at : tie.Need-add-at Inv-loop μ-loop
 add-at c =
-    omega (arith, short (c .before .before .before .before .before .before .before .before .before .before .before .before .before), c .before .before .before .before .before .before .before .before .before .before .before .before .before .before .before .before .before .before .before .pre .1 .0)
+    omega (arith, short (c .before .before .before .before .before .before .before .before .before .before .before .before .before), c .before .before .before .before .before .before .before .before .before .before .before .before .before .before .before .before .before .before .before .pre .1 .1 .0)
 
 loop-less : tie.Need-loop-less Inv-loop μ-loop
 loop-less c =

@@ -1,9 +1,9 @@
--- `reader::writing::name_start` meets its contract. Assumes nothing.
+-- Stub: `cards::parts::name_start` meets its contract. Assumes nothing.
 use borrow.Author.Tests.{eq-eqb, ne-eqb}
-use Rattle.cards.specs.Judge.{nameStart}
+use Rattle.cards.specs.Parts.{nameStart}
 use borrow.Author.Needs.{needs}
-use Rattle.reader.proofs.writing.name_start.Statement.{statement}
-use Rattle.reader.proofs.writing.name_start.Tie as tie
+use Rattle.cards.proofs.parts.name_start.Statement.{statement}
+use Rattle.cards.proofs.parts.name_start.Tie as tie
 
 returns : tie.Need-returns
 unfolding nameStart
