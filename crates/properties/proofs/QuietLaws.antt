@@ -51,38 +51,38 @@ module _ (p : ℕ → Bool) (s : List ℕ) (i : ℕ) where
   count-end h = rw (drop-of-length-le s h)
 
 -- octets that each make a text of the shape are a run of it
-put : (a : Shape) (x : ℕ) (xs : List ℕ) → Is a (x ∷ []) → Is (many a) xs → Is (many a) (x ∷ xs)
+pub put : (a : Shape) (x : ℕ) (xs : List ℕ) → Is a (x ∷ []) → Is (many a) xs → Is (many a) (x ∷ xs)
 unfolding Is joined each
 put a x xs h (vs, e, k) = ((x ∷ []) ∷ vs, ap (λ (l : List ℕ). x ∷ l) e, (h, k))
 
-run-many : (a : Shape) (p : ℕ → Bool) → ((x : ℕ) → p x ≡ true → Is a (x ∷ [])) → (v : List ℕ) → allIn p v ≡ true → Is (many a) v
+pub run-many : (a : Shape) (p : ℕ → Bool) → ((x : ℕ) → p x ≡ true → Is a (x ∷ [])) → (v : List ℕ) → allIn p v ≡ true → Is (many a) v
 unfolding Is allIn joined each
 run-many a p f [] e = ([], refl, tt)
 run-many a p f (x ∷ xs) e =
     let h = and-both (p x) (allIn p xs) e in
     put a x xs (f x (h .0)) (run-many a p f xs (h .1))
 
-itself : (p : Octets) (x : ℕ) → holds p x ≡ true → Is (one p) (x ∷ [])
+pub itself : (p : Octets) (x : ℕ) → holds p x ≡ true → Is (one p) (x ∷ [])
 unfolding Is
 itself p x h = (x, h, refl)
 
-bare : (own : Octets) (x : ℕ) → holds own x ≡ true → Is (one own or one backslash then one escapee) (x ∷ [])
+pub bare : (own : Octets) (x : ℕ) → holds own x ≡ true → Is (one own or one backslash then one escapee) (x ∷ [])
 unfolding Is
 bare own x h = inl (x, h, refl)
 
 -- the first of a list's texts goes on by an octet; a mark opens a new one
 module _ (mark own : Octets) where
-  grow : (x : ℕ) (xs : List ℕ) → holds own x ≡ true → Is (split mark (textOf own)) xs → Is (split mark (textOf own)) (x ∷ xs)
+  pub grow : (x : ℕ) (xs : List ℕ) → holds own x ≡ true → Is (split mark (textOf own)) xs → Is (split mark (textOf own)) (x ∷ xs)
   unfolding Is
   grow x xs h (u, w, e, f, g) =
       (x ∷ u, w, ap (λ (l : List ℕ). x ∷ l) e, put (one own or one backslash then one escapee) x u (bare own x h) f, g)
 
-  cut : (x : ℕ) (xs : List ℕ) → holds mark x ≡ true → Is (split mark (textOf own)) xs → Is (split mark (textOf own)) (x ∷ xs)
+  pub cut : (x : ℕ) (xs : List ℕ) → holds mark x ≡ true → Is (split mark (textOf own)) xs → Is (split mark (textOf own)) (x ∷ xs)
   unfolding Is joined each
   cut x xs h (u, w, e, f, (vs, q, k)) =
       ([], x ∷ xs, refl, ([], refl, tt), ((x ∷ u) ∷ vs, ap (λ (l : List ℕ). x ∷ l) (e ∙ ap (λ (l : List ℕ). u ++ l) q), ((x ∷ [], u, refl, (x, h, refl), f), k)))
 
-  nothing : Is (split mark (textOf own)) []
+  pub nothing : Is (split mark (textOf own)) []
   unfolding Is joined each
   nothing = ([], [], refl, ([], refl, tt), ([], refl, tt))
 
@@ -105,7 +105,7 @@ comma-or x e = two (eqb x 92) (eqb x 44) e
     two false true e = inl refl
     two false false e = inr refl
 
-semicolon-or : (x : ℕ) → holds plain x ≡ true → (holds semicolon x ≡ true) ⊎ ((holds inner x ≡ true) × (holds semicolon x ≡ false))
+pub semicolon-or : (x : ℕ) → holds plain x ≡ true → (holds semicolon x ≡ true) ⊎ ((holds inner x ≡ true) × (holds semicolon x ≡ false))
 unfolding holds
 semicolon-or x e = three (eqb x 92) (eqb x 44) (eqb x 59) e
   where
@@ -121,20 +121,20 @@ comma-no-semicolon x e = ne-eqb x 59 (λ f. omega (arith, eqb-true x 44 e))
 
 -- components: an octet of the first one, a comma in it, a semicolon that ends it
 module _ (x : ℕ) (xs : List ℕ) where
-  part-first : (n : ℕ) → ((u : List ℕ) → Is component u → Is component (x ∷ u)) → Is (parts (suc n)) xs → Is (parts (suc n)) (x ∷ xs)
+  pub part-first : (n : ℕ) → ((u : List ℕ) → Is component u → Is component (x ∷ u)) → Is (parts (suc n)) xs → Is (parts (suc n)) (x ∷ xs)
   unfolding Is parts
   part-first zero f k = f xs k
   part-first (suc n) f (u, w, e, k, g) = (x ∷ u, w, ap (λ (l : List ℕ). x ∷ l) e, f u k, g)
 
-  part-next : (n : ℕ) → holds semicolon x ≡ true → Is (parts (suc n)) xs → Is (parts (suc (suc n))) (x ∷ xs)
+  pub part-next : (n : ℕ) → holds semicolon x ≡ true → Is (parts (suc n)) xs → Is (parts (suc (suc n))) (x ∷ xs)
   unfolding Is parts component
   part-next n h k = ([], x ∷ xs, refl, nothing comma inner, (x ∷ [], xs, refl, (x, h, refl), k))
 
-part-own : (x : ℕ) → holds inner x ≡ true → (u : List ℕ) → Is component u → Is component (x ∷ u)
+pub part-own : (x : ℕ) → holds inner x ≡ true → (u : List ℕ) → Is component u → Is component (x ∷ u)
 unfolding component
 part-own x h u k = grow comma inner x u h k
 
-part-comma : (x : ℕ) → holds comma x ≡ true → (u : List ℕ) → Is component u → Is component (x ∷ u)
+pub part-comma : (x : ℕ) → holds comma x ≡ true → (u : List ℕ) → Is component u → Is component (x ∷ u)
 unfolding component
 part-comma x h u k = cut comma inner x u h k
 
@@ -160,7 +160,7 @@ run-parts (x ∷ xs) e =
     (semicolon-or x k))
     (comma-or x (h .0))
 
-whole : (v : List ℕ) → Is (many (one any)) v
+pub whole : (v : List ℕ) → Is (many (one any)) v
 unfolding Is joined each holds
 whole [] = ([], refl, tt)
 whole (x ∷ xs) = put (one any) x xs (x, refl, refl) (whole xs)

@@ -8,7 +8,8 @@ use Rattle.octets.specs.Room.{overlay}
 use Rattle.lines.specs.Folds.{unfolded}
 use Rattle.lines.specs.Logical.{rawLines}
 use Rattle.cards.specs.State.{freshCard}
-use Rattle.cards.specs.Parts.{toldOf, nameStart}
+use Rattle.lines.specs.Places.{nameStart}
+use Rattle.cards.specs.Parts.{toldOf}
 use Rattle.cards.specs.Judge.{judgeLine}
 use Rattle.cards.specs.declared.state.Card.{Card}
 use Rattle.cards.specs.declared.state.Step.{Step}

@@ -4,7 +4,7 @@ use mathlib.Core.List.{[], _∷_}
 use Prim.Native.Nat.{ℕ, _+_, _-_, _≤_, _<_}
 use native.Mathlib.Omega.{arith}
 use lib.ListN.{length}
-use Rattle.cards.specs.Parts.{nameStart}
+use Rattle.lines.specs.Places.{nameStart}
 use Rattle.cards.proofs.CardLaws.{told-fits, name-long}
 use Rattle.reader.specs.Outcome.{recordBy, recordOf}
 use borrow.Author.Needs.{needs}
