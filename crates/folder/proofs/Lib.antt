@@ -1,0 +1,4 @@
+pub mod PieceLaws
+pub mod Turns
+pub mod Puts
+pub mod TextLaws
