@@ -43,7 +43,7 @@ head-not (more a b n) = a
 tail-not : {x : ℕ} {xs : List ℕ} → NoEnd (x ∷ xs) → NoEnd xs
 tail-not (more a b n) = n
 
-length-goes : (x : ℕ) (xs : List ℕ) → (x ≡ 13 → ⊥) → lineLength (x ∷ xs) ≡ suc (lineLength xs)
+pub length-goes : (x : ℕ) (xs : List ℕ) → (x ≡ 13 → ⊥) → lineLength (x ∷ xs) ≡ suc (lineLength xs)
 unfolding lineLength scan
 length-goes x xs h = ap (λ (k : ℕ). after k (scan lineStep xs)) (line-octet (x ∷ xs) 0 h)
 

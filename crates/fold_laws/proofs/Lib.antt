@@ -1,0 +1,5 @@
+pub mod CutLaws
+pub mod Greedy
+pub mod BackLaws
+pub mod PhysicalLaws
+pub mod WrittenLaws

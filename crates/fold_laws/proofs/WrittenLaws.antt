@@ -1,0 +1,62 @@
+-- The laws of the octets that folding a text has written. Assumes nothing.
+use mathlib.Core.Path.{_≡_, refl, sym, ap, _∙_}
+use mathlib.Core.Bool.{Bool, true, false}
+use mathlib.Core.List.{List, _++_}
+use Prim.Native.Nat.{ℕ, _≤_}
+use native.Mathlib.Omega.{arith}
+use lib.Dec.{ltb}
+use lib.ListN.{length, take, drop}
+use lib.Seq.{take-append-seam, drop-append-seam}
+use borrow.Author.Tests.{ltb-false}
+use Rattle.octets.specs.Pick.{pick}
+use Rattle.octets.specs.Room.{Filled, filled, refuse, overlay, fill, fillBounded}
+use Rattle.octets.specs.declared.rooms.Written.{Written}
+use Rattle.octets.specs.declared.rooms.Written.the-variants.{Wrote, Refused}
+use Rattle.lines.specs.Logical.{rawLines}
+use Rattle.folder.specs.Pieces.{foldedLines, Clean, All}
+use Rattle.folder.specs.Copies.{Unled}
+use Rattle.fold_laws.specs.Written.{Folds}
+use Rattle.fold_laws.proofs.BackLaws.{lines-back, twice}
+use Rattle.fold_laws.proofs.PhysicalLaws.{short-lines, whole-lines}
+
+-- The folded form of clean lines, none led by a space or tab.
+pub folds : (ls : List (List ℕ)) → All Clean ls → All Unled ls → Folds ls (foldedLines ls)
+folds ls c u = record { short = short-lines ls c; whole = whole-lines ls c; back = lines-back ls c u; again = twice ls c u }
+
+-- t stands at the start of the room, in n octets, and behind it the room is as it was
+pub record InRoom (t room after : List ℕ) (n : ℕ) : Type 0 where
+  pub count : n ≡ length t
+  pub bound : n ≤ 16384
+  pub written : take n after ≡ t
+  pub left : drop n after ≡ drop n room
+
+never : (n k p : ℕ) → Wrote n ≡ Refused k p → ⊥
+never n k p e = let z : _≡_ {A = ℕ} 0 1 = cc in omega arith
+
+module _ (t room after : List ℕ) where
+  wrote-by : (n : ℕ) (a b : Bool) → ltb 16384 (length t) ≡ a
+      → filled (Wrote n) after ≡ pick a (refuse 16 16384 room) (pick b (refuse 15 (length t) room) (filled (Wrote (length t)) (overlay t room)))
+      → InRoom t room after n
+  wrote-by n true b p e = absurd (never n 16 16384 (ap (λ (x : Filled). x .answer) e))
+  wrote-by n false true p e = absurd (never n 15 (length t) (ap (λ (x : Filled). x .answer) e))
+  wrote-by n false false p e =
+      let a : Wrote n ≡ Wrote (length t) = ap (λ (x : Filled). x .answer) e in
+      let m : n ≡ length t = cc in
+      let f : after ≡ overlay t room = ap (λ (x : Filled). x .room) e in
+      record {
+        count = m;
+        bound = omega (arith, ltb-false 16384 (length t) p);
+        written = rw (m, f) (take-append-seam t (drop (length t) room));
+        left = rw (m, f) (drop-append-seam t (drop (length t) room));
+      }
+
+  -- an answer that octets were written says which
+  pub wrote : (n : ℕ) → filled (Wrote n) after ≡ fillBounded t room → InRoom t room after n
+  unfolding fillBounded fill
+  wrote n e = wrote-by n (ltb 16384 (length t)) (ltb (length room) (length t)) refl e
+
+-- The octets that folding a text has written, read off the room.
+pub written-folds : (s room after : List ℕ) (n : ℕ) → All Clean (rawLines s) → All Unled (rawLines s)
+    → filled (Wrote n) after ≡ fillBounded (foldedLines (rawLines s)) room → Folds (rawLines s) (take n after)
+written-folds s room after n c u e =
+    rw (wrote (foldedLines (rawLines s)) room after n e .written) (folds (rawLines s) c u)

@@ -1,0 +1,3 @@
+pub mod Cuttings
+pub mod Physical
+pub mod Written
