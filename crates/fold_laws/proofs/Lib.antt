@@ -3,3 +3,4 @@ pub mod Greedy
 pub mod BackLaws
 pub mod PhysicalLaws
 pub mod WrittenLaws
+pub mod Cases

@@ -1,4 +1,4 @@
--- The physical lines of folded text: short, and whole characters each. Assumes nothing.
+-- The physical lines of folded text: each has at most 75 octets, whole characters, and ends in CR LF. Assumes nothing.
 use mathlib.Core.Path.{_≡_, refl, sym, ap, _∙_}
 use mathlib.Core.Bool.{false}
 use mathlib.Core.List.{List, [], _∷_, _++_, append-assoc}
@@ -11,13 +11,69 @@ use Rattle.octets.specs.Characters.{allowed}
 use Rattle.octets.proofs.Chars.{ascii}
 use Rattle.octets.proofs.Chains.{Chars, end, start, NoEnd, none, more, no-end}
 use Rattle.folder.specs.Pieces.{first, later, pieces, joined, folded, foldedLines, Clean, All}
+use Rattle.folder.specs.Copies.{ended}
 use Rattle.folder.proofs.PieceLaws.{first-fits}
 use Rattle.folder.proofs.Turns.{clean-chars, chars-clean}
 use Rattle.fold_laws.specs.Cuttings.{UpTo}
 use Rattle.fold_laws.specs.Physical.{upto, behind, physical}
 use Rattle.fold_laws.proofs.CutLaws.{Pieces, nil, one, first-whole, later-good}
 
--- a line with no CR or LF in it, ended
+-- whole characters, at most 75 octets
+abbrev Good : List ℕ → Type 0
+Good l = (length l ≤ 75) × Chars (allowed false) 0 l
+
+-- a space before a piece is a character of its own
+spaced : {q : List ℕ} → Chars (allowed false) 0 q → Chars (allowed false) 0 (32 ∷ q)
+unfolding allowed valued
+spaced {q} c = start refl (ascii (32 ∷ q) 0 (omega arith) (omega arith)) c
+
+-- pieces as physical lines: each later one is led by a space; then other lines
+unfoldable pub led : List (List ℕ) → List (List ℕ) → List (List ℕ)
+led [] rest = rest
+led (q ∷ qs) rest = (32 ∷ q) ∷ led qs rest
+
+-- the physical lines of logical lines
+unfoldable pub physicalOf : List (List ℕ) → List (List ℕ)
+physicalOf [] = []
+physicalOf (l ∷ ls) = first l 75 ∷ led (later l 75) (physicalOf ls)
+
+joined-ended : (p : List ℕ) (ps rest : List (List ℕ)) → (joined (p ∷ ps) ++ (13 ∷ 10 ∷ [])) ++ ended rest ≡ ended (p ∷ led ps rest)
+unfolding joined led ended
+joined-ended p [] rest = append-assoc p (13 ∷ 10 ∷ []) (ended rest)
+joined-ended p (q ∷ qs) rest =
+    ap (λ (l : List ℕ). l ++ ended rest) (append-assoc p (13 ∷ 10 ∷ 32 ∷ joined (q ∷ qs)) (13 ∷ 10 ∷ []))
+    ∙ append-assoc p (13 ∷ 10 ∷ 32 ∷ (joined (q ∷ qs) ++ (13 ∷ 10 ∷ []))) (ended rest)
+    ∙ ap (λ (l : List ℕ). p ++ (13 ∷ 10 ∷ 32 ∷ l)) (joined-ended q qs rest)
+
+-- Folded text is its physical lines, each ended by CR LF.
+pub lines-ended : (ls : List (List ℕ)) → foldedLines ls ≡ ended (physicalOf ls)
+unfolding foldedLines physicalOf ended folded pieces
+lines-ended [] = refl
+lines-ended (l ∷ ls) =
+    ap (λ (t : List ℕ). (joined (first l 75 ∷ later l 75) ++ (13 ∷ 10 ∷ [])) ++ t) (lines-ended ls)
+    ∙ joined-ended (first l 75) (later l 75) (physicalOf ls)
+
+led-good : {ps : List (List ℕ)} → Pieces 74 ps → (rest : List (List ℕ)) → All Good rest → All Good (led ps rest)
+unfolding led All
+led-good nil rest a = a
+led-good (one w b g) rest a = ((omega arith, spaced w), led-good g rest a)
+
+good-lines : (ls : List (List ℕ)) → All Clean ls → All Good (physicalOf ls)
+unfolding physicalOf All
+good-lines [] c = tt
+good-lines (l ∷ ls) c =
+    let w = clean-chars l (c .0) in
+    ((first-fits w 75 (omega arith), first-whole w 75 (omega arith)), led-good (later-good w 75 (omega arith)) (physicalOf ls) (good-lines ls (c .1)))
+
+pub clean-lines : (ls : List (List ℕ)) → All Clean ls → All Clean (physicalOf ls)
+unfolding All
+clean-lines ls c = each (physicalOf ls) (good-lines ls c)
+  where
+    each : (ps : List (List ℕ)) → All Good ps → All Clean ps
+    each [] a = tt
+    each (p ∷ ps) a = (chars-clean p (a .0 .1), each ps (a .1))
+
+-- they are what is read off the octets, with the empty line behind the last CR LF
 upto-run : {p : List ℕ} → NoEnd p → (t : List ℕ) → upto (p ++ (13 ∷ t)) ≡ p
 unfolding upto
 upto-run none t = refl
@@ -32,52 +88,23 @@ physical-line : {p : List ℕ} → NoEnd p → (t : List ℕ) → physical (p ++
 unfolding physical
 physical-line n t = rw (upto-run n (10 ∷ t), behind-run n t)
 
--- whole characters, at most 75 octets
-abbrev Good : List ℕ → Type 0
-Good l = (length l ≤ 75) × Chars (allowed false) 0 l
-
--- a space before a piece is a character of its own
-spaced : {q : List ℕ} → Chars (allowed false) 0 q → Chars (allowed false) 0 (32 ∷ q)
-unfolding allowed valued
-spaced {q} c = start refl (ascii (32 ∷ q) 0 (omega arith) (omega arith)) c
-
-joined-space : (q : List ℕ) (qs : List (List ℕ)) → 32 ∷ joined (q ∷ qs) ≡ joined ((32 ∷ q) ∷ qs)
-unfolding joined
-joined-space q [] = refl
-joined-space q (p ∷ ps) = refl
-
-good-pieces : {p : List ℕ} {ps : List (List ℕ)} → Good p → Pieces 74 ps → (t : List ℕ) → All Good (physical t)
-    → All Good (physical (joined (p ∷ ps) ++ (13 ∷ 10 ∷ t)))
-unfolding joined All
-good-pieces h nil t a = rw (physical-line (no-end (h .1)) t) (h, a)
-good-pieces {p} h (one {p = q} {ps = qs} w b g) t a =
-    let r = joined (q ∷ qs) ++ (13 ∷ 10 ∷ t) in
-    let z : 32 ∷ r ≡ joined ((32 ∷ q) ∷ qs) ++ (13 ∷ 10 ∷ t) = ap (λ (l : List ℕ). l ++ (13 ∷ 10 ∷ t)) (joined-space q qs) in
-    let y : physical ((p ++ (13 ∷ 10 ∷ 32 ∷ joined (q ∷ qs))) ++ (13 ∷ 10 ∷ t)) ≡ p ∷ physical (joined ((32 ∷ q) ∷ qs) ++ (13 ∷ 10 ∷ t)) =
-    ap physical (append-assoc p (13 ∷ 10 ∷ 32 ∷ joined (q ∷ qs)) (13 ∷ 10 ∷ t)) ∙ physical-line (no-end (h .1)) (32 ∷ r) ∙ ap (λ (l : List ℕ). p ∷ physical l) z in
-    rw y (h, good-pieces {p = 32 ∷ q} (omega arith, spaced w) g t a)
-
-good-none : All Good (physical [])
+no-line : (P : List ℕ → Type 0) → P [] → All P (physical [])
 unfolding All physical upto behind
-good-none = ((omega arith, end), tt)
+no-line P z = (z, tt)
 
-good-lines : (ls : List (List ℕ)) → All Clean ls → All Good (physical (foldedLines ls))
-unfolding foldedLines All folded pieces
-good-lines [] c = good-none
-good-lines (l ∷ ls) c =
-    let w = clean-chars l (c .0) in
-    rw (append-assoc (joined (first l 75 ∷ later l 75)) (13 ∷ 10 ∷ []) (foldedLines ls))
-    (good-pieces (first-fits w 75 (omega arith), first-whole w 75 (omega arith)) (later-good w 75 (omega arith)) (foldedLines ls) (good-lines ls (c .1)))
+all-physical : (P : List ℕ → Type 0) → ((l : List ℕ) → Good l → P l) → (ps : List (List ℕ)) → All Good ps → All P (physical (ended ps))
+unfolding ended All
+all-physical P f [] a = no-line P (f [] (omega arith, end))
+all-physical P f (p ∷ ps) a = rw (physical-line (no-end (a .0 .1)) (ended ps)) (f p (a .0), all-physical P f ps (a .1))
 
-all-map : {P Q : List ℕ → Type 0} → ((l : List ℕ) → P l → Q l) → (ls : List (List ℕ)) → All P ls → All Q ls
-unfolding All
-all-map f [] a = tt
-all-map f (l ∷ ls) a = (f l (a .0), all-map f ls (a .1))
+module _ (ls : List (List ℕ)) (c : All Clean ls) where
+  read-off : (P : List ℕ → Type 0) → ((l : List ℕ) → Good l → P l) → All P (physical (foldedLines ls))
+  read-off P f = rw (lines-ended ls) (all-physical P f (physicalOf ls) (good-lines ls c))
 
--- Each physical line of the folded text has at most 75 octets.
-pub short-lines : (ls : List (List ℕ)) → All Clean ls → All (UpTo 75) (physical (foldedLines ls))
-short-lines ls c = all-map (λ l h. h .0) (physical (foldedLines ls)) (good-lines ls c)
+  -- Each physical line of the folded text has at most 75 octets.
+  pub short-lines : All (UpTo 75) (physical (foldedLines ls))
+  short-lines = read-off (UpTo 75) (λ l h. h .0)
 
--- Each is whole characters.
-pub whole-lines : (ls : List (List ℕ)) → All Clean ls → All Clean (physical (foldedLines ls))
-whole-lines ls c = all-map (λ l h. chars-clean l (h .1)) (physical (foldedLines ls)) (good-lines ls c)
+  -- Each is whole characters.
+  pub whole-lines : All Clean (physical (foldedLines ls))
+  whole-lines = read-off Clean (λ l h. chars-clean l (h .1))
