@@ -4,8 +4,7 @@ use mathlib.Core.Bool.{false}
 use mathlib.Core.List.{List, [], _∷_, _++_, map, flatten, append-nil, append-assoc}
 use Prim.Native.Nat.{ℕ, _+_}
 use native.Mathlib.Omega.{arith}
-use lib.ListN.{length, getD, length-append}
-use borrow.Author.Tests.{ne-eqb}
+use lib.ListN.{length, length-append}
 use Rattle.octets.specs.Scan.{scan, gather}
 use Rattle.octets.specs.Characters.{allowed}
 use Rattle.octets.proofs.Chains.{Chars, end, start, NoEnd, none, more, no-end, char-four}

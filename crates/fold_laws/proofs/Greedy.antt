@@ -2,15 +2,15 @@
 use mathlib.Core.Path.{_≡_, refl, sym, ap, _∙_}
 use mathlib.Core.Bool.{Bool}
 use mathlib.Core.List.{List, [], _∷_, _++_, flatten}
-use Prim.Native.Nat.{ℕ, suc, pred, _+_, _<_, _≤_}
+use Prim.Native.Nat.{ℕ, pred, _<_, _≤_}
 use native.Mathlib.Omega.{arith}
 use lib.ListN.{length}
 use Rattle.octets.specs.Characters.{charLength, lengthBy}
 use Rattle.octets.proofs.Chains.{Chars, end, start, inner, char-more, char-inside, char-four}
-use Rattle.folder.specs.Pieces.{first, later, pieces, Clean, All}
+use Rattle.folder.specs.Pieces.{first, later, pieces, All}
 use Rattle.folder.proofs.PieceLaws.{first-over, first-goes, later-over, later-goes, over-yes, over-no, over-tail}
 use Rattle.folder.proofs.Turns.{clean-chars}
-use Rattle.fold_laws.specs.Cuttings.{UpTo, Full, AllFull, Cutting}
+use Rattle.fold_laws.specs.Cuttings.{Full, AllFull, Cutting}
 use Rattle.fold_laws.proofs.CutLaws.{Pieces, nil, one, to-pieces}
 
 -- ours, from a place where r octets are left, is q and then qs

@@ -1,3 +1,4 @@
+-- The laws of folding. Assumes nothing.
 pub mod CutLaws
 pub mod Greedy
 pub mod BackLaws

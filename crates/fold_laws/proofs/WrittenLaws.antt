@@ -1,7 +1,7 @@
 -- The laws of the octets that folding a text has written. Assumes nothing.
-use mathlib.Core.Path.{_≡_, refl, sym, ap, _∙_}
+use mathlib.Core.Path.{_≡_, refl, ap}
 use mathlib.Core.Bool.{Bool, true, false}
-use mathlib.Core.List.{List, _++_}
+use mathlib.Core.List.{List}
 use Prim.Native.Nat.{ℕ, _≤_}
 use native.Mathlib.Omega.{arith}
 use lib.Dec.{ltb}
@@ -10,7 +10,6 @@ use lib.Seq.{take-append-seam, drop-append-seam}
 use borrow.Author.Tests.{ltb-false}
 use Rattle.octets.specs.Pick.{pick}
 use Rattle.octets.specs.Room.{Filled, filled, refuse, overlay, fill, fillBounded}
-use Rattle.octets.specs.declared.rooms.Written.{Written}
 use Rattle.octets.specs.declared.rooms.Written.the-variants.{Wrote, Refused}
 use Rattle.lines.specs.Logical.{rawLines}
 use Rattle.folder.specs.Pieces.{foldedLines, Clean, All}

@@ -9,7 +9,7 @@ use lib.Dec.{eqb}
 use borrow.Author.Tests.{eqb-true, eqb-false}
 use Rattle.octets.specs.Classes.{run, more as onward}
 use Rattle.octets.specs.Scan.{scan, after}
-use Rattle.octets.proofs.Chains.{NoEnd, none, more, no-end}
+use Rattle.octets.proofs.Chains.{NoEnd, more, no-end}
 use Rattle.lines.specs.Folds.{foldAt, lineStep, lineLength, notCr}
 use Rattle.lines.specs.Logical.{rawLines}
 use Rattle.lines.proofs.FoldLaws.{line-fold, line-stop, line-octet}

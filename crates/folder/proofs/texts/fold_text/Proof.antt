@@ -1,5 +1,5 @@
 -- `folder::texts::fold_text` meets its contract. Assumes nothing.
-use mathlib.Core.Path.{_≡_, sym, ap, _∙_}
+use mathlib.Core.Path.{_≡_, sym, _∙_}
 use native.Mathlib.Omega.{arith}
 use borrow.Author.Needs.{needs}
 use Rattle.octets.proofs.RoomLaws.{fill-short, fill-fits, over-bound, within-bound}
