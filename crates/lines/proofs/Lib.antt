@@ -2,3 +2,8 @@ pub mod FoldLaws
 pub mod HopLaws
 pub mod QuickLaws
 pub mod LineLaws
+pub mod ParseLaws
+pub mod PartLaws
+pub mod Steps
+pub mod FirstSteps
+pub mod Inside

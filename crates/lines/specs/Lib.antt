@@ -1,2 +1,7 @@
 pub mod Folds
 pub mod Logical
+pub mod Parse
+pub mod Grammar
+pub mod Rule
+pub mod Places
+pub mod First

@@ -1,8 +1,8 @@
 -- The laws of `charLength`, `unit` and `firstBad` at a place of a list. Assumes nothing.
-use mathlib.Core.Path.{_≡_, refl, sym, ap, _∙_}
+use mathlib.Core.Path.{_≡_, refl, sym, _∙_}
 use mathlib.Core.Bool.{Bool, true, false, not, _&&_, _||_, and-false}
-use mathlib.Core.List.{List, [], _∷_}
-use Prim.Native.Nat.{ℕ, zero, suc, _+_, _-_, _<_, _≤_}
+use mathlib.Core.List.{List}
+use Prim.Native.Nat.{ℕ, _+_, _-_, _<_, _≤_}
 use native.Mathlib.Nat.{add-zero}
 use native.Mathlib.Omega.{arith}
 use lib.Dec.{leb, ltb}
@@ -11,8 +11,7 @@ use lib.Seq.{getD-drop}
 use borrow.Author.Tests.{not-true, not-false, lt-ltb, le-leb, leb-true, eq-eqb, ne-eqb}
 use Rattle.octets.specs.Characters.{lengthBy, second, tail, rest, charLength, allowed, unit, firstBad}
 use Rattle.octets.specs.Pick.{pick}
-use Rattle.octets.specs.Scan.{after, scan}
-use Rattle.octets.specs.Classes.{valued, has}
+use Rattle.octets.specs.Classes.{has}
 use Rattle.octets.proofs.Masks.{has-valued}
 use Rattle.octets.proofs.Scans.{scan-stop, scan-step, scan-end, scan-le}
 

@@ -1,3 +1,4 @@
+-- The laws that the proofs of `octets` and of the crates above it cite. Assumes nothing.
 pub mod Table
 pub mod Runs
 pub mod Masks

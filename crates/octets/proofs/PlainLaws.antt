@@ -2,15 +2,15 @@
 use mathlib.Core.Path.{_≡_, refl, sym, ap, _∙_}
 use mathlib.Core.Bool.{Bool, true, false, not, _&&_, _||_, and-true, and-false, and-assoc, or-true}
 use mathlib.Core.List.{List, [], _∷_}
-use Prim.Native.Nat.{ℕ, zero, suc, _+_, _<_, _≤_}
+use Prim.Native.Nat.{ℕ, suc, _+_, _<_, _≤_}
 use native.Mathlib.Numerals.{add-one}
 use native.Mathlib.Omega.{arith}
-use lib.Dec.{eqb, ltb, leb}
-use lib.Bits.{bitOr, bitAnd, or-zero-r, or-add-and, and-le-l}
+use lib.Dec.{eqb, ltb}
+use lib.Bits.{bitOr, or-zero-r, or-add-and, and-le-l}
 use lib.ListN.{length, getD, drop, drop-of-length-le}
 use lib.Seq.{drop-cons}
 use borrow.Author.Tests.{ne-eqb, eqb-true, ltb-false, le-leb}
-use Rattle.octets.specs.Classes.{bit, within, valued}
+use Rattle.octets.specs.Classes.{bit, valued}
 use Rattle.octets.specs.Scan.{after, scan}
 use Rattle.octets.proofs.Chars.{ascii}
 use Rattle.octets.specs.Characters.{odd, allPlain, allowed, unit, firstBad}
@@ -42,7 +42,7 @@ unfolding odd valued
 plain-octet x e = by (ltb 126 x) (ltb x 32) (eqb x 9) refl refl refl e
   where
     by : (a b n : Bool) → ltb 126 x ≡ a → ltb x 32 ≡ b → eqb x 9 ≡ n → (a || (b && not n)) ≡ false
-        → (x < 127) × ((eqb x 9 || (within 32 126 x || leb 128 x)) ≡ true)
+        → (x < 127) × (valued x ≡ true)
     by true b n p q r z = let w : _≡_ {A = ℕ} 0 1 = cc in absurd (omega arith)
     by false true true p q r z = (omega (arith, eqb-true x 9 r), simp r)
     by false true false p q r z = let w : _≡_ {A = ℕ} 0 1 = cc in absurd (omega arith)

@@ -1,12 +1,12 @@
 -- The outcomes of writing to lent room, by what was measured: n is the count of the octets. Assumes nothing.
-use mathlib.Core.Path.{_≡_, sym, ap, _∙_}
+use mathlib.Core.Path.{_≡_}
 use mathlib.Core.List.{List, _++_}
 use Prim.Native.Nat.{ℕ, _<_, _≤_}
 use native.Mathlib.Omega.{arith}
 use lib.ListN.{length, drop}
 use borrow.Author.Tests.{lt-ltb, le-ltb}
-use Rattle.octets.specs.Room.{Filled, filled, refuse, overlay, fill, fillBounded}
-use Rattle.octets.specs.declared.rooms.Written.the-variants.{Wrote, Refused}
+use Rattle.octets.specs.Room.{filled, refuse, fill, fillBounded}
+use Rattle.octets.specs.declared.rooms.Written.the-variants.{Wrote}
 
 module _ (xs room : List ℕ) (n : ℕ) (e : n ≡ length xs) where
   pub fill-short : length room < n → refuse 15 n room ≡ fill xs room

@@ -2,11 +2,11 @@
 -- Assumes nothing.
 use mathlib.Core.Path.{_≡_, refl, sym, ap, _∙_}
 use mathlib.Core.List.{List, [], _∷_, _++_}
-use Prim.Native.Nat.{ℕ, zero, suc, pred, _+_, _-_, _<_, _≤_}
+use Prim.Native.Nat.{ℕ, zero, suc, pred, _+_, _<_, _≤_}
 use native.Mathlib.Nat.{add-zero, zero-add, suc-add, le-of-suc-le-suc, not-suc-le-zero}
 use native.Mathlib.Omega.{arith}
 use lib.ListN.{length, drop, drop-of-length-le, length-drop}
-use lib.Seq.{drop-drop, drop-nil, drop-cons}
+use lib.Seq.{drop-drop}
 use Rattle.octets.specs.Scan.{after, scan, gather}
 
 skip : (f : List ℕ → ℕ) (l : List ℕ) (k : ℕ) → k ≤ length l → scan f l k ≡ k + scan f (drop k l) 0

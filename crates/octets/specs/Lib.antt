@@ -1,3 +1,4 @@
+-- The definitions that the contracts of `octets` cite. Assumes nothing.
 pub mod Pick
 pub mod Scan
 pub mod Room

@@ -1,7 +1,7 @@
 // RFC 3629: the length of a character, and the first octet of a text that is not allowed or starts none.
 ghost use mathlib.Core.Path.{_≡_};
-ghost use Prim.Native.Nat.{_+_, _<_, _≤_};
-ghost use lib.ListN.{length, drop, getD};
+ghost use Prim.Native.Nat.{_<_};
+ghost use lib.ListN.{length, drop};
 ghost use Rattle.octets.specs.Classes.{Classes, within};
 ghost use Rattle.octets.specs.Characters.{lengthBy, second, tail, charLength, allowed, unit, firstBad};
 

@@ -1,10 +1,9 @@
 // Plain text: one look at each octet with no way out, so that it is compiled to vectors.
 ghost use mathlib.Core.Path.{_≡_};
-ghost use mathlib.Core.Bool.{not};
 ghost use Rattle.octets.specs.Classes.{bit};
 ghost use Rattle.octets.specs.Characters.{odd, allPlain};
 
-// 1 for an octet that is neither, 0 for one that is.
+// 1 for an octet that is neither a tab nor one of 20-7E, 0 for any other.
 fn odd_bit(b: u8) -> u8
     ensures { λ r. ⌜ r ≡ bit (odd b) 1 ⌝ }
 {

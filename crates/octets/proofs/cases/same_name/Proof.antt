@@ -1,10 +1,10 @@
 -- `octets::cases::same_name` meets its contract. Assumes nothing.
 use Rattle.octets.proofs.CaseLaws.{same-length, same-differ, same-next, same-over}
-use Rattle.octets.specs.Cases.{same, lower}
-use lib.ListN.{length, drop, getD, length-drop}
+use Rattle.octets.specs.Cases.{same}
+use lib.ListN.{length, drop}
 use native.Mathlib.Omega.{arith}
-use Prim.Native.Nat.{ℕ, suc, _+_, _-_, _<_, _≤_}
-use mathlib.Core.Path.{_≡_, sym, ap, _∙_, refl}
+use Prim.Native.Nat.{_-_, _<_, _≤_}
+use mathlib.Core.Path.{_≡_, sym, _∙_, refl}
 use borrow.Author.Needs.{needs}
 use Rattle.octets.proofs.cases.same_name.Statement.{statement}
 use Rattle.octets.proofs.cases.same_name.Tie as tie

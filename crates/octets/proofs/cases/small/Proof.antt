@@ -1,9 +1,6 @@
 -- `octets::cases::small` meets its contract. Assumes nothing.
 use Rattle.octets.proofs.CaseLaws.{lower-below, lower-above, lower-capital}
-use lib.ListN.{length, drop, getD, length-drop}
-use native.Mathlib.Omega.{arith}
-use Prim.Native.Nat.{ℕ, suc, _+_, _-_, _<_, _≤_}
-use mathlib.Core.Path.{_≡_, sym, ap, _∙_, refl}
+use mathlib.Core.Path.{sym}
 use borrow.Author.Needs.{needs}
 use Rattle.octets.proofs.cases.small.Statement.{statement}
 use Rattle.octets.proofs.cases.small.Tie as tie

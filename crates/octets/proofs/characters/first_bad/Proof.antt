@@ -1,6 +1,6 @@
 -- `octets::characters::first_bad` meets its contract. Assumes nothing.
 use borrow.Author.Needs.{needs}
-use mathlib.Core.Path.{_≡_, sym, _∙_}
+use mathlib.Core.Path.{sym, _∙_}
 use Rattle.octets.proofs.PlainLaws.{plain-all}
 use Rattle.octets.proofs.characters.first_bad.Statement.{statement}
 use Rattle.octets.proofs.characters.first_bad.Tie as tie

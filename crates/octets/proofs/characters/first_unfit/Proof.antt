@@ -25,30 +25,33 @@ unit-length-requires c κs = search needs
 returns : tie.Need-returns Inv-loop μ-loop
 returns c =
     let l = c .before .before .before in
-    let s = l .before .before .args .s .now in
-    sym (l .loop .inv .1 ∙ bad-stop (allowed (l .before .before .args .lf)) s (l .loop .i) (sym (c .before .unit-length .ensures) ∙ c .if1 .taken))
+    let a = l .before .before .args in
+    sym (l .loop .inv .1 ∙ bad-stop (allowed (a .lf)) (a .s .now) (l .loop .i) (sym (c .before .unit-length .ensures) ∙ c .if1 .taken))
 
 add-i : tie.Need-add-i Inv-loop μ-loop
 add-i c =
     let l = c .before .before .before in
-    omega (arith, unit-inside (allowed (l .before .before .args .lf)) (l .before .before .args .s .now) (l .loop .i) (c .before .unit-length .result) (c .before .unit-length .ensures) (l .loop .inv .0))
+    let a = l .before .before .args in
+    let u = c .before .unit-length in
+    omega (arith, unit-inside (allowed (a .lf)) (a .s .now) (l .loop .i) (u .result) (u .ensures) (l .loop .inv .0))
 
 loop-less : tie.Need-loop-less Inv-loop μ-loop
-loop-less c =
-    let l = c .before .before .before in
-    omega arith
+loop-less c = omega arith
 
 loop-again : tie.Need-loop-again Inv-loop μ-loop
 loop-again c =
     let l = c .before .before .before in
-    let s = l .before .before .args .s .now in
-    let e = c .before .unit-length .ensures in
-    (unit-inside (allowed (l .before .before .args .lf)) s (l .loop .i) (c .before .unit-length .result) e (l .loop .inv .0), l .loop .inv .1 ∙ bad-step (allowed (l .before .before .args .lf)) s (l .loop .i) (c .before .unit-length .result) e (c .if1 .left) (l .loop .inv .0))
+    let a = l .before .before .args in
+    let u = c .before .unit-length in (
+      unit-inside (allowed (a .lf)) (a .s .now) (l .loop .i) (u .result) (u .ensures) (l .loop .inv .0),
+      l .loop .inv .1 ∙ bad-step (allowed (a .lf)) (a .s .now) (l .loop .i) (u .result) (u .ensures) (c .if1 .left) (l .loop .inv .0),
+    )
 
 returns-2 : tie.Need-returns-2 Inv-loop μ-loop
 returns-2 c =
     let l = c .before in
-    sym (l .loop .inv .1 ∙ bad-end (allowed (l .before .before .args .lf)) (l .before .before .args .s .now) (l .loop .i) (c .loop-test .left))
+    let a = l .before .before .args in
+    sym (l .loop .inv .1 ∙ bad-end (allowed (a .lf)) (a .s .now) (l .loop .i) (c .loop-test .left))
 
 pub first-unfit-spec : {M : Type 1} → statement M
 first-unfit-spec =

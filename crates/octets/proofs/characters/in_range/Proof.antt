@@ -1,6 +1,5 @@
 -- `octets::characters::in_range` meets its contract. Assumes nothing.
-use borrow.Author.Needs.{needs}
-use borrow.Author.Tests.{lt-ltb, le-ltb, le-leb, lt-leb, eq-eqb, ne-eqb}
+use borrow.Author.Tests.{le-leb, lt-leb}
 use Rattle.octets.proofs.characters.in_range.Statement.{statement}
 use Rattle.octets.proofs.characters.in_range.Tie as tie
 

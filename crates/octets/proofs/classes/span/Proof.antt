@@ -4,7 +4,7 @@ use Prim.Native.Nat.{_≤_, _<_, _-_, _+_}
 use mathlib.Core.Path.{_≡_, sym, _∙_}
 use lib.ListN.{length, drop, getD}
 use native.Mathlib.Omega.{arith}
-use Rattle.octets.specs.Classes.{Classes, run, has}
+use Rattle.octets.specs.Classes.{run, has}
 use Rattle.octets.proofs.Runs.{run-stop, run-step, run-end, has-not, has-yes}
 use Rattle.octets.proofs.classes.span.Statement.{statement}
 use Rattle.octets.proofs.classes.span.Tie as tie

@@ -1,0 +1,393 @@
+/* A plain C program of the unit's checks, written for comparison: straightforward loops, no table but the list of properties. */
+#include "plain.h"
+#include <string.h>
+#include <strings.h>
+
+#define LIMIT 16384
+#define REFUSE(n, p) (((uint64_t)(n) << 32) + (uint64_t)(p))
+
+struct row {
+    const char *name;
+    int kind;
+    int once;
+};
+
+static const struct row rows[] = {
+    {"", 0, 0},        {"BEGIN", 0, 0},   {"END", 0, 0},         {"SOURCE", 3, 0},       {"KIND", 1, 1},     {"XML", 0, 0},
+    {"FN", 1, 0},      {"N", 4, 1},       {"NICKNAME", 2, 0},    {"PHOTO", 3, 0},        {"BDAY", 0, 1},     {"ANNIVERSARY", 0, 1},
+    {"GENDER", 7, 1},  {"ADR", 5, 0},     {"TEL", 1, 0},         {"EMAIL", 1, 0},        {"IMPP", 3, 0},     {"LANG", 0, 0},
+    {"TZ", 1, 0},      {"GEO", 3, 0},     {"TITLE", 1, 0},       {"ROLE", 1, 0},         {"LOGO", 3, 0},     {"ORG", 6, 0},
+    {"MEMBER", 3, 0},  {"RELATED", 3, 0}, {"CATEGORIES", 2, 0},  {"NOTE", 1, 0},         {"PRODID", 1, 1},   {"REV", 0, 1},
+    {"SOUND", 3, 0},   {"UID", 3, 1},     {"CLIENTPIDMAP", 8, 0}, {"URL", 3, 0},         {"VERSION", 0, 0},  {"KEY", 3, 0},
+    {"FBURL", 3, 0},   {"CALADRURI", 3, 0}, {"CALURI", 3, 0},
+};
+
+static int is_letter(uint8_t b) { return (b >= 'A' && b <= 'Z') || (b >= 'a' && b <= 'z'); }
+static int is_digit(uint8_t b) { return b >= '0' && b <= '9'; }
+static int is_named(uint8_t b) { return is_letter(b) || is_digit(b) || b == '-'; }
+
+/* Length of the RFC 3629 character at s, 0 for none. */
+static size_t char_length(const uint8_t *s, size_t left) {
+    uint8_t b = s[0];
+    if (b < 0x80) return 1;
+    if (b < 0xC2) return 0;
+    if (b < 0xE0) return left >= 2 && (s[1] & 0xC0) == 0x80 ? 2 : 0;
+    if (b < 0xF0) {
+        if (left < 3 || (s[1] & 0xC0) != 0x80 || (s[2] & 0xC0) != 0x80) return 0;
+        if (b == 0xE0 && s[1] < 0xA0) return 0;
+        if (b == 0xED && s[1] > 0x9F) return 0;
+        return 3;
+    }
+    if (b < 0xF5) {
+        if (left < 4 || (s[1] & 0xC0) != 0x80 || (s[2] & 0xC0) != 0x80 || (s[3] & 0xC0) != 0x80) return 0;
+        if (b == 0xF0 && s[1] < 0x90) return 0;
+        if (b == 0xF4 && s[1] > 0x8F) return 0;
+        return 4;
+    }
+    return 0;
+}
+
+/* First octet that is not allowed or starts no character. */
+static size_t first_bad(const uint8_t *s, size_t n, int lf) {
+    size_t i = 0;
+    while (i < n) {
+        uint8_t b = s[i];
+        if ((b < 0x20 && b != 9 && !(lf && b == 10)) || b == 0x7F) return i;
+        size_t k = char_length(s + i, n - i);
+        if (k == 0) return i;
+        i += k;
+    }
+    return n;
+}
+
+struct line {
+    size_t group, name_start, name_end, params, value;
+    size_t over, over_len; /* first value of the first VALUE parameter */
+    int has_over;
+};
+
+/* The line rule. */
+static int parse(const uint8_t *s, size_t n, struct line *l) {
+    size_t i = 0;
+    while (i < n && is_named(s[i])) i++;
+    if (i == 0) return 0;
+    l->group = 0;
+    l->name_start = 0;
+    if (i < n && s[i] == '.') {
+        l->group = i;
+        i++;
+        l->name_start = i;
+        while (i < n && is_named(s[i])) i++;
+        if (i == l->name_start) return 0;
+    }
+    l->name_end = i;
+    l->params = 0;
+    l->has_over = 0;
+    while (i < n && s[i] == ';') {
+        size_t p = ++i;
+        while (i < n && is_named(s[i])) i++;
+        if (i == p || i >= n || s[i] != '=') return 0;
+        int is_value = i - p == 5 && strncasecmp((const char *)s + p, "VALUE", 5) == 0;
+        int first = 1;
+        do {
+            i++;
+            size_t a = i, e;
+            if (i < n && s[i] == '"') {
+                a = ++i;
+                while (i < n && s[i] != '"') i++;
+                if (i >= n) return 0;
+                e = i++;
+            } else {
+                while (i < n && s[i] != '"' && s[i] != ';' && s[i] != ':' && s[i] != ',') i++;
+                e = i;
+            }
+            if (first && is_value && !l->has_over) {
+                l->has_over = 1;
+                l->over = a;
+                l->over_len = e - a;
+            }
+            first = 0;
+        } while (i < n && s[i] == ',');
+        if (i >= n || (s[i] != ';' && s[i] != ':')) return 0;
+        l->params++;
+    }
+    if (i >= n || s[i] != ':') return 0;
+    l->value = i + 1;
+    return 1;
+}
+
+static size_t find_row(const uint8_t *s, size_t n) {
+    for (size_t r = 1; r < sizeof rows / sizeof rows[0]; r++)
+        if (strlen(rows[r].name) == n && strncasecmp(rows[r].name, (const char *)s, n) == 0) return r;
+    return 0;
+}
+
+static int is_uri(const uint8_t *s, size_t n) {
+    size_t i = 0;
+    if (n == 0 || !is_letter(s[0])) return 0;
+    while (i < n && (is_letter(s[i]) || is_digit(s[i]) || s[i] == '+' || s[i] == '-' || s[i] == '.')) i++;
+    if (i >= n || s[i] != ':') return 0;
+    for (i++; i < n; i++)
+        if (s[i] < 0x21 || s[i] > 0x7E) return 0;
+    return 1;
+}
+
+/* Escapes are good, bare commas as allowed; counts the bare semicolons. */
+static int is_text(const uint8_t *s, size_t n, int commas, size_t *semis) {
+    *semis = 0;
+    for (size_t i = 0; i < n; i++) {
+        if (s[i] == '\\') {
+            i++;
+            if (i >= n || (s[i] != '\\' && s[i] != ',' && s[i] != ';' && s[i] != 'n' && s[i] != 'N')) return 0;
+        } else if (s[i] == ',') {
+            if (!commas) return 0;
+        } else if (s[i] == ';') {
+            ++*semis;
+        }
+    }
+    return 1;
+}
+
+static int fits(const uint8_t *s, size_t n, int kind) {
+    size_t semis, i = 0;
+    switch (kind) {
+    case 1: case 6: return is_text(s, n, 0, &semis);
+    case 2: return is_text(s, n, 1, &semis);
+    case 3: return is_uri(s, n);
+    case 4: return is_text(s, n, 1, &semis) && semis == 4;
+    case 5: return is_text(s, n, 1, &semis) && semis == 6;
+    case 7:
+        if (n > 0 && s[0] != ';') {
+            uint8_t c = s[0] & 0xDF;
+            if (c != 'M' && c != 'F' && c != 'O' && c != 'N' && c != 'U') return 0;
+            i = 1;
+        }
+        return i == n || (s[i] == ';' && is_text(s + i + 1, n - i - 1, 0, &semis));
+    case 8:
+        while (i < n && is_digit(s[i])) i++;
+        return i > 0 && i < n && s[i] == ';' && is_uri(s + i + 1, n - i - 1);
+    default: return 1;
+    }
+}
+
+static int kind_of(const uint8_t *s, const struct line *l, size_t row) {
+    int kind = rows[row].kind;
+    if (!l->has_over || row < 3 || row == 5 || row == 34 || (kind != 0 && kind != 1 && kind != 3)) return kind;
+    if (l->over_len == 4 && strncasecmp((const char *)s + l->over, "text", 4) == 0) return 1;
+    if (l->over_len == 3 && strncasecmp((const char *)s + l->over, "uri", 3) == 0) return 3;
+    return 0;
+}
+
+struct card {
+    int phase, fn, member, group;
+    uint64_t seen;
+    size_t cards, lines;
+};
+
+/* 0, or the refusal of one logical line. */
+static int judge_line(const uint8_t *s, size_t n, struct card *c) {
+    struct line l;
+    if (first_bad(s, n, 0) < n) return 5;
+    if (!parse(s, n, &l)) return 6;
+    size_t row = find_row(s + l.name_start, l.name_end - l.name_start);
+    if (c->phase == 0 ? row != 1 : c->phase == 1 ? row != 34 : row == 1 || row == 34) return 9;
+    const uint8_t *v = s + l.value;
+    size_t m = n - l.value;
+    if (row == 1 || row == 2 || row == 34) {
+        if (l.group || l.params) return 8;
+        if (row == 34 ? !(m == 3 && memcmp(v, "4.0", 3) == 0) : !(m == 5 && strncasecmp((const char *)v, "VCARD", 5) == 0)) return 7;
+    } else if (!fits(v, m, kind_of(s, &l, row))) {
+        return 7;
+    }
+    if (rows[row].once) {
+        if (c->seen >> row & 1) return 10;
+        c->seen |= 1ull << row;
+    }
+    if (row == 2) {
+        if (!c->fn) return 11;
+        if (c->member && !c->group) return 12;
+        c->cards++;
+        c->phase = c->fn = c->member = c->group = 0;
+        c->seen = 0;
+    } else {
+        c->phase = row == 1 ? 1 : 2;
+        if (row == 6) c->fn = 1;
+        if (row == 24) c->member = 1;
+        if (row == 4 && m == 5 && strncasecmp((const char *)v, "group", 5) == 0) c->group = 1;
+    }
+    c->lines++;
+    return 0;
+}
+
+/* The end of the logical line at `at`; copies it without folds to buf and answers its length there. */
+static size_t line_end(const uint8_t *in, size_t len, size_t at, uint8_t *buf, size_t *n) {
+    size_t i = at, w = 0;
+    while (i < len) {
+        if (in[i] == 13) {
+            if (i + 2 < len && (in[i + 2] == ' ' || in[i + 2] == 9)) {
+                i += 3;
+                continue;
+            }
+            break;
+        }
+        buf[w++] = in[i++];
+    }
+    *n = w;
+    return i;
+}
+
+static uint64_t judge_all(const uint8_t *in, size_t len, struct card *c) {
+    uint8_t buf[LIMIT];
+    if (len > LIMIT) return REFUSE(1, LIMIT);
+    if (len == 0) return REFUSE(2, 0);
+    for (size_t i = 0; i < len; i++) {
+        if (in[i] == 13) {
+            if (i + 1 >= len || in[i + 1] != 10) return REFUSE(3, i);
+            i++;
+        } else if (in[i] == 10) {
+            return REFUSE(3, i);
+        }
+    }
+    if (len < 2 || in[len - 2] != 13 || in[len - 1] != 10) return REFUSE(4, len);
+    memset(c, 0, sizeof *c);
+    for (size_t at = 0; at < len;) {
+        size_t n, end = line_end(in, len, at, buf, &n);
+        int r = judge_line(buf, n, c);
+        if (r) return REFUSE(r, at);
+        at = end + 2;
+    }
+    if (c->phase) return REFUSE(9, len);
+    return 0;
+}
+
+uint64_t plain_judge(const uint8_t *in, size_t len) {
+    struct card c;
+    uint64_t r = judge_all(in, len, &c);
+    return r ? r : c.cards;
+}
+
+uint64_t plain_read(const uint8_t *in, size_t len, uint8_t *copy, size_t copy_room, uint32_t *rec, size_t rec_room) {
+    struct card c;
+    uint8_t buf[LIMIT];
+    uint64_t r = judge_all(in, len, &c);
+    if (r) return r;
+    size_t need = 0;
+    for (size_t at = 0; at < len;) {
+        size_t n, end = line_end(in, len, at, buf, &n);
+        need += n + 2;
+        at = end + 2;
+    }
+    if (copy_room < need) return REFUSE(13, need);
+    if (rec_room < 8 * c.lines) return REFUSE(14, 8 * c.lines);
+    size_t w = 0;
+    for (size_t at = 0; at < len;) {
+        size_t n, end = line_end(in, len, at, copy + w, &n);
+        struct line l;
+        parse(copy + w, n, &l);
+        size_t row = find_row(copy + w + l.name_start, l.name_end - l.name_start);
+        uint32_t one[8] = {row, w, n, l.group, l.name_end - l.name_start, l.params, w + l.value, kind_of(copy + w, &l, row)};
+        memcpy(rec, one, sizeof one);
+        rec += 8;
+        copy[w + n] = 13;
+        copy[w + n + 1] = 10;
+        w += n + 2;
+        at = end + 2;
+    }
+    return c.cards;
+}
+
+/* Folds one line to out, or only counts where out is null. */
+static size_t fold_line(const uint8_t *s, size_t n, uint8_t *out) {
+    size_t i = 0, w = 0, room = 75;
+    while (n - i > room) {
+        size_t e = i + room;
+        while ((s[e] & 0xC0) == 0x80) e--;
+        if (out) {
+            memcpy(out + w, s + i, e - i);
+            memcpy(out + w + (e - i), "\r\n ", 3);
+        }
+        w += e - i + 3;
+        i = e;
+        room = 74;
+    }
+    if (out) {
+        memcpy(out + w, s + i, n - i);
+        memcpy(out + w + (n - i), "\r\n", 2);
+    }
+    return w + (n - i) + 2;
+}
+
+uint64_t plain_fold(const uint8_t *in, size_t len, uint8_t *out, size_t room) {
+    struct card c;
+    uint8_t buf[LIMIT];
+    uint64_t r = judge_all(in, len, &c);
+    if (r) return r;
+    size_t need = 0, n;
+    for (size_t at = 0; at < len;) {
+        size_t end = line_end(in, len, at, buf, &n);
+        need += fold_line(buf, n, NULL);
+        at = end + 2;
+    }
+    if (need > LIMIT) return REFUSE(16, LIMIT);
+    if (room < need) return REFUSE(15, need);
+    size_t w = 0;
+    for (size_t at = 0; at < len;) {
+        size_t end = line_end(in, len, at, buf, &n);
+        w += fold_line(buf, n, out + w);
+        at = end + 2;
+    }
+    return w;
+}
+
+uint64_t plain_escape(const uint8_t *in, size_t len, uint8_t *out, size_t room) {
+    if (len > LIMIT) return REFUSE(1, LIMIT);
+    size_t bad = first_bad(in, len, 1);
+    if (bad < len) return REFUSE(31, bad);
+    size_t need = len;
+    for (size_t i = 0; i < len; i++)
+        if (in[i] == '\\' || in[i] == ',' || in[i] == ';' || in[i] == 10) need++;
+    if (need > LIMIT) return REFUSE(16, LIMIT);
+    if (room < need) return REFUSE(15, need);
+    size_t w = 0;
+    for (size_t i = 0; i < len; i++) {
+        uint8_t b = in[i];
+        if (b == '\\' || b == ',' || b == ';') {
+            out[w++] = '\\';
+            out[w++] = b;
+        } else if (b == 10) {
+            out[w++] = '\\';
+            out[w++] = 'n';
+        } else {
+            out[w++] = b;
+        }
+    }
+    return w;
+}
+
+uint64_t plain_unescape(const uint8_t *in, size_t len, uint8_t *out, size_t room) {
+    if (len > LIMIT) return REFUSE(1, LIMIT);
+    size_t bad = first_bad(in, len, 0);
+    if (bad < len) return REFUSE(31, bad);
+    size_t need = 0;
+    for (size_t i = 0; i < len; i++) {
+        if (in[i] == ',') return REFUSE(30, i);
+        if (in[i] == '\\') {
+            if (i + 1 >= len) return REFUSE(30, i);
+            uint8_t b = in[i + 1];
+            if (b != '\\' && b != ',' && b != ';' && b != 'n' && b != 'N') return REFUSE(30, i);
+            i++;
+        }
+        need++;
+    }
+    if (room < need) return REFUSE(15, need);
+    size_t w = 0;
+    for (size_t i = 0; i < len; i++) {
+        uint8_t b = in[i];
+        if (b == '\\') {
+            b = in[++i];
+            if (b == 'n' || b == 'N') b = 10;
+        }
+        out[w++] = b;
+    }
+    return w;
+}

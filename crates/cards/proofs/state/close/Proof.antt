@@ -1,0 +1,42 @@
+-- `cards::state::close` meets its contract. Assumes nothing.
+use borrow.Author.Tests.{not-true, not-false}
+use mathlib.Core.Path.{_≡_}
+use mathlib.Core.Logic.{⊎-elim}
+use mathlib.Core.Bool.{not, false, _&&_, and-false}
+use Rattle.cards.specs.State.{closed}
+use borrow.Author.Needs.{needs}
+use Rattle.cards.proofs.state.close.Statement.{statement}
+use Rattle.cards.proofs.state.close.Tie as tie
+
+returns : tie.Need-returns
+unfolding closed
+returns c = simp (not-true (c .before .before .args .c .named) (c .if1 .taken))
+
+returns-2 : tie.Need-returns-2
+unfolding closed
+returns-2 c =
+    let k = c .before .before .before .before .before .args .c in
+    simp (not-false (k .named) (c .before .before .before .if1 .left), c .before .before .if2 .taken, not-true (k .group) (c .if3 .taken))
+
+add-t5 : tie.Need-add-t5
+add-t5 c = search needs
+
+add-t6 : tie.Need-add-t6
+add-t6 c = search needs
+
+-- no MEMBER, or a group
+kept : (c : tie.Joined2) → (c .before .before .before .args .c .member && not (c .before .before .before .args .c .group)) ≡ false
+kept c =
+    let k = c .before .before .before .args .c in
+    ⊎-elim
+    (λ w. simp (not-false (k .group) (w .2 .left), and-false))
+    (λ w. simp (w .left))
+    (c .if2 .came)
+
+returns-3 : tie.Need-returns-3
+unfolding closed
+returns-3 c =
+    simp (not-false (c .before .before .before .before .before .args .c .named) (c .before .before .before .if1 .left), kept (c .before .before))
+
+pub close-spec : {M : Type 1} → statement M
+close-spec = tie.close (tie.spec returns returns-2 add-t5 add-t6 returns-3)

@@ -1,0 +1,16 @@
+-- `cards::state::phase_after` meets its contract. Assumes nothing.
+use borrow.Author.Tests.{eq-eqb, ne-eqb}
+use Rattle.cards.specs.State.{phaseAfter}
+use Rattle.cards.proofs.state.phase_after.Statement.{statement}
+use Rattle.cards.proofs.state.phase_after.Tie as tie
+
+returns : tie.Need-returns
+unfolding phaseAfter
+returns c = simp (eq-eqb _ _ (c .if1 .taken))
+
+returns-2 : tie.Need-returns-2
+unfolding phaseAfter
+returns-2 c = simp (ne-eqb _ _ (c .if1 .left))
+
+pub phase-after-spec : {M : Type 1} → statement M
+phase-after-spec = tie.close (tie.spec returns returns-2)

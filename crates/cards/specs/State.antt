@@ -1,0 +1,54 @@
+-- What is known of a card: which lines it has had so far, and what a line or its END does to it, by document 01's refusals 9 to 12.
+-- Assumes nothing.
+use Prim.Native.Nat.{ℕ, _+_, _/_, _%_}
+use mathlib.Core.Bool.{Bool, true, false, not, _&&_, _||_}
+use lib.Bits.{bitOr}
+use lib.Dec.{eqb}
+use Rattle.octets.specs.Pick.{pick}
+use Rattle.cards.specs.declared.state.Card.{Card}
+use Rattle.cards.specs.declared.state.Step.{Step}
+use Rattle.cards.specs.declared.state.Step.the-variants.{Next, Refused}
+
+-- before the first line of an input
+abbrev pub freshCard : Card
+freshCard = record { phase = 0; seen = 0; named = false; member = false; group = false; cards = 0; lines = 0 }
+
+-- 9: BEGIN first and VERSION second, neither of them later
+unfoldable pub inOrder : ℕ → ℕ → Bool
+inOrder phase row = pick (eqb phase 0) (eqb row 1) (pick (eqb phase 1) (eqb row 34) (not (eqb row 1) && not (eqb row 34)))
+
+-- the flag of a property marked *1 (KIND, N, BDAY, ANNIVERSARY, GENDER, PRODID, REV, UID); 0 for any other
+unfoldable pub onceBit : ℕ → ℕ
+onceBit row =
+    pick (eqb row 4) 1 (pick (eqb row 7) 2 (pick (eqb row 10) 4 (pick (eqb row 11) 8
+    (pick (eqb row 12) 16 (pick (eqb row 28) 32 (pick (eqb row 29) 64 (pick (eqb row 31) 128 0)))))))
+
+-- the flag stands among those seen
+unfoldable pub isSeen : ℕ → ℕ → Bool
+isSeen b seen = not (eqb b 0) && eqb (seen / b % 2) 1
+
+-- after BEGIN comes VERSION, after VERSION and each later line another
+unfoldable pub phaseAfter : ℕ → ℕ
+phaseAfter row = pick (eqb row 1) 1 2
+
+-- a line of the row that is no END; group: its value is `group` in any case
+unfoldable pub noted : Card → ℕ → ℕ → Bool → Step
+noted c at row group =
+    pick (isSeen (onceBit row) (c .seen)) (Refused 10 at)
+    (Next (record {
+      phase = phaseAfter row;
+      seen = bitOr (c .seen) (onceBit row);
+      named = c .named || eqb row 6;
+      member = c .member || eqb row 24;
+      group = c .group || (eqb row 4 && group);
+      cards = c .cards;
+      lines = c .lines + 1;
+    }))
+
+-- END: 11 where the card has no FN, 12 where it has a MEMBER and no KIND line with the value group
+unfoldable pub closed : Card → ℕ → Step
+closed c at =
+    pick (c .named)
+    (pick (c .member && not (c .group)) (Refused 12 at)
+    (Next (record { phase = 0; seen = 0; named = false; member = false; group = false; cards = c .cards + 1; lines = c .lines + 1 })))
+    (Refused 11 at)

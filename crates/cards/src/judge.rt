@@ -1,0 +1,117 @@
+// The judgement of one logical line within its card: document 01's refusals 5 to 12 in their order.
+ghost use mathlib.Core.Path.{_≡_};
+ghost use mathlib.Core.Bool.{_||_, not};
+ghost use Prim.Native.Nat.{_≤_, _<_};
+ghost use lib.Dec.{eqb};
+ghost use lib.ListN.{length, drop};
+ghost use Rattle.octets.specs.Classes.{Classes};
+ghost use Rattle.properties.specs.Rows.{Lists};
+ghost use Rattle.properties.specs.States.{Scanner};
+ghost use Rattle.cards.specs.State.{inOrder};
+ghost use Rattle.cards.specs.Judge.{framing, laden, entered, judgeParts, judgeLine};
+use crate::parts::Parts;
+use crate::parts::Told;
+use crate::state::Card;
+use crate::state::Step;
+use properties::values::Fault;
+
+// Whether a line of the row may stand here.
+fn in_order(phase: u32, row: usize) -> bool
+    ensures { λ r. ⌜ r ≡ inOrder phase row ⌝ }
+{
+    if phase == 0 {
+        return row == 1;
+    }
+    if phase == 1 {
+        return row == 34;
+    }
+    if row == 1 {
+        return false;
+    }
+    row != 34
+}
+
+// BEGIN, VERSION and END frame a card.
+fn is_framing(row: usize) -> bool
+    ensures { λ r. ⌜ r ≡ framing row ⌝ }
+{
+    if row == 1 {
+        return true;
+    }
+    if row == 34 {
+        return true;
+    }
+    row == 2
+}
+
+// Whether a framing line has a group or a parameter.
+fn is_laden(x: Parts) -> bool
+    ensures { λ r. ⌜ r ≡ laden (x .row) (x .group) (x .params) ⌝ }
+{
+    if !is_framing(x.row) {
+        return false;
+    }
+    if x.group != 0 {
+        return true;
+    }
+    x.params != 0
+}
+
+// A line that fits: the end of a card, or one more line of it.
+fn enter(c: Card, at: usize, row: usize, value: &[u8]) -> Step
+    requires { ⌜ (c .cards ≤ c .lines) × (c .lines < 65536) ⌝ }
+    ensures { λ r. ⌜ r ≡ entered c at row (now (value .entry)) ⌝ }
+{
+    if row == 2 {
+        return crate::state::close(c, at);
+    }
+    let group = properties::rows::is_group(value);
+    crate::state::note(c, at, row, group)
+}
+
+// The checks of a line whose parts are known: 9, 8, 7, and then those of the card.
+fn judge_parts(steps: &[u8; 1016], x: Parts, value: &[u8], at: usize, c: Card) -> Step
+    requires { ⌜ Scanner (now steps) ⌝ }
+    requires { ⌜ x .kind < 9 ⌝ }
+    requires { ⌜ (c .cards ≤ c .lines) × (c .lines < 65536) ⌝ }
+    ensures { λ r. ⌜ r ≡ judgeParts c at (x .row) (x .group) (x .params) (x .kind) (now (value .entry)) ⌝ }
+{
+    if !in_order(c.phase, x.row) {
+        return Step::Refused(9, at);
+    }
+    if is_laden(x) {
+        return Step::Refused(8, at);
+    }
+    let f = properties::values::judge_value(steps, x.row, x.kind, value);
+    let Fault::Fits = f else {
+        return Step::Refused(7, at);
+    };
+    enter(c, at, x.row, value)
+}
+
+// Judges the line s, which starts at `at` in the input.
+pub fn judge_line(
+    t: &[u8; 256],
+    rows: &[u8; 624],
+    steps: &[u8; 1016],
+    s: &[u8],
+    at: usize,
+    c: Card,
+) -> Step
+    requires { ⌜ Classes (now t) ⌝ }
+    requires { ⌜ Lists (now rows) ⌝ }
+    requires { ⌜ Scanner (now steps) ⌝ }
+    requires { ⌜ length (now s) ≤ 16384 ⌝ }
+    requires { ⌜ (c .cards ≤ c .lines) × (c .lines < 65536) ⌝ }
+    ensures { λ r. ⌜ r ≡ judgeLine c at (now (s .entry)) ⌝ }
+{
+    if octets::characters::first_bad(t, s, false) < s.len() {
+        return Step::Refused(5, at);
+    }
+    let p = crate::parts::parts_of(t, rows, s);
+    let Told::Line(x) = p else {
+        return Step::Refused(6, at);
+    };
+    let value = x.value;
+    judge_parts(steps, x, &s[value..], at, c)
+}

@@ -1,0 +1,134 @@
+// What is known of the card that is being read, and what a line or an END does to it.
+ghost use mathlib.Core.Path.{_≡_};
+ghost use mathlib.Core.Bool.{_||_, _&&_};
+ghost use lib.Dec.{eqb};
+ghost use Prim.Native.Nat.{_<_, _≤_};
+ghost use Rattle.cards.specs.State.{onceBit, phaseAfter, freshCard, closed, noted};
+
+pub struct Card {
+    // 0 before BEGIN, 1 before VERSION, 2 after it.
+    pub phase: u32,
+    // The flags of the single properties that stand in the card so far.
+    pub seen: u32,
+    // An FN line, a MEMBER line, a KIND line with the value group.
+    pub named: bool,
+    pub member: bool,
+    pub group: bool,
+    // The cards that have ended, and the lines that were judged.
+    pub cards: usize,
+    pub lines: usize,
+}
+
+// The card after a line, or the refusal's number and place.
+pub enum Step {
+    Next(Card),
+    Refused(u32, usize),
+}
+
+// Before the first line.
+pub fn fresh() -> Card
+    ensures { λ r. ⌜ r ≡ freshCard ⌝ }
+{
+    Card {
+        phase: 0,
+        seen: 0,
+        named: false,
+        member: false,
+        group: false,
+        cards: 0,
+        lines: 0,
+    }
+}
+
+fn either(a: bool, b: bool) -> bool
+    ensures { λ r. ⌜ r ≡ (a || b) ⌝ }
+{
+    if a {
+        return true;
+    }
+    b
+}
+
+// The flag of a property that stands once in a card, or 0.
+fn once_bit(row: usize) -> u32
+    ensures { λ r. ⌜ r ≡ onceBit row ⌝ }
+{
+    match row {
+        4 => 1,
+        7 => 2,
+        10 => 4,
+        11 => 8,
+        12 => 16,
+        28 => 32,
+        29 => 64,
+        31 => 128,
+        _ => 0,
+    }
+}
+
+// Whether the line is a KIND line with the value group.
+fn says_group(row: usize, group: bool) -> bool
+    ensures { λ r. ⌜ r ≡ (eqb row 4 && group) ⌝ }
+{
+    if row != 4 {
+        return false;
+    }
+    group
+}
+
+fn phase_after(row: usize) -> u32
+    ensures { λ r. ⌜ r ≡ phaseAfter row ⌝ }
+{
+    if row == 1 {
+        return 1;
+    }
+    2
+}
+
+// The end of a card: 11, 12, or the state before the next card.
+pub fn close(c: Card, at: usize) -> Step
+    requires { ⌜ (c .cards ≤ c .lines) × (c .lines < 65536) ⌝ }
+    ensures { λ r. ⌜ r ≡ closed c at ⌝ }
+{
+    if !c.named {
+        return Step::Refused(11, at);
+    }
+    if c.member {
+        if !c.group {
+            return Step::Refused(12, at);
+        }
+    }
+    Step::Next(Card {
+        phase: 0,
+        seen: 0,
+        named: false,
+        member: false,
+        group: false,
+        cards: c.cards + 1,
+        lines: c.lines + 1,
+    })
+}
+
+// A line of the row, not END: 10, or the state after it. `group` says whether its value is group.
+pub fn note(c: Card, at: usize, row: usize, group: bool) -> Step
+    requires { ⌜ c .lines < 65536 ⌝ }
+    ensures { λ r. ⌜ r ≡ noted c at row group ⌝ }
+{
+    let b = once_bit(row);
+    let seen = c.seen;
+    if b != 0 {
+        if seen / b % 2 == 1 {
+            return Step::Refused(10, at);
+        }
+    }
+    let grouped = says_group(row, group);
+    Step::Next(Card {
+        phase: phase_after(row),
+        seen: seen | b,
+        named: either(c.named, row == 6),
+        member: either(c.member, row == 24),
+        group: either(c.group, grouped),
+        cards: c.cards,
+        lines: c.lines + 1,
+    })
+}

@@ -1,0 +1,5 @@
+pub mod Places
+pub mod KindLaws
+pub mod Plain
+pub mod Escapes
+pub mod RowLaws

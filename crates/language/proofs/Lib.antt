@@ -1,0 +1,9 @@
+pub mod Pieces
+pub mod Sound
+pub mod Complete
+pub mod Law
+pub mod PlacesLaw
+pub mod FirstLaw
+pub mod FaultSound
+pub mod FaultComplete
+pub mod Examples

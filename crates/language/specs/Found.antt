@@ -1,0 +1,24 @@
+-- What it means that the first value of a named parameter stands at a part of a line. Assumes nothing.
+use mathlib.Core.Path.{_≡_}
+use mathlib.Core.List.{List}
+use mathlib.Core.Option.{Option, none, some}
+use Prim.Native.Nat.{ℕ, _-_, _≤_}
+use lib.ListN.{length, take, drop}
+use Rattle.lines.specs.Grammar.{Value}
+use Rattle.lines.specs.First.{valueOctets}
+use Rattle.lines.specs.declared.rule.First.{First}
+use Rattle.lines.specs.declared.rule.First.the-variants.{Between, Nothing}
+
+-- the octets of l from a to e are those of the value, quotes taken off
+pub record Holds (l : List ℕ) (v : Value) (r : First) : Type 0 where
+  pub a : ℕ
+  pub e : ℕ
+  pub answer : r ≡ Between a e
+  pub order : a ≤ e
+  pub inside : e ≤ length l
+  pub octets : take (e - a) (drop a l) ≡ valueOctets v
+
+-- the answer to a value that is asked for in the line l
+abbrev pub Found : List ℕ → Option Value → First → Type 0
+Found l none r = r ≡ Nothing
+Found l (some v) r = Holds l v r

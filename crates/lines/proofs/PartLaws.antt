@@ -1,0 +1,103 @@
+-- What is known of the parts that the line rule's readings accept: how many octets they take, and what stands after them.
+-- Assumes nothing.
+use mathlib.Core.Path.{_≡_, refl, sym, ap, _∙_}
+use mathlib.Core.Bool.{Bool, true, false}
+use mathlib.Core.List.{List, [], _∷_, _++_, append-assoc}
+use Prim.Native.Nat.{ℕ, suc, _+_, _<_, _≤_}
+use native.Mathlib.Omega.{arith}
+use lib.Dec.{eqb, ltb}
+use lib.ListN.{length, take, drop, length-append}
+use lib.Seq.{drop-drop, length-take-le}
+use borrow.Author.Tests.{eqb-true, ltb-true}
+use Rattle.octets.specs.Classes.{run, more, named}
+use Rattle.lines.specs.Parse.{got, hd}
+use Rattle.lines.specs.Grammar.{Value, Param, groupText}
+use Rattle.lines.specs.Rule.{word, value, Values, ends, orEnd, isColon, moreValues, values, param, params, Head, head}
+use Rattle.lines.proofs.ParseLaws.{guard-inv, pick-inv, next-inv, drop-suc, many-stop}
+
+more-le : (b : Bool) (m n : ℕ) → m ≤ n → more b m ≤ suc n
+more-le true m n h = omega arith
+more-le false m n h = omega arith
+
+-- a run is no longer than its list
+pub run-le : (p : ℕ → Bool) (l : List ℕ) → run p l ≤ length l
+unfolding run
+run-le p [] = omega arith
+run-le p (x ∷ xs) = more-le (p x) (run p xs) (length xs) (run-le p xs)
+
+-- an accepted word: the run of its octets, at least one
+pub record Taken (l a : List ℕ) (k : ℕ) : Type 0 where
+  pub some : 0 < k
+  pub whole : k ≡ run named l
+  pub octets : a ≡ take k l
+  pub count : length a ≡ k
+
+pub word-taken : (e : ℕ) (l a : List ℕ) (k : ℕ) → word e l ≡ got a k → Taken l a k
+unfolding word
+word-taken e l a k h =
+    guard-inv (ltb 0 (run named l)) e _ h (λ t q.
+    let ek : k ≡ run named l = cc in
+    let ea : a ≡ take (run named l) l = cc in
+    rw (ea, ek) record {
+      some = ltb-true 0 (run named l) t;
+      whole = refl;
+      octets = refl;
+      count = length-take-le (run named l) l (run-le named l);
+    })
+
+-- what an accepted parameter is made of
+pub param-parts : {C : Type 0} (l : List ℕ) (p : Param) (k : ℕ) → param l ≡ got p k
+    → ((n i : ℕ) → word 41 l ≡ got (p .name) n → hd (drop n l) ≡ 61 → value (drop 1 (drop n l)) ≡ got (p .first) i → C) → C
+unfolding param values
+param-parts l p k h f =
+    next-inv (word 41 l) _ h (λ a n p₁ q₁. guard-inv (eqb (hd (drop n l)) 61) _ _ q₁ (λ t q₂.
+    next-inv (values (drop 1 (drop n l))) _ q₂ (λ vs j p₂ q.
+    next-inv (value (drop 1 (drop n l))) _ p₂ (λ v i p₃ q₃.
+    next-inv (moreValues (suc (length (drop i (drop 1 (drop n l))))) (drop i (drop 1 (drop n l)))) _ q₃ (λ ws m p₄ q₄.
+    let ep : p ≡ record { name = a; first = vs .first; more = vs .more } = cc in
+    let ev : vs ≡ record { first = v; more = ws } = cc in
+    let ea : a ≡ p .name = ap (λ (x : Param). x .name) (sym ep) in
+    let ef : v ≡ p .first = ap (λ (x : Values). x .first) (sym ev) ∙ ap (λ (x : Param). x .first) (sym ep) in
+    f n i (p₁ ∙ ap (λ (x : List ℕ). got x n) ea) (eqb-true _ 61 t) (p₃ ∙ ap (λ (x : Value). got x i) ef))))))
+
+-- after a parameter a `;` or a `:` stands
+pub param-stop : (l : List ℕ) (p : Param) (k : ℕ) → param l ≡ got p k → ends (hd (drop k l)) ≡ true
+unfolding param values moreValues
+param-stop l p k h =
+    next-inv (word 41 l) _ h (λ a n p₁ q₁. guard-inv (eqb (hd (drop n l)) 61) _ _ q₁ (λ t q₂.
+    let r : List ℕ = drop 1 (drop n l) in
+    next-inv (values r) _ q₂ (λ vs j p₂ q.
+    next-inv (value r) _ p₂ (λ v i p₃ q₃.
+    next-inv (moreValues (suc (length (drop i r))) (drop i r)) _ q₃ (λ ws m p₄ q₄.
+    let ej : j ≡ i + m = cc in
+    let ek : k ≡ n + suc j = cc in
+    let there : drop m (drop i r) ≡ drop k l =
+    drop-drop m i r ∙ ap (λ (x : ℕ). drop x r) (sym ej) ∙ drop-suc j (drop n l) ∙ drop-drop (suc j) n l ∙ ap (λ (x : ℕ). drop x l) (sym ek) in
+    rw (sym there) (many-stop 44 value ends (orEnd 42 43) _ (drop i r) ws m p₄))))))
+
+pub group-dot : (a b : List ℕ) → 0 < length a → groupText a ++ b ≡ a ++ 46 ∷ b
+unfolding groupText
+group-dot [] b h = absurd (omega arith)
+group-dot (x ∷ xs) b h = append-assoc (x ∷ xs) (46 ∷ []) b
+
+-- the octets taken are those of group, dot and name
+pub head-count : (l : List ℕ) (x : Head) (k : ℕ) → head l ≡ got x k → length (groupText (x .group) ++ x .name) ≡ k
+unfolding head groupText
+head-count l x k h =
+    next-inv (word 40 l) _ h (λ a n p₁ q₁.
+    let i = word-taken 40 l a n p₁ in
+    pick-inv (eqb (hd (drop n l)) 46) _ _ q₁
+    (λ t q₂. next-inv _ _ q₂ (λ b m p₂ q.
+    let j = word-taken 40 (drop 1 (drop n l)) b m p₂ in
+    let ea : x ≡ record { group = a; name = b } = cc in
+    let ek : k ≡ n + suc m = cc in
+    rw (ea, ek, group-dot a b (omega arith), length-append) (omega arith)))
+    (λ t q.
+    let ea : x ≡ record { group = []; name = a } = cc in
+    let ek : k ≡ n = cc in
+    rw (ea, ek) (i .count)))
+
+-- after the parameters a colon stands
+pub params-stop : (n : ℕ) (l : List ℕ) (ps : List Param) (k : ℕ) → params n l ≡ got ps k → hd (drop k l) ≡ 58
+unfolding params isColon
+params-stop n l ps k h = eqb-true _ 58 (many-stop 59 param isColon (orEnd 40 43) n l ps k h)

@@ -1,0 +1,2 @@
+-- The definitions that the laws of this crate speak of. Assumes nothing.
+pub mod Texts

@@ -1,0 +1,6 @@
+pub mod Bools
+pub mod Upto
+pub mod ShapeLaws
+pub mod StepLaws
+pub mod QuietLaws
+pub mod RowLaws

@@ -1,0 +1,7 @@
+pub mod Ascii
+pub mod Octets
+pub mod Shapes
+pub mod Kinds
+pub mod States
+pub mod Quiet
+pub mod Rows

@@ -1,0 +1,132 @@
+-- The property table, as document 01 lists it, the row of a name, and the kind of a line. Assumes nothing.
+use Prim.Native.Nat.{ℕ, zero, suc}
+use Prim.Native.String.{String}
+use mathlib.Core.Path.{_≡_}
+use mathlib.Core.Bool.{Bool, true, false, not, _&&_, _||_}
+use mathlib.Core.List.{List, [], _∷_, _++_}
+use mathlib.Core.Option.{Option, none, some}
+use lib.Dec.{eqb, ltb}
+use lib.ListN.{length, getD, take}
+use Rattle.octets.specs.Pick.{pick}
+use Rattle.octets.specs.Classes.{bit}
+use Rattle.octets.specs.Cases.{same}
+use Rattle.properties.specs.Ascii.{octets}
+
+-- how often a property may stand in a card: once where document 01 marks it *1
+pub data Times : Type 0 where
+  once often : Times
+
+pub record Row : Type 0 where
+  pub name : List ℕ
+  pub kind : ℕ
+  pub times : Times
+
+abbrev pub row : String → ℕ → Times → Row
+row n k t = record { name = octets n; kind = k; times = t }
+
+unfoldable pub rows : List Row
+rows =
+    row "BEGIN" 0 often ∷
+    row "END" 0 often ∷
+    row "SOURCE" 3 often ∷
+    row "KIND" 1 once ∷
+    row "XML" 0 often ∷
+    row "FN" 1 often ∷
+    row "N" 4 once ∷
+    row "NICKNAME" 2 often ∷
+    row "PHOTO" 3 often ∷
+    row "BDAY" 0 once ∷
+    row "ANNIVERSARY" 0 once ∷
+    row "GENDER" 7 once ∷
+    row "ADR" 5 often ∷
+    row "TEL" 1 often ∷
+    row "EMAIL" 1 often ∷
+    row "IMPP" 3 often ∷
+    row "LANG" 0 often ∷
+    row "TZ" 1 often ∷
+    row "GEO" 3 often ∷
+    row "TITLE" 1 often ∷
+    row "ROLE" 1 often ∷
+    row "LOGO" 3 often ∷
+    row "ORG" 6 often ∷
+    row "MEMBER" 3 often ∷
+    row "RELATED" 3 often ∷
+    row "CATEGORIES" 2 often ∷
+    row "NOTE" 1 often ∷
+    row "PRODID" 1 once ∷
+    row "REV" 0 once ∷
+    row "SOUND" 3 often ∷
+    row "UID" 3 once ∷
+    row "CLIENTPIDMAP" 8 often ∷
+    row "URL" 3 often ∷
+    row "VERSION" 0 often ∷
+    row "KEY" 3 often ∷
+    row "FBURL" 3 often ∷
+    row "CALADRURI" 3 often ∷
+    row "CALURI" 3 often ∷
+    []
+
+-- the number of the first row whose name is v without case, counted from i; 0 where there is none
+unfoldable pub search : List ℕ → ℕ → List Row → ℕ
+search v i [] = 0
+search v i (r ∷ rs) = pick (same v (r .name)) i (search v (suc i) rs)
+
+unfoldable pub rowOf : List ℕ → ℕ
+rowOf v = search v 1 rows
+
+-- row 0: any other name
+abbrev pub noRow : Row
+noRow = record { name = []; kind = 0; times = often }
+
+unfoldable pub rowAt : ℕ → Row
+rowAt n = getD (noRow ∷ rows) n noRow
+
+unfoldable pub kindAt : ℕ → ℕ
+kindAt n = rowAt n .kind
+
+abbrev pub isOnce : Times → Bool
+isOnce once = true
+isOnce often = false
+
+-- the row is marked *1
+unfoldable pub single : ℕ → Bool
+single n = isOnce (rowAt n .times)
+
+-- VALUE sets the kind on listed rows of kind 0, 1 or 3, except 1 BEGIN, 2 END, 34 VERSION and 5 XML
+unfoldable pub takesValue : ℕ → Bool
+takesValue n =
+    (ltb 0 n && ltb n 39)
+    && ((eqb (kindAt n) 0 || (eqb (kindAt n) 1 || eqb (kindAt n) 3)) && not (eqb n 1 || (eqb n 2 || (eqb n 34 || eqb n 5))))
+
+-- the kind that a VALUE parameter names
+unfoldable pub kindNamed : List ℕ → ℕ
+kindNamed v = pick (same v (octets "text")) 1 (pick (same v (octets "uri")) 3 0)
+
+-- the kind of a line of row n, given the first value of its first VALUE parameter, quotes taken off, where it has one
+unfoldable pub lineKind : ℕ → Option (List ℕ) → ℕ
+lineKind n none = kindAt n
+lineKind n (some v) = pick (takesValue n) (kindNamed v) (kindAt n)
+
+-- the name of the parameter that sets the kind
+abbrev pub valueName : List ℕ
+valueName = octets "VALUE"
+
+-- a KIND line's value that lets MEMBER stand in the card
+unfoldable pub isGroup : List ℕ → Bool
+isGroup v = same v (octets "group")
+
+-- the sixteen entries that the table has for a row: its name, filled up to twelve by points, the name's length, its kind, 1 where it is
+-- marked *1, and 1 where VALUE sets the kind
+unfoldable pub entries : ℕ → List ℕ
+entries n =
+    take 12 (rowAt n .name ++ octets "............")
+    ++ length (rowAt n .name) ∷ kindAt n ∷ bit (single n) 1 ∷ bit (takesValue n) 1 ∷ []
+
+-- k rows from row n on
+unfoldable pub entriesFrom : ℕ → ℕ → List ℕ
+entriesFrom n zero = []
+entriesFrom n (suc k) = entries n ++ entriesFrom (suc n) k
+
+-- a list is the property table
+unfoldable pub Lists : List ℕ → Type 0
+Lists t = t ≡ entriesFrom 0 39
