@@ -1,0 +1,117 @@
+-- What an accepted input satisfies, and how many lines it has. Assumes nothing.
+use mathlib.Core.Path.{_≡_, refl, ap}
+use mathlib.Core.Bool.{Bool, true, false}
+use mathlib.Core.List.{List, [], _∷_}
+use Prim.Native.Nat.{ℕ, zero, suc, _+_, _≤_}
+use native.Mathlib.Omega.{arith}
+use lib.Dec.{eqb, ltb}
+use lib.ListN.{length, drop}
+use borrow.Author.Tests.{ltb-false, eqb-true, eqb-false}
+use Rattle.octets.specs.Pick.{pick}
+use Rattle.octets.proofs.Scans.{scan-le}
+use Rattle.lines.specs.Folds.{lineLength, unfolded}
+use Rattle.lines.specs.Logical.{linesBy, rawLines}
+use Rattle.cards.specs.State.{freshCard}
+use Rattle.cards.specs.Judge.{judgeLine}
+use Rattle.cards.specs.declared.state.Card.{Card}
+use Rattle.cards.specs.declared.state.Step.{Step}
+use Rattle.cards.specs.declared.state.Step.the-variants.{Next, Refused as Halted}
+use Rattle.cards.proofs.CardLaws.{one-more}
+use Rattle.reader.specs.Lone.{loneStep, firstLone, endsCrLf}
+use Rattle.reader.specs.Outcome.{onward, judgeLines, verdictOf, judgeOf}
+use Rattle.reader.specs.declared.Verdict.the-variants.{Accepted, Refused}
+
+clash : {A : Type 0} → _≡_ {A = ℕ} 0 1 → A
+clash e = absurd (omega arith)
+
+-- where the lines after it are accepted too, a line was judged and led to a card
+pub onward-next : {A : Type 0} (r : Step) (f : Card → Step) (c′ : Card) → onward r f ≡ Next c′
+    → ((d : Card) → r ≡ Next d → f d ≡ Next c′ → A) → A
+onward-next (Next d) f c′ e k = k d refl e
+onward-next (Halted n p) f c′ e k = clash cc
+
+-- each judged line is counted
+pub counted : (ls : List (List ℕ)) (p : ℕ) (c c′ : Card) → judgeLines ls p c ≡ Next c′ → c′ .lines ≡ c .lines + length ls
+unfolding judgeLines
+counted [] p c c′ e =
+    let q : c ≡ c′ = cc in
+    omega (arith, ap (λ (x : Card). x .lines) q)
+counted (l ∷ ls) p c c′ e =
+    onward-next (judgeLine c p (unfolded l)) (judgeLines ls (p + length l + 2)) c′ e
+    (λ d q r. omega (arith, one-more c d p (unfolded l) q, counted ls (p + length l + 2) d c′ r))
+
+few : (n : ℕ) (l : List ℕ) → length (linesBy n l) ≤ n
+unfolding linesBy
+few zero l = omega arith
+few (suc n) [] = omega arith
+few (suc n) (x ∷ xs) = omega (arith, few n (drop (lineLength (x ∷ xs) + 2) (x ∷ xs)))
+
+-- an input has no more lines than octets
+pub lines-few : (i : List ℕ) → length (rawLines i) ≤ length i
+unfolding rawLines
+lines-few i = few (length i) i
+
+-- an accepted input has passed 1 to 4, its lines were judged, and it does not end inside a card
+pub record Accepting (i : List ℕ) (k n : ℕ) : Type 0 where
+  pub short : length i ≤ 16384
+  pub some : length i ≡ 0 → ⊥
+  pub unlone : firstLone i ≡ length i
+  pub ends : endsCrLf i ≡ true
+  pub last : Card
+  pub walked : judgeLines (rawLines i) 0 freshCard ≡ Next last
+  pub outside : last .phase ≡ 0
+  pub cards : last .cards ≡ k
+  pub lines : last .lines ≡ n
+
+closed : {A : Type 0} (m k n : ℕ) (t : Bool) (c : Card) → pick t (Accepted (c .cards) (c .lines)) (Refused 9 m) ≡ Accepted k n
+    → (t ≡ true → c .cards ≡ k → c .lines ≡ n → A) → A
+closed m k n true c e f =
+    let x : c .cards ≡ k = cc in
+    let y : c .lines ≡ n = cc in
+    f refl x y
+closed m k n false c e f = clash cc
+
+-- what the last line leaves, where the input is accepted
+pub verdict-next : {A : Type 0} (m k n : ℕ) (r : Step) → verdictOf m r ≡ Accepted k n
+    → ((c : Card) → r ≡ Next c → c .phase ≡ 0 → c .cards ≡ k → c .lines ≡ n → A) → A
+unfolding verdictOf
+verdict-next m k n (Next c) e f =
+    closed m k n (eqb (c .phase) 0) c e (λ t p q. f c refl (eqb-true (c .phase) 0 t) p q)
+verdict-next m k n (Halted a p) e f = clash cc
+
+module _ (i : List ℕ) (k n : ℕ) where
+  passed : (a b t d : Bool) → ltb 16384 (length i) ≡ a → eqb (length i) 0 ≡ b → ltb (firstLone i) (length i) ≡ t → endsCrLf i ≡ d
+      → pick a (Refused 1 16384) (pick b (Refused 2 0) (pick t (Refused 3 (firstLone i))
+      (pick d (verdictOf (length i) (judgeLines (rawLines i) 0 freshCard)) (Refused 4 (length i))))) ≡ Accepted k n
+      → Accepting i k n
+  unfolding firstLone
+  passed true b t d p q r u e = clash cc
+  passed false true t d p q r u e = clash cc
+  passed false false true d p q r u e = clash cc
+  passed false false false false p q r u e = clash cc
+  passed false false false true p q r u e =
+      let h = ltb-false 16384 (length i) p in
+      let g = ltb-false (firstLone i) (length i) r in
+      let s : firstLone i ≤ length i = scan-le loneStep i 0 in
+      verdict-next (length i) k n (judgeLines (rawLines i) 0 freshCard) e
+      (λ c w z x y. record {
+        short = h;
+        some = eqb-false (length i) 0 q;
+        unlone = omega arith;
+        ends = u;
+        last = c;
+        walked = w;
+        outside = z;
+        cards = x;
+        lines = y;
+      })
+
+  pub accepting : judgeOf i ≡ Accepted k n → Accepting i k n
+  unfolding judgeOf
+  accepting e = passed (ltb 16384 (length i)) (eqb (length i) 0) (ltb (firstLone i) (length i)) (endsCrLf i) refl refl refl refl e
+
+  -- the count that is answered is that of the lines
+  pub lines-counted : judgeOf i ≡ Accepted k n → n ≡ length (rawLines i)
+  lines-counted e =
+      let a = accepting e in
+      omega (arith, a .lines, counted (rawLines i) 0 freshCard (a .last) (a .walked))

@@ -1,0 +1,5 @@
+pub mod EndLaws
+pub mod WalkLaws
+pub mod AcceptLaws
+pub mod CopyLaws
+pub mod ReadLaws

@@ -1,0 +1,49 @@
+-- The outcomes of reading, by what was judged and measured. Assumes nothing.
+use mathlib.Core.Path.{_≡_, sym, ap, _∙_}
+use mathlib.Core.List.{List}
+use Prim.Native.Nat.{ℕ, _*_, _<_, _≤_}
+use native.Mathlib.Omega.{arith}
+use lib.ListN.{length}
+use borrow.Author.Tests.{lt-ltb, le-ltb}
+use Rattle.octets.specs.Room.{overlay}
+use Rattle.lines.specs.Logical.{rawLines}
+use Rattle.reader.specs.Outcome.{judgeOf, logicalLines, copyOf, recordsOf, took, writeOutcome, outcomeBy, readOutcome}
+use Rattle.reader.specs.declared.Verdict.{Verdict}
+use Rattle.reader.specs.declared.Verdict.the-variants.{Accepted, Refused}
+use Rattle.reader.proofs.AcceptLaws.{lines-counted}
+use Rattle.reader.proofs.CopyLaws.{records-length}
+
+module _ (i copy records : List ℕ) where
+  read-by : (v : Verdict) → judgeOf i ≡ v → readOutcome i copy records ≡ outcomeBy v i copy records
+  unfolding readOutcome
+  read-by v e = ap (λ (a : Verdict). outcomeBy a i copy records) e
+
+  -- a refused input
+  pub read-refused : (v : Verdict) (n p : ℕ) → v ≡ judgeOf i → v ≡ Refused n p → took v copy records ≡ readOutcome i copy records
+  unfolding outcomeBy
+  read-refused v n p e q = ap (λ (a : Verdict). took a copy records) q ∙ sym (read-by (Refused n p) (sym e ∙ q))
+
+  module _ (k n m : ℕ) (e : judgeOf i ≡ Accepted k n) (hm : m ≡ length (copyOf i)) where
+    pub numbers-counted : length (recordsOf i) ≡ n * 8
+    unfolding recordsOf logicalLines
+    numbers-counted = records-length 0 (rawLines i) ∙ ap (λ (x : ℕ). x * 8) (sym (lines-counted i k n e))
+
+    by-size : readOutcome i copy records ≡ writeOutcome (Accepted k n) (copyOf i) (recordsOf i) copy records
+    unfolding outcomeBy
+    by-size = read-by (Accepted k n) e
+
+    pub read-13 : length copy < m → took (Refused 13 m) copy records ≡ readOutcome i copy records
+    unfolding writeOutcome
+    read-13 h = sym (by-size ∙ simp (sym hm, lt-ltb (length copy) m h))
+
+    pub read-14 : m ≤ length copy → length records < n * 8 → took (Refused 14 (n * 8)) copy records ≡ readOutcome i copy records
+    unfolding writeOutcome
+    read-14 h g = sym (by-size ∙ simp (sym hm, le-ltb (length copy) m h, numbers-counted, lt-ltb (length records) (n * 8) g))
+
+    pub read-written : m ≤ length copy → n * 8 ≤ length records
+        → (c r : List ℕ) → c ≡ overlay (copyOf i) copy → r ≡ overlay (recordsOf i) records → took (Accepted k n) c r ≡ readOutcome i copy records
+    unfolding writeOutcome
+    read-written h g c r p q =
+        ap (λ (x : List ℕ). took (Accepted k n) x r) p
+        ∙ ap (λ (x : List ℕ). took (Accepted k n) (overlay (copyOf i) copy) x) q
+        ∙ sym (by-size ∙ simp (le-ltb (length copy) (length (copyOf i)) (omega arith), le-ltb (length records) (length (recordsOf i)) (rw numbers-counted g)))

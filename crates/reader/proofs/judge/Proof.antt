@@ -1,0 +1,73 @@
+-- `reader::judge` meets its contract. Assumes nothing.
+use borrow.Author.Tests.{eq-eqb, ne-eqb, lt-ltb, le-ltb, not-true, not-false}
+use mathlib.Core.Path.{sym, ap, _∙_}
+use Rattle.reader.specs.Outcome.{verdictOf, judgeOf}
+use borrow.Author.Needs.{needs}
+use Rattle.reader.proofs.judge.Statement.{statement}
+use Rattle.reader.proofs.judge.Tie as tie
+
+returns : tie.Need-returns
+unfolding judgeOf
+returns c =
+    simp (lt-ltb _ _ (c .if1 .taken))
+
+returns-2 : tie.Need-returns-2
+unfolding judgeOf
+returns-2 c =
+    simp (le-ltb _ _ (c .before .if1 .left), eq-eqb _ _ (c .if2 .taken))
+
+first-lone-requires : tie.Need-first-lone-requires
+first-lone-requires c κs = search needs
+
+returns-3 : tie.Need-returns-3
+unfolding judgeOf
+returns-3 c =
+    let e = c .before .first-lone .ensures in
+    rw e (simp (le-ltb _ _ (c .before .before .before .if1 .left), ne-eqb _ _ (c .before .before .if2 .left), lt-ltb _ _ (rw e at (c .if3 .taken))))
+
+ends-cr-lf-requires : tie.Need-ends-cr-lf-requires
+ends-cr-lf-requires c κs = search needs
+
+returns-4 : tie.Need-returns-4
+unfolding judgeOf
+returns-4 c =
+    let e = c .before .before .before .first-lone .ensures in
+    simp (le-ltb _ _ (c .before .before .before .before .before .if1 .left), ne-eqb _ _ (c .before .before .before .before .if2 .left), le-ltb _ _ (rw e at (c .before .before .if3 .left)), sym (c .before .ends-cr-lf .ensures) ∙ not-true _ (c .if4 .taken))
+
+table-requires : tie.Need-table-requires
+table-requires c κs = search needs
+
+table-requires-2 : tie.Need-table-requires-2
+table-requires-2 c κs = search needs
+
+table-requires-3 : tie.Need-table-requires-3
+table-requires-3 c κs = search needs
+
+walk-requires : tie.Need-walk-requires
+walk-requires c κs = search needs
+
+concluded-requires : tie.Need-concluded-requires
+concluded-requires c κs = search needs
+
+returns-5 : tie.Need-returns-5
+unfolding judgeOf
+returns-5 c =
+    let e = c .before .before .before .before .before .before .before .before .before .before .before .first-lone .ensures in
+    c .concluded .ensures ∙ ap (verdictOf _) (c .before .walk .ensures) ∙ sym (simp (le-ltb _ _ (c .before .before .before .before .before .before .before .before .before .before .before .before .before .if1 .left), ne-eqb _ _ (c .before .before .before .before .before .before .before .before .before .before .before .before .if2 .left), le-ltb _ _ (rw e at (c .before .before .before .before .before .before .before .before .before .before .if3 .left)), sym (c .before .before .before .before .before .before .before .before .before .ends-cr-lf .ensures) ∙ not-false _ (c .before .before .before .before .before .before .before .before .if4 .left)))
+
+pub judge-spec : {M : Type 1} → statement M
+judge-spec =
+    tie.close
+    (tie.spec
+    returns
+    returns-2
+    first-lone-requires
+    returns-3
+    ends-cr-lf-requires
+    returns-4
+    table-requires
+    table-requires-2
+    table-requires-3
+    walk-requires
+    concluded-requires
+    returns-5)

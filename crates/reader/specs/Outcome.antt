@@ -1,0 +1,102 @@
+-- What the reader answers and writes, by document 01: the numbers 1 to 14, the copy and the records. Assumes nothing.
+use Prim.Native.Nat.{ℕ, _+_, _-_}
+use mathlib.Core.List.{List, [], _∷_, _++_, map}
+use lib.Dec.{eqb, ltb}
+use lib.ListN.{length}
+use Rattle.octets.specs.Pick.{pick}
+use Rattle.octets.specs.Room.{overlay}
+use Rattle.lines.specs.Folds.{unfolded}
+use Rattle.lines.specs.Logical.{rawLines}
+use Rattle.cards.specs.State.{freshCard}
+use Rattle.lines.specs.Places.{nameStart}
+use Rattle.cards.specs.Parts.{toldOf}
+use Rattle.cards.specs.Judge.{judgeLine}
+use Rattle.cards.specs.declared.state.Card.{Card}
+use Rattle.cards.specs.declared.state.Step.{Step}
+use Rattle.cards.specs.declared.state.Step.the-variants.{Next, Refused as Halted}
+use Rattle.cards.specs.declared.parts.Told.{Told}
+use Rattle.cards.specs.declared.parts.Told.the-variants.{Line, Fault}
+use Rattle.reader.specs.Lone.{firstLone, endsCrLf}
+use Rattle.reader.specs.declared.writing.Record.{Record}
+use Rattle.reader.specs.declared.Verdict.{Verdict}
+use Rattle.reader.specs.declared.Verdict.the-variants.{Accepted, Refused}
+
+-- a refusal is handed up unchanged
+abbrev pub onward : Step → (Card → Step) → Step
+onward (Next c) f = f c
+onward (Halted n p) f = Halted n p
+
+-- the lines judged one after the other; they are as they came, and p is the place of the first of them in the input as given
+unfoldable pub judgeLines : List (List ℕ) → ℕ → Card → Step
+judgeLines [] p c = Next c
+judgeLines (l ∷ ls) p c = onward (judgeLine c p (unfolded l)) (judgeLines ls (p + length l + 2))
+
+-- after the last line of an input of n octets: 9 inside a card, else the counts of cards and lines
+unfoldable pub verdictOf : ℕ → Step → Verdict
+verdictOf n (Next c) = pick (eqb (c .phase) 0) (Accepted (c .cards) (c .lines)) (Refused 9 n)
+verdictOf n (Halted k p) = Refused k p
+
+-- 1, 2, 3, 4 over the whole input, then line by line 5 to 12
+unfoldable pub judgeOf : List ℕ → Verdict
+judgeOf i =
+    pick (ltb 16384 (length i)) (Refused 1 16384)
+    (pick (eqb (length i) 0) (Refused 2 0)
+    (pick (ltb (firstLone i) (length i)) (Refused 3 (firstLone i))
+    (pick (endsCrLf i) (verdictOf (length i) (judgeLines (rawLines i) 0 freshCard)) (Refused 4 (length i)))))
+
+-- the logical lines, unfolded
+unfoldable pub logicalLines : List ℕ → List (List ℕ)
+logicalLines i = map unfolded (rawLines i)
+
+-- the lines in order, each ended by CR LF
+unfoldable pub ended : List (List ℕ) → List ℕ
+ended [] = []
+ended (l ∷ ls) = l ++ (13 ∷ 10 ∷ ended ls)
+
+unfoldable pub copyOf : List ℕ → List ℕ
+copyOf i = ended (logicalLines i)
+
+-- property number, line start in the copy, line length, group length, name length, parameter count, value start in the copy, kind;
+-- w is the line's start in the copy; zeros for a line that has no parts, which no accepted line is
+unfoldable pub recordBy : ℕ → ℕ → Told → List ℕ
+recordBy w n (Line x) =
+    x .row ∷ w ∷ n ∷ x .group ∷ (x .name - nameStart (x .group)) ∷ x .params ∷ (w + x .value) ∷ x .kind ∷ []
+recordBy w n (Fault k) = 0 ∷ 0 ∷ 0 ∷ 0 ∷ 0 ∷ 0 ∷ 0 ∷ 0 ∷ []
+
+-- the same as the code holds them
+abbrev pub numbers : Record → List ℕ
+numbers r = r .number ∷ r .start ∷ r .len ∷ r .group ∷ r .name ∷ r .params ∷ r .value ∷ r .kind ∷ []
+
+unfoldable pub recordOf : ℕ → List ℕ → List ℕ
+recordOf w l = recordBy w (length l) (toldOf l)
+
+unfoldable pub recordsFrom : ℕ → List (List ℕ) → List ℕ
+recordsFrom w [] = []
+recordsFrom w (l ∷ ls) = recordOf w l ++ recordsFrom (w + length l + 2) ls
+
+unfoldable pub recordsOf : List ℕ → List ℕ
+recordsOf i = recordsFrom 0 (logicalLines i)
+
+-- an answer, and what the two rooms hold then
+pub record Taken : Type 0 where
+  pub answer : Verdict
+  pub copy : List ℕ
+  pub records : List ℕ
+
+abbrev pub took : Verdict → List ℕ → List ℕ → Taken
+took a copy records = record { answer = a; copy = copy; records = records }
+
+-- an accepted input: 13, then 14, else the copy and the records are written to the start of their rooms
+unfoldable pub writeOutcome : Verdict → List ℕ → List ℕ → List ℕ → List ℕ → Taken
+writeOutcome a xs rs copy records =
+    pick (ltb (length copy) (length xs)) (took (Refused 13 (length xs)) copy records)
+    (pick (ltb (length records) (length rs)) (took (Refused 14 (length rs)) copy records)
+    (took a (overlay xs copy) (overlay rs records)))
+
+-- nothing is written on a refusal
+unfoldable pub outcomeBy : Verdict → List ℕ → List ℕ → List ℕ → Taken
+outcomeBy (Accepted k n) i copy records = writeOutcome (Accepted k n) (copyOf i) (recordsOf i) copy records
+outcomeBy (Refused n p) i copy records = took (Refused n p) copy records
+
+unfoldable pub readOutcome : List ℕ → List ℕ → List ℕ → Taken
+readOutcome i copy records = outcomeBy (judgeOf i) i copy records

@@ -1,0 +1,78 @@
+// The reader: judges an input of cards, and writes its copy and its records.
+ghost use mathlib.Core.Path.{_≡_};
+ghost use Rattle.reader.specs.Outcome.{verdictOf, judgeOf, took, readOutcome};
+use cards::state::Step;
+
+mod ends;
+mod sizes;
+mod walk;
+mod writing;
+
+// The counts of cards and lines, or a refusal's number and place.
+pub enum Verdict {
+    Accepted(usize, usize),
+    Refused(u32, usize),
+}
+
+// What the last line leaves, at the end of an input of n octets: 9 inside a card.
+fn concluded(n: usize, last: Step) -> Verdict
+    ensures { λ r. ⌜ r ≡ verdictOf n last ⌝ }
+{
+    match last {
+        Step::Next(c) => {
+            if c.phase == 0 {
+                return Verdict::Accepted(c.cards, c.lines);
+            }
+            Verdict::Refused(9, n)
+        }
+        Step::Refused(k, p) => Verdict::Refused(k, p),
+    }
+}
+
+// The verdict on an input, 1 to 12 or the counts.
+pub fn judge(input: &[u8]) -> Verdict
+    ensures { λ r. ⌜ r ≡ judgeOf (now (input .entry)) ⌝ }
+{
+    if 16384 < input.len() {
+        return Verdict::Refused(1, 16384);
+    }
+    if input.len() == 0 {
+        return Verdict::Refused(2, 0);
+    }
+    let lone = ends::first_lone(input);
+    if lone < input.len() {
+        return Verdict::Refused(3, lone);
+    }
+    let ended = ends::ends_cr_lf(input);
+    if !ended {
+        return Verdict::Refused(4, input.len());
+    }
+    let t = octets::classes::table();
+    let rows = properties::rows::table();
+    let steps = properties::values::table();
+    let last = walk::walk(&t, &rows, &steps, input);
+    concluded(input.len(), last)
+}
+
+// The verdict on an input, 1 to 14 or the counts; where it is accepted, its copy and its records are written to the start of their
+// rooms, and on a refusal nothing is.
+pub fn read(input: &[u8], copy: &mut [u8], records: &mut [u32]) -> Verdict
+    ensures { λ r. ⌜ took r (now (copy .exit)) (now (records .exit)) ≡ readOutcome (now (input .entry)) (now (copy .entry)) (now (records .entry)) ⌝ }
+{
+    let v = judge(input);
+    let Verdict::Accepted(cards, lines) = v else {
+        return v;
+    };
+    let octets = sizes::copy_length(input);
+    if copy.len() < octets {
+        return Verdict::Refused(13, octets);
+    }
+    let numbers = lines * 8;
+    if records.len() < numbers {
+        return Verdict::Refused(14, numbers);
+    }
+    let t = octets::classes::table();
+    let rows = properties::rows::table();
+    writing::write_lines(&t, &rows, input, copy, records);
+    Verdict::Accepted(cards, lines)
+}

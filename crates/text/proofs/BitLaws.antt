@@ -1,0 +1,78 @@
+-- Tests joined as bits, marks that are kept once set, and counts. Assumes nothing.
+use mathlib.Core.Path.{_≡_, refl, sym, ap, _∙_}
+use mathlib.Core.Bool.{Bool, true, false, not, _&&_, _||_, and-true, and-false, and-assoc, or-assoc}
+use mathlib.Core.List.{List, [], _∷_}
+use Prim.Native.Nat.{ℕ, _+_, _<_, _≤_}
+use native.Mathlib.Nat.{add-zero}
+use native.Mathlib.Numerals.{add-one}
+use native.Mathlib.Omega.{arith}
+use lib.Dec.{eqb}
+use lib.Bits.{bitOr, bitAnd, or-zero-r, or-add-and, and-le-l}
+use lib.ListN.{length, getD, drop, drop-of-length-le}
+use lib.Seq.{drop-cons}
+use borrow.Author.Tests.{ne-eqb}
+use mir.Val.{boolByte}
+use Rattle.octets.specs.Classes.{bit}
+use Rattle.text.specs.Counts.{count}
+
+or-bytes : (x y : Bool) → bitOr (boolByte x) (boolByte y) ≡ boolByte (x || y)
+or-bytes true true = refl
+or-bytes true false = refl
+or-bytes false true = refl
+or-bytes false false = refl
+
+and-bytes : (x y : Bool) → bitAnd (boolByte x) (boolByte y) ≡ boolByte (x && y)
+and-bytes true true = refl
+and-bytes true false = refl
+and-bytes false true = refl
+and-bytes false false = refl
+
+byte-zero : (x : Bool) → eqb (boolByte x) 0 ≡ not x
+byte-zero true = refl
+byte-zero false = refl
+
+pub byte-bit : (x : Bool) → boolByte x ≡ bit x 1
+byte-bit true = refl
+byte-bit false = refl
+
+four : (a b c d : Bool) → bitOr (bitOr (boolByte a) (boolByte b)) (bitOr (boolByte c) (boolByte d)) ≡ boolByte ((a || b) || (c || d))
+four a b c d = rw (or-bytes a b, or-bytes c d) (or-bytes (a || b) (c || d))
+
+pub mark-bits : (a b c d : Bool)
+    → bitOr (bitOr (boolByte a) (boolByte b)) (bitOr (boolByte c) (boolByte d)) ≡ bit ((a || (b || c)) || d) 1
+mark-bits a b c d =
+    four a b c d ∙ ap boolByte (sym (or-assoc (a || b) c d) ∙ ap (λ (t : Bool). t || d) (or-assoc a b c)) ∙ byte-bit ((a || (b || c)) || d)
+
+pub pair-bits : (p a b c d : Bool)
+    → bitOr (bitAnd (boolByte p) (boolByte (eqb (bitOr (bitOr (boolByte a) (boolByte b)) (bitOr (boolByte c) (boolByte d))) 0))) (bitAnd (boolByte (not p)) (boolByte a))
+    ≡ bit ((p && not ((a || b) || (c || d))) || (not p && a)) 1
+pair-bits p a b c d =
+    let coded = (a || b) || (c || d) in
+    ap (λ (n : ℕ). bitOr (bitAnd (boolByte p) (boolByte (eqb n 0))) (bitAnd (boolByte (not p)) (boolByte a))) (four a b c d)
+    ∙ ap (λ (t : Bool). bitOr (bitAnd (boolByte p) (boolByte t)) (bitAnd (boolByte (not p)) (boolByte a))) (byte-zero coded)
+    ∙ ap (λ (n : ℕ). bitOr n (bitAnd (boolByte (not p)) (boolByte a))) (and-bytes p (not coded))
+    ∙ ap (λ (n : ℕ). bitOr (boolByte (p && not coded)) n) (and-bytes (not p) a)
+    ∙ or-bytes (p && not coded) (not p && a)
+    ∙ byte-bit ((p && not coded) || (not p && a))
+
+or-mark : (a : ℕ) (t : Bool) → eqb (bitOr a (bit t 1)) 0 ≡ (eqb a 0 && not t)
+or-mark a true = ne-eqb (bitOr a 1) 0 (λ e. omega (arith, or-add-and a 1, and-le-l a 1)) ∙ sym (and-false (eqb a 0))
+or-mark a false = ap (λ (n : ℕ). eqb n 0) (or-zero-r a) ∙ sym (and-true (eqb a 0))
+
+-- a mark is kept once it is set: a has the marks so far, t is the next one and r says that none follows
+pub mark-step : (a x : ℕ) (t r : Bool) → x ≡ bit t 1 → (eqb a 0 && (not t && r)) ≡ (eqb (bitOr a x) 0 && r)
+mark-step a x t r e =
+    sym (and-assoc (eqb a 0) (not t) r) ∙ ap (λ (u : Bool). u && r) (sym (or-mark a t) ∙ ap (λ (n : ℕ). eqb (bitOr a n) 0) (sym e))
+
+pub bit-le : (t : Bool) → bit t 1 ≤ 1
+bit-le true = omega arith
+bit-le false = omega arith
+
+module _ (p : ℕ → Bool) (s : List ℕ) (i : ℕ) where
+  pub count-step : i < length s → (n x : ℕ) → x ≡ bit (p (getD s i 0)) 1 → n + count p (drop i s) ≡ (n + x) + count p (drop (i + 1) s)
+  unfolding count
+  count-step h n x e = rw (add-one, drop-cons s i 0, e) (omega arith)
+
+  pub count-end : length s ≤ i → (n : ℕ) → n + count p (drop i s) ≡ n
+  unfolding count
+  count-end h n = rw (drop-of-length-le s h, add-zero)

@@ -1,0 +1,6 @@
+pub mod BitLaws
+pub mod EscapeLaws
+pub mod LengthLaws
+pub mod PairLaws
+pub mod PieceLaws
+pub mod OutcomeLaws

@@ -1,0 +1,5 @@
+pub mod Escapes
+pub mod Counts
+pub mod Pairs
+pub mod Outcomes
+pub mod Stands

@@ -1,0 +1,112 @@
+// Knows a card: which line may stand where, and the checks 5 to 12 of one logical line.
+
+use crate::characters::first_fault;
+use crate::content::{parse, ContentLine};
+use crate::kinds::fits;
+use crate::lines::LogicalLine;
+use crate::properties::{is_frame, kind_of, row_of, Row, BEGIN, END, FN, KIND, MEMBER, VERSION};
+use crate::refusal::{refuse, Refusal};
+
+/// A logical line that passed its checks, with what its record says of it.
+#[derive(Clone, Debug, PartialEq, Eq)]
+pub struct AcceptedLine {
+    pub octets: Vec<u8>,
+    pub parts: ContentLine,
+    pub property: u32,
+    pub kind: u32,
+}
+
+/// What has been seen of the card that is being read; before BEGIN it has no lines.
+#[derive(Clone, Debug, Default)]
+pub struct Card {
+    lines: usize,
+    singles: Vec<u32>,
+    has_fn: bool,
+    has_member: bool,
+    is_group: bool,
+}
+
+impl Card {
+    /// Whether BEGIN has been read and END hasn't.
+    pub fn is_open(&self) -> bool {
+        self.lines > 0
+    }
+
+    /// Checks 5, 6, 9, 8, 7, 10 of the line and, at END, 11 and 12; then counts it in.
+    pub fn take(&mut self, line: LogicalLine) -> Result<AcceptedLine, Refusal> {
+        if first_fault(&line.octets, |octet| !is_control(octet)).is_some() {
+            return refuse(5, line.start);
+        }
+        let Some(parts) = parse(&line.octets) else {
+            return refuse(6, line.start);
+        };
+        let row = row_of(&parts.name);
+        if self.is_out_of_order(row) {
+            return refuse(9, line.start);
+        }
+        if is_frame(row) && (parts.group.is_some() || !parts.parameters.is_empty()) {
+            return refuse(8, line.start);
+        }
+        let kind = kind_of(row, &parts.parameters);
+        if !value_fits(row, kind, &parts.value) {
+            return refuse(7, line.start);
+        }
+        if row.single && self.singles.contains(&row.number) {
+            return refuse(10, line.start);
+        }
+        self.count_in(row, &parts.value);
+        if row.number == END {
+            self.end(line.start)?;
+        }
+        Ok(AcceptedLine { octets: line.octets, parts, property: row.number, kind })
+    }
+
+    /// Whether a line of this row may not stand here: BEGIN first, VERSION second, neither later.
+    fn is_out_of_order(&self, row: Row) -> bool {
+        match self.lines {
+            0 => row.number != BEGIN,
+            1 => row.number != VERSION,
+            _ => matches!(row.number, BEGIN | VERSION),
+        }
+    }
+
+    /// Notes what later lines and END have to know.
+    fn count_in(&mut self, row: Row, value: &[u8]) {
+        self.lines += 1;
+        if row.single {
+            self.singles.push(row.number);
+        }
+        match row.number {
+            FN => self.has_fn = true,
+            MEMBER => self.has_member = true,
+            KIND => self.is_group = value.eq_ignore_ascii_case(b"group"),
+            _ => (),
+        }
+    }
+
+    /// The checks at END, whose line starts here; after them the next card may begin.
+    fn end(&mut self, start: usize) -> Result<(), Refusal> {
+        if !self.has_fn {
+            return refuse(11, start);
+        }
+        if self.has_member && !self.is_group {
+            return refuse(12, start);
+        }
+        *self = Card::default();
+        Ok(())
+    }
+}
+
+/// Octets 00-08, 0A-1F and 7F, which check 5 refuses.
+fn is_control(octet: u8) -> bool {
+    matches!(octet, 0x00..=0x08 | 0x0A..=0x1F | 0x7F)
+}
+
+/// BEGIN, END and VERSION have fixed values; any other line's value fits its kind.
+fn value_fits(row: Row, kind: u32, value: &[u8]) -> bool {
+    match row.number {
+        BEGIN | END => value.eq_ignore_ascii_case(b"VCARD"),
+        VERSION => value == b"4.0",
+        _ => fits(kind, value),
+    }
+}

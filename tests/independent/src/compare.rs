@@ -1,0 +1,193 @@
+// Knows how to compare another console with this program, request by request, to the first difference.
+
+use std::io::{BufRead, BufReader, BufWriter, Write};
+use std::process::{Child, ChildStdin, ChildStdout, Command, Stdio};
+use std::sync::mpsc::{channel, Receiver, Sender};
+use std::thread;
+
+use crate::console::Console;
+use crate::generator::folds::folds;
+use crate::generator::lists::lists;
+use crate::generator::protocol::protocol;
+use crate::generator::readers;
+use crate::generator::texts::texts;
+use crate::ledger_console::LedgerConsole;
+
+/// How much of each family is compared; a family of 0 is left out.
+#[derive(Clone, Copy, Debug, PartialEq, Eq)]
+pub struct Plan {
+    pub protocol: usize,
+    pub readers: usize,
+    pub folds: usize,
+    pub texts: usize,
+    pub lists: usize,
+    pub seed: u64,
+}
+
+impl Default for Plan {
+    /// What is compared if nothing else is said.
+    fn default() -> Plan {
+        Plan { protocol: 1000, readers: 100_000, folds: 10_000, texts: 80_000, lists: 2_000, seed: 1 }
+    }
+}
+
+/// A request line with the family it comes from; `begins` marks the first line of a call list.
+#[derive(Clone, Debug, PartialEq, Eq)]
+pub struct Step {
+    pub family: &'static str,
+    pub begins: bool,
+    pub line: String,
+}
+
+/// All steps of a plan, in order. Protocol comes first, for it tries a console at its start.
+pub fn steps(plan: Plan) -> impl Iterator<Item = Step> {
+    let of = |family| move |line| Step { family, begins: false, line };
+    let calls = lists(plan.seed).take(plan.lists).flat_map(|list| {
+        let numbered = list.into_iter().enumerate();
+        numbered.map(|(index, line)| Step { family: "lists", begins: index == 0, line })
+    });
+    (protocol().into_iter().take(plan.protocol).map(of("protocol")))
+        .chain(readers(plan.seed).take(plan.readers).map(of("readers")))
+        .chain(folds(plan.seed).take(plan.folds).map(of("folds")))
+        .chain(texts(plan.seed).take(plan.texts).map(of("texts")))
+        .chain(calls)
+}
+
+/// Compares the console that this command starts; answers one line with the counts, or the report
+/// of the first difference.
+pub fn compare(program: &str, arguments: &[String], plan: Plan) -> Result<String, String> {
+    let mut command = Command::new(program);
+    command.args(arguments).stdin(Stdio::piped()).stdout(Stdio::piped());
+    let mut child = command.spawn().map_err(|error| format!("cannot start {program}: {error}"))?;
+    let input = child.stdin.take().expect("a pipe to the console");
+    let output = child.stdout.take().expect("a pipe from the console");
+    let (sender, receiver) = channel();
+    let writer = thread::spawn(move || write_steps(plan, input, sender));
+    let result = compare_answers(receiver, output).and_then(|counts| {
+        check_end(&mut child)?;
+        Ok(counts)
+    });
+    // After a difference the console may still be running; it was started here.
+    child.kill().ok();
+    child.wait().ok();
+    writer.join().expect("the writer ends");
+    result
+}
+
+/// Sends each step to the comparing side and its line to the console. The channel has no bound, so
+/// that this side waits only for the console; it stops when either side has gone.
+fn write_steps(plan: Plan, input: ChildStdin, sender: Sender<Step>) {
+    let mut input = BufWriter::with_capacity(1 << 16, input);
+    for step in steps(plan) {
+        let line = step.line.clone();
+        if sender.send(step).is_err() || writeln!(input, "{line}").is_err() {
+            return;
+        }
+    }
+}
+
+/// Compares answer by answer; then the console must have nothing more to say.
+fn compare_answers(receiver: Receiver<Step>, output: ChildStdout) -> Result<String, String> {
+    let mut answers = BufReader::with_capacity(1 << 16, output);
+    let mut own = Own::default();
+    for step in receiver {
+        let received = next_line(&mut answers)?;
+        own.check(step, received)?;
+    }
+    match next_line(&mut answers)? {
+        None => Ok(own.counts()),
+        Some(more) => Err(format!("difference: a line too many\nreceived: {more}")),
+    }
+}
+
+/// The next line without its LF, or nothing at the end.
+fn next_line(answers: &mut impl BufRead) -> Result<Option<String>, String> {
+    let mut line = Vec::new();
+    let count = answers.read_until(b'\n', &mut line);
+    match count.map_err(|error| format!("cannot read from the console: {error}"))? {
+        0 => Ok(None),
+        _ if line.ends_with(b"\n") => {
+            line.pop();
+            Ok(Some(String::from_utf8_lossy(&line).into_owned()))
+        }
+        _ => Ok(Some(format!("{} (without line end)", String::from_utf8_lossy(&line)))),
+    }
+}
+
+/// A console that has answered everything ends by itself and well.
+fn check_end(child: &mut Child) -> Result<(), String> {
+    let status = child.wait().map_err(|error| format!("cannot wait for the console: {error}"))?;
+    match status.success() {
+        true => Ok(()),
+        false => Err(format!("difference: all answers are the same, but the console ended with {status}")),
+    }
+}
+
+/// This program's side of the comparison.
+#[derive(Default)]
+struct Own {
+    console: Console,
+    ledger: LedgerConsole,
+    list: Vec<String>,
+    counts: Vec<(&'static str, usize)>,
+    lists: usize,
+}
+
+impl Own {
+    /// Compares the console's answer, none if it has ended, with the own one and the ledger's.
+    fn check(&mut self, step: Step, received: Option<String>) -> Result<(), String> {
+        self.count(&step);
+        let received = received.unwrap_or("(nothing: the console has ended)".to_string());
+        let expected = self.console.answer(step.line.as_bytes());
+        if received != expected {
+            return Err(self.report(&step, "expected", &expected, &received));
+        }
+        if step.family == "lists" {
+            match self.ledger.answer(step.line.as_bytes()) {
+                Some(entry) if entry != received => {
+                    return Err(self.report(&step, "ledger", &entry, &received));
+                }
+                _ => (),
+            }
+        }
+        Ok(())
+    }
+
+    /// Counts the step, and keeps the lines of the call list that it belongs to.
+    fn count(&mut self, step: &Step) {
+        match self.counts.last_mut() {
+            Some((family, count)) if *family == step.family => *count += 1,
+            _ => self.counts.push((step.family, 1)),
+        }
+        if step.begins {
+            self.lists += 1;
+            self.list.clear();
+        }
+        if step.family == "lists" {
+            self.list.push(step.line.clone());
+        }
+    }
+
+    /// The report of a difference; for a call list, with the lines that lead to it.
+    fn report(&self, step: &Step, who: &str, expected: &str, received: &str) -> String {
+        let (_, number) = self.counts.last().expect("the step is counted");
+        let mut report = format!("difference in {}, request {number}\n", step.family);
+        if let Some((_, before)) = self.list.split_last() {
+            report += "after these requests:\n";
+            before.iter().for_each(|line| report += &format!("{line}\n"));
+        }
+        report + &format!("request:\n{}\n{who}:\n{expected}\nreceived:\n{received}", step.line)
+    }
+
+    /// One line with the counts of each family.
+    fn counts(&self) -> String {
+        let mut line = "same answers:".to_string();
+        for (family, count) in &self.counts {
+            line += &match *family {
+                "lists" => format!(" {} lists of {count} requests", self.lists),
+                _ => format!(" {family} {count},"),
+            };
+        }
+        line.trim_end_matches(',').to_string()
+    }
+}

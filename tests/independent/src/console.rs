@@ -1,0 +1,189 @@
+// Knows the console of CONSOLE.md: it answers each request line from this program's own entries.
+//
+// Points that CONSOLE.md leaves open, and how they are taken here:
+// - Room is at most 70,000 octets and 70,000 numbers, the pool at most 655,360 octets, TICKET and
+//   TRAM at most 4,294,967,295, SLOTS at most 18,446,744,073,709,551,615; a larger number is
+//   `bad request`.
+// - A number is one or more digits; leading zeros are allowed, a sign isn't.
+// - Two spaces, a space at either end, and an empty line make an empty word: `bad request`.
+// - Request words are in lower case only. Octets of odd length, or with another sign among the
+//   digits, are `bad request`; so is a request with a word too many or too few.
+// - A line's 140,000 octets don't count its LF or the one CR before it. The last line is taken
+//   without LF too, unless it is empty.
+// - A refused new desk (26) replaces the desk by the refused one, and the pool by a new one of
+//   POOL octets, for the call hands a desk back; a `bad request` replaces neither.
+// - `pool FROM COUNT` past the end of the pool is `bad request`; COUNT 0 gives `-`.
+// - `show` has no refusal: `-` for an empty part, whatever the reason (READINGS A24).
+// - `read` answers no count of copy octets, so the console takes from the last record where the
+//   copy ends.
+
+use std::io::{self, BufRead, BufReader, Read, Write};
+
+use crate::desk::Desk;
+use crate::folder::fold;
+use crate::hex::word_of;
+use crate::reader::{judge, read, Counts, RECORD_NUMBERS};
+use crate::refusal::Refusal;
+use crate::requests::{request_of, Request};
+use crate::text::{escape, unescape};
+
+/// What each octet of room and of a new pool is at first.
+const ROOM_OCTET: u8 = 165;
+
+/// What each number of room is at first.
+const ROOM_NUMBER: u32 = 2_779_096_485;
+
+/// The answer to a line that is no request.
+pub const BAD_REQUEST: &str = "bad request";
+
+/// The desk and the pool that the console keeps from request to request.
+pub struct Console {
+    desk: Desk,
+    pool: Vec<u8>,
+}
+
+impl Default for Console {
+    /// Before the first `desk` there is a refused desk and an empty pool.
+    fn default() -> Console {
+        Console { desk: Desk::new(0).1, pool: Vec::new() }
+    }
+}
+
+impl Console {
+    /// The answer to one line, given without its LF.
+    pub fn answer(&mut self, line: &[u8]) -> String {
+        match request_of(line) {
+            Some(request) => self.answer_request(request),
+            None => BAD_REQUEST.to_string(),
+        }
+    }
+
+    /// The answer to a request.
+    fn answer_request(&mut self, request: Request) -> String {
+        match request {
+            Request::Judge { octets } => verdict_line(judge(&octets)),
+            Request::Read { copy_room, record_room, octets } => read_answer(copy_room, record_room, &octets),
+            Request::Fold { room, octets } => room_answer(fold, room, &octets),
+            Request::Escape { room, octets } => room_answer(escape, room, &octets),
+            Request::Unescape { room, octets } => room_answer(unescape, room, &octets),
+            Request::Desk { slots, pool } => self.new_desk(slots, pool),
+            Request::Open { tram } => {
+                let (answer, next) = self.desk.open(&self.pool, tram);
+                self.desk = next;
+                number_line(answer)
+            }
+            Request::Add { ticket, chunk } => {
+                let (answer, next) = self.desk.add(&mut self.pool, ticket, &chunk);
+                self.desk = next;
+                number_line(answer)
+            }
+            Request::Check { ticket } => verdict_line(self.desk.judge(&self.pool, ticket)),
+            Request::Show { ticket } => word_of(self.desk.show(&self.pool, ticket)),
+            Request::Held { ticket } => number_line(self.desk.held(&self.pool, ticket)),
+            Request::Release { ticket } => {
+                let (answer, next) = self.desk.release(&mut self.pool, ticket);
+                self.desk = next;
+                number_line(answer)
+            }
+            Request::Pool { from, count } => self.pool_part(from, count),
+        }
+    }
+
+    /// A new desk, refused or not, and a new pool.
+    fn new_desk(&mut self, slots: u64, pool: usize) -> String {
+        let (answer, desk) = Desk::new(slots);
+        *self = Console { desk, pool: vec![ROOM_OCTET; pool] };
+        number_line(answer)
+    }
+
+    /// That part of the pool, if the pool reaches so far.
+    fn pool_part(&self, from: usize, count: usize) -> String {
+        self.pool.get(from..from + count).map_or(BAD_REQUEST.to_string(), word_of)
+    }
+}
+
+/// The answer of the reader with rooms of these sizes.
+fn read_answer(copy_room: usize, record_room: usize, octets: &[u8]) -> String {
+    let mut copy = vec![ROOM_OCTET; copy_room];
+    let mut records = vec![ROOM_NUMBER; record_room];
+    let verdict = read(octets, &mut copy, &mut records);
+    let numbers_written = verdict.map_or(0, |counts| RECORD_NUMBERS * counts.lines);
+    let octets_written = copy_length(&records[..numbers_written]);
+    let touched = copy[octets_written..].iter().any(|&octet| octet != ROOM_OCTET)
+        || records[numbers_written..].iter().any(|&number| number != ROOM_NUMBER);
+    let mut answer = verdict_line(verdict);
+    if verdict.is_ok() {
+        let numbers: Vec<String> = records[..numbers_written].iter().map(u32::to_string).collect();
+        answer += &format!(" {} {}", word_of(&copy[..octets_written]), numbers.join(","));
+    }
+    answer + touched_word(touched)
+}
+
+/// Where the copy ends: the last record's line start and length, and a CR LF.
+fn copy_length(records: &[u32]) -> usize {
+    match records.chunks(RECORD_NUMBERS).last() {
+        Some(last) => (last[1] + last[2] + 2) as usize,
+        None => 0,
+    }
+}
+
+/// The answer of an entry that writes octets to room of this size.
+fn room_answer(entry: fn(&[u8], &mut [u8]) -> Result<usize, Refusal>, room: usize, octets: &[u8]) -> String {
+    let mut out = vec![ROOM_OCTET; room];
+    let answer = entry(octets, &mut out);
+    let (written, past) = out.split_at(answer.unwrap_or(0));
+    let touched = touched_word(past.iter().any(|&octet| octet != ROOM_OCTET));
+    match answer {
+        Ok(count) => format!("ok {count} {}{touched}", word_of(written)),
+        Err(refusal) => refusal_line(refusal) + touched,
+    }
+}
+
+/// The word for room that isn't as it was where it should be.
+fn touched_word(touched: bool) -> &'static str {
+    if touched {
+        " touched"
+    } else {
+        ""
+    }
+}
+
+/// `no NUMBER PLACE`.
+fn refusal_line(refusal: Refusal) -> String {
+    format!("no {} {}", refusal.number, refusal.place)
+}
+
+/// `ok CARDS LINES`, or the refusal.
+pub fn verdict_line(verdict: Result<Counts, Refusal>) -> String {
+    match verdict {
+        Ok(counts) => format!("ok {} {}", counts.cards, counts.lines),
+        Err(refusal) => refusal_line(refusal),
+    }
+}
+
+/// `ok NUMBER`, or the refusal.
+pub fn number_line<N: ToString>(answer: Result<N, Refusal>) -> String {
+    match answer {
+        Ok(number) => format!("ok {}", number.to_string()),
+        Err(refusal) => refusal_line(refusal),
+    }
+}
+
+/// Answers line after line; what is written is sent on whenever no further request is waiting.
+pub fn serve<I: Read, O: Write>(
+    input: I,
+    mut output: O,
+    mut answer: impl FnMut(&[u8]) -> String,
+) -> io::Result<()> {
+    let mut input = BufReader::with_capacity(1 << 16, input);
+    let mut line = Vec::new();
+    while input.read_until(b'\n', &mut line)? > 0 {
+        let request = line.strip_suffix(b"\n").unwrap_or(&line);
+        writeln!(output, "{}", answer(request))?;
+        line.clear();
+        if input.buffer().is_empty() {
+            output.flush()?;
+        }
+    }
+    output.flush()
+}

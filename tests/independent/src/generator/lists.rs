@@ -1,0 +1,304 @@
+// Knows lists of desk calls: each is a run of request lines that begins with `desk SLOTS POOL`.
+
+use std::collections::BTreeMap;
+
+use crate::dice::Dice;
+use crate::examples::{desk_examples, m_with, CARD_M};
+use crate::generator::{grammar, input_by_chance, source_inputs};
+use crate::ledger::Ledger;
+use crate::refusal::MOST_OCTETS;
+use crate::requests::add_line;
+
+/// Call lists without end: the paper's examples, lists by hand, then lists by chance.
+pub fn lists(seed: u64) -> impl Iterator<Item = Vec<String>> {
+    let sources = source_inputs();
+    let examples = desk_examples().into_iter();
+    let examples = examples.map(|e| e.steps.into_iter().map(|(request, _)| request).collect());
+    let mut dice = Dice::new(seed);
+    let by_chance = std::iter::repeat_with(move || list_by_chance(&mut dice, &sources));
+    examples.chain(by_hand()).chain(by_chance)
+}
+
+/// The lists made by hand.
+pub fn by_hand() -> Vec<Vec<String>> {
+    let mut lists = vec![
+        octet_by_octet(),
+        chunks_to_the_border(),
+        empty_chunks(),
+        full_desk(),
+        slots_used_again(),
+        two_side_by_side(),
+        identifiers_like_tickets(),
+        releases_and_their_zeros(),
+    ];
+    for (slots, pool) in [(1, 16_384), (2, 32_768), (40, 655_360)] {
+        lists.push(every_call_on_every_ticket(slots, pool));
+    }
+    for (slots, pool) in [(0, 0), (0, 16_384), (41, 655_360), (100, 0), (4_294_967_295, 16_384)] {
+        lists.push(every_call_on_every_ticket(slots, pool));
+    }
+    for (slots, pool) in [(1, 0), (1, 16_383), (1, 16_385), (2, 16_384), (2, 32_769), (40, 655_359)] {
+        lists.push(every_call_on_every_ticket(slots, pool));
+    }
+    for (slots, pool) in [(1 << 32, 0), ((1 << 32) + 1, 16_384), ((1 << 32) + 2, 32_768)] {
+        lists.push(every_call_on_every_ticket(slots, pool));
+    }
+    lists
+}
+
+/// Request lines as owned strings.
+fn owned(lines: &[&str]) -> Vec<String> {
+    lines.iter().map(|line| line.to_string()).collect()
+}
+
+/// The three calls that change nothing.
+fn looks(ticket: u32) -> Vec<String> {
+    vec![format!("held {ticket}"), format!("show {ticket}"), format!("check {ticket}")]
+}
+
+/// Each call on tickets open, closed, not yet given out, 0 and the largest; identifier 0 everywhere.
+fn every_call_on_every_ticket(slots: u64, pool: usize) -> Vec<String> {
+    let mut list = vec![format!("desk {slots} {pool}")];
+    list.extend(owned(&["held 1", "open 0", "add 1 61", "open 0", "open 0", "release 2", "open 0"]));
+    for ticket in [1, 2, 3, 4, 5, 0, 4_294_967_294, 4_294_967_295] {
+        list.extend(looks(ticket));
+        list.push(add_line(ticket, b"bc"));
+        list.push(add_line(ticket, b""));
+        list.extend(looks(ticket));
+        list.push(format!("release {ticket}"));
+        list.extend(looks(ticket));
+        list.push(format!("release {ticket}"));
+        list.push(add_line(ticket, b"d"));
+    }
+    list.extend(owned(&["open 4294967295", "open 0", "pool 0 4", "pool 0 0"]));
+    list
+}
+
+/// Card M an octet at a time, judged after each.
+fn octet_by_octet() -> Vec<String> {
+    let mut list = owned(&["desk 1 16384", "open 0"]);
+    for octet in CARD_M {
+        list.push(add_line(1, &[*octet]));
+        list.push("check 1".to_string());
+    }
+    list.extend(owned(&["show 1", "held 1", "add 1 0d", "check 1", "show 1"]));
+    list
+}
+
+/// Chunks that end one before, on and past 16,384 octets.
+fn chunks_to_the_border() -> Vec<String> {
+    let mut list = owned(&["desk 3 49152", "open 1", "open 2", "open 3"]);
+    let card = m_with(&[b"NOTE:".to_vec(), vec![b'a'; MOST_OCTETS - 50]].concat());
+    list.push(add_line(2, &card[..MOST_OCTETS - 1]));
+    list.push(add_line(2, b"\nx"));
+    list.extend(looks(2));
+    list.push(add_line(2, b"\n"));
+    list.extend(looks(2));
+    list.extend([add_line(2, b"x"), add_line(2, b""), add_line(2, &card)]);
+    list.extend([add_line(1, &[b'x'; MOST_OCTETS + 1]), add_line(1, &[b'x'; 60_000])]);
+    list.extend([add_line(1, &[b'y'; MOST_OCTETS]), add_line(1, b"z")]);
+    list.extend(looks(1));
+    list.extend([add_line(3, b"abc"), add_line(3, &[b'd'; MOST_OCTETS - 2])]);
+    list.push(add_line(3, &[b'd'; MOST_OCTETS - 3]));
+    list.extend(owned(&["held 3", "pool 16380 8", "pool 32764 8", "pool 49144 8"]));
+    list.extend(owned(&["release 2", "pool 16380 8", "pool 32764 8", "pool 16384 16384", "held 3"]));
+    list
+}
+
+/// Empty chunks on an empty, a partly filled, a released ticket and one never given out.
+fn empty_chunks() -> Vec<String> {
+    owned(&[
+        "desk 2 32768", "open 5", "add 1 -", "held 1", "show 1", "check 1", "add 1 41", "add 1 -", "held 1",
+        "show 1", "check 1", "release 1", "add 1 -", "held 1", "show 1", "add 2 -", "add 0 -", "pool 0 2",
+    ])
+}
+
+/// A desk of 40 slots, filled, emptied in part and filled again.
+fn full_desk() -> Vec<String> {
+    let mut list = owned(&["desk 40 655360"]);
+    for tram in 0..41u32 {
+        list.push(format!("open {}", tram % 3));
+    }
+    for ticket in [1, 20, 40] {
+        list.push(add_line(ticket, format!("ticket {ticket}").as_bytes()));
+    }
+    list.extend(owned(&["open 0", "release 20", "release 3", "open 0", "open 0", "open 0", "show 20"]));
+    list.extend([add_line(41, b"low"), add_line(42, b"high")]);
+    list.extend(owned(&["pool 32768 4", "pool 311296 5", "pool 638976 10", "pool 655359 1", "show 40"]));
+    list
+}
+
+/// A slot used again keeps nothing of its last session, and the old ticket stays closed.
+fn slots_used_again() -> Vec<String> {
+    let mut list = owned(&["desk 1 16384", "open 9"]);
+    for ticket in 1..6u32 {
+        list.push(add_line(ticket, CARD_M));
+        list.extend(looks(ticket));
+        list.push("open 9".to_string());
+        list.push(format!("release {ticket}"));
+        list.extend(looks(ticket));
+        list.extend(owned(&["pool 0 50", "open 9"]));
+        list.extend(looks(ticket + 1));
+        list.extend([add_line(ticket, b"late"), add_line(ticket + 1, &CARD_M[..20])]);
+        list.extend(looks(ticket + 1));
+        list.extend([add_line(ticket + 1, &CARD_M[20..])]);
+        list.extend(looks(ticket + 1));
+        list.push(format!("release {}", ticket + 1));
+        list.push("open 9".to_string());
+        list.push(format!("release {}", ticket + 2));
+    }
+    list
+}
+
+/// Two sessions with the same identifier, fed by turns with different cards.
+fn two_side_by_side() -> Vec<String> {
+    let mut list = owned(&["desk 2 32768", "open 0", "open 0"]);
+    let other = m_with(b"N:x");
+    for at in 0..CARD_M.len() {
+        list.push(add_line(1, &CARD_M[at..at + 1]));
+        list.push(add_line(2, &other[at..at + 1]));
+    }
+    list.push(add_line(2, &other[CARD_M.len()..]));
+    list.extend([looks(1), looks(2)].concat());
+    list.extend(owned(&["pool 0 44", "pool 16384 49", "release 1", "show 2", "check 2", "pool 16384 49"]));
+    list
+}
+
+/// Each session's identifier is another one's ticket.
+fn identifiers_like_tickets() -> Vec<String> {
+    let mut list = owned(&["desk 4 65536", "open 4", "open 3", "open 2", "open 9"]);
+    for ticket in [1, 2, 3, 4, 9] {
+        list.push(add_line(ticket, format!("ticket {ticket}").as_bytes()));
+    }
+    list.extend(owned(&["release 4", "release 9", "open 1", "add 5 61", "release 3", "add 2 62"]));
+    list.extend((1..=9).flat_map(looks));
+    list
+}
+
+/// Release sets all 16,384 octets of its slot to 0 and no other; open leaves the pool as it is.
+fn releases_and_their_zeros() -> Vec<String> {
+    owned(&[
+        "desk 3 49152", "pool 0 49152", "open 0", "open 0", "open 0", "add 2 616263", "pool 16383 6",
+        "release 2", "pool 0 49152", "open 0", "pool 16383 3", "release 1", "pool 16382 3", "release 3",
+        "pool 0 49152", "release 4", "held 4",
+    ])
+}
+
+/// What a list by chance has done so far: the ledger tells which tickets are open.
+struct Caller<'a> {
+    dice: &'a mut Dice,
+    ledger: Ledger,
+    pool: usize,
+    large: bool,
+    plans: BTreeMap<u32, Vec<u8>>,
+    list: Vec<String>,
+}
+
+/// A list by chance, mostly on a small proper desk.
+fn list_by_chance(dice: &mut Dice, sources: &[Vec<u8>]) -> Vec<String> {
+    let slots = *dice.pick(&[1, 1, 2, 2, 2, 3, 3, 4, 5, 8, 40]);
+    let (asked_slots, pool) = match dice.below(12) {
+        0 => (*dice.pick(&[0, 41, 64, 1000]), slots * MOST_OCTETS),
+        1 => (slots, *dice.pick(&[0, 1, slots * MOST_OCTETS - 1, (slots - 1) * MOST_OCTETS])),
+        _ => (slots, slots * MOST_OCTETS),
+    };
+    let list = vec![format!("desk {asked_slots} {pool}")];
+    let large = dice.once_in(8);
+    let calls = dice.between(5, 60);
+    let ledger = Ledger::new(slots);
+    let mut caller = Caller { dice, ledger, pool, large, plans: BTreeMap::new(), list };
+    for _ in 0..calls {
+        caller.call(sources);
+    }
+    caller.finish();
+    caller.list
+}
+
+impl Caller<'_> {
+    /// One call of any sort.
+    fn call(&mut self, sources: &[Vec<u8>]) {
+        let ticket = self.ticket();
+        match self.dice.below(20) {
+            0..=3 => self.open(sources),
+            4..=11 => self.add(ticket),
+            12 | 13 => self.list.push(format!("check {ticket}")),
+            14 | 15 => self.list.push(format!("show {ticket}")),
+            16 | 17 => self.list.push(format!("held {ticket}")),
+            18 => self.look_at_pool(),
+            _ => {
+                self.list.push(format!("release {ticket}"));
+                self.ledger.release(ticket).ok();
+            }
+        }
+    }
+
+    /// A ticket: mostly an open one, else a closed one, one not yet given out, or an odd one.
+    fn ticket(&mut self) -> u32 {
+        let open: Vec<u32> = self.ledger.open_tickets.keys().copied().collect();
+        let next = self.ledger.next_ticket;
+        if open.is_empty() || self.dice.once_in(7) {
+            let closed = self.dice.between(1, next as usize) as u32;
+            return *self.dice.pick(&[closed, closed, next, next + 1, 0, u32::MAX, u32::MAX - 1]);
+        }
+        *self.dice.pick(&open)
+    }
+
+    /// Opens with an identifier that others have too, and plans an input for the session.
+    fn open(&mut self, sources: &[Vec<u8>]) {
+        let tram = *self.dice.pick(&[0, 0, 1, 7, u32::MAX]);
+        self.list.push(format!("open {tram}"));
+        if let Ok(ticket) = self.ledger.open() {
+            let plan = match self.dice.once_in(2) {
+                true => grammar::input(self.dice),
+                false => input_by_chance(self.dice, sources),
+            };
+            self.plans.insert(ticket, plan);
+        }
+    }
+
+    /// Adds the next piece of the session's plan, some noise, or much at once.
+    fn add(&mut self, ticket: u32) {
+        let held = self.ledger.held(ticket).unwrap_or(0);
+        let chunk = if self.large && self.dice.once_in(2) {
+            let left = MOST_OCTETS - held;
+            let length = *self.dice.pick(&[left, left + 1, left.saturating_sub(1), 5_000, MOST_OCTETS]);
+            let filler = self.dice.octet();
+            vec![filler; length]
+        } else if self.dice.once_in(8) {
+            let length = self.dice.below(30);
+            (0..length).map(|_| self.dice.octet()).collect()
+        } else {
+            self.next_piece(ticket)
+        };
+        self.list.push(add_line(ticket, &chunk));
+        self.ledger.add(ticket, &chunk).ok();
+    }
+
+    /// The next piece of the plan, short or all that is left; nothing once it is used up.
+    fn next_piece(&mut self, ticket: u32) -> Vec<u8> {
+        let Some(plan) = self.plans.get_mut(&ticket) else {
+            return b"piece".to_vec();
+        };
+        let most = plan.len();
+        let length = *self.dice.pick(&[0, 1, 10, most / 2, most, most, most]);
+        plan.drain(..length.min(most)).collect()
+    }
+
+    /// A short part of the pool near the start or the end of a slot.
+    fn look_at_pool(&mut self) {
+        let slot = self.dice.below(self.ledger.slots + 1) * MOST_OCTETS;
+        let from = (slot + self.dice.below(40)).saturating_sub(20);
+        let count = self.dice.below(48).min(self.pool.saturating_sub(from));
+        self.list.push(format!("pool {from} {count}"));
+    }
+
+    /// Looks at every open ticket and at the start of every slot.
+    fn finish(&mut self) {
+        for ticket in self.ledger.open_tickets.keys().take(6) {
+            self.list.extend(looks(*ticket));
+        }
+        for slot in 0..self.ledger.slots.min(6) {
+            self.list.push(format!("pool {} 24", slot * MOST_OCTETS));
+        }
+    }
+}

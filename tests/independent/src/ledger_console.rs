@@ -1,0 +1,43 @@
+// Knows how the desk requests of CONSOLE.md are answered from the plain ledger alone.
+
+use crate::console::{number_line, verdict_line};
+use crate::hex::word_of;
+use crate::ledger::Ledger;
+use crate::requests::{request_of, Request};
+
+/// The ledger of the last `desk` request, if that asked for a fresh desk with a proper pool.
+#[derive(Default)]
+pub struct LedgerConsole {
+    ledger: Option<Ledger>,
+}
+
+impl LedgerConsole {
+    /// The answer to one line, or nothing where the ledger has none: requests that aren't the
+    /// desk's, a look at the pool, and every call without a fresh desk and a proper pool.
+    pub fn answer(&mut self, line: &[u8]) -> Option<String> {
+        match request_of(line)? {
+            Request::Desk { slots, pool } => self.begin(slots, pool),
+            call => answer_call(self.ledger.as_mut()?, call),
+        }
+    }
+
+    /// Starts anew; a fresh desk has 1 to 40 slots, a proper pool slots times 16,384 octets.
+    fn begin(&mut self, slots: u64, pool: usize) -> Option<String> {
+        let proper = (1..=40).contains(&slots) && pool as u64 == slots * 16_384;
+        self.ledger = proper.then(|| Ledger::new(slots as usize));
+        proper.then(|| "ok 0".to_string())
+    }
+}
+
+/// The ledger's answer to a call.
+fn answer_call(ledger: &mut Ledger, call: Request) -> Option<String> {
+    match call {
+        Request::Open { tram: _ } => Some(number_line(ledger.open())),
+        Request::Add { ticket, chunk } => Some(number_line(ledger.add(ticket, &chunk))),
+        Request::Check { ticket } => Some(verdict_line(ledger.judge(ticket))),
+        Request::Show { ticket } => Some(word_of(ledger.show(ticket))),
+        Request::Held { ticket } => Some(number_line(ledger.held(ticket))),
+        Request::Release { ticket } => Some(number_line(ledger.release(ticket))),
+        _ => None,
+    }
+}

@@ -1,0 +1,102 @@
+// Knows the command line: console, ledger, generate, survey and compare.
+
+use std::io::{self, BufWriter, Write};
+use std::process::ExitCode;
+
+use independent::compare::{compare, steps, Plan};
+use independent::console::{serve, Console, BAD_REQUEST};
+use independent::ledger_console::LedgerConsole;
+use independent::survey::survey;
+
+const USAGE: &str = "usage:
+  independent console                          answers requests (CONSOLE.md) on standard input
+  independent ledger                           answers desk requests from the plain ledger
+  independent generate [COUNTS]                prints the generated requests
+  independent survey [COUNTS]                  counts what they reach, family by family
+  independent compare PROGRAM [COUNTS] [-- ARGUMENTS]
+                                               compares another console with this one
+COUNTS: --readers N --folds N --texts N --lists N --protocol N --seed S; a family of 0 is left out";
+
+fn main() -> ExitCode {
+    let arguments: Vec<String> = std::env::args().skip(1).collect();
+    match run(&arguments) {
+        Ok(()) => ExitCode::SUCCESS,
+        Err(report) => {
+            // A reader that has gone away doesn't want the report.
+            writeln!(io::stdout(), "{report}").ok();
+            ExitCode::FAILURE
+        }
+    }
+}
+
+/// Does what the arguments say; an error is a report for the user.
+fn run(arguments: &[String]) -> Result<(), String> {
+    let words: Vec<&str> = arguments.iter().map(String::as_str).collect();
+    match words.as_slice() {
+        ["console"] => run_console(),
+        ["ledger"] => run_ledger(),
+        ["generate", counts @ ..] => generate(plan_of(counts)?),
+        ["survey", counts @ ..] => run_survey(plan_of(counts)?),
+        ["compare", program, rest @ ..] => run_compare(program, rest),
+        _ => Err(USAGE.to_string()),
+    }
+}
+
+fn run_console() -> Result<(), String> {
+    let mut console = Console::default();
+    let output = BufWriter::with_capacity(1 << 16, io::stdout());
+    serve(io::stdin(), output, |line| console.answer(line)).map_err(|error| error.to_string())
+}
+
+fn run_ledger() -> Result<(), String> {
+    let mut ledger = LedgerConsole::default();
+    let answer = |line: &[u8]| ledger.answer(line).unwrap_or(BAD_REQUEST.to_string());
+    serve(io::stdin(), BufWriter::new(io::stdout()), answer).map_err(|error| error.to_string())
+}
+
+fn generate(plan: Plan) -> Result<(), String> {
+    let mut output = BufWriter::new(io::stdout());
+    for step in steps(plan) {
+        writeln!(output, "{}", step.line).map_err(|error| error.to_string())?;
+    }
+    output.flush().map_err(|error| error.to_string())
+}
+
+fn run_survey(plan: Plan) -> Result<(), String> {
+    for family in ["protocol", "readers", "folds", "texts", "lists"] {
+        let lines = steps(plan).filter(|step| step.family == family).map(|step| step.line);
+        println!("{family}: {}", survey(lines));
+    }
+    Ok(())
+}
+
+fn run_compare(program: &str, rest: &[&str]) -> Result<(), String> {
+    let (counts, arguments) = match rest.iter().position(|word| *word == "--") {
+        Some(at) => (&rest[..at], &rest[at + 1..]),
+        None => (rest, &[][..]),
+    };
+    let arguments: Vec<String> = arguments.iter().map(|word| word.to_string()).collect();
+    println!("{}", compare(program, &arguments, plan_of(counts)?)?);
+    Ok(())
+}
+
+/// The plan that the words `--family N` say, the rest as usual.
+fn plan_of(words: &[&str]) -> Result<Plan, String> {
+    let mut plan = Plan::default();
+    for pair in words.chunks(2) {
+        let [name, number] = pair else {
+            return Err(USAGE.to_string());
+        };
+        let count: u64 = number.parse().map_err(|_| format!("{name}: {number} is no number"))?;
+        match *name {
+            "--readers" => plan.readers = count as usize,
+            "--folds" => plan.folds = count as usize,
+            "--texts" => plan.texts = count as usize,
+            "--lists" => plan.lists = count as usize,
+            "--protocol" => plan.protocol = count as usize,
+            "--seed" => plan.seed = count,
+            _ => return Err(format!("{name} is unknown\n{USAGE}")),
+        }
+    }
+    Ok(plan)
+}

@@ -1,0 +1,123 @@
+// Knows the console's requests: taking a line apart into a request, and writing one as a line.
+
+use crate::hex::{octets_of, word_of};
+
+/// The most octets or numbers of room that can be asked for.
+pub const MOST_ROOM: usize = 70_000;
+
+/// The most octets of pool that can be asked for.
+pub const MOST_POOL: usize = 655_360;
+
+/// The most octets of a request line, its LF and a CR before it not counted.
+pub const MOST_LINE: usize = 140_000;
+
+/// A request, as in the table of CONSOLE.md.
+#[derive(Clone, Debug, PartialEq, Eq)]
+pub enum Request {
+    Judge { octets: Vec<u8> },
+    Read { copy_room: usize, record_room: usize, octets: Vec<u8> },
+    Fold { room: usize, octets: Vec<u8> },
+    Escape { room: usize, octets: Vec<u8> },
+    Unescape { room: usize, octets: Vec<u8> },
+    Desk { slots: u64, pool: usize },
+    Open { tram: u32 },
+    Add { ticket: u32, chunk: Vec<u8> },
+    Check { ticket: u32 },
+    Show { ticket: u32 },
+    Held { ticket: u32 },
+    Release { ticket: u32 },
+    Pool { from: usize, count: usize },
+}
+
+/// The request of a line without its LF, or nothing for a bad request.
+pub fn request_of(line: &[u8]) -> Option<Request> {
+    let line = line.strip_suffix(b"\r").unwrap_or(line);
+    if line.len() > MOST_LINE {
+        return None;
+    }
+    let words: Vec<&[u8]> = line.split(|&octet| octet == b' ').collect();
+    entry_request(&words).or_else(|| desk_request(&words))
+}
+
+/// The requests to reader, folder and text.
+fn entry_request(words: &[&[u8]]) -> Option<Request> {
+    match words {
+        [b"judge", octets] => Some(Request::Judge { octets: octets_of(octets)? }),
+        [b"read", copy, records, octets] => Some(Request::Read {
+            copy_room: size_of(copy, MOST_ROOM)?,
+            record_room: size_of(records, MOST_ROOM)?,
+            octets: octets_of(octets)?,
+        }),
+        [word, room, octets] => {
+            let room = size_of(room, MOST_ROOM)?;
+            let octets = octets_of(octets)?;
+            match *word {
+                b"fold" => Some(Request::Fold { room, octets }),
+                b"escape" => Some(Request::Escape { room, octets }),
+                b"unescape" => Some(Request::Unescape { room, octets }),
+                _ => None,
+            }
+        }
+        _ => None,
+    }
+}
+
+/// The requests to the desk, and the one that looks at the pool.
+fn desk_request(words: &[&[u8]]) -> Option<Request> {
+    let ticket_of = |word| number_of(word, u64::from(u32::MAX)).map(|number| number as u32);
+    match words {
+        [b"desk", slots, pool] => {
+            Some(Request::Desk { slots: number_of(slots, u64::MAX)?, pool: size_of(pool, MOST_POOL)? })
+        }
+        [b"open", tram] => Some(Request::Open { tram: ticket_of(tram)? }),
+        [b"add", ticket, chunk] => {
+            Some(Request::Add { ticket: ticket_of(ticket)?, chunk: octets_of(chunk)? })
+        }
+        [b"check", ticket] => Some(Request::Check { ticket: ticket_of(ticket)? }),
+        [b"show", ticket] => Some(Request::Show { ticket: ticket_of(ticket)? }),
+        [b"held", ticket] => Some(Request::Held { ticket: ticket_of(ticket)? }),
+        [b"release", ticket] => Some(Request::Release { ticket: ticket_of(ticket)? }),
+        [b"pool", from, count] => {
+            Some(Request::Pool { from: size_of(from, MOST_POOL)?, count: size_of(count, MOST_POOL)? })
+        }
+        _ => None,
+    }
+}
+
+/// A decimal number up to a limit; leading zeros are allowed, a sign isn't.
+fn number_of(word: &[u8], most: u64) -> Option<u64> {
+    if word.is_empty() {
+        return None;
+    }
+    let mut number = 0u64;
+    for octet in word {
+        let digit = octet.is_ascii_digit().then(|| u64::from(octet - b'0'))?;
+        number = number.checked_mul(10)?.checked_add(digit)?;
+    }
+    Some(number).filter(|&number| number <= most)
+}
+
+/// A decimal number of octets or numbers, up to a limit.
+fn size_of(word: &[u8], most: usize) -> Option<usize> {
+    number_of(word, most as u64).map(|number| number as usize)
+}
+
+/// The line `judge OCTETS`.
+pub fn judge_line(octets: &[u8]) -> String {
+    format!("judge {}", word_of(octets))
+}
+
+/// The line `read COPYROOM RECORDROOM OCTETS`.
+pub fn read_line(copy_room: usize, record_room: usize, octets: &[u8]) -> String {
+    format!("read {copy_room} {record_room} {}", word_of(octets))
+}
+
+/// The line `WORD ROOM OCTETS`, for fold, escape and unescape.
+pub fn room_line(word: &str, room: usize, octets: &[u8]) -> String {
+    format!("{word} {room} {}", word_of(octets))
+}
+
+/// The line `add TICKET OCTETS`.
+pub fn add_line(ticket: u32, chunk: &[u8]) -> String {
+    format!("add {ticket} {}", word_of(chunk))
+}

@@ -1,0 +1,110 @@
+// Knows that the generator reaches every refusal and every kind, and gives the same lines every time.
+
+use std::collections::HashSet;
+
+use independent::compare::{steps, Plan};
+use independent::generator::{folds, folds::folds, hand, lists, lists::lists, readers, texts, texts::texts};
+use independent::hex::word_of;
+use independent::survey::{survey, Survey};
+
+/// How often a refusal number came.
+fn times(survey: &Survey, number: u32) -> usize {
+    survey.refusals.get(&number).copied().unwrap_or(0)
+}
+
+#[test]
+fn readers_reach_1_to_14_and_every_kind() {
+    let survey = survey(readers(1).take(100_000));
+    let reached: Vec<u32> = survey.refusals.keys().copied().collect();
+    assert_eq!(reached, (1..=14).collect::<Vec<u32>>());
+    for number in 3..=14 {
+        assert!(times(&survey, number) >= 1_000, "{number}: {survey}");
+    }
+    for kind in 0..=8 {
+        assert!(survey.kinds.get(&kind).is_some_and(|&count| count >= 300), "{kind}: {survey}");
+    }
+    assert!(survey.accepted >= 20_000 && survey.bad_requests == 0, "{survey}");
+}
+
+#[test]
+fn folds_reach_1_to_12_and_15_and_16() {
+    let survey = survey(folds(1).take(10_000));
+    let reached: Vec<u32> = survey.refusals.keys().copied().collect();
+    assert_eq!(reached, [1, 2, 3, 4, 5, 6, 7, 8, 9, 10, 11, 12, 15, 16]);
+    assert!(survey.accepted >= 4_000 && survey.bad_requests == 0, "{survey}");
+}
+
+#[test]
+fn texts_reach_1_15_16_30_and_31() {
+    let survey = survey(texts(1).take(80_000));
+    let reached: Vec<u32> = survey.refusals.keys().copied().collect();
+    assert_eq!(reached, [1, 15, 16, 30, 31]);
+    assert!(survey.accepted >= 20_000 && survey.bad_requests == 0, "{survey}");
+}
+
+/// Refusal 21 needs 4,294,967,294 openings, so no list reaches it; tests/desk.rs does, with a desk
+/// whose next ticket is set.
+#[test]
+fn lists_reach_20_and_22_to_26_and_2_to_12() {
+    let survey = survey(lists(1).take(2_000).flatten());
+    for number in [20, 22, 23, 24, 25, 26] {
+        assert!(times(&survey, number) >= 100, "{number}: {survey}");
+    }
+    for number in 2..=12 {
+        assert!(times(&survey, number) >= 5, "{number}: {survey}");
+    }
+    assert_eq!((times(&survey, 1), times(&survey, 21)), (0, 0));
+}
+
+#[test]
+fn together_they_reach_every_refusal_of_the_paper_but_21() {
+    let survey = survey(steps(Plan::default()).map(|step| step.line));
+    let reached: Vec<u32> = survey.refusals.keys().copied().collect();
+    let all = (1..=16).chain(20..=26).chain([30, 31]);
+    assert_eq!(reached, all.filter(|&number| number != 21).collect::<Vec<u32>>());
+}
+
+/// The octets of request lines, the last word of each.
+fn last_words(lines: impl Iterator<Item = String>) -> HashSet<String> {
+    lines.map(|line| line.rsplit(' ').next().expect("a word").to_string()).collect()
+}
+
+#[test]
+fn a_usual_run_has_everything_made_by_hand() {
+    let plan = Plan::default();
+    let read = last_words(readers(1).take(plan.readers));
+    assert!(hand::inputs().iter().all(|input| read.contains(&word_of(input))));
+    let folded = last_words(folds(1).take(plan.folds));
+    assert!(folds::by_hand().iter().all(|input| folded.contains(&word_of(input))));
+    let texts = last_words(texts(1).take(plan.texts));
+    assert!(texts::by_hand().iter().all(|(_, text)| texts.contains(&word_of(text))));
+    assert!(lists::by_hand().len() < plan.lists);
+}
+
+#[test]
+fn every_list_begins_with_its_desk() {
+    for list in lists(3).take(500) {
+        assert!(list[0].starts_with("desk "));
+        assert!(list[1..].iter().all(|line| !line.starts_with("desk ")));
+    }
+}
+
+#[test]
+fn the_same_seed_gives_the_same_lines_and_another_gives_others() {
+    let plan = Plan { readers: 60_000, folds: 4_000, texts: 70_000, lists: 60, ..Plan::default() };
+    assert!(steps(plan).eq(steps(plan)));
+    assert!(!steps(plan).eq(steps(Plan { seed: 2, ..plan })));
+}
+
+#[test]
+fn no_line_is_longer_than_the_console_takes() {
+    let plan = Plan { protocol: 0, ..Plan::default() };
+    assert!(steps(plan).all(|step| step.line.len() <= 140_000));
+}
+
+#[test]
+fn a_family_of_0_is_left_out() {
+    let plan = Plan { protocol: 0, readers: 10, folds: 0, texts: 5, lists: 0, seed: 1 };
+    let families: Vec<&str> = steps(plan).map(|step| step.family).collect();
+    assert_eq!(families, [["readers"; 10].as_slice(), &["texts"; 5]].concat());
+}
