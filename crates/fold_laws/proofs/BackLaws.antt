@@ -13,10 +13,11 @@ use Rattle.lines.specs.Logical.{rawLines}
 use Rattle.lines.proofs.FoldLaws.{not-cr}
 use Rattle.lines.proofs.LineLaws.{lines-end}
 use Rattle.folder.specs.Pieces.{first, later, pieces, joined, folded, foldedLines, Clean, All}
-use Rattle.folder.specs.Copies.{ended, Unled}
+use Rattle.reader.specs.Outcome.{ended}
+use Rattle.fold_laws.specs.Leads.{Unled}
 use Rattle.folder.proofs.PieceLaws.{rejoin, first-goes, over-no}
 use Rattle.folder.proofs.Turns.{clean-chars}
-use Rattle.folder.proofs.CopyLaws.{line-run, line-stop, first-line, unled-none, unled-line, copy-lines}
+use Rattle.fold_laws.proofs.CopyLaws.{line-run, line-stop, first-line, unled-none, unled-line, copy-lines}
 use Rattle.fold_laws.proofs.CutLaws.{Pieces, nil, one, first-whole, later-good}
 
 -- octets that are no CR are kept, a fold is not

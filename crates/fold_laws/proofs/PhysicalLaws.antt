@@ -11,7 +11,7 @@ use Rattle.octets.specs.Characters.{allowed}
 use Rattle.octets.proofs.Chars.{ascii}
 use Rattle.octets.proofs.Chains.{Chars, end, start, NoEnd, none, more, no-end}
 use Rattle.folder.specs.Pieces.{first, later, pieces, joined, folded, foldedLines, Clean, All}
-use Rattle.folder.specs.Copies.{ended}
+use Rattle.reader.specs.Outcome.{ended}
 use Rattle.folder.proofs.PieceLaws.{first-fits}
 use Rattle.folder.proofs.Turns.{clean-chars, chars-clean}
 use Rattle.fold_laws.specs.Cuttings.{UpTo}

@@ -11,9 +11,17 @@ use borrow.Author.Tests.{ltb-false}
 use Rattle.octets.specs.Pick.{pick}
 use Rattle.octets.specs.Room.{Filled, filled, refuse, overlay, fill, fillBounded}
 use Rattle.octets.specs.declared.rooms.Written.the-variants.{Wrote, Refused}
-use Rattle.lines.specs.Logical.{rawLines}
+use Rattle.cards.specs.Judge.{judgeLine}
+use Rattle.cards.specs.declared.state.Card.{Card}
+use Rattle.cards.specs.declared.state.Step.the-variants.{Next}
+use Rattle.cards.proofs.CardLaws.{line-clean}
+use Rattle.reader.specs.Outcome.{judgeOf, logicalLines, ended, copyOf, recordsFrom, recordsOf}
+use Rattle.reader.specs.declared.Verdict.{Verdict}
+use Rattle.reader.specs.declared.Verdict.the-variants.{Accepted, Refused as Denied}
 use Rattle.folder.specs.Pieces.{foldedLines, Clean, All}
-use Rattle.folder.specs.Copies.{Unled}
+use Rattle.folder.specs.Outcome.{foldBy, foldOutcome}
+use Rattle.folder.proofs.Accepted.{all-lines, accepted}
+use Rattle.fold_laws.specs.Leads.{Unled}
 use Rattle.fold_laws.specs.Written.{Folds}
 use Rattle.fold_laws.proofs.BackLaws.{lines-back, twice}
 use Rattle.fold_laws.proofs.PhysicalLaws.{short-lines, whole-lines}
@@ -54,8 +62,35 @@ module _ (t room after : List ℕ) where
   unfolding fillBounded fill
   wrote n e = wrote-by n (ltb 16384 (length t)) (ltb (length room) (length t)) refl e
 
--- The octets that folding a text has written, read off the room.
-pub written-folds : (s room after : List ℕ) (n : ℕ) → All Clean (rawLines s) → All Unled (rawLines s)
-    → filled (Wrote n) after ≡ fillBounded (foldedLines (rawLines s)) room → Folds (rawLines s) (take n after)
-written-folds s room after n c u e =
-    rw (wrote (foldedLines (rawLines s)) room after n e .written) (folds (rawLines s) c u)
+-- where octets were written, the input was accepted
+wrote-accepted : {A : Type 0} (v : Verdict) (i room after : List ℕ) (n : ℕ) → filled (Wrote n) after ≡ foldBy v i room
+    → ((k m : ℕ) → v ≡ Accepted k m → filled (Wrote n) after ≡ fillBounded (foldedLines (logicalLines i)) room → A) → A
+unfolding foldBy
+wrote-accepted (Accepted k m) i room after n e f = f k m refl e
+wrote-accepted (Denied k p) i room after n e f = absurd (never n k p (ap (λ (x : Filled). x .answer) e))
+
+line-unled : (c c′ : Card) (p : ℕ) (l : List ℕ) → judgeLine c p l ≡ Next c′ → Unled l
+unfolding Unled
+line-unled c c′ p l e = let w = line-clean c c′ p l e in (w .1, w .2)
+
+-- The octets that folding an input has written, read off the room: they are short physical lines of whole characters, read again they
+-- have the same logical lines, and folded again they are the same octets.
+pub fold-written : (i room after : List ℕ) (n : ℕ) → filled (Wrote n) after ≡ foldOutcome i room → Folds (logicalLines i) (take n after)
+unfolding foldOutcome
+fold-written i room after n e =
+    wrote-accepted (judgeOf i) i room after n e
+    (λ k m a f. rw (wrote (foldedLines (logicalLines i)) room after n f .written) (folds (logicalLines i) (accepted i k m a .0) (all-lines Unled line-unled i k m a)))
+
+-- So they have the same copy and the same records.
+module _ (i room after : List ℕ) (n : ℕ) (e : filled (Wrote n) after ≡ foldOutcome i room) where
+  same-lines : logicalLines (take n after) ≡ logicalLines i
+  unfolding logicalLines
+  same-lines = fold-written i room after n e .back
+
+  pub same-copy : copyOf (take n after) ≡ copyOf i
+  unfolding copyOf
+  same-copy = ap ended same-lines
+
+  pub same-records : recordsOf (take n after) ≡ recordsOf i
+  unfolding recordsOf
+  same-records = ap (recordsFrom 0) same-lines

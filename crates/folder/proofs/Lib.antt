@@ -3,4 +3,4 @@ pub mod PieceLaws
 pub mod Turns
 pub mod Puts
 pub mod TextLaws
-pub mod CopyLaws
+pub mod Accepted

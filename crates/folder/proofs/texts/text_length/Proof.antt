@@ -1,58 +1,67 @@
 -- `folder::texts::text_length` meets its contract. Assumes nothing.
+use borrow.Author.Needs.{needs}
 use mathlib.Core.Path.{_≡_, ap}
-use mathlib.Core.List.{List}
-use Prim.Native.Nat.{ℕ, _+_, _-_, _*_, _≤_}
+use Prim.Native.Nat.{_+_, _-_, _*_, _≤_}
 use native.Mathlib.Omega.{arith}
-use lib.ListN.{length, take, drop, length-take}
-use Rattle.lines.specs.Folds.{lineLength}
-use Rattle.lines.specs.Logical.{rawLines}
-use Rattle.lines.proofs.LineLaws.{lines-end}
+use lib.ListN.{length, take, drop, length-replicate}
+use Rattle.lines.specs.Folds.{unfolded}
+use Rattle.reader.specs.Outcome.{logicalLines}
+use Rattle.reader.proofs.WalkLaws.{whole, part-length}
 use Rattle.folder.specs.Pieces.{foldedLines, Clean, All}
-use Rattle.folder.proofs.TextLaws.{fold-length, clean-turn, next-line}
+use Rattle.folder.proofs.TextLaws.{fold-length, clean-turn, none-left}
 use Rattle.folder.proofs.texts.text_length.Statement.{statement}
 use Rattle.folder.proofs.texts.text_length.Tie as tie
 
 abbrev Inv-loop : tie.InvT-loop
-Inv-loop s at₀ n₀ at n = All Clean (rawLines (drop at s)) × (n ≤ 4 * at) × (length (foldedLines (rawLines s)) ≡ n + length (foldedLines (rawLines (drop at s))))
+Inv-loop s scratch₀ at₀ n₀ scratch at n =
+    (length scratch ≡ 16384) × All Clean (logicalLines (drop at s)) × (n ≤ 4 * at) × (length (foldedLines (logicalLines s)) ≡ n + length (foldedLines (logicalLines (drop at s))))
 
 abbrev μ-loop : tie.MeasureT-loop
-μ-loop s at₀ n₀ at n = length s - at
+μ-loop s scratch₀ at₀ n₀ scratch at n = length s - at
 
 abbrev At : Type 0
-At = tie.After-next-cr Inv-loop μ-loop
-
--- no fold is left, so that the line ends at the next CR
-ends : (c : At) → c .next-cr .result ≡ c .before .before .loop .at + lineLength (drop (c .before .before .loop .at) (c .before .before .before .before .args .s .now))
-ends c = next-line (c .before .before .before .before .args .s .now) (c .before .before .loop .at) (c .next-cr .result) (c .before .loop-test .taken) (c .before .before .loop .inv .0) (c .next-cr .ensures .1)
+At = tie.After-struct-known Inv-loop μ-loop
 
 module _ (c : At) where
-  clean : Clean (take (c .next-cr .result - c .before .before .loop .at) (drop (c .before .before .loop .at) (c .before .before .before .before .args .s .now)))
-      × All Clean (rawLines (drop (c .next-cr .result + 2) (c .before .before .before .before .args .s .now)))
-  clean = clean-turn (c .before .before .before .before .args .s .now) (c .before .before .loop .at) (c .next-cr .result) (c .before .loop-test .taken) (ends c) (c .before .before .loop .inv .0)
+  clean : Clean (unfolded (take (c .before .line-at .result .end - c .before .before .before .loop .at) (drop (c .before .before .before .loop .at) (c .before .before .before .before .before .args .s .now))))
+      × All Clean (logicalLines (drop (c .before .line-at .result .end + 2) (c .before .before .before .before .before .args .s .now)))
+  clean =
+      clean-turn (c .before .before .before .before .before .args .s .now) (c .before .before .before .loop .at) (c .before .line-at .result .end) (c .before .before .loop-test .taken) (c .before .line-at .ensures .1) (c .before .line-at .ensures .2) (c .before .before .before .loop .inv .1)
 
-  len : length (take (c .next-cr .result - c .before .before .loop .at) (drop (c .before .before .loop .at) (c .before .before .before .before .args .s .now))) ≤ c .next-cr .result - c .before .before .loop .at
-  len = simp length-take (omega arith)
+  len : length (take (c .before .line-at .result .end - c .before .before .before .loop .at) (drop (c .before .before .before .loop .at) (c .before .before .before .before .before .args .s .now))) ≡ c .before .line-at .result .end - c .before .before .before .loop .at
+  len =
+      part-length (c .before .before .before .before .before .args .s .now) (c .before .before .before .loop .at) (c .before .line-at .result .end) (c .before .before .loop-test .taken) (c .before .line-at .ensures .1) (c .before .line-at .ensures .2)
 
 loop-holds : tie.Need-loop-holds Inv-loop μ-loop
-loop-holds c = (c .before .pre .0, omega arith, omega arith)
+loop-holds c = (simp length-replicate, c .before .pre .0, omega arith, omega arith)
 
-next-cr-requires : tie.Need-next-cr-requires Inv-loop μ-loop
-next-cr-requires c κs = omega arith
+line-at-requires : tie.Need-line-at-requires Inv-loop μ-loop
+line-at-requires c κs = omega arith
 
-sub-measure : tie.Need-sub-measure Inv-loop μ-loop
-sub-measure c = omega arith
+sub-line-length : tie.Need-sub-line-length Inv-loop μ-loop
+sub-line-length c = omega arith
 
-part-measure-start : tie.Need-part-measure-start Inv-loop μ-loop
-part-measure-start c = omega arith
+part-line-length-start : tie.Need-part-line-length-start Inv-loop μ-loop
+part-line-length-start c = omega arith
 
-part-measure-end : tie.Need-part-measure-end Inv-loop μ-loop
-part-measure-end c = omega arith
+part-line-length-end : tie.Need-part-line-length-end Inv-loop μ-loop
+part-line-length-end c = omega arith
 
-measure-requires : tie.Need-measure-requires Inv-loop μ-loop
-measure-requires c κs = (clean (c .before) .0, omega (arith, len (c .before)))
+slice-aggregate-line-length : tie.Need-slice-aggregate-line-length Inv-loop μ-loop
+slice-aggregate-line-length c = search needs
+
+line-length-requires : tie.Need-line-length-requires Inv-loop μ-loop
+line-length-requires c κs =
+    let t = c .before .before in
+    let l = t .before .before .before .loop in
+    let v = t .before .line-at in
+    let a = t .before .before .before .before .before in
+    ((clean t .0, omega (arith, len t, a .pre .1), omega (arith, len t, a .pre .1, l .inv .0)), whole (a .args .s .now) (l .at) (v .result .cr) (v .result .end) (v .ensures .0))
 
 add-n : tie.Need-add-n Inv-loop μ-loop
-add-n c = omega (arith, len (c .before .before), c .measure .ensures .1)
+add-n c =
+    let t = c .before .before .before .before in
+    omega (arith, len t, c .before .line-length .ensures .0, t .before .before .before .loop .inv .2)
 
 add-at : tie.Need-add-at Inv-loop μ-loop
 add-at c = omega arith
@@ -62,17 +71,18 @@ loop-less c = omega arith
 
 loop-again : tie.Need-loop-again Inv-loop μ-loop
 loop-again c =
-    let t = c .before .before in
-    let l = t .before .before in
-    let e = fold-length (l .before .before .args .s .now) (l .loop .at) (t .next-cr .result) (t .before .loop-test .taken) (ends t) in
-    (clean t .1, omega (arith, len t, c .measure .ensures .1), omega (arith, c .measure .ensures .0))
+    let t = c .before .before .before .before in
+    let l = t .before .before .before .loop in
+    let v = t .before .line-at in
+    let s = t .before .before .before .before .before .args .s .now in
+    let e = fold-length s (l .at) (v .result .end) (t .before .before .loop-test .taken) (v .ensures .1) (v .ensures .2) in
+    let r = c .before .line-length in
+    (omega (arith, r .kept, l .inv .0), clean t .1, omega (arith, len t, r .ensures .0 .1, l .inv .2), omega (arith, r .ensures .0 .0, l .inv .3))
 
 returns : tie.Need-returns Inv-loop μ-loop
-unfolding foldedLines
 returns c =
     let l = c .before in
-    let e = ap (λ (ls : List (List ℕ)). length (foldedLines ls)) (lines-end (l .before .before .args .s .now) (l .loop .at) (c .loop-test .left)) in
-    omega arith
+    omega (arith, ap length (none-left (l .before .before .args .s .now) (l .loop .at) (c .loop-test .left)))
 
 pub text-length-spec : {M : Type 1} → statement M
 text-length-spec =
@@ -81,11 +91,12 @@ text-length-spec =
     Inv-loop
     μ-loop
     loop-holds
-    next-cr-requires
-    sub-measure
-    part-measure-start
-    part-measure-end
-    measure-requires
+    line-at-requires
+    sub-line-length
+    part-line-length-start
+    part-line-length-end
+    slice-aggregate-line-length
+    line-length-requires
     add-n
     add-at
     loop-less

@@ -1,21 +1,26 @@
 -- A line's length where its octets are no CR, at a fold and at its end; the lines of a copy of clean lines. Assumes nothing.
 use mathlib.Core.Path.{_≡_, sym, ap, _∙_}
 use mathlib.Core.List.{List, [], _∷_, _++_}
-use Prim.Native.Nat.{ℕ, _+_, _<_}
+use Prim.Native.Nat.{ℕ, suc, _+_, _<_}
 use native.Mathlib.Nat.{zero-add}
 use native.Mathlib.Omega.{arith}
 use lib.ListN.{length, getD, drop, length-append}
 use lib.Seq.{take-append-seam, drop-append-add}
 use borrow.Author.Tests.{ne-eqb}
-use Rattle.octets.specs.Scan.{scan}
+use Rattle.octets.specs.Scan.{scan, after}
 use Rattle.octets.proofs.Chains.{NoEnd, none, more, no-end}
 use Rattle.lines.specs.Folds.{foldAt, lineStep, lineLength}
 use Rattle.lines.specs.Logical.{rawLines}
+use Rattle.lines.proofs.FoldLaws.{line-octet}
 use Rattle.lines.proofs.LineLaws.{lines-step, lines-end}
 use Rattle.folder.specs.Pieces.{Clean, All}
-use Rattle.folder.specs.Copies.{ended, Unled}
 use Rattle.folder.proofs.Turns.{clean-chars}
-use Rattle.folder.proofs.TextLaws.{length-goes}
+use Rattle.reader.specs.Outcome.{ended}
+use Rattle.fold_laws.specs.Leads.{Unled}
+
+length-goes : (x : ℕ) (xs : List ℕ) → (x ≡ 13 → ⊥) → lineLength (x ∷ xs) ≡ suc (lineLength xs)
+unfolding lineLength scan
+length-goes x xs h = ap (λ (k : ℕ). after k (scan lineStep xs)) (line-octet (x ∷ xs) 0 h)
 
 pub line-run : {p : List ℕ} → NoEnd p → (t : List ℕ) → lineLength (p ++ t) ≡ length p + lineLength t
 line-run none t = sym (zero-add _)
