@@ -1,10 +1,5 @@
-<<<<<<< HEAD
-pub mod LoneLaws
-pub mod SameLines
-=======
 -- The laws of the reader. Assumes nothing.
 pub mod LoneLaws
 pub mod Anywhere
 pub mod SameLines
 pub mod CopyAgain
->>>>>>> reader
