@@ -1,0 +1,9 @@
+-- The laws of this crate. Assumes nothing.
+pub mod ValueLaws
+pub mod Flags
+pub mod Known
+pub mod LineLaws
+pub mod BegunLaws
+pub mod Runs
+pub mod Walks
+pub mod Accepted
