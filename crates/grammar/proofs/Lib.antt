@@ -8,3 +8,4 @@ pub mod Runs
 pub mod Walks
 pub mod Accepted
 pub mod RecordLaws
+pub mod Refused
