@@ -7,3 +7,5 @@ pub mod BegunLaws
 pub mod Runs
 pub mod Walks
 pub mod Accepted
+pub mod RecordLaws
+pub mod Refused

@@ -3,3 +3,4 @@ pub mod Values
 pub mod Cards
 pub mod Inputs
 pub mod Refusals
+pub mod Records
