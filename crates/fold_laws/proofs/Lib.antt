@@ -5,4 +5,5 @@ pub mod CopyLaws
 pub mod BackLaws
 pub mod PhysicalLaws
 pub mod WrittenLaws
+pub mod Again
 pub mod Cases

@@ -15,7 +15,7 @@ use Rattle.cards.specs.Judge.{judgeLine}
 use Rattle.cards.specs.declared.state.Card.{Card}
 use Rattle.cards.specs.declared.state.Step.the-variants.{Next}
 use Rattle.cards.proofs.CardLaws.{line-clean}
-use Rattle.reader.specs.Outcome.{judgeOf, logicalLines, ended, copyOf, recordsFrom, recordsOf}
+use Rattle.reader.specs.Outcome.{judgeOf, logicalLines}
 use Rattle.reader.specs.declared.Verdict.{Verdict}
 use Rattle.reader.specs.declared.Verdict.the-variants.{Accepted, Refused as Denied}
 use Rattle.folder.specs.Pieces.{foldedLines, Clean, All}
@@ -63,7 +63,7 @@ module _ (t room after : List ℕ) where
   wrote n e = wrote-by n (ltb 16384 (length t)) (ltb (length room) (length t)) refl e
 
 -- where octets were written, the input was accepted
-wrote-accepted : {A : Type 0} (v : Verdict) (i room after : List ℕ) (n : ℕ) → filled (Wrote n) after ≡ foldBy v i room
+pub wrote-accepted : {A : Type 0} (v : Verdict) (i room after : List ℕ) (n : ℕ) → filled (Wrote n) after ≡ foldBy v i room
     → ((k m : ℕ) → v ≡ Accepted k m → filled (Wrote n) after ≡ fillBounded (foldedLines (logicalLines i)) room → A) → A
 unfolding foldBy
 wrote-accepted (Accepted k m) i room after n e f = f k m refl e
@@ -80,17 +80,3 @@ unfolding foldOutcome
 fold-written i room after n e =
     wrote-accepted (judgeOf i) i room after n e
     (λ k m a f. rw (wrote (foldedLines (logicalLines i)) room after n f .written) (folds (logicalLines i) (accepted i k m a .0) (all-lines Unled line-unled i k m a)))
-
--- So they have the same copy and the same records.
-module _ (i room after : List ℕ) (n : ℕ) (e : filled (Wrote n) after ≡ foldOutcome i room) where
-  same-lines : logicalLines (take n after) ≡ logicalLines i
-  unfolding logicalLines
-  same-lines = fold-written i room after n e .back
-
-  pub same-copy : copyOf (take n after) ≡ copyOf i
-  unfolding copyOf
-  same-copy = ap ended same-lines
-
-  pub same-records : recordsOf (take n after) ≡ recordsOf i
-  unfolding recordsOf
-  same-records = ap (recordsFrom 0) same-lines

@@ -188,7 +188,7 @@ line-run : {l : List ℕ} → NoEnd l → (t : List ℕ) → lineLength (l ++ t)
 line-run none t = sym (zero-add _)
 line-run (more {x} {xs} a b n) t = omega (arith, line-octet x (xs ++ t) a, line-run n t)
 
-lone-run : {l : List ℕ} → NoEnd l → (t : List ℕ) → scan loneStep (l ++ t) 0 ≡ length l + scan loneStep t 0
+pub lone-run : {l : List ℕ} → NoEnd l → (t : List ℕ) → scan loneStep (l ++ t) 0 ≡ length l + scan loneStep t 0
 unfolding scan loneStep
 lone-run none t = sym (zero-add _)
 lone-run (more {x} {xs} a b n) t = simp (ne-eqb x 10 b, ne-eqb x 13 a) (omega (arith, lone-run n t))
@@ -236,11 +236,11 @@ ends-again l (m ∷ ls) =
     let h : 2 ≤ length r = omega (arith, length-append m (13 ∷ 10 ∷ ended ls)) in
     ends-append l (13 ∷ 10 ∷ r) (omega arith) ∙ ends-append (13 ∷ 10 ∷ []) r h ∙ ends-again m ls
 
-ends-lines : (ls : List (List ℕ)) → (length ls ≡ 0 → ⊥) → endsCrLf (ended ls) ≡ true
+pub ends-lines : (ls : List (List ℕ)) → (length ls ≡ 0 → ⊥) → endsCrLf (ended ls) ≡ true
 ends-lines [] h = absurd (h refl)
 ends-lines (l ∷ ls) h = ends-again l ls
 
-lines-some : (i : List ℕ) → (length i ≡ 0 → ⊥) → length (logicalLines i) ≡ 0 → ⊥
+pub lines-some : (i : List ℕ) → (length i ≡ 0 → ⊥) → length (logicalLines i) ≡ 0 → ⊥
 unfolding logicalLines
 lines-some i h e =
     let z = ap (λ (ls : List (List ℕ)). length (map unfolded ls)) (raw i (lineLength i) (omega arith) refl) in
