@@ -6,7 +6,7 @@ use mathlib.Core.Logic.{_↔_}
 use Prim.Native.Nat.{ℕ, zero, suc, _+_, _<_, _≤_}
 use native.Mathlib.Omega.{arith}
 use lib.Dec.{eqb, ltb}
-use lib.ListN.{length}
+use lib.ListN.{length, length-append}
 use borrow.Author.Tests.{le-ltb, eq-eqb, ne-eqb}
 use Rattle.lines.specs.Folds.{unfolded}
 use Rattle.lines.specs.Logical.{linesBy, rawLines}
@@ -19,11 +19,12 @@ use Rattle.reader.specs.Lone.{firstLone, endsCrLf}
 use Rattle.reader.specs.Outcome.{judgeLines, verdictOf, judgeOf, logicalLines, ended}
 use Rattle.reader.specs.declared.Verdict.the-variants.{Accepted, Refused}
 use Rattle.reader.proofs.AcceptLaws.{Accepting, accepting}
-use Rattle.grammar.specs.Cards.{Cards, none, more}
-use Rattle.grammar.specs.Inputs.{Framed, InputOf}
-use Rattle.grammar.specs.Refusals.{SoFar}
+use Rattle.grammar.specs.Cards.{CardLines, card, Cards, none, more}
+use Rattle.grammar.specs.Inputs.{Written, InputOf}
+use Rattle.grammar.specs.Refusals.{Framed}
 use Rattle.grammar.proofs.Known.{phaseOf, Known, fresh-known}
 use Rattle.grammar.proofs.Runs.{Led, steps-run, cards-run}
+use Rattle.grammar.proofs.FoldLaws.{written-lines, written-paired, written-ends, ends-law, lines-written}
 use Rattle.grammar.proofs.Walks.{Reached, fresh-reached, Walked, finished, stopped, walk}
 
 -- past 1 to 4 the lines decide
@@ -34,7 +35,7 @@ judge-framed i h =
       le-ltb 16384 (length i) (h .short),
       ne-eqb (length i) 0 (λ e. omega (arith, h .some)),
       le-ltb (firstLone i) (length i) (omega (arith, h .paired)),
-      h .ends,
+      ends-law i .1 (h .ends),
     )
 
 pub walk-all : (i : List ℕ) → Walked (rawLines i) (judgeLines (rawLines i) 0 freshCard)
@@ -73,6 +74,11 @@ some-cards : (i : List ℕ) (k : ℕ) (xs : List Line) → 0 < length i → map 
 some-cards i zero xs h e c = absurd (some-line i h (map-none unfolded (rawLines i) (e ∙ ap (map render) (no-cards c refl))))
 some-cards i (suc k) xs h e c = omega arith
 
+-- cards have lines
+some-lines : {k : ℕ} {xs : List Line} → Cards k xs → 1 ≤ k → 0 < length xs
+some-lines none h = absurd (omega arith)
+some-lines (more {ys = ys} (card {b = b} {v = v} {e = e} {xs = xs} f g x y) c) h = omega arith
+
 module _ (i : List ℕ) (k n : ℕ) where
   to : judgeOf i ≡ Accepted k n → InputOf i k n
   unfolding logicalLines
@@ -84,9 +90,9 @@ module _ (i : List ℕ) (k n : ℕ) where
       let whole : r .zs ≡ r .zs ++ r .ys = sym (append-nil (r .zs)) ∙ ap (λ (ys : List Line). r .zs ++ ys) (sym none-left) in
       let cards : Cards k (r .zs ++ r .ys) = subst (λ (m : ℕ). Cards m (r .zs ++ r .ys)) (sym (r .cards) ∙ a .cards) (subst (Cards (r .k)) whole (r .lines .cards)) in
       record {
-        framed = record { short = a .short; some = some; paired = a .unlone; ends = a .ends };
+        short = a .short;
         lines = r .zs ++ r .ys;
-        written = r .lines .written;
+        written = lines-written (r .zs ++ r .ys) i (a .unlone) (ends-law i .0 (a .ends)) (r .lines .written);
         readable = r .lines .readable;
         cards = cards;
         some = some-cards i k (r .zs ++ r .ys) some (r .lines .written) cards;
@@ -97,12 +103,27 @@ module _ (i : List ℕ) (k n : ℕ) where
   unfolding verdictOf
   accepts c p q r = rw (eq-eqb (c .phase) 0 p, q, r)
 
+  -- its logical lines are the lines
+  pub lines-law : (h : InputOf i k n) → logicalLines i ≡ map render (h .lines)
+  unfolding logicalLines
+  lines-law h = written-lines (h .written) (h .readable)
+
+  framed : InputOf i k n → Framed i
+  framed h =
+      let e = written-ends (h .written) (some-lines (h .cards) (h .some)) in
+      record {
+        short = h .short;
+        some = omega (arith, ap length (e .1), length-append (e .0) (13 ∷ 10 ∷ []));
+        paired = written-paired (h .written) (h .readable);
+        ends = e;
+      }
+
   from : InputOf i k n → judgeOf i ≡ Accepted k n
   unfolding logicalLines phaseOf
   from h =
       let l = cards-run (h .cards) (h .readable) freshCard fresh-known in
-      judge-framed i (h .framed)
-      ∙ ap (verdictOf (length i)) (steps-run (l .steps) (rawLines i) 0 (h .written))
+      judge-framed i (framed h)
+      ∙ ap (verdictOf (length i)) (steps-run (l .steps) (rawLines i) 0 (lines-law h))
       ∙ accepts (l .card) (l .known .phase) (omega (arith, l .cards)) (omega (arith, l .lines, h .count))
 
   -- accepted with k cards and n lines exactly where the input is k cards of n lines

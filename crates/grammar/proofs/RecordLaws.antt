@@ -23,7 +23,7 @@ use Rattle.reader.proofs.ReadLaws.{numbers-counted, read-written}
 use Rattle.grammar.specs.Cards.{Readable}
 use Rattle.grammar.specs.Inputs.{InputOf}
 use Rattle.grammar.specs.Records.{Tells, Records, none, more}
-use Rattle.grammar.proofs.Accepted.{accepted-law}
+use Rattle.grammar.proofs.Accepted.{lines-law, accepted-law}
 
 -- a line in a copy, after other octets and before others
 module _ (pre l rest : List ℕ) where
@@ -106,13 +106,13 @@ records-from (x ∷ xs) pre rest copy r e =
 -- the copy is the lines in order, each ended by CR LF
 pub copy-law : (i : List ℕ) (k n : ℕ) (h : InputOf i k n) → copyOf i ≡ ended (map render (h .lines))
 unfolding copyOf
-copy-law i k n h = ap ended (h .written)
+copy-law i k n h = ap ended (lines-law i k n h)
 
 -- and the records tell of them, whatever stands after the copy
 pub records-law : (i : List ℕ) (k n : ℕ) (h : InputOf i k n) (rest : List ℕ) → Records (copyOf i ++ rest) 0 (h .lines) (recordsOf i)
 unfolding recordsOf
 records-law i k n h rest =
-    rw (h .written) (records-from (h .lines) [] rest (copyOf i ++ rest) (h .readable) (ap (λ (c : List ℕ). c ++ rest) (copy-law i k n h)))
+    rw (lines-law i k n h) (records-from (h .lines) [] rest (copyOf i ++ rest) (h .readable) (ap (λ (c : List ℕ). c ++ rest) (copy-law i k n h)))
 
 -- where both rooms suffice, the rooms hold that after reading
 pub read-law : (i copy records : List ℕ) (k n : ℕ) (h : InputOf i k n) → length (copyOf i) ≤ length copy → n * 8 ≤ length records

@@ -1,6 +1,6 @@
 -- The reader refuses exactly the inputs that document 01 refuses, each with the number and place that come first. Assumes nothing.
 use mathlib.Core.Path.{_≡_, refl, sym, ap, subst, _∙_}
-use mathlib.Core.Bool.{Bool, true, false}
+use mathlib.Core.Bool.{Bool, true, false, false≢true}
 use mathlib.Core.List.{List, [], _∷_, _++_}
 use mathlib.Core.Logic.{_↔_}
 use Prim.Native.Nat.{ℕ, zero, suc, _+_, _<_, _≤_}
@@ -14,6 +14,7 @@ use Rattle.octets.specs.Pick.{pick}
 use Rattle.lines.specs.Folds.{unfolded}
 use Rattle.lines.specs.Logical.{rawLines}
 use Rattle.lines.specs.Grammar.{Line}
+use Rattle.properties.proofs.Bools.{by}
 use Rattle.cards.specs.State.{freshCard}
 use Rattle.cards.specs.Judge.{judgeLine}
 use Rattle.cards.specs.declared.state.Card.{Card}
@@ -22,12 +23,12 @@ use Rattle.cards.specs.declared.state.Step.the-variants.{Next, Refused as Halte
 use Rattle.reader.specs.Lone.{loneStep, firstLone, endsCrLf}
 use Rattle.reader.specs.Outcome.{onward, judgeLines, verdictOf, judgeOf, ended}
 use Rattle.reader.specs.declared.Verdict.the-variants.{Accepted, Refused}
-use Rattle.grammar.specs.Inputs.{Framed}
-use Rattle.grammar.specs.Refusals.{SoFar, LineRefused, RefusedBy, long, empty, lone, unended, line, unfinished}
+use Rattle.grammar.specs.Refusals.{EndsCrLf, Framed, SoFar, LineRefused, RefusedBy, long, empty, lone, unended, line, unfinished}
 use Rattle.grammar.proofs.Known.{phaseOf, Known, fresh-known}
 use Rattle.grammar.proofs.LineLaws.{refused, outcome}
 use Rattle.grammar.proofs.Runs.{Led, steps-run, prefix-run}
 use Rattle.grammar.proofs.Walks.{Reached, Walked, finished, stopped}
+use Rattle.grammar.proofs.FoldLaws.{ends-law}
 use Rattle.grammar.proofs.Accepted.{judge-framed, walk-all, phase-none}
 
 -- after the lines ds, which lead to d, the next are judged from where they start
@@ -84,12 +85,15 @@ module _ (i : List ℕ) where
       ∙ ap (verdictOf (length i)) (d .1)
       ∙ rw (ne-eqb (d .0 .phase) 0 (λ e. some-phase ys s (sym (d .2 .phase) ∙ e)))
 
+  open-end : (EndsCrLf i → ⊥) → endsCrLf i ≡ false
+  open-end f = by (endsCrLf i) (λ e. absurd (f (ends-law i .0 e))) (λ e. e)
+
   from : {n p : ℕ} → RefusedBy i n p → judgeOf i ≡ Refused n p
   unfolding judgeOf
   from (long h) = rw (lt-ltb 16384 (length i) h)
   from (empty e) = rw (e)
   from (lone h s f) = rw (le-ltb 16384 (length i) h, ne-eqb (length i) 0 (λ e. omega arith), lt-ltb (firstLone i) (length i) f)
-  from (unended h s f e) = rw (le-ltb 16384 (length i) h, ne-eqb (length i) 0 (λ e. omega arith), le-ltb (firstLone i) (length i) (omega arith), e)
+  from (unended h s f e) = rw (le-ltb 16384 (length i) h, ne-eqb (length i) 0 (λ e. omega arith), le-ltb (firstLone i) (length i) (omega arith), open-end e)
   from (line ds l es n k zs ys f e h r) = stop-at ds l es n k zs ys f e h r
   from (unfinished k zs ys f h s) = stop-inside k zs ys f h s
 
@@ -130,14 +134,14 @@ module _ (i : List ℕ) where
       let x : 4 ≡ n = cc in
       let y : length i ≡ p = cc in
       let le : firstLone i ≤ length i = scan-le loneStep i 0 in
-      rw (← x, ← y) (unended (ltb-false 16384 (length i) ea) (omega (arith, eqb-false (length i) 0 eb)) (omega (arith, ltb-false (firstLone i) (length i) ec)) ed)
+      rw (← x, ← y) (unended (ltb-false 16384 (length i) ea) (omega (arith, eqb-false (length i) 0 eb)) (omega (arith, ltb-false (firstLone i) (length i) ec)) (λ f. false≢true (sym ed ∙ ends-law i .1 f)))
   to-by n p false false false true ea eb ec ed e =
       let le : firstLone i ≤ length i = scan-le loneStep i 0 in
       walked-to (record {
         short = ltb-false 16384 (length i) ea;
         some = omega (arith, eqb-false (length i) 0 eb);
         paired = omega (arith, ltb-false (firstLone i) (length i) ec);
-        ends = ed;
+        ends = ends-law i .0 ed;
       }) (walk-all i) n p e
 
   to : (n p : ℕ) → judgeOf i ≡ Refused n p → RefusedBy i n p

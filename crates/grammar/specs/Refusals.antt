@@ -1,7 +1,7 @@
 -- Which inputs are refused, with which number and place, by document 01's table and order. Assumes nothing.
 use Prim.Native.Nat.{ℕ, _<_, _≤_}
 use mathlib.Core.Path.{_≡_}
-use mathlib.Core.Bool.{true, false}
+use mathlib.Core.Bool.{true}
 use mathlib.Core.List.{List, [], _∷_, _++_, map}
 use mathlib.Core.Logic.{_⊎_}
 use lib.ListN.{length}
@@ -10,11 +10,21 @@ use Rattle.lines.specs.Logical.{rawLines}
 use Rattle.lines.specs.Grammar.{Line, Each, WellFormed, render}
 use Rattle.properties.specs.Rows.{single}
 use Rattle.cards.specs.Parts.{rowOfLine, kindOfLine}
-use Rattle.reader.specs.Lone.{firstLone, endsCrLf}
+use Rattle.reader.specs.Lone.{firstLone}
 use Rattle.reader.specs.Outcome.{ended}
 use Rattle.grammar.specs.Values.{Fitting}
 use Rattle.grammar.specs.Cards.{Clean, Readable, Bare, Begins, Versions, Inner, Cards, linesOf, groupLines}
-use Rattle.grammar.specs.Inputs.{Framed}
+
+-- "last two octets" are CR LF
+abbrev pub EndsCrLf : List ℕ → Type 0
+EndsCrLf i = (j : List ℕ) × (i ≡ j ++ (13 ∷ 10 ∷ []))
+
+-- none of 1 to 4 holds
+pub record Framed (i : List ℕ) : Type 0 where
+  pub short : length i ≤ 16384
+  pub some : 0 < length i
+  pub paired : firstLone i ≡ length i
+  pub ends : EndsCrLf i
 
 -- the lines of a card that has not ended: none, BEGIN, or BEGIN, VERSION and others
 pub data Begun : List Line → Type 0 where
@@ -71,7 +81,7 @@ pub data RefusedBy (i : List ℕ) : ℕ → ℕ → Type 0 where
   long : 16384 < length i → RefusedBy i 1 16384
   empty : length i ≡ 0 → RefusedBy i 2 0
   lone : length i ≤ 16384 → 0 < length i → firstLone i < length i → RefusedBy i 3 (firstLone i)
-  unended : length i ≤ 16384 → 0 < length i → firstLone i ≡ length i → endsCrLf i ≡ false → RefusedBy i 4 (length i)
+  unended : length i ≤ 16384 → 0 < length i → firstLone i ≡ length i → (EndsCrLf i → ⊥) → RefusedBy i 4 (length i)
   line : (ds : List (List ℕ)) (l : List ℕ) (es : List (List ℕ)) (n k : ℕ) (zs ys : List Line) → Framed i → rawLines i ≡ ds ++ (l ∷ es)
       → SoFar ds k zs ys → LineRefused ys (unfolded l) n → RefusedBy i n (length (ended ds))
   unfinished : (k : ℕ) (zs ys : List Line) → Framed i → SoFar (rawLines i) k zs ys → 0 < length ys → RefusedBy i 9 (length i)
