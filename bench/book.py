@@ -1,0 +1,73 @@
+#!/usr/bin/env python3
+"""Writes inputs for the benchmark: a phone book of 16 KB, small cards, long folded lines, damaged inputs, and texts.
+
+  book.py FOLDER
+"""
+import pathlib
+import random
+import sys
+
+FIRST = "Anna Bernd Carla Dieter Eva Frank Greta Hans Ilse Jörg Käthe Lars Mara Nils Olga Paul Rosa Sven Tina Uwe".split()
+LAST = "Müller Schmidt Schneider Fischer Weber Meyer Wagner Becker Schulz Hoffmann Schäfer Koch Bauer Richter Klein Wolf".split()
+PLACES = ["Leitstelle Nord", "Umspannwerk Hafen", "Depot Lindenhof", "Werkstatt Süd", "Fahrdienstleitung", "Betriebshof Mitte"]
+LIMIT = 16384
+
+
+def fold(line):
+    """A line in physical lines of at most 75 octets, cut between characters."""
+    octets, out, room = line.encode(), b"", 75
+    while len(octets) > room:
+        cut = room
+        while octets[cut] & 0xC0 == 0x80:
+            cut -= 1
+        out, octets, room = out + octets[:cut] + b"\r\n ", octets[cut:], 74
+    return out + octets + b"\r\n"
+
+
+def card(dice):
+    """One entry of a cab telephone's phone book."""
+    first, last, place = dice.choice(FIRST), dice.choice(LAST), dice.choice(PLACES)
+    lines = [
+        "BEGIN:VCARD",
+        "VERSION:4.0",
+        f"UID:urn:uuid:4fbe8971-0bc3-424c-9c26-{dice.randrange(10**11, 10**12)}",
+        f"FN:{place}\\, {first} {last}",
+        f"N:{last};{first};;;",
+        f"ORG:Verkehrsbetriebe;{place}",
+        f"TEL;VALUE=uri;PREF=1;TYPE=\"voice,work\":tel:+49-30-5550-{dice.randrange(1000, 9999)}",
+        f"funk.TEL;TYPE=cell:+49 170 {dice.randrange(1000000, 9999999)}",
+        f"ADR;LABEL=\"Halle {dice.randrange(1, 9)}, Tor {dice.randrange(1, 5)}\":;;Gleisstraße {dice.randrange(1, 99)};Berlin;;12345;Deutschland",
+        f"NOTE:Schicht {dice.randrange(1, 4)}\\, Linie {dice.randrange(1, 80)}\\; bei Störung der Oberleitung zuerst das Umspannwerk rufen\\, dann die Leitstelle",
+        "CATEGORIES:Tram,Depot,Nacht",
+        f"REV:20261115T0500{dice.randrange(10, 59)}Z",
+        "END:VCARD",
+    ]
+    return b"".join(fold(line) for line in lines)
+
+
+def main():
+    folder = pathlib.Path(sys.argv[1])
+    folder.mkdir(parents=True, exist_ok=True)
+    dice, book = random.Random(7), b""
+    while True:
+        more = card(dice)
+        if len(book) + len(more) > LIMIT:
+            break
+        book += more
+    small = b"BEGIN:VCARD\r\nVERSION:4.0\r\nFN:A\r\nEND:VCARD\r\n"
+    long = b"BEGIN:VCARD\r\nVERSION:4.0\r\nFN:A\r\n" + fold("NOTE:" + "Umspannwerk " * 1200) + b"END:VCARD\r\n"
+    prose = "Bei Störung der Oberleitung zuerst das Umspannwerk rufen, dann die Leitstelle; Funk auf Kanal 4 lassen.\n" * 70
+    files = {
+        "book": book,
+        "small": small * (LIMIT // len(small)),
+        "long": long[:LIMIT] if len(long) <= LIMIT else long,
+        "damaged": book[:-20] + b"\x01" + book[-19:],
+        "plain": b"Leitstelle Nord, Umspannwerk Hafen, Depot Lindenhof ".replace(b",", b"") * 150,
+        "prose": prose.encode(),
+        "escaped": prose.replace("\\", "\\\\").replace(",", "\\,").replace(";", "\\;").replace("\n", "\\n").encode(),
+    }
+    for name, octets in files.items():
+        (folder / name).write_bytes(octets)
+
+
+main()
