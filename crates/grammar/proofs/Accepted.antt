@@ -1,29 +1,28 @@
 -- The reader accepts exactly the inputs of cards, with their counts of cards and lines. Assumes nothing.
 use mathlib.Core.Path.{_≡_, refl, sym, ap, subst, _∙_}
-use mathlib.Core.Bool.{true, false}
 use mathlib.Core.List.{List, [], _∷_, _++_, map, append-nil}
 use mathlib.Core.Logic.{_↔_}
-use Prim.Native.Nat.{ℕ, zero, suc, _+_, _<_, _≤_}
+use Prim.Native.Nat.{ℕ, zero, suc, _<_, _≤_}
 use native.Mathlib.Omega.{arith}
-use lib.Dec.{eqb, ltb}
 use lib.ListN.{length, length-append}
 use borrow.Author.Tests.{le-ltb, eq-eqb, ne-eqb}
 use Rattle.lines.specs.Folds.{unfolded}
 use Rattle.lines.specs.Logical.{linesBy, rawLines}
 use Rattle.lines.specs.Grammar.{Line, Each, render}
+use Rattle.language.proofs.Law.{line-unique}
 use Rattle.cards.specs.State.{freshCard}
 use Rattle.cards.specs.declared.state.Card.{Card}
 use Rattle.cards.specs.declared.state.Step.{Step}
-use Rattle.cards.specs.declared.state.Step.the-variants.{Next, Refused as Halted}
-use Rattle.reader.specs.Lone.{firstLone, endsCrLf}
+use Rattle.cards.specs.declared.state.Step.the-variants.{Next}
+use Rattle.reader.specs.Lone.{firstLone}
 use Rattle.reader.specs.Outcome.{judgeLines, verdictOf, judgeOf, logicalLines, ended}
-use Rattle.reader.specs.declared.Verdict.the-variants.{Accepted, Refused}
-use Rattle.reader.proofs.AcceptLaws.{Accepting, accepting}
-use Rattle.grammar.specs.Cards.{CardLines, card, Cards, none, more}
-use Rattle.grammar.specs.Inputs.{Written, InputOf}
+use Rattle.reader.specs.declared.Verdict.the-variants.{Accepted}
+use Rattle.reader.proofs.AcceptLaws.{accepting}
+use Rattle.grammar.specs.Cards.{Readable, card, Cards, none, more}
+use Rattle.grammar.specs.Inputs.{InputOf}
 use Rattle.grammar.specs.Refusals.{Framed}
-use Rattle.grammar.proofs.Known.{phaseOf, Known, fresh-known}
-use Rattle.grammar.proofs.Runs.{Led, steps-run, cards-run}
+use Rattle.grammar.proofs.Known.{phaseOf, fresh-known}
+use Rattle.grammar.proofs.Runs.{steps-run, cards-run}
 use Rattle.grammar.proofs.FoldLaws.{written-lines, written-paired, written-ends, ends-law, lines-written}
 use Rattle.grammar.proofs.Walks.{Reached, fresh-reached, Walked, finished, stopped, walk}
 
@@ -129,3 +128,17 @@ module _ (i : List ℕ) (k n : ℕ) where
   -- accepted with k cards and n lines exactly where the input is k cards of n lines
   pub accepted-law : (judgeOf i ≡ Accepted k n) ↔ InputOf i k n
   accepted-law = (to, from)
+
+same-lines : (xs ys : List Line) → Each Readable xs → Each Readable ys → map render xs ≡ map render ys → xs ≡ ys
+unfolding Each
+same-lines [] [] r s e = refl
+same-lines [] (y ∷ ys) r s e = let z : _≡_ {A = ℕ} 0 1 = cc in absurd (omega arith)
+same-lines (x ∷ xs) [] r s e = let z : _≡_ {A = ℕ} 0 1 = cc in absurd (omega arith)
+same-lines (x ∷ xs) (y ∷ ys) r s e =
+    let a : render x ≡ render y = cc in
+    let b : map render xs ≡ map render ys = cc in
+    ap (λ (z : Line). z ∷ xs) (line-unique x y (r .0 .formed) (s .0 .formed) a) ∙ ap (λ (zs : List Line). y ∷ zs) (same-lines xs ys (r .1) (s .1) b)
+
+-- an input has one reading
+pub one-reading : (i : List ℕ) (k m n p : ℕ) (h : InputOf i k n) (g : InputOf i m p) → h .lines ≡ g .lines
+one-reading i k m n p h g = same-lines (h .lines) (g .lines) (h .readable) (g .readable) (sym (lines-law i k n h) ∙ lines-law i m p g)

@@ -1,9 +1,9 @@
 -- The lines of a card that has not ended, one line further; and what each of its lines satisfies. Assumes nothing.
-use mathlib.Core.Path.{_≡_, refl, sym, ap, subst, _∙_}
-use mathlib.Core.Bool.{Bool, true, false, _&&_, false≢true}
+use mathlib.Core.Path.{_≡_, sym, ap, _∙_}
+use mathlib.Core.Bool.{Bool, true, false}
 use mathlib.Core.List.{List, [], _∷_, _++_}
-use mathlib.Core.Logic.{_⊎_, inl, inr}
-use Prim.Native.Nat.{ℕ, zero, suc, _+_, _≤_}
+use mathlib.Core.Logic.{inl, inr}
+use Prim.Native.Nat.{ℕ, _≤_}
 use native.Mathlib.Omega.{arith}
 use lib.Dec.{eqb}
 use borrow.Author.Tests.{eqb-true, ne-eqb}
@@ -12,7 +12,7 @@ use Rattle.properties.specs.Rows.{single}
 use Rattle.properties.proofs.Bools.{by}
 use Rattle.cards.specs.Parts.{rowOfLine, kindOfLine}
 use Rattle.grammar.specs.Values.{Fitting}
-use Rattle.grammar.specs.Cards.{Begins, Versions, Ends, Inside, counts, count, ofRow, linesOf, saysGroup, groupLines, Inner, Body, CardLines, card}
+use Rattle.grammar.specs.Cards.{Begins, Versions, Ends, Inside, counts, count, ofRow, linesOf, saysGroup, groupLines, Inner, CardLines, card}
 use Rattle.grammar.specs.Refusals.{Begun, nothing, first, within, InPlace, Framing, Unladen}
 use Rattle.grammar.proofs.Known.{count-append}
 

@@ -1,17 +1,13 @@
 -- The flags of the properties marked *1: each row has its own, and a flag is set exactly after a line of its row. Assumes nothing.
-use mathlib.Core.Path.{_≡_, refl, sym, ap, _∙_}
-use mathlib.Core.Bool.{Bool, true, false, not, _&&_, _||_, false≢true}
-use mathlib.Core.List.{List, [], _∷_, _++_}
-use Prim.Native.Nat.{ℕ, zero, suc, _<_, _≤_, _/_, _%_, _^_}
+use mathlib.Core.Path.{_≡_, refl, ap, _∙_}
+use mathlib.Core.Bool.{Bool, true, false, not, _&&_, _||_}
+use Prim.Native.Nat.{ℕ, zero, suc, _<_, _/_, _%_, _^_}
 use native.Mathlib.Omega.{arith}
-use lib.Dec.{eqb, ltb}
+use lib.Dec.{eqb}
 use lib.Bits.{bitOr, or-shr, or-mod, or-zero-l}
-use lib.ListN.{length, getD, List·getD-eq-default}
-use borrow.Author.Tests.{ltb-true, ltb-false}
 use Rattle.octets.specs.Pick.{pick}
-use Rattle.properties.specs.Rows.{Row, noRow, rows, rowAt, isOnce, single}
+use Rattle.properties.specs.Rows.{rows, rowAt, single}
 use Rattle.properties.specs.Ascii.{octets}
-use Rattle.properties.proofs.Bools.{by}
 use Rattle.properties.proofs.Upto.{upto, alike}
 use Rattle.cards.specs.State.{onceBit, isSeen}
 
@@ -53,11 +49,6 @@ own r q h g =
 pub none-seen : (row : ℕ) → row < 39 → isSeen (onceBit row) 0 ≡ false
 unfolding upto onceBit isSeen
 none-seen row h = alike (λ j. isSeen (onceBit j) 0) (λ j. false) 39 refl row h
-
--- a row marked *1 is a listed one
-pub single-low : (row : ℕ) → single row ≡ true → row < 39
-unfolding single rowAt rows
-single-low row e = by (ltb row 39) (λ t. ltb-true row 39 t) (λ t. absurd (false≢true (sym (ap (λ (r : Row). isOnce (r .times)) (List·getD-eq-default (noRow ∷ rows) noRow {n = row} (ltb-false row 39 t))) ∙ e)))
 
 module _ (s r q : ℕ) (h : r < 39) (g : q < 39) where
   seen-by : (t : Bool) → single r ≡ t → (t && eqb (bitOr s (onceBit q) / onceBit r % 2) 1) ≡ (t && eqb (s / onceBit r % 2) 1 || (t && eqb q r))

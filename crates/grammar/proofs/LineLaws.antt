@@ -1,17 +1,17 @@
 -- The judgement of one line, in both directions: what refuses it, and how the card goes on where nothing does. Assumes nothing.
 use mathlib.Core.Path.{_≡_, refl, sym, ap, subst, _∙_}
 use mathlib.Core.Bool.{Bool, true, false, not, _&&_, _||_, false≢true}
-use mathlib.Core.List.{List, [], _∷_, _++_}
-use mathlib.Core.Logic.{_⊎_, inl, inr, _↔_}
-use Prim.Native.Nat.{ℕ, zero, suc, _≤_}
+use mathlib.Core.List.{List, [], _∷_}
+use mathlib.Core.Logic.{inl, inr}
+use Prim.Native.Nat.{ℕ, _≤_}
 use native.Mathlib.Omega.{arith}
 use lib.Dec.{eqb, ltb}
 use lib.ListN.{length}
-use borrow.Author.Tests.{eqb-true, eqb-false, eq-eqb, ne-eqb, not-false}
+use borrow.Author.Tests.{eqb-true, eqb-false, eq-eqb, ne-eqb}
 use Rattle.octets.specs.Pick.{pick}
 use Rattle.octets.specs.Characters.{allowed, firstBad}
 use Rattle.lines.specs.Parse.{Parse, got, bad}
-use Rattle.lines.specs.Grammar.{Param, Line, WellFormed, front, render}
+use Rattle.lines.specs.Grammar.{Line, front}
 use Rattle.lines.specs.Rule.{parseLine}
 use Rattle.language.proofs.Law.{line-law, refused-law}
 use Rattle.properties.specs.Rows.{rows, rowAt, single, isGroup}
@@ -25,8 +25,7 @@ use Rattle.cards.specs.Judge.{framing, laden, entered, fitting, judgeParts, jud
 use Rattle.cards.specs.declared.state.Card.{Card}
 use Rattle.cards.specs.declared.state.Step.{Step}
 use Rattle.cards.specs.declared.state.Step.the-variants.{Next, Refused}
-use Rattle.grammar.specs.Values.{Fitting}
-use Rattle.grammar.specs.Cards.{Clean, Readable, Bare, count, ofRow, linesOf, saysGroup, groupLines}
+use Rattle.grammar.specs.Cards.{Clean, Bare, ofRow, linesOf, saysGroup, groupLines}
 use Rattle.grammar.specs.Refusals.{Reads, InPlace, Framing, Unladen, Sound, LineRefused, octet, rule, order, laden as heavy, value, second, nameless, no-group}
 use Rattle.grammar.proofs.ValueLaws.{value-fits, clean-law}
 use Rattle.grammar.proofs.Known.{any, any-some, any-none, Known, order-law, lineCard, endCard, note-next, note-second, close-next, close-nameless, close-groupless}

@@ -1,11 +1,10 @@
 -- The copy and the records of an accepted input say what its lines are. Assumes nothing.
 use mathlib.Core.Path.{_≡_, refl, sym, ap, subst, _∙_}
 use mathlib.Core.List.{List, [], _∷_, _++_, map, append-assoc}
-use Prim.Native.Nat.{ℕ, _+_, _-_, _*_, _<_, _≤_}
-use native.Mathlib.Nat.{add-zero}
+use Prim.Native.Nat.{ℕ, _+_, _-_, _*_, _≤_}
 use native.Mathlib.Omega.{arith}
 use lib.ListN.{length, take, drop, length-append, length-drop}
-use lib.Seq.{length-take-le, take-all, take-at, drop-at, take-append-le, drop-append-le, drop-append-add, drop-append-seam}
+use lib.Seq.{length-take-le, take-all, take-at, take-append-le, drop-append-le, drop-append-add, drop-append-seam}
 use Rattle.octets.specs.Room.{overlay}
 use Rattle.lines.specs.Parse.{got}
 use Rattle.lines.specs.Grammar.{Line, Each, WellFormed, front, render, nameEnd}
@@ -17,7 +16,7 @@ use Rattle.language.proofs.Law.{line-law, line-unique}
 use Rattle.language.proofs.PlacesLaw.{places-law}
 use Rattle.cards.specs.Parts.{told, toldOf, rowOfLine, kindOfLine}
 use Rattle.cards.proofs.CardLaws.{told-fits}
-use Rattle.reader.specs.Outcome.{judgeOf, logicalLines, ended, copyOf, recordBy, recordOf, recordsFrom, recordsOf, Taken, took, readOutcome}
+use Rattle.reader.specs.Outcome.{ended, copyOf, recordBy, recordOf, recordsFrom, recordsOf, Taken, took, readOutcome}
 use Rattle.reader.specs.declared.Verdict.the-variants.{Accepted}
 use Rattle.reader.proofs.ReadLaws.{numbers-counted, read-written}
 use Rattle.grammar.specs.Cards.{Readable}

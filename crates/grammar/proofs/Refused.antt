@@ -1,14 +1,14 @@
 -- The reader refuses exactly the inputs that document 01 refuses, each with the number and place that come first. Assumes nothing.
-use mathlib.Core.Path.{_≡_, refl, sym, ap, subst, _∙_}
+use mathlib.Core.Path.{_≡_, refl, sym, ap, _∙_}
 use mathlib.Core.Bool.{Bool, true, false, false≢true}
 use mathlib.Core.List.{List, [], _∷_, _++_}
 use mathlib.Core.Logic.{_↔_}
-use Prim.Native.Nat.{ℕ, zero, suc, _+_, _<_, _≤_}
+use Prim.Native.Nat.{ℕ, _+_, _<_, _≤_}
 use native.Mathlib.Nat.{add-zero, zero-add}
 use native.Mathlib.Omega.{arith}
 use lib.Dec.{eqb, ltb}
 use lib.ListN.{length, length-append}
-use borrow.Author.Tests.{ltb-true, ltb-false, lt-ltb, le-ltb, eqb-true, eqb-false, eq-eqb, ne-eqb}
+use borrow.Author.Tests.{ltb-true, ltb-false, lt-ltb, le-ltb, eqb-true, eqb-false, ne-eqb}
 use Rattle.octets.proofs.Scans.{scan-le}
 use Rattle.octets.specs.Pick.{pick}
 use Rattle.lines.specs.Folds.{unfolded}
@@ -26,8 +26,8 @@ use Rattle.reader.specs.declared.Verdict.the-variants.{Accepted, Refused}
 use Rattle.grammar.specs.Refusals.{EndsCrLf, Framed, SoFar, LineRefused, RefusedBy, long, empty, lone, unended, line, unfinished}
 use Rattle.grammar.proofs.Known.{phaseOf, Known, fresh-known}
 use Rattle.grammar.proofs.LineLaws.{refused, outcome}
-use Rattle.grammar.proofs.Runs.{Led, steps-run, prefix-run}
-use Rattle.grammar.proofs.Walks.{Reached, Walked, finished, stopped}
+use Rattle.grammar.proofs.Runs.{steps-run, prefix-run}
+use Rattle.grammar.proofs.Walks.{Walked, finished, stopped}
 use Rattle.grammar.proofs.FoldLaws.{ends-law}
 use Rattle.grammar.proofs.Accepted.{judge-framed, walk-all, phase-none}
 

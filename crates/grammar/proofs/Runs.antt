@@ -1,10 +1,9 @@
 -- Cards and the lines of a card that has not ended are judged through, and the state then says what they are. Assumes nothing.
 use mathlib.Core.Path.{_≡_, refl, sym, ap, subst, _∙_}
-use mathlib.Core.Bool.{Bool, true, false}
+use mathlib.Core.Bool.{true}
 use mathlib.Core.List.{List, [], _∷_, _++_, map, append-nil}
-use Prim.Native.Nat.{ℕ, zero, suc, _+_, _≤_}
+use Prim.Native.Nat.{ℕ, suc, _+_, _≤_}
 use native.Mathlib.Omega.{arith}
-use lib.Dec.{eqb}
 use lib.ListN.{length, length-append}
 use lib.Seq.{append-snoc}
 use borrow.Author.Tests.{eq-eqb}
@@ -15,12 +14,12 @@ use Rattle.cards.specs.Parts.{rowOfLine}
 use Rattle.cards.specs.Judge.{judgeLine}
 use Rattle.cards.specs.declared.state.Card.{Card}
 use Rattle.cards.specs.declared.state.Step.{Step}
-use Rattle.cards.specs.declared.state.Step.the-variants.{Next, Refused}
+use Rattle.cards.specs.declared.state.Step.the-variants.{Next}
 use Rattle.reader.specs.Outcome.{onward, judgeLines}
-use Rattle.grammar.specs.Cards.{Readable, Begins, Versions, Ends, Inside, count, ofRow, linesOf, saysGroup, groupLines, Inner, Body, CardLines, card, Cards, none, more}
+use Rattle.grammar.specs.Cards.{Readable, Begins, Versions, Inside, count, ofRow, linesOf, groupLines, Inner, CardLines, card, Cards, none, more}
 use Rattle.grammar.specs.Refusals.{Begun, nothing, first, within, Sound}
 use Rattle.grammar.proofs.Known.{Known, count-append, line-known, end-known}
-use Rattle.grammar.proofs.LineLaws.{Judged, goes-on, ends, outcome}
+use Rattle.grammar.proofs.LineLaws.{goes-on, ends, outcome}
 use Rattle.grammar.proofs.BegunLaws.{each-split, Stands, begin-stands, version-stands, end-stands, inside-stands, frame-rows, frame-groups}
 
 -- each of the lines xs, written out, leads from a state to the next

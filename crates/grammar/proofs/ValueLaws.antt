@@ -1,18 +1,17 @@
 -- The value of a line fits exactly where it is as document 01 says, and so for clean lines and for lines without group and parameter.
 -- Assumes nothing.
-use mathlib.Core.Path.{_≡_, refl, sym, ap, subst, _∙_}
-use mathlib.Core.Bool.{Bool, true, false, not, _&&_, _||_, false≢true}
-use mathlib.Core.List.{List, [], _∷_}
-use mathlib.Core.Logic.{_⊎_, inl, inr, _↔_}
+use mathlib.Core.Path.{_≡_, sym, subst, _∙_}
+use mathlib.Core.Bool.{false}
+use mathlib.Core.List.{List}
+use mathlib.Core.Logic.{_↔_}
 use Prim.Native.Nat.{ℕ, zero, suc}
 use native.Mathlib.Omega.{arith}
 use lib.Dec.{eqb, ltb}
 use lib.ListN.{length}
-use borrow.Author.Tests.{le-ltb, ltb-false, eqb-true, eqb-false, eq-eqb, ne-eqb}
+use borrow.Author.Tests.{le-ltb, ltb-false, eqb-true, eqb-false}
 use Rattle.octets.specs.Characters.{allowed, firstBad}
 use Rattle.octets.proofs.Chars.{bad-le}
 use Rattle.octet_laws.proofs.Utf8.{allowed-only}
-use Rattle.lines.specs.Grammar.{Line}
 use Rattle.properties.specs.Kinds.{shapeOf, kindScan, valueScan}
 use Rattle.properties.specs.Shapes.{Is}
 use Rattle.properties.specs.declared.values.Fault.the-variants.{Fits}

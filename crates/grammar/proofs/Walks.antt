@@ -2,20 +2,19 @@
 -- first line that is refused. Assumes nothing.
 use mathlib.Core.Path.{_≡_, refl, sym, ap, subst, _∙_}
 use mathlib.Core.List.{List, [], _∷_, _++_, map, append-nil, append-assoc, map-append}
-use Prim.Native.Nat.{ℕ, zero, suc, _+_}
+use Prim.Native.Nat.{ℕ, suc, _+_}
 use native.Mathlib.Omega.{arith}
 use lib.ListN.{length, length-append}
 use lib.Seq.{append-snoc}
 use Rattle.lines.specs.Folds.{unfolded}
 use Rattle.lines.specs.Grammar.{Line, Each, render}
 use Rattle.cards.specs.State.{freshCard}
-use Rattle.cards.specs.Judge.{judgeLine}
 use Rattle.cards.specs.declared.state.Card.{Card}
 use Rattle.cards.specs.declared.state.Step.{Step}
 use Rattle.cards.specs.declared.state.Step.the-variants.{Next, Refused}
 use Rattle.reader.specs.Outcome.{onward, judgeLines, ended}
 use Rattle.grammar.specs.Cards.{Readable, CardLines, Cards, none, more}
-use Rattle.grammar.specs.Refusals.{Begun, nothing, SoFar, Reads, Sound, LineRefused}
+use Rattle.grammar.specs.Refusals.{Begun, nothing, SoFar, Sound, LineRefused}
 use Rattle.grammar.proofs.Known.{Known, fresh-known, lineCard, line-known, endCard, end-known}
 use Rattle.grammar.proofs.LineLaws.{Judged, refused, goes-on, ends, outcome, decided}
 use Rattle.grammar.proofs.BegunLaws.{each-join, Stands, begun-next, begun-end}
