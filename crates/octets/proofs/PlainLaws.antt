@@ -1,19 +1,20 @@
 -- The laws of plain octets. Assumes nothing.
 use mathlib.Core.Path.{_≡_, refl, sym, ap, _∙_}
 use mathlib.Core.Bool.{Bool, true, false, not, _&&_, _||_, and-true, and-false, and-assoc, or-true}
-use mathlib.Core.List.{List, [], _∷_}
-use Prim.Native.Nat.{ℕ, suc, _+_, _<_, _≤_}
+use mathlib.Core.List.{List, [], _∷_, _++_}
+use Prim.Native.Nat.{ℕ, suc, _+_, _<_, _≤_, zero}
 use native.Mathlib.Numerals.{add-one}
 use native.Mathlib.Omega.{arith}
 use lib.Dec.{eqb, ltb}
 use lib.Bits.{bitOr, or-zero-r, or-add-and, and-le-l}
-use lib.ListN.{length, getD, drop, drop-of-length-le}
-use lib.Seq.{drop-cons}
+use lib.ListN.{length, getD, take, drop, drop-of-length-le, length-drop, take-append-drop}
+use lib.Seq.{drop-cons, drop-drop, length-take-le}
+use native.Mathlib.Nat.{zero-add, add-zero, suc-add}
 use borrow.Author.Tests.{ne-eqb, eqb-true, ltb-false, le-leb}
 use Rattle.octets.specs.Classes.{bit, valued}
 use Rattle.octets.specs.Scan.{after, scan}
-use Rattle.octets.proofs.Chars.{ascii}
-use Rattle.octets.specs.Characters.{odd, allPlain, allowed, unit, firstBad}
+use Rattle.octets.proofs.Chars.{ascii, unit-inside, bad-step}
+use Rattle.octets.specs.Characters.{odd, allPlain, allowed, unit, firstBad, Strides}
 
 -- a mark is kept once it is set
 or-mark : (a : ℕ) (t : Bool) → eqb (bitOr a (bit t 1)) 0 ≡ (eqb a 0 && not t)
@@ -66,3 +67,32 @@ plain-all lf (x ∷ xs) e = by (odd x) refl e (plain-all lf xs)
         → (allPlain xs ≡ true → scan (unit (allowed lf)) xs 0 ≡ length xs) → scan (unit (allowed lf)) (x ∷ xs) 0 ≡ suc (length xs)
     by true o z f = let w : _≡_ {A = ℕ} 0 1 = cc in absurd (omega arith)
     by false o z f = ap (λ (n : ℕ). after n (scan (unit (allowed lf)) xs)) (plain-unit lf x xs o) ∙ ap suc (f z)
+
+-- plain octets at the start are passed at once
+plain-prefix : (lf : Bool) (a b : List ℕ) → allPlain a ≡ true → firstBad (allowed lf) (a ++ b) ≡ length a + firstBad (allowed lf) b
+unfolding allPlain firstBad scan
+plain-prefix lf [] b e = sym (zero-add _)
+plain-prefix lf (x ∷ xs) b e = by (odd x) refl e (plain-prefix lf xs b)
+  where
+    by : (o : Bool) → odd x ≡ o → (not o && allPlain xs) ≡ true
+        → (allPlain xs ≡ true → scan (unit (allowed lf)) (xs ++ b) 0 ≡ length xs + scan (unit (allowed lf)) b 0)
+        → scan (unit (allowed lf)) (x ∷ (xs ++ b)) 0 ≡ suc (length xs) + scan (unit (allowed lf)) b 0
+    by true o z f = let w : _≡_ {A = ℕ} 0 1 = cc in absurd (omega arith)
+    by false o z f =
+        ap (λ (n : ℕ). after n (scan (unit (allowed lf)) (xs ++ b))) (plain-unit lf x (xs ++ b) o) ∙ ap suc (f z)
+        ∙ sym (suc-add (length xs) (scan (unit (allowed lf)) b 0))
+
+pub plain-stride : (lf : Bool) (s : List ℕ) (i n : ℕ) → 0 < n → i + n ≤ length s → allPlain (take n (drop i s)) ≡ true → Strides (allowed lf) s i n
+plain-stride lf s i n some h e =
+    let d : n ≤ length (drop i s) = rw (length-drop i s) (omega arith) in
+    let split = ap (firstBad (allowed lf)) (sym (take-append-drop n (drop i s))) ∙ plain-prefix lf (take n (drop i s)) (drop n (drop i s)) e in
+    let k = length-take-le n (drop i s) d in
+    let f : firstBad (allowed lf) (drop i s) ≡ n + firstBad (allowed lf) (drop (i + n) s) = rw (← drop-drop n i s) (split ∙ ap (λ (m : ℕ). m + firstBad (allowed lf) (drop n (drop i s))) k) in
+    record { stops = λ z. absurd (omega arith); goes = omega arith; inside = h }
+
+pub unit-stride : (lf : Bool) (s : List ℕ) (i n : ℕ) → i < length s → n ≡ unit (allowed lf) (drop i s) → Strides (allowed lf) s i n
+unit-stride lf s i n h e = record { stops = λ z. sym e ∙ z; goes = by n e; inside = unit-inside (allowed lf) s i n e (omega arith) }
+  where
+    by : (m : ℕ) → m ≡ unit (allowed lf) (drop i s) → i + firstBad (allowed lf) (drop i s) ≡ i + m + firstBad (allowed lf) (drop (i + m) s)
+    by zero q = ap (λ (j : ℕ). j + firstBad (allowed lf) (drop j s)) (sym (add-zero i))
+    by (suc m) q = bad-step (allowed lf) s i (suc m) q (λ z. omega arith) (omega arith)

@@ -1,10 +1,11 @@
 -- RFC 3629, section 4: the length of the character at the start of a text, and the first octet of a text that is not allowed or
 -- starts no character. Assumes nothing.
-use Prim.Native.Nat.{ℕ}
+use Prim.Native.Nat.{ℕ, _+_, _≤_}
+use mathlib.Core.Path.{_≡_}
 use mathlib.Core.Bool.{Bool, true, not, _&&_, _||_}
 use mathlib.Core.List.{List, [], _∷_}
 use lib.Dec.{leb, ltb, eqb}
-use lib.ListN.{length, getD}
+use lib.ListN.{length, getD, drop}
 use Rattle.octets.specs.Pick.{pick}
 use Rattle.octets.specs.Scan.{scan}
 use Rattle.octets.specs.Classes.{within, valued}
@@ -45,6 +46,12 @@ unit p l = pick (p (getD l 0 0)) (charLength l) 0
 -- the offset of the first octet that p forbids or that starts no character; the length where there is none
 unfoldable pub firstBad : (ℕ → Bool) → List ℕ → ℕ
 firstBad p l = scan (unit p) l 0
+
+-- n octets from i on can be passed in the search of the first bad one; none where one stands there
+pub record Strides (p : ℕ → Bool) (s : List ℕ) (i n : ℕ) : Type 0 where
+  pub stops : n ≡ 0 → unit p (drop i s) ≡ 0
+  pub goes : i + firstBad p (drop i s) ≡ i + n + firstBad p (drop (i + n) s)
+  pub inside : i + n ≤ length s
 
 -- an octet that is neither a tab nor one of 20-7E
 unfoldable pub odd : ℕ → Bool

@@ -3,7 +3,7 @@ ghost use mathlib.Core.Path.{_≡_};
 ghost use Prim.Native.Nat.{_<_};
 ghost use lib.ListN.{length, drop};
 ghost use Rattle.octets.specs.Classes.{Classes, within};
-ghost use Rattle.octets.specs.Characters.{lengthBy, second, tail, charLength, allowed, unit, firstBad};
+ghost use Rattle.octets.specs.Characters.{lengthBy, second, tail, charLength, allowed, unit, firstBad, Strides};
 
 // How many octets a character has that starts with b.
 pub fn length_by(b: u8) -> usize
@@ -119,14 +119,29 @@ pub fn unit_length(t: &[u8; 256], s: &[u8], i: usize, lf: bool) -> usize
     char_length(s, i)
 }
 
-// The exact scan of first_bad, octet by octet.
+// How far the exact scan goes at i: over sixteen plain octets at once, or over one character; 0 where none or a control starts there.
+fn stride(t: &[u8; 256], s: &[u8], i: usize, lf: bool) -> usize
+    requires { ⌜ Classes (now t) ⌝ }
+    requires { ⌜ i < length (now s) ⌝ }
+    ensures { λ r. ⌜ Strides (allowed lf) (now (s .entry)) i r ⌝ }
+{
+    if 16 <= s.len() - i {
+        let end = i + 16;
+        if crate::plain::all_plain(&s[i..end]) {
+            return 16;
+        }
+    }
+    unit_length(t, s, i, lf)
+}
+
+// The exact scan of first_bad.
 fn first_unfit(t: &[u8; 256], s: &[u8], lf: bool) -> usize
     requires { ⌜ Classes (now t) ⌝ }
     ensures { λ r. ⌜ r ≡ firstBad (allowed lf) (now (s .entry)) ⌝ }
 {
     let mut i: usize = 0;
     while i < s.len() {
-        let n = unit_length(t, s, i, lf);
+        let n = stride(t, s, i, lf);
         if n == 0 {
             return i;
         }

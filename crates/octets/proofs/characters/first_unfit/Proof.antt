@@ -6,7 +6,7 @@ use native.Mathlib.Nat.{zero-add}
 use native.Mathlib.Omega.{arith}
 use lib.ListN.{length, drop}
 use Rattle.octets.specs.Characters.{allowed, firstBad}
-use Rattle.octets.proofs.Chars.{bad-stop, bad-step, bad-end, unit-inside}
+use Rattle.octets.proofs.Chars.{bad-stop, bad-end}
 use Rattle.octets.proofs.characters.first_unfit.Statement.{statement}
 use Rattle.octets.proofs.characters.first_unfit.Tie as tie
 
@@ -19,21 +19,20 @@ abbrev μ-loop : tie.MeasureT-loop
 loop-holds : tie.Need-loop-holds Inv-loop μ-loop
 loop-holds c = (search needs, sym (zero-add _))
 
-unit-length-requires : tie.Need-unit-length-requires Inv-loop μ-loop
-unit-length-requires c κs = search needs
+stride-requires : tie.Need-stride-requires Inv-loop μ-loop
+stride-requires c κs = search needs
 
 returns : tie.Need-returns Inv-loop μ-loop
 returns c =
     let l = c .before .before .before in
     let a = l .before .before .args in
-    sym (l .loop .inv .1 ∙ bad-stop (allowed (a .lf)) (a .s .now) (l .loop .i) (sym (c .before .unit-length .ensures) ∙ c .if1 .taken))
+    sym (l .loop .inv .1 ∙ bad-stop (allowed (a .lf)) (a .s .now) (l .loop .i) (c .before .stride .ensures .stops (c .if1 .taken)))
 
 add-i : tie.Need-add-i Inv-loop μ-loop
 add-i c =
     let l = c .before .before .before in
     let a = l .before .before .args in
-    let u = c .before .unit-length in
-    omega (arith, unit-inside (allowed (a .lf)) (a .s .now) (l .loop .i) (u .result) (u .ensures) (l .loop .inv .0))
+    omega (arith, c .before .stride .ensures .inside)
 
 loop-less : tie.Need-loop-less Inv-loop μ-loop
 loop-less c = omega arith
@@ -42,10 +41,7 @@ loop-again : tie.Need-loop-again Inv-loop μ-loop
 loop-again c =
     let l = c .before .before .before in
     let a = l .before .before .args in
-    let u = c .before .unit-length in (
-      unit-inside (allowed (a .lf)) (a .s .now) (l .loop .i) (u .result) (u .ensures) (l .loop .inv .0),
-      l .loop .inv .1 ∙ bad-step (allowed (a .lf)) (a .s .now) (l .loop .i) (u .result) (u .ensures) (c .if1 .left) (l .loop .inv .0),
-    )
+    (c .before .stride .ensures .inside, l .loop .inv .1 ∙ c .before .stride .ensures .goes)
 
 returns-2 : tie.Need-returns-2 Inv-loop μ-loop
 returns-2 c =
@@ -60,7 +56,7 @@ first-unfit-spec =
     Inv-loop
     μ-loop
     loop-holds
-    unit-length-requires
+    stride-requires
     returns
     add-i
     loop-less
