@@ -119,7 +119,8 @@ module _ (x : Line) where
     once = λ row e. by (eqb (rowOfLine x) row)
         (λ t.
         let q = eqb-true (rowOfLine x) row t in
-        let z : count (ofRow row) ys ≡ 0 = counts-none (ofRow row v) (count (ofRow row) ys) (counts-none (ofRow row b) (count (ofRow row) (v ∷ ys)) (rw q at (f (ap single q ∙ e)))) in
+        let y : count (ofRow row) (b ∷ v ∷ ys) ≡ 0 = rw q at (f (ap single q ∙ e)) in
+        let z : count (ofRow row) ys ≡ 0 = counts-none (ofRow row v) (count (ofRow row) ys) (counts-none (ofRow row b) (count (ofRow row) (v ∷ ys)) y) in
         let o : count (ofRow row) (x ∷ []) ≡ 1 = rw t in
         omega (arith, count-append (ofRow row) ys (x ∷ [])))
         (λ t.

@@ -26,14 +26,14 @@ use Rattle.properties.proofs.Bools.{by, and-both}
 use Rattle.reader.specs.Lone.{loneStep, firstLone, endsCrLf}
 use Rattle.reader.specs.Outcome.{ended}
 use Rattle.grammar.specs.Cards.{Readable}
-use Rattle.grammar.specs.Inputs.{Folded, end, octet, fold, Written, none, more}
+use Rattle.grammar.specs.Inputs.{Blank, Folded, end, octet, fold, Written, none, more}
 use Rattle.grammar.specs.Refusals.{EndsCrLf}
 
 -- neither CR nor LF
-abbrev Inner : ℕ → Type 0
-Inner b = (b ≡ 13 → ⊥) × (b ≡ 10 → ⊥)
+abbrev Unbroken : ℕ → Type 0
+Unbroken b = (b ≡ 13 → ⊥) × (b ≡ 10 → ⊥)
 
-clean-inner : (l : List ℕ) → EachOctet (allowed false) l → Each Inner l
+clean-inner : (l : List ℕ) → EachOctet (allowed false) l → Each Unbroken l
 unfolding EachOctet Each allowed valued
 clean-inner [] h = tt
 clean-inner (b ∷ l) h = (
@@ -41,12 +41,12 @@ clean-inner (b ∷ l) h = (
   clean-inner l (h .1),
 )
 
-blank-inner : (b : ℕ) → (b ≡ 32) ⊎ (b ≡ 9) → Inner b
+blank-inner : (b : ℕ) → Blank b → Unbroken b
 blank-inner b (inl e) = (λ q. omega arith, λ q. omega arith)
 blank-inner b (inr e) = (λ q. omega arith, λ q. omega arith)
 
 -- the check for a lone CR or LF
-lone-inner : (b : ℕ) (s : List ℕ) → Inner b → scan loneStep (b ∷ s) 0 ≡ suc (scan loneStep s 0)
+lone-inner : (b : ℕ) (s : List ℕ) → Unbroken b → scan loneStep (b ∷ s) 0 ≡ suc (scan loneStep s 0)
 unfolding scan loneStep
 lone-inner b s h = rw (ne-eqb b 10 (h .1), ne-eqb b 13 (h .0))
 
@@ -54,7 +54,7 @@ lone-pair : (s : List ℕ) → scan loneStep (13 ∷ 10 ∷ s) 0 ≡ suc (suc (s
 unfolding scan loneStep
 lone-pair s = refl
 
-folded-lone : {l r : List ℕ} → Folded l r → Each Inner l → (t : List ℕ) → scan loneStep t 0 ≡ length t → scan loneStep (r ++ t) 0 ≡ length (r ++ t)
+folded-lone : {l r : List ℕ} → Folded l r → Each Unbroken l → (t : List ℕ) → scan loneStep t 0 ≡ length t → scan loneStep (r ++ t) 0 ≡ length (r ++ t)
 unfolding Each
 folded-lone end h t e = e
 folded-lone (octet {b = b} {r = r} f) h t e = lone-inner b (r ++ t) (h .0) ∙ ap suc (folded-lone f (h .1) t e)
@@ -65,7 +65,7 @@ folded-lone (fold {b = b} {r = r} w f) h t e =
 abbrev Unled : List ℕ → Type 0
 Unled i = (hd i ≡ 32 → ⊥) × (hd i ≡ 9 → ⊥)
 
-fold-here : (b : ℕ) (s : List ℕ) → (b ≡ 32) ⊎ (b ≡ 9) → foldAt (13 ∷ 10 ∷ b ∷ s) ≡ true
+fold-here : (b : ℕ) (s : List ℕ) → Blank b → foldAt (13 ∷ 10 ∷ b ∷ s) ≡ true
 unfolding foldAt
 fold-here b s (inl e) = rw e
 fold-here b s (inr e) = rw e
@@ -74,12 +74,12 @@ no-fold-here : (i : List ℕ) → Unled i → foldAt (13 ∷ 10 ∷ i) ≡ false
 unfolding foldAt
 no-fold-here i h = rw (ne-eqb (hd i) 32 (h .0), ne-eqb (hd i) 9 (h .1))
 
-inner-fold : (b : ℕ) (s : List ℕ) → Inner b → foldAt (b ∷ s) ≡ false
+inner-fold : (b : ℕ) (s : List ℕ) → Unbroken b → foldAt (b ∷ s) ≡ false
 unfolding foldAt
 inner-fold b s h = rw (ne-eqb b 13 (h .0))
 
 -- a line ends before its CR LF
-folded-length : {l r : List ℕ} → Folded l r → Each Inner l → (i : List ℕ) → Unled i → scan lineStep (r ++ (13 ∷ 10 ∷ i)) 0 ≡ length r
+folded-length : {l r : List ℕ} → Folded l r → Each Unbroken l → (i : List ℕ) → Unled i → scan lineStep (r ++ (13 ∷ 10 ∷ i)) 0 ≡ length r
 unfolding Each scan lineStep
 folded-length end h i u = rw (no-fold-here i u)
 folded-length (octet {b = b} {r = r} f) h i u =
@@ -88,7 +88,7 @@ folded-length (fold {b = b} {r = r} w f) h i u =
     rw (fold-here b (r ++ (13 ∷ 10 ∷ i)) w) (ap (λ (n : ℕ). suc (suc (suc n))) (folded-length f h i u))
 
 -- and unfolds to itself without its folds
-folded-unfolds : {l r : List ℕ} → Folded l r → Each Inner l → unfolded r ≡ l
+folded-unfolds : {l r : List ℕ} → Folded l r → Each Unbroken l → unfolded r ≡ l
 unfolding Each unfolded gather passed kept
 folded-unfolds end h = refl
 folded-unfolds (octet {b = b} {r = r} f) h = rw (inner-fold b r (h .0)) (ap (λ (l : List ℕ). b ∷ l) (folded-unfolds f (h .1)))
@@ -110,7 +110,7 @@ folded-first end t u h = absurd (omega arith)
 folded-first (octet f) t u h = u
 folded-first (fold w f) t u h = (λ e. omega arith, λ e. omega arith)
 
-readable-inner : (x : Line) → Readable x → Each Inner (render x)
+readable-inner : (x : Line) → Readable x → Each Unbroken (render x)
 readable-inner x r = clean-inner (render x) (r .clean .octets)
 
 written-unled : {xs : List Line} {i : List ℕ} → Written xs i → Each Readable xs → Unled i
@@ -178,13 +178,13 @@ ends-law i = (to, from)
         let q : length i ≡ length j + 2 = ap length e ∙ n in
         let a : getD i (length i - 2) 0 ≡ 13 = ap (λ (l : List ℕ). getD l (length i - 2) 0) e ∙ getD-at j 13 (10 ∷ []) 0 (length i - 2) (omega arith) in
         let k : length i - 1 ≡ length j + 1 = omega arith in
-        let b : getD i (length i - 1) 0 ≡ 10 = ap (λ (l : List ℕ). getD l (length i - 1) 0) e ∙ ap (λ (m : ℕ). getD (j ++ (13 ∷ 10 ∷ [])) m 0) k ∙ getD-append-add j (13 ∷ 10 ∷ []) 1 0 in
+        let b : getD i (length i - 1) 0 ≡ 10 = ap (λ (m : ℕ). getD i m 0) k ∙ ap (λ (l : List ℕ). getD l (length j + 1) 0) e ∙ getD-append-add j (13 ∷ 10 ∷ []) 1 0 in
         rw (le-ltb (length i) 2 (omega arith), a, b)
 
 -- octets without lone CR or LF that end in CR LF
 data Text : List ℕ → Type 0 where
   last : Text (13 ∷ 10 ∷ [])
-  inner : {b : ℕ} {s : List ℕ} → Inner b → Text s → Text (b ∷ s)
+  inner : {b : ℕ} {s : List ℕ} → Unbroken b → Text s → Text (b ∷ s)
   pair : {s : List ℕ} → Text s → Text (13 ∷ 10 ∷ s)
 
 module _ (b c : ℕ) (s : List ℕ) where
@@ -211,7 +211,7 @@ record Split (i : List ℕ) : Type 0 where
   rest : List ℕ
   whole : i ≡ raw ++ (13 ∷ 10 ∷ rest)
   folded : Folded line raw
-  each : Each Inner line
+  each : Each Unbroken line
   next : (rest ≡ []) ⊎ Text rest
   unled : Unled rest
 
@@ -220,7 +220,7 @@ here : (s : List ℕ) → (s ≡ []) ⊎ Text s → Unled s → Split (13 ∷ 10
 unfolding Each
 here s t u = record { line = []; raw = []; rest = s; whole = refl; folded = end; each = tt; next = t; unled = u }
 
-further : (b : ℕ) (s : List ℕ) → Inner b → Split s → Split (b ∷ s)
+further : (b : ℕ) (s : List ℕ) → Unbroken b → Split s → Split (b ∷ s)
 unfolding Each
 further b s h t = record {
   line = b ∷ t .line;
@@ -233,7 +233,7 @@ further b s h t = record {
   unled = t .unled;
 }
 
-past-fold : (b : ℕ) (s : List ℕ) → (b ≡ 32) ⊎ (b ≡ 9) → Split s → Split (13 ∷ 10 ∷ b ∷ s)
+past-fold : (b : ℕ) (s : List ℕ) → Blank b → Split s → Split (13 ∷ 10 ∷ b ∷ s)
 past-fold b s w t = record {
   line = t .line;
   raw = 13 ∷ 10 ∷ b ∷ t .raw;

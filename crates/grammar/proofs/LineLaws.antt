@@ -119,7 +119,11 @@ module _ (c : Card) (ys : List Line) (k : Known c ys) (at : ℕ) (l : List ℕ) 
   unfolding entered
   at-line x s e = after-value x s ∙ rw (ne-eqb (rowOfLine x) 2 e)
 
-  -- a test that is not passed
+  -- a test that is passed where its failing says what is not so
+  abbrev passes : {A : Type 0} (t : Bool) → (t ≡ false → A) → (A → ⊥) → t ≡ true
+  passes t f g = by t (λ e. e) (λ e. absurd (g (f e)))
+
+  -- and one that is not
   abbrev fails : {A : Type 0} (t : Bool) → (t ≡ true → A) → (A → ⊥) → t ≡ false
   fails t f g = by t (λ e. absurd (g (f e))) (λ e. e)
 
@@ -129,14 +133,11 @@ module _ (c : Card) (ys : List Line) (k : Known c ys) (at : ℕ) (l : List ℕ) 
 
   refusal : {n : ℕ} → LineRefused ys l n → judgeLine c at l ≡ Refused n at
   unfolding judgeLine judgeParts
-  refusal (octet f) =
-      let e : ltb (firstBad (allowed false) l) (length l) ≡ true = by (ltb (firstBad (allowed false) l) (length l)) (λ t. t) (λ t. absurd (f (clean-law l .0 t))) in
-      rw e
+  refusal (octet f) = rw (passes (ltb (firstBad (allowed false) l) (length l)) (clean-law l .0) f)
   refusal (rule h f) = let r = refused-law l .1 f in after-clean h ∙ ap (judgeParsed c at) (r .1)
   refusal (order x r f) = after-reads x r ∙ rw (fails (inOrder (c .phase) (rowOfLine x)) (order-law c ys x k .0) f)
   refusal (heavy x r h f) =
-      let e : laden (rowOfLine x) (length (x .group)) (length (x .params)) ≡ true = by (laden (rowOfLine x) (length (x .group)) (length (x .params))) (λ t. t) (λ t. absurd (f (unladen-to x t))) in
-      after-order x r h ∙ rw e
+      after-order x r h ∙ rw (passes (laden (rowOfLine x) (length (x .group)) (length (x .params))) (unladen-to x) f)
   refusal (value x r h u f) =
       after-laden x r h u
       ∙ broken (valueScan (rowOfLine x) (kindOfLine x) (x .value)) _ (λ e. f (value-fits (rowOfLine x) (kindOfLine x) (x .value) .0 e))

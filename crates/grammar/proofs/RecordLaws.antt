@@ -94,10 +94,11 @@ records-from [] pre rest copy r e = none
 records-from (x ∷ xs) pre rest copy r e =
     let others = ended (map render xs) in
     let here : copy ≡ pre ++ (render x ++ (13 ∷ 10 ∷ (others ++ rest))) = e ∙ ap (λ (l : List ℕ). pre ++ l) (append-assoc (render x) (13 ∷ 10 ∷ others) rest) in
-    let past : List ℕ = pre ++ (render x ++ (13 ∷ 10 ∷ [])) in
-    let n : length past ≡ length pre + length (render x) + 2 = omega (arith, length-append pre (render x ++ (13 ∷ 10 ∷ [])), length-append (render x) (13 ∷ 10 ∷ [])) in
+    let line : List ℕ = render x ++ (13 ∷ 10 ∷ []) in
+    let past : List ℕ = pre ++ line in
+    let n : length past ≡ length pre + length (render x) + 2 = omega (arith, length-append pre line, length-append (render x) (13 ∷ 10 ∷ [])) in
     let there : copy ≡ past ++ (others ++ rest) =
-    here ∙ sym (append-assoc pre (render x ++ (13 ∷ 10 ∷ [])) (others ++ rest) ∙ ap (λ (l : List ℕ). pre ++ l) (append-assoc (render x) (13 ∷ 10 ∷ []) (others ++ rest))) in
+    here ∙ sym (append-assoc pre line (others ++ rest) ∙ ap (λ (l : List ℕ). pre ++ l) (append-assoc (render x) (13 ∷ 10 ∷ []) (others ++ rest))) in
     let first : Tells copy (length pre) x (recordOf (length pre) (render x)) = rw here (tells x (r .0 .formed) pre (others ++ rest)) in
     more first
     (subst (λ (w : ℕ). Records copy w xs (recordsFrom w (map render xs))) n (records-from xs past rest copy (r .1) there))

@@ -134,7 +134,9 @@ module _ (i : List ℕ) where
       let x : 4 ≡ n = cc in
       let y : length i ≡ p = cc in
       let le : firstLone i ≤ length i = scan-le loneStep i 0 in
-      rw (← x, ← y) (unended (ltb-false 16384 (length i) ea) (omega (arith, eqb-false (length i) 0 eb)) (omega (arith, ltb-false (firstLone i) (length i) ec)) (λ f. false≢true (sym ed ∙ ends-law i .1 f)))
+      let s : 0 < length i = omega (arith, eqb-false (length i) 0 eb) in
+      let q : firstLone i ≡ length i = omega (arith, ltb-false (firstLone i) (length i) ec) in
+      rw (← x, ← y) (unended (ltb-false 16384 (length i) ea) s q (λ f. false≢true (sym ed ∙ ends-law i .1 f)))
   to-by n p false false false true ea eb ec ed e =
       let le : firstLone i ≤ length i = scan-le loneStep i 0 in
       walked-to (record {

@@ -16,7 +16,7 @@ use Rattle.cards.specs.declared.state.Card.{Card}
 use Rattle.cards.specs.declared.state.Step.{Step}
 use Rattle.cards.specs.declared.state.Step.the-variants.{Next}
 use Rattle.reader.specs.Outcome.{onward, judgeLines}
-use Rattle.grammar.specs.Cards.{Readable, Begins, Versions, Inside, count, ofRow, linesOf, groupLines, Inner, CardLines, card, Cards, none, more}
+use Rattle.grammar.specs.Cards.{Readable, Begins, Versions, Inside, count, ofRow, linesOf, groupLines, Once, Inner, CardLines, card, Cards, none, more}
 use Rattle.grammar.specs.Refusals.{Begun, nothing, first, within, Sound}
 use Rattle.grammar.proofs.Known.{Known, count-append, line-known, end-known}
 use Rattle.grammar.proofs.LineLaws.{goes-on, ends, outcome}
@@ -89,7 +89,7 @@ module _ (c : Card) (ys : List Line) (h : Known c ys) (x : Line) (r : Readable x
 
 module _ (b v : Line) (begins : Begins b) (versions : Versions v) where
   -- a line of a property marked *1 is the first of it
-  first-of : (done rest : List Line) (x : Line) → Inside x → ((row : ℕ) → single row ≡ true → linesOf row (done ++ (x ∷ rest)) ≤ 1)
+  first-of : (done rest : List Line) (x : Line) → Inside x → Once (done ++ (x ∷ rest))
       → single (rowOfLine x) ≡ true → linesOf (rowOfLine x) (b ∷ v ∷ done) ≡ 0
   unfolding count
   first-of done rest x i once e =
@@ -100,7 +100,7 @@ module _ (b v : Line) (begins : Begins b) (versions : Versions v) where
       let m = once row e in
       omega arith
 
-  inner-run : (rest done : List Line) → Each Readable rest → Each Inside rest → ((row : ℕ) → single row ≡ true → linesOf row (done ++ rest) ≤ 1)
+  inner-run : (rest done : List Line) → Each Readable rest → Each Inside rest → Once (done ++ rest)
       → (c : Card) → Known c (b ∷ v ∷ done) → Led c rest (b ∷ v ∷ (done ++ rest)) 0
   unfolding Each
   inner-run [] done r i once c h = subst (λ (zs : List Line). Led c [] (b ∷ v ∷ zs) 0) (sym (append-nil done)) (led-none c (b ∷ v ∷ done) h)
@@ -135,7 +135,8 @@ card-run (card {b = b} {v = v} {e = e} {xs = xs} h g i f) r c k =
     let s = each-split Readable (b ∷ v ∷ xs) (e ∷ []) r in
     let begun = within-run b v xs h g (i .inner) (s .0) c k in
     let named : 1 ≤ linesOf 6 (b ∷ v ∷ xs) = rw (frame-rows 6 b v xs (λ e. omega arith) (λ e. omega arith) h g) (i .named) in
-    let members : 1 ≤ linesOf 24 (b ∷ v ∷ xs) → 1 ≤ groupLines (b ∷ v ∷ xs) = rw (frame-rows 24 b v xs (λ e. omega arith) (λ e. omega arith) h g, frame-groups b v xs h g) (i .members) in
+    let member-rows = frame-rows 24 b v xs (λ e. omega arith) (λ e. omega arith) h g in
+    let members : 1 ≤ linesOf 24 (b ∷ v ∷ xs) → 1 ≤ groupLines (b ∷ v ∷ xs) = rw (member-rows, frame-groups b v xs h g) (i .members) in
     let last = led-end (begun .card) (b ∷ v ∷ xs) (begun .known) e (s .1 .0) (end-stands b v xs e f) (f .row) named members in
     led-join c (b ∷ v ∷ xs) (b ∷ v ∷ xs) (e ∷ []) [] 0 1 begun last
 

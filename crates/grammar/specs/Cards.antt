@@ -72,10 +72,14 @@ saysGroup x = eqb (rowOfLine x) 4 && isGroup (x .value)
 abbrev pub groupLines : List Line → ℕ
 groupLines xs = count saysGroup xs
 
--- lines after VERSION, before END: each property marked *1 at most once
+-- each property marked *1 at most once
+abbrev pub Once : List Line → Type 0
+Once xs = (row : ℕ) → single row ≡ true → linesOf row xs ≤ 1
+
+-- lines after VERSION, before END
 pub record Inner (xs : List Line) : Type 0 where
   pub each : Each Inside xs
-  pub once : (row : ℕ) → single row ≡ true → linesOf row xs ≤ 1
+  pub once : Once xs
 
 -- all of them: FN (6) at least once, and MEMBER (24) only beside a KIND line with the value group
 pub record Body (xs : List Line) : Type 0 where
