@@ -83,12 +83,12 @@ some-by : (l : List ℕ) (o : Option Value) (r : First) (a e : ℕ) → Found l 
 some-by l none r a e f q = let z : _≡_ {A = ℕ} 0 1 = cc in absurd (omega arith)
 some-by l (some v) r a e f q =
     let w = f .answer in
-    let ea : f .a ≡ a = cc in
-    let ee : f .e ≡ e = cc in
+    let ea : f .start ≡ a = cc in
+    let ee : f .end ≡ e = cc in
     record {
       order = rw (← ea, ← ee) (f .order);
       inside = rw (← ee) (f .inside);
-      octets = ap some (sym (f .octets) ∙ ap (λ (i : ℕ). take (f .e - i) (drop i l)) ea ∙ ap (λ (i : ℕ). take (i - a) (drop a l)) ee);
+      octets = ap some (sym (f .octets) ∙ ap (λ (i : ℕ). take (f .end - i) (drop i l)) ea ∙ ap (λ (i : ℕ). take (i - a) (drop a l)) ee);
     }
 
 module _ (l : List ℕ) (name : ℕ) (a : Accepted l name) where

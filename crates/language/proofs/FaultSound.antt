@@ -14,7 +14,7 @@ use Rattle.lines.specs.Parse.{Parse, got, bad, next, guard, hd, many}
 use Rattle.lines.specs.Grammar.{Value, plain, inQuotes, GoodValue, valueText, paramText, groupText}
 use Rattle.lines.specs.Rule.{word, closing, value, ends, isColon, orEnd, moreValues, values, param, params, Head, head, parseLine}
 use Rattle.lines.proofs.ParseLaws.{bad-got, guard-inv, guard-yes, pick-inv, next-inv, many-end, drop-suc}
-use Rattle.lines.proofs.PartLaws.{run-le, word-taken, param-stop}
+use Rattle.lines.proofs.PartLaws.{run-le, word-taken, param-parts}
 use Rattle.language.specs.Faults.{Full, ValuesFault, ParamsFault, LineFault}
 use Rattle.language.proofs.Pieces.{hd-cons, part-then}
 use Rattle.language.proofs.Sound.{run-each, word-sound, value-sound, param-sound, head-sound}
@@ -171,9 +171,10 @@ params-fault (suc n) l e lt semi h =
     let line = part-then 59 (drop 1 l) (paramText p) i (omega arith) (one .1) t₁ in
     rw line (ParamsFault.later e p (drop 1 r) (one .0) (params-fault n r e lt′ t₁ b)))
     (λ t₁ z.
+    param-parts (drop 1 l) p i p₁ (λ m j u eq v stop.
     let full : many 59 param isColon (orEnd 40 43) n r ≡ got [] 0 =
-    many-end 59 param isColon (orEnd 40 43) n r (omega arith) t₁ ∙ guard-yes _ _ (colon-else (hd r) (param-stop (drop 1 l) p i p₁) t₁) in
-    no-fault (sym full ∙ b)))
+    many-end 59 param isColon (orEnd 40 43) n r (omega arith) t₁ ∙ guard-yes _ _ (colon-else (hd r) stop t₁) in
+    no-fault (sym full ∙ b))))
     (λ ps j p₂ q₂. no-fault q₂)))
     (λ t q. let z : _≡_ {A = ℕ} 0 1 = cc in absurd (omega arith))
 

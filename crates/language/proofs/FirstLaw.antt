@@ -17,7 +17,7 @@ use Rattle.lines.specs.Rule.{ends, isColon, orEnd, param, params, head, parseLi
 use Rattle.lines.specs.First.{spanOf, firstPlace, firstOf, valueOctets, firstNamed}
 use Rattle.lines.specs.declared.rule.First.{First}
 use Rattle.lines.proofs.ParseLaws.{bad-got, guard-inv, pick-inv, next-inv}
-use Rattle.lines.proofs.PartLaws.{param-stop, head-count}
+use Rattle.lines.proofs.PartLaws.{param-parts, head-count}
 use Rattle.language.specs.Found.{Found}
 use Rattle.language.proofs.Sound.{param-sound}
 use Rattle.language.proofs.Complete.{AfterParam, semicolon, colon, param-complete, line-complete}
@@ -35,10 +35,11 @@ after-ends c h = go (eqb c 59) (eqb c 58) refl refl h
 
 param-count : (l : List ℕ) (p : Param) (k : ℕ) → param l ≡ got p k → length (paramText p) ≡ k
 param-count l p k h =
+    param-parts l p k h (λ n i w e v stop.
     let s = param-sound l p k h in
-    let c = ap param (s .1) ∙ param-complete p (drop k l) (s .0) (after-ends _ (param-stop l p k h)) in
+    let c = ap param (s .1) ∙ param-complete p (drop k l) (s .0) (after-ends _ stop) in
     let r : got p (length (paramText p)) ≡ got p k = sym c ∙ h in
-    cc
+    cc)
 
 -- in an accepted list of parameters the walk finds what the parts say
 walk-law : (name : List ℕ) (n at : ℕ) (l : List ℕ) (ps : List Param) (k : ℕ) → params n l ≡ got ps k
@@ -70,8 +71,8 @@ span-holds : (v : Value) (pre r : List ℕ) (at : ℕ) → length pre ≡ at →
 unfolding valueText valueOctets
 span-holds (plain xs) pre r at hp =
     record {
-      a = at;
-      e = at + length xs;
+      start = at;
+      end = at + length xs;
       answer = refl;
       order = omega arith;
       inside = simp length-append (omega arith);
@@ -81,8 +82,8 @@ span-holds (inQuotes xs) pre r at hp =
     let w : pre ++ ((34 ∷ (xs ++ 34 ∷ [])) ++ r) ≡ (pre ++ 34 ∷ []) ++ (xs ++ 34 ∷ r) = simp append-assoc in
     let n : length (pre ++ 34 ∷ []) ≡ length pre + 1 = length-append pre (34 ∷ []) in
     rw w record {
-      a = at + 1;
-      e = at + 1 + length xs;
+      start = at + 1;
+      end = at + 1 + length xs;
       answer = refl;
       order = omega arith;
       inside = simp length-append (omega arith);

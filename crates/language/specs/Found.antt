@@ -9,14 +9,14 @@ use Rattle.lines.specs.First.{valueOctets}
 use Rattle.lines.specs.declared.rule.First.{First}
 use Rattle.lines.specs.declared.rule.First.the-variants.{Between, Nothing}
 
--- the octets of l from a to e are those of the value, quotes taken off
+-- the octets of l at the place answered are those of the value, quotes taken off
 pub record Holds (l : List ℕ) (v : Value) (r : First) : Type 0 where
-  pub a : ℕ
-  pub e : ℕ
-  pub answer : r ≡ Between a e
-  pub order : a ≤ e
-  pub inside : e ≤ length l
-  pub octets : take (e - a) (drop a l) ≡ valueOctets v
+  pub start : ℕ
+  pub end : ℕ
+  pub answer : r ≡ Between start end
+  pub order : start ≤ end
+  pub inside : end ≤ length l
+  pub octets : take (end - start) (drop start l) ≡ valueOctets v
 
 -- the answer to a value that is asked for in the line l
 abbrev pub Found : List ℕ → Option Value → First → Type 0

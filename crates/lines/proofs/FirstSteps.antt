@@ -80,7 +80,7 @@ pub record NameEnd (s : List ℕ) (at : ℕ) (p : Param) (e : ℕ) : Type 0 wher
 
 pub name-end : (s : List ℕ) (at : ℕ) (p : Param) (k e : ℕ) → param (drop at s) ≡ got p k → e ≡ at + run (has 7) (drop at s) → NameEnd s at p e
 name-end s at p k e h he =
-    param-parts (drop at s) p k h (λ n i w eq v.
+    param-parts (drop at s) p k h (λ n i w eq v stop.
     let a = word-taken 41 (drop at s) (p .name) n w in
     let m : run (has 7) (drop at s) ≡ run named (drop at s) = run-has 7 named has-named (drop at s) in
     let en : e ≡ at + n = omega arith in

@@ -1,13 +1,13 @@
 -- The places that `read_line` and `param_first` answer stand in the line and in order. Assumes nothing.
 use mathlib.Core.Path.{_≡_, refl}
-use mathlib.Core.Bool.{Bool, true, false}
-use mathlib.Core.List.{List, [], _∷_}
+use mathlib.Core.Bool.{true}
+use mathlib.Core.List.{List, []}
 use Prim.Native.Nat.{ℕ, zero, suc, _+_, _<_, _≤_}
 use native.Mathlib.Omega.{arith}
-use lib.Dec.{eqb, ltb}
+use lib.Dec.{eqb}
 use lib.ListN.{length, take, drop, length-drop}
 use lib.Seq.{length-take-le}
-use borrow.Author.Tests.{ne-eqb, eqb-true, ltb-true, ltb-false}
+use borrow.Author.Tests.{ne-eqb, eqb-true}
 use Rattle.octets.specs.Classes.{run, quoted, bare}
 use Rattle.octets.specs.Cases.{same}
 use Rattle.lines.specs.Parse.{Parse, got, bad, hd}
@@ -19,19 +19,7 @@ use Rattle.lines.specs.declared.rule.Part.the-variants.{Parsed}
 use Rattle.lines.specs.declared.rule.First.{First}
 use Rattle.lines.specs.declared.rule.First.the-variants.{Between}
 use Rattle.lines.proofs.ParseLaws.{guard-inv, pick-inv, next-inv, many-count}
-use Rattle.lines.proofs.PartLaws.{run-le, word-taken, param-parts, param-stop, head-count, params-stop}
-
-not-past : (l : List ℕ) (k : ℕ) (t : Bool) → ltb k (length l) ≡ t → (length l ≤ k → ⊥) → k < length l
-not-past l k true e f = ltb-true k (length l) e
-not-past l k false e f = absurd (f (ltb-false k (length l) e))
-
--- where an octet that is not 0 stands, the list has not ended
-before-end : (l : List ℕ) (k : ℕ) → 0 < hd (drop k l) → k < length l
-before-end l k h = not-past l k (ltb k (length l)) refl (λ over. empty (drop k l) (omega (arith, length-drop k l)) h)
-  where
-    empty : (r : List ℕ) → length r ≤ 0 → 0 < hd r → ⊥
-    empty [] z p = omega arith
-    empty (x ∷ xs) z p = omega arith
+use Rattle.lines.proofs.PartLaws.{run-le, word-taken, before-end, param-parts, head-count, params-stop}
 
 -- of a line: the name starts after the group and its dot and has an octet, the parameters and the colon come after it, and then the value
 pub record InLine (l : List ℕ) (g n c v : ℕ) : Type 0 where
@@ -123,7 +111,7 @@ step-inside name at l f a e (bad x) w some q g = let z : _≡_ {A = ℕ} 0 1 = c
 step-inside name at l f a e (got p k) w some q g =
     let d = length-drop 1 l in
     pick-inv (same (p .name) name) _ _ q
-    (λ t r. param-parts (drop 1 l) p k w (λ i j u eq v.
+    (λ t r. param-parts (drop 1 l) p k w (λ i j u eq v stop.
     let ta = word-taken 41 (drop 1 l) (p .name) i u in
     let here = before-end (drop 1 l) i (rw eq (omega arith)) in
     let d′ = length-drop i (drop 1 l) in
@@ -131,10 +119,11 @@ step-inside name at l f a e (got p k) w some q g =
     let b = value-inside (at + 1 + length (p .name) + 1) (drop 1 (drop i (drop 1 l))) (p .first) j a e v r in
     record { low = omega arith; order = omega arith; high = omega arith }))
     (λ t r.
-    let here = before-end (drop 1 l) k (ends-some _ (param-stop (drop 1 l) p k w)) in
+    param-parts (drop 1 l) p k w (λ i j u eq v stop.
+    let here = before-end (drop 1 l) k (ends-some _ stop) in
     let d′ = length-drop k (drop 1 l) in
     let b = g k r in
-    record { low = omega arith; order = omega arith; high = omega arith })
+    record { low = omega arith; order = omega arith; high = omega arith }))
 
 walk-inside : (name : List ℕ) (n at : ℕ) (l : List ℕ) (a e : ℕ) → firstOf name at n l ≡ Between a e → (0 < length l) × Within at l a e
 unfolding firstOf

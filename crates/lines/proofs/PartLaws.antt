@@ -6,9 +6,9 @@ use mathlib.Core.List.{List, [], _∷_, _++_, append-assoc}
 use Prim.Native.Nat.{ℕ, suc, _+_, _<_, _≤_}
 use native.Mathlib.Omega.{arith}
 use lib.Dec.{eqb, ltb}
-use lib.ListN.{length, take, drop, length-append}
+use lib.ListN.{length, take, drop, length-append, length-drop}
 use lib.Seq.{drop-drop, length-take-le}
-use borrow.Author.Tests.{eqb-true, ltb-true}
+use borrow.Author.Tests.{eqb-true, ltb-true, ltb-false}
 use Rattle.octets.specs.Classes.{run, more, named}
 use Rattle.lines.specs.Parse.{got, hd}
 use Rattle.lines.specs.Grammar.{Value, Param, groupText}
@@ -45,35 +45,38 @@ word-taken e l a k h =
       count = length-take-le (run named l) l (run-le named l);
     })
 
--- what an accepted parameter is made of
-pub param-parts : {C : Type 0} (l : List ℕ) (p : Param) (k : ℕ) → param l ≡ got p k
-    → ((n i : ℕ) → word 41 l ≡ got (p .name) n → hd (drop n l) ≡ 61 → value (drop 1 (drop n l)) ≡ got (p .first) i → C) → C
-unfolding param values
-param-parts l p k h f =
-    next-inv (word 41 l) _ h (λ a n p₁ q₁. guard-inv (eqb (hd (drop n l)) 61) _ _ q₁ (λ t q₂.
-    next-inv (values (drop 1 (drop n l))) _ q₂ (λ vs j p₂ q.
-    next-inv (value (drop 1 (drop n l))) _ p₂ (λ v i p₃ q₃.
-    next-inv (moreValues (suc (length (drop i (drop 1 (drop n l))))) (drop i (drop 1 (drop n l)))) _ q₃ (λ ws m p₄ q₄.
-    let ep : p ≡ record { name = a; first = vs .first; more = vs .more } = cc in
-    let ev : vs ≡ record { first = v; more = ws } = cc in
-    let ea : a ≡ p .name = ap (λ (x : Param). x .name) (sym ep) in
-    let ef : v ≡ p .first = ap (λ (x : Values). x .first) (sym ev) ∙ ap (λ (x : Param). x .first) (sym ep) in
-    f n i (p₁ ∙ ap (λ (x : List ℕ). got x n) ea) (eqb-true _ 61 t) (p₃ ∙ ap (λ (x : Value). got x i) ef))))))
+-- where an octet that is not 0 stands, the list has not ended
+pub before-end : (l : List ℕ) (k : ℕ) → 0 < hd (drop k l) → k < length l
+before-end l k h = go (ltb k (length l)) refl
+  where
+    empty : (r : List ℕ) → length r ≤ 0 → 0 < hd r → ⊥
+    empty [] z p = omega arith
+    empty (x ∷ xs) z p = omega arith
 
--- after a parameter a `;` or a `:` stands
-pub param-stop : (l : List ℕ) (p : Param) (k : ℕ) → param l ≡ got p k → ends (hd (drop k l)) ≡ true
+    go : (t : Bool) → ltb k (length l) ≡ t → k < length l
+    go true e = ltb-true k (length l) e
+    go false e = absurd (empty (drop k l) (omega (arith, length-drop k l, ltb-false k (length l) e)) h)
+
+-- what an accepted parameter is made of, and that a `;` or a `:` stands after it
+pub param-parts : {C : Type 0} (l : List ℕ) (p : Param) (k : ℕ) → param l ≡ got p k
+    → ((n i : ℕ) → word 41 l ≡ got (p .name) n → hd (drop n l) ≡ 61 → value (drop 1 (drop n l)) ≡ got (p .first) i
+    → ends (hd (drop k l)) ≡ true → C) → C
 unfolding param values moreValues
-param-stop l p k h =
+param-parts l p k h f =
     next-inv (word 41 l) _ h (λ a n p₁ q₁. guard-inv (eqb (hd (drop n l)) 61) _ _ q₁ (λ t q₂.
     let r : List ℕ = drop 1 (drop n l) in
     next-inv (values r) _ q₂ (λ vs j p₂ q.
     next-inv (value r) _ p₂ (λ v i p₃ q₃.
     next-inv (moreValues (suc (length (drop i r))) (drop i r)) _ q₃ (λ ws m p₄ q₄.
-    let ej : j ≡ i + m = cc in
-    let ek : k ≡ n + suc j = cc in
+    let ep : p ≡ record { name = a; first = vs .first; more = vs .more } = cc in
+    let ev : vs ≡ record { first = v; more = ws } = cc in
+    let ea : a ≡ p .name = ap (λ (x : Param). x .name) (sym ep) in
+    let ef : v ≡ p .first = ap (λ (x : Values). x .first) (sym ev) ∙ ap (λ (x : Param). x .first) (sym ep) in
+    let ek : k ≡ n + suc (i + m) = cc in
     let there : drop m (drop i r) ≡ drop k l =
-    drop-drop m i r ∙ ap (λ (x : ℕ). drop x r) (sym ej) ∙ drop-suc j (drop n l) ∙ drop-drop (suc j) n l ∙ ap (λ (x : ℕ). drop x l) (sym ek) in
-    rw (sym there) (many-stop 44 value ends (orEnd 42 43) _ (drop i r) ws m p₄))))))
+    drop-drop m i r ∙ drop-suc (i + m) (drop n l) ∙ drop-drop (suc (i + m)) n l ∙ ap (λ (x : ℕ). drop x l) (sym ek) in
+    let stop = many-stop 44 value ends (orEnd 42 43) (suc (length (drop i r))) (drop i r) ws m p₄ in
+    f n i (p₁ ∙ ap (λ (x : List ℕ). got x n) ea) (eqb-true _ 61 t) (p₃ ∙ ap (λ (x : Value). got x i) ef) (rw (sym there) stop))))))
 
 pub group-dot : (a b : List ℕ) → 0 < length a → groupText a ++ b ≡ a ++ 46 ∷ b
 unfolding groupText

@@ -5,10 +5,10 @@ use mathlib.Core.List.{List, [], _∷_}
 use Prim.Native.Nat.{ℕ, suc, _+_, _-_, _<_, _≤_}
 use native.Mathlib.Nat.{add-zero}
 use native.Mathlib.Omega.{arith}
-use lib.Dec.{eqb, ltb}
+use lib.Dec.{eqb}
 use lib.ListN.{length, getD, take, drop, drop-of-length-le, List·getD-eq-default, length-drop}
 use lib.Seq.{drop-drop, getD-drop}
-use borrow.Author.Tests.{eq-eqb, ne-eqb, lt-ltb, le-ltb, ltb-true, ltb-false}
+use borrow.Author.Tests.{eq-eqb, ne-eqb, lt-ltb, le-ltb}
 use Rattle.octets.specs.Classes.{run, has, named, quoted, bare}
 use Rattle.octets.proofs.Runs.{run-has}
 use Rattle.octets.proofs.Masks.{has-named, has-bare, has-quoted}
@@ -21,7 +21,7 @@ use Rattle.lines.specs.declared.rule.Part.the-variants.{Upto, Named, Lis
 use denote.Enum.Declared.{tagOf}
 use types.Run.{OneOf, miss}
 use Rattle.lines.proofs.rule.Part.{the-type}
-use Rattle.lines.proofs.PartLaws.{word-taken, head-count, params-stop}
+use Rattle.lines.proofs.PartLaws.{word-taken, before-end, head-count, params-stop}
 use Rattle.lines.proofs.ParseLaws.{next-got, next-bad, pick-yes, pick-no, guard-yes, guard-no, many-end, many-bad, many-on}
 
 -- an answer of none of the variants ks, where ks are all but the one that an accepted reading has, is a fault
@@ -298,14 +298,9 @@ module _ {A : Type 0} (c at : ℕ) where
       → ((x : ℕ) → m ≡ bad x → g ≡ Fault x) → r ≡ g
   listed-up = fault-up (listed c at) (0 ∷ 1 ∷ 3 ∷ 4 ∷ []) (λ a k. miss (0 ∷ 1 ∷ 3 ∷ 4 ∷ []) 2 tt) (λ x. refl)
 
-not-over : (a b : ℕ) (t : Bool) → ltb b a ≡ t → (a ≤ b → ⊥) → b < a
-not-over a b true e f = ltb-true b a e
-not-over a b false e f = absurd (f (ltb-false b a e))
-
 -- an octet that is not 0 stands inside the line
 pub inside : (s : List ℕ) (at k c : ℕ) → 0 < c → hd (drop k (drop at s)) ≡ c → at + k < length s
-inside s at k c pos h =
-    not-over (length s) (at + k) _ refl (λ over. past s (at + k) c pos over (sym (ap hd (drop-drop k at s) ∙ look s (at + k)) ∙ h))
+inside s at k c pos h = omega (arith, before-end (drop at s) k (rw h pos), length-drop at s)
 
 pub colon-inside : (s : List ℕ) (at n : ℕ) (ps : List Param) (k : ℕ) → params n (drop at s) ≡ got ps k → at + k < length s
 colon-inside s at n ps k h = inside s at k 58 (omega arith) (params-stop n (drop at s) ps k h)

@@ -2,5 +2,6 @@ pub mod Bools
 pub mod Upto
 pub mod ShapeLaws
 pub mod StepLaws
+pub mod TableLaws
 pub mod QuietLaws
 pub mod RowLaws

@@ -10,6 +10,7 @@ ghost use Rattle.properties.specs.Quiet.{allIn, countOf};
 ghost use Rattle.properties.specs.Kinds.{shapeOf, kindScan, valueScan};
 ghost use Rattle.properties.specs.States.{stateShape, Scanner};
 
+// A value fits, or the first octet from which nothing could, or the end.
 pub enum Fault {
     Fits,
     Breaks(usize),
@@ -82,23 +83,32 @@ pub fn table() -> [u8; 1016]
 }
 
 // The state in which a value of each kind starts.
-pub const STARTS: [u8; 9] = *b"\x1d\x1e\x1f\x03\x05\x0e\x22\x23\x13";
-
 fn start(kind: usize) -> u8
     requires { ⌜ kind < 9 ⌝ }
     ensures { λ r. ⌜ r < 38 ⌝ }
     ensures { λ r. ⌜ stateShape r ≡ shapeOf kind ⌝ }
 {
-    STARTS[kind]
+    match kind {
+        0 => 29,
+        1 => 30,
+        2 => 31,
+        3 => 3,
+        4 => 5,
+        5 => 14,
+        6 => 34,
+        7 => 35,
+        _ => 19,
+    }
 }
 
+// An octet as an index.
 pub fn wide(x: u8) -> usize
     ensures { λ r. ⌜ r ≡ x ⌝ }
 {
     x as usize
 }
 
-// 1 for a, for b, else 0.
+// 1 for the octets a and b, else 0.
 fn mark_bit(a: u8, b: u8, x: u8) -> u8
     ensures { λ r. ⌜ r ≡ bit (not (neither a b x)) 1 ⌝ }
 {

@@ -1,6 +1,6 @@
 -- The laws of escapes at a place of a list: what starts there, and what it is to a reader of text. Assumes nothing.
 use mathlib.Core.Path.{_≡_, refl, sym, ap, _∙_}
-use mathlib.Core.Bool.{Bool, true, false, _&&_, _||_, and-false}
+use mathlib.Core.Bool.{Bool, true, false, _&&_, and-false}
 use mathlib.Core.List.{List, [], _∷_, _++_}
 use Prim.Native.Nat.{ℕ, _+_, _<_, _≤_}
 use native.Mathlib.Nat.{add-zero}
@@ -9,7 +9,7 @@ use native.Mathlib.Omega.{arith}
 use lib.Dec.{eqb, ltb}
 use lib.ListN.{length, getD, drop, List·getD-eq-default, drop-of-length-le}
 use lib.Seq.{getD-drop, drop-cons}
-use borrow.Author.Tests.{ltb-true, ltb-false, eq-eqb, ne-eqb}
+use borrow.Author.Tests.{ltb-true, ltb-false, eq-eqb, ne-eqb, eqb-true, eqb-false}
 use Rattle.octets.specs.Pick.{pick}
 use Rattle.octets.specs.Scan.{gather}
 use Rattle.octets.proofs.Scans.{scan-le, scan-stop, scan-step, scan-end, gather-step, gather-end}
@@ -107,6 +107,25 @@ module _ (s : List ℕ) (i : ℕ) where
   pub fault-end : length s ≤ i → i + firstFault (drop i s) ≡ i
   unfolding firstFault
   fault-end h = scan-end textStep s i h
+
+  -- in a text without faults a backslash starts an escape, and after it, or after any other octet, the text goes on without faults
+  module _ (h : i < length s) (f : i + firstFault (drop i s) ≡ length s) where
+    pub whole-escape : getD s i 0 ≡ 92 → escapeAt (drop i s) ≡ true
+    whole-escape q = by (escapeAt (drop i s)) refl
+      where
+        by : (t : Bool) → escapeAt (drop i s) ≡ t → t ≡ true
+        by true e = refl
+        by false e = absurd (omega (arith, fault-stop (step-backslash s i e q)))
+
+    pub on-escape : getD s i 0 ≡ 92 → (i + 2) + firstFault (drop (i + 2) s) ≡ length s
+    on-escape q = sym (fault-escape s i h (whole-escape q)) ∙ f
+
+    pub on-octet : (getD s i 0 ≡ 92 → ⊥) → (i + 1) + firstFault (drop (i + 1) s) ≡ length s
+    on-octet n = by (eqb (getD s i 0) 44) refl
+      where
+        by : (t : Bool) → eqb (getD s i 0) 44 ≡ t → (i + 1) + firstFault (drop (i + 1) s) ≡ length s
+        by true e = absurd (omega (arith, fault-stop (step-comma s i (escape-not s i n) n (eqb-true (getD s i 0) 44 e))))
+        by false e = sym (fault-octet s i h (escape-not s i n) n (eqb-false (getD s i 0) 44 e)) ∙ f
 
   pub unescaped-end : length s ≤ i → unescaped (drop i s) ≡ []
   unfolding unescaped

@@ -1,13 +1,12 @@
 -- Refusals 1 and 31 before the outcome that is left, by what was found. Assumes nothing.
-use mathlib.Core.Path.{_≡_, sym, ap, _∙_}
+use mathlib.Core.Path.{_≡_, sym}
 use mathlib.Core.Bool.{Bool}
 use mathlib.Core.List.{List}
 use Prim.Native.Nat.{ℕ, _<_, _≤_}
 use lib.ListN.{length}
 use borrow.Author.Tests.{lt-ltb, le-ltb}
-use Rattle.octets.specs.Room.{Filled, refuse, fill}
+use Rattle.octets.specs.Room.{Filled, refuse}
 use Rattle.octets.specs.Characters.{firstBad}
-use Rattle.octets.specs.Pick.{pick}
 use Rattle.text.specs.Escapes.{firstFault}
 use Rattle.text.specs.Outcomes.{checked, faultless}
 

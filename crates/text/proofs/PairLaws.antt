@@ -3,7 +3,6 @@ use mathlib.Core.Path.{_≡_, refl, sym, ap, _∙_}
 use mathlib.Core.Bool.{Bool, true, false, not, _&&_, _||_, or-false}
 use mathlib.Core.List.{List, [], _∷_}
 use Prim.Native.Nat.{ℕ, suc, _+_, _<_, _≤_}
-use native.Mathlib.Nat.{zero-add}
 use native.Mathlib.Numerals.{add-one}
 use native.Mathlib.Omega.{arith}
 use lib.Dec.{eqb}
@@ -11,10 +10,9 @@ use lib.Bits.{bitOr}
 use lib.ListN.{length, getD, drop, drop-of-length-le}
 use lib.Seq.{drop-cons}
 use borrow.Author.Tests.{not-true, not-false, eqb-true}
-use Rattle.octets.specs.Pick.{pick}
 use Rattle.octets.specs.Classes.{bit}
 use Rattle.octets.specs.Scan.{after, scan, gather}
-use Rattle.text.specs.Escapes.{backslash, special, code, escapeAt, textStep, firstFault, passed, standing, unescaped}
+use Rattle.text.specs.Escapes.{backslash, special, code, escapeAt, textStep, firstFault, unescaped}
 use Rattle.text.specs.Counts.{count}
 use Rattle.text.specs.Pairs.{unsettled, settled}
 use Rattle.text.proofs.BitLaws.{mark-step}

@@ -2,10 +2,10 @@
 mod counts;
 mod escaping;
 mod unescaping;
+
 ghost use mathlib.Core.Path.{_≡_};
 ghost use Rattle.octets.specs.Room.{filled};
 ghost use Rattle.text.specs.Outcomes.{escapeOutcome, unescapeOutcome};
-
 use octets::rooms::Written;
 
 // Writes the text with its escapes, or refuses with 1, 31, 16 or 15.
@@ -48,10 +48,10 @@ pub fn unescape(text: &[u8], out: &mut [u8]) -> Written
     if fault < text.len() {
         return Written::Refused(30, fault);
     }
-    let n = m.kept;
-    if out.len() < n {
-        return Written::Refused(15, n);
+    let kept = m.kept;
+    if out.len() < kept {
+        return Written::Refused(15, kept);
     }
-    unescaping::write(text, out, n);
-    Written::Wrote(n)
+    unescaping::write(text, out, kept);
+    Written::Wrote(kept)
 }

@@ -109,7 +109,10 @@ fn measure_each(text: &[u8]) -> Measured
             i += 1;
         }
     }
-    Measured { fault: i, kept: kept }
+    Measured {
+        fault: i,
+        kept: kept,
+    }
 }
 
 // Measures a text.
@@ -118,21 +121,24 @@ pub fn measure(text: &[u8]) -> Measured
     ensures { λ r. ⌜ (r .fault ≡ firstFault (now (text .entry))) × (r .fault ≡ length (now (text .entry)) → r .kept ≡ length (unescaped (now (text .entry)))) ⌝ }
 {
     if all_pairs(text) {
-        return Measured { fault: text.len(), kept: text.len() - crate::counts::backslashes(text) };
+        return Measured {
+            fault: text.len(),
+            kept: text.len() - crate::counts::backslashes(text),
+        };
     }
     measure_each(text)
 }
 
-// Writes what a text stands for to the start of out, octet by octet.
+// Writes what a text without faults stands for to the start of out, octet by octet.
 fn write_octets(text: &[u8], out: &mut [u8])
+    requires { ⌜ firstFault (now text) ≡ length (now text) ⌝ }
     requires { ⌜ length (unescaped (now text)) ≤ length (now out) ⌝ }
     ensures { λ _. ⌜ now (out .exit) ≡ overlay (unescaped (now (text .entry))) (now (out .entry)) ⌝ }
 {
     let mut i: usize = 0;
     let mut j: usize = 0;
     while i < text.len() {
-        let whole = escape_at(text, i);
-        if whole {
+        if text[i] == 92 {
             out[j] = meant_by(text[i + 1]);
             j += 1;
             i += 2;
@@ -144,8 +150,9 @@ fn write_octets(text: &[u8], out: &mut [u8])
     }
 }
 
-// Writes what a text stands for, which has n octets, to the start of out.
+// Writes what a text without faults stands for, which has n octets, to the start of out.
 pub fn write(text: &[u8], out: &mut [u8], n: usize)
+    requires { ⌜ firstFault (now text) ≡ length (now text) ⌝ }
     requires { ⌜ n ≡ length (unescaped (now text)) ⌝ }
     requires { ⌜ n ≤ length (now out) ⌝ }
     ensures { λ _. ⌜ now (out .exit) ≡ overlay (unescaped (now (text .entry))) (now (out .entry)) ⌝ }

@@ -1,1 +1,4 @@
 pub mod StandsLaws
+pub mod WholeLaws
+pub mod CleanLaws
+pub mod BackLaws

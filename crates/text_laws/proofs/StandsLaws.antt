@@ -1,17 +1,16 @@
 -- The check of refusal 30 passes exactly on text with escapes, `unescaped` gives what it stands for, and where the check fails, its
 -- place is that of the first fault. Assumes nothing.
 use mathlib.Core.Path.{_≡_, refl, sym, ap, subst, _∙_}
-use mathlib.Core.Bool.{Bool, true, false, _&&_, _||_}
+use mathlib.Core.Bool.{Bool, true, false, _||_}
 use mathlib.Core.List.{List, [], _∷_, _++_, append-nil}
-use Prim.Native.Nat.{ℕ, zero, suc, _+_, _<_, _≤_}
-use native.Mathlib.Nat.{add-zero, not-suc-le-zero, le-of-suc-le-suc}
+use Prim.Native.Nat.{ℕ, suc, _+_, _<_}
+use native.Mathlib.Nat.{not-suc-le-zero, le-of-suc-le-suc}
 use native.Mathlib.Omega.{arith}
 use lib.Dec.{eqb}
 use lib.ListN.{length, take, drop}
 use lib.Seq.{take-length}
 use borrow.Author.Tests.{eqb-true, eqb-false, ne-eqb}
-use Rattle.octets.specs.Pick.{pick}
-use Rattle.octets.specs.Scan.{after, scan, gather}
+use Rattle.octets.specs.Scan.{scan, gather}
 use Rattle.text.specs.Escapes.{special, code, meant, escapeAt, textStep, firstFault, passed, standing, unescaped}
 use Rattle.text.specs.Stands.{Escape, backslash, comma, semicolon, small-n, capital-n, Stands, none, itself, escape, Faulty, bare-comma, last-backslash, bare-backslash}
 use Rattle.text.proofs.EscapeLaws.{clash}

@@ -1,4 +1,5 @@
-use mathlib.Core.Path.{_≡_, refl, sym, ap, _∙_}
+-- `text::escape` meets its contract. Assumes nothing.
+use mathlib.Core.Path.{_≡_, sym, ap, _∙_}
 use mathlib.Core.Bool.{true}
 use mathlib.Core.List.{_++_}
 use Prim.Native.Nat.{ℕ, _+_}
@@ -14,45 +15,32 @@ use Rattle.text.proofs.OutcomeLaws.{too-long, bad-octet, good}
 use borrow.Author.Needs.{needs}
 use Rattle.text.proofs.escape.Statement.{statement}
 use Rattle.text.proofs.escape.Tie as tie
-use Rattle.text.proofs.escape.Reads as reads
-use Rattle.text.proofs.escape.Lts as lts
-use Rattle.octets.proofs.characters.first_bad.Reads as first-bad-reads
-use Rattle.octets.proofs.classes.table.Reads as table-reads
-use Rattle.text.proofs.counts.marks.Reads as marks-reads
-use Rattle.text.proofs.escaping.write.Reads as write-reads
 
--- src/lib.rt:16:9
 returns : tie.Need-returns
 unfolding escapeOutcome
 returns c =
     let a = c .before .before .before .args in
     too-long (allowed true) (a .text .now) (a .out .now) (fillBounded (escaped (a .text .now)) (a .out .now)) (c .if1 .taken)
 
--- src/lib.rt:18:13
 table-requires : tie.Need-table-requires
 table-requires c κs = search needs
 
--- src/lib.rt:19:9
 first-bad-requires : tie.Need-first-bad-requires
 first-bad-requires c κs = search needs
 
--- src/lib.rt:21:9
 returns-2 : tie.Need-returns-2
 unfolding escapeOutcome
 returns-2 c =
     let a = c .before .before .before .before .before .before .before .args in
     bad-octet (allowed true) (a .text .now) (a .out .now) (fillBounded (escaped (a .text .now)) (a .out .now)) (omega arith) (c .before .first-bad .result) (c .before .first-bad .ensures) (c .if2 .taken)
 
--- src/lib.rt:23:26
 marks-requires : tie.Need-marks-requires
 marks-requires c κs = search needs
 
--- src/lib.rt:23:13
 add-n : tie.Need-add-n
 add-n c =
     omega (arith, c .marks .ensures .1)
 
--- src/lib.rt:25:9
 returns-3 : tie.Need-returns-3
 unfolding escapeOutcome
 returns-3 c =
@@ -63,7 +51,6 @@ returns-3 c =
     over-bound (escaped t) (a .out .now) n e (c .if3 .taken)
     ∙ good (allowed true) t (a .out .now) (fillBounded (escaped t) (a .out .now)) (omega arith) (c .before .before .before .first-bad .result) (c .before .before .before .first-bad .ensures) (omega arith)
 
--- src/lib.rt:28:9
 returns-4 : tie.Need-returns-4
 unfolding escapeOutcome
 returns-4 c =
@@ -75,17 +62,14 @@ returns-4 c =
     ∙ within-bound (escaped t) (a .out .now) n e (omega arith)
     ∙ good (allowed true) t (a .out .now) (fillBounded (escaped t) (a .out .now)) (omega arith) (c .before .before .before .before .first-bad .result) (c .before .before .before .before .first-bad .ensures) (omega arith)
 
--- src/lib.rt:30:5
 write-requires : tie.Need-write-requires
 write-requires c κs =
     let t = c .before .before .before .before .before .before .before .before .before .before .before .args .text .now in
     (ap (λ (k : ℕ). length t + k) (c .before .before .before .marks .ensures .0) ∙ sym (escaped-length t), omega arith)
 
--- src/lib.rt:12:1
 same-length : tie.Need-same-length
 same-length c = search needs
 
--- src/lib.rt:12:1
 returns-5 : tie.Need-returns-5
 unfolding escapeOutcome
 returns-5 c =

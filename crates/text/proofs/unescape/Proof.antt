@@ -1,7 +1,8 @@
-use mathlib.Core.Path.{_≡_, refl, sym, ap, _∙_}
+-- `text::unescape` meets its contract. Assumes nothing.
+use mathlib.Core.Path.{_≡_, sym, ap, _∙_}
 use mathlib.Core.Bool.{false}
 use mathlib.Core.List.{_++_}
-use Prim.Native.Nat.{ℕ, _+_}
+use Prim.Native.Nat.{ℕ}
 use native.Mathlib.Omega.{arith}
 use lib.ListN.{length, drop}
 use Rattle.octets.specs.Room.{fill}
@@ -14,14 +15,7 @@ use Rattle.text.proofs.OutcomeLaws.{too-long, bad-octet, good, a-fault,
 use borrow.Author.Needs.{needs}
 use Rattle.text.proofs.unescape.Statement.{statement}
 use Rattle.text.proofs.unescape.Tie as tie
-use Rattle.text.proofs.unescape.Reads as reads
-use Rattle.text.proofs.unescape.Lts as lts
-use Rattle.octets.proofs.characters.first_bad.Reads as first-bad-reads
-use Rattle.octets.proofs.classes.table.Reads as table-reads
-use Rattle.text.proofs.unescaping.measure.Reads as measure-reads
-use Rattle.text.proofs.unescaping.write.Reads as write-reads
 
--- src/lib.rt:39:9
 returns : tie.Need-returns
 unfolding unescapeOutcome
 returns c =
@@ -29,15 +23,12 @@ returns c =
     let t = a .text .now in
     too-long (allowed false) t (a .out .now) (faultless t (a .out .now) (fill (unescaped t) (a .out .now))) (c .if1 .taken)
 
--- src/lib.rt:41:13
 table-requires : tie.Need-table-requires
 table-requires c κs = search needs
 
--- src/lib.rt:42:9
 first-bad-requires : tie.Need-first-bad-requires
 first-bad-requires c κs = search needs
 
--- src/lib.rt:44:9
 returns-2 : tie.Need-returns-2
 unfolding unescapeOutcome
 returns-2 c =
@@ -45,11 +36,9 @@ returns-2 c =
     let t = a .text .now in
     bad-octet (allowed false) t (a .out .now) (faultless t (a .out .now) (fill (unescaped t) (a .out .now))) (omega arith) (c .before .first-bad .result) (c .before .first-bad .ensures) (c .if2 .taken)
 
--- src/lib.rt:46:9
 measure-requires : tie.Need-measure-requires
 measure-requires c κs = search needs
 
--- src/lib.rt:49:9
 returns-3 : tie.Need-returns-3
 unfolding unescapeOutcome
 returns-3 c =
@@ -59,7 +48,6 @@ returns-3 c =
     a-fault t (a .out .now) (fill (unescaped t) (a .out .now)) (m .result .fault) (m .ensures .0) (c .if3 .taken)
     ∙ good (allowed false) t (a .out .now) (faultless t (a .out .now) (fill (unescaped t) (a .out .now))) (omega arith) (c .before .before .before .first-bad .result) (c .before .before .before .first-bad .ensures) (omega arith)
 
--- src/lib.rt:53:9
 returns-4 : tie.Need-returns-4
 unfolding unescapeOutcome
 returns-4 c =
@@ -71,17 +59,16 @@ returns-4 c =
     ∙ no-fault t (a .out .now) (fill (unescaped t) (a .out .now)) (m .result .fault) (m .ensures .0) (omega arith)
     ∙ good (allowed false) t (a .out .now) (faultless t (a .out .now) (fill (unescaped t) (a .out .now))) (omega arith) (c .before .before .before .before .first-bad .result) (c .before .before .before .before .first-bad .ensures) (omega arith)
 
--- src/lib.rt:55:5
 write-requires : tie.Need-write-requires
 write-requires c κs =
     let t = c .before .before .before .before .before .before .before .before .before .before .before .args .text .now in
-    (c .before .before .before .measure .ensures .1 (omega (arith, fault-le t)), omega arith)
+    let m = c .before .before .before .measure in
+    let e : m .result .fault ≡ length t = omega (arith, fault-le t) in
+    (sym (m .ensures .0) ∙ e, (m .ensures .1 e, omega arith))
 
--- src/lib.rt:35:1
 same-length : tie.Need-same-length
 same-length c = search needs
 
--- src/lib.rt:35:1
 returns-5 : tie.Need-returns-5
 unfolding unescapeOutcome
 returns-5 c =

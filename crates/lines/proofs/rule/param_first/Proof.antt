@@ -22,17 +22,17 @@ abbrev μ-loop : tie.MeasureT-loop
 
 loop-holds : tie.Need-loop-holds Inv-loop μ-loop
 loop-holds c =
-    (suc (length (drop (c .before .before .args .from) (c .before .before .args .s .now))), rw length-drop (omega arith), refl)
+    let a = c .before .before .args in
+    (suc (length (drop (a .from) (a .s .now))), rw length-drop (omega arith), refl)
 
 shared-slice-read-if1 : tie.Need-shared-slice-read-if1 Inv-loop μ-loop
 shared-slice-read-if1 c = search needs
 
 returns : tie.Need-returns Inv-loop μ-loop
 returns c =
-    let s = c .before .before .before .before .before .before .args .s .now in
+    let a = c .before .before .before .before .before .before .args in
     let l = c .before .before .before .loop in
-    let pos : 0 < l .inv .0 = omega arith in
-    sym (l .inv .2 ∙ first-none (c .before .before .before .before .before .before .args .name .now) s (l .at) (l .inv .0) (c .if1 .taken))
+    sym (l .inv .2 ∙ first-none (a .name .now) (a .s .now) (l .at) (l .inv .0) (c .if1 .taken))
 
 add-start : tie.Need-add-start Inv-loop μ-loop
 add-start c = search needs
@@ -45,11 +45,11 @@ enum-known-p c = search needs
 
 returns-2 : tie.Need-returns-2 Inv-loop μ-loop
 returns-2 c =
-    let s = c .before .before .before .before .before .before .before .before .args .s .now in
+    let a = c .before .before .before .before .before .before .before .before .args in
+    let s = a .s .now in
     let l = c .before .before .before .before .before .loop in
-    let pos : 0 < l .inv .0 = omega arith in
     place-fault (l .at + 1) (param (drop (l .at + 1) s)) (c .before .read-param .ensures) (c .match .keys2) (λ x q.
-    sym (l .inv .2 ∙ first-bad (c .before .before .before .before .before .before .before .before .args .name .now) s (l .at) (l .inv .0) x (c .before .before .if1 .left) q))
+    sym (l .inv .2 ∙ first-bad (a .name .now) s (l .at) (l .inv .0) x (c .before .before .if1 .left) q))
 
 span-requires : tie.Need-span-requires Inv-loop μ-loop
 span-requires c κs = search needs
@@ -71,51 +71,62 @@ add-value-span c = search needs
 
 value-span-requires : tie.Need-value-span-requires Inv-loop μ-loop
 value-span-requires c κs =
-    let s = c .before .before .before .before .before .before .before .before .before .before .before .before .before .before .args .s .now in
-    let l = c .before .before .before .before .before .before .before .before .before .before .before .loop in
-    let pos : 0 < l .inv .0 = omega arith in
-    place-upto (l .at + 1) (param (drop (l .at + 1) s)) (c .before .before .before .before .before .before .before .read-param .ensures) (c .before .before .before .before .before .p .given .1) (λ p k q h.
-    let w = name-end s (l .at + 1) p k (c .before .before .before .span .result) q (c .before .before .before .span .ensures .0) in
+    let m = c .before .before .before in
+    let r = m .before .before .before .before in
+    let s = r .before .before .before .before .before .before .before .args .s .now in
+    let l = r .before .before .before .before .loop in
+    place-upto (l .at + 1) (param (drop (l .at + 1) s)) (r .read-param .ensures) (m .before .before .p .given .1) (λ p k q h.
+    let w = name-end s (l .at + 1) p k (m .span .result) q (m .span .ensures .0) in
     let i = w .within-line in
     search needs)
 
 returns-3 : tie.Need-returns-3 Inv-loop μ-loop
 returns-3 c =
-    let s = c .before .before .before .before .before .before .before .before .before .before .before .before .before .before .before .args .s .now in
-    let l = c .before .before .before .before .before .before .before .before .before .before .before .before .loop in
+    let m = c .before .before .before .before in
+    let r = m .before .before .before .before in
+    let a = r .before .before .before .before .before .before .before .args in
+    let s = a .s .now in
+    let l = r .before .before .before .before .loop in
     let pos : 0 < l .inv .0 = omega arith in
-    place-upto (l .at + 1) (param (drop (l .at + 1) s)) (c .before .before .before .before .before .before .before .before .read-param .ensures) (c .before .before .before .before .before .before .p .given .1) (λ p k q h.
-    let w = name-end s (l .at + 1) p k (c .before .before .before .before .span .result) q (c .before .before .before .before .span .ensures .0) in
-    c .value-span .ensures ∙ sym (l .inv .2 ∙ first-hit (c .before .before .before .before .before .before .before .before .before .before .before .before .before .before .before .args .name .now) s (l .at) (l .inv .0) pos (c .before .before .before .before .before .before .before .before .before .if1 .left) p k q (c .before .before .before .before .span .result) w (sym (c .before .before .same-name .ensures) ∙ c .before .if2 .taken)))
+    let found = sym (c .before .before .same-name .ensures) ∙ c .before .if2 .taken in
+    place-upto (l .at + 1) (param (drop (l .at + 1) s)) (r .read-param .ensures) (m .before .before .p .given .1) (λ p k q h.
+    let w = name-end s (l .at + 1) p k (m .span .result) q (m .span .ensures .0) in
+    c .value-span .ensures
+    ∙ sym (l .inv .2 ∙ first-hit (a .name .now) s (l .at) (l .inv .0) pos (r .before .if1 .left) p k q (m .span .result) w found))
 
 loop-less : tie.Need-loop-less Inv-loop μ-loop
 loop-less c =
-    let s = c .before .before .before .before .before .before .before .before .before .before .before .before .before .before .args .s .now in
-    let l = c .before .before .before .before .before .before .before .before .before .before .before .loop in
-    let pos : 0 < l .inv .0 = omega arith in
-    let lt = c .before .before .before .before .before .before .before .before .before .before .loop-test .taken in
-    place-upto (l .at + 1) (param (drop (l .at + 1) s)) (c .before .before .before .before .before .before .before .read-param .ensures) (c .before .before .before .before .before .p .given .1) (λ p k q h. omega arith)
+    let m = c .before .before .before in
+    let r = m .before .before .before .before in
+    let s = r .before .before .before .before .before .before .before .args .s .now in
+    let l = r .before .before .before .before .loop in
+    let lt = r .before .before .before .loop-test .taken in
+    place-upto (l .at + 1) (param (drop (l .at + 1) s)) (r .read-param .ensures) (m .before .before .p .given .1) (λ p k q h. omega arith)
 
 loop-again : tie.Need-loop-again Inv-loop μ-loop
 loop-again c =
-    let s = c .before .before .before .before .before .before .before .before .before .before .before .before .before .before .args .s .now in
-    let l = c .before .before .before .before .before .before .before .before .before .before .before .loop in
+    let m = c .before .before .before in
+    let r = m .before .before .before .before in
+    let a = r .before .before .before .before .before .before .before .args in
+    let s = a .s .now in
+    let l = r .before .before .before .before .loop in
     let pos : 0 < l .inv .0 = omega arith in
-    let lt = c .before .before .before .before .before .before .before .before .before .before .loop-test .taken in
-    place-upto (l .at + 1) (param (drop (l .at + 1) s)) (c .before .before .before .before .before .before .before .read-param .ensures) (c .before .before .before .before .before .p .given .1) (λ p k q h.
-    let w = name-end s (l .at + 1) p k (c .before .before .before .span .result) q (c .before .before .before .span .ensures .0) in (
+    let lt = r .before .before .before .loop-test .taken in
+    let other = sym (c .before .same-name .ensures) ∙ c .if2 .left in
+    place-upto (l .at + 1) (param (drop (l .at + 1) s)) (r .read-param .ensures) (m .before .before .p .given .1) (λ p k q h.
+    let w = name-end s (l .at + 1) p k (m .span .result) q (m .span .ensures .0) in (
       l .inv .0 - 1,
       omega arith,
-      l .inv .2 ∙ first-on (c .before .before .before .before .before .before .before .before .before .before .before .before .before .before .args .name .now) s (l .at) (l .inv .0) pos (c .before .before .before .before .before .before .before .before .if1 .left) p k q (c .before .before .before .span .result) w (sym (c .before .same-name .ensures) ∙ c .if2 .left)
-          ∙ ap (λ (i : ℕ). firstOf (c .before .before .before .before .before .before .before .before .before .before .before .before .before .before .args .name .now) i (l .inv .0 - 1) (drop i s)) (sym h),
+      l .inv .2 ∙ first-on (a .name .now) s (l .at) (l .inv .0) pos (r .before .if1 .left) p k q (m .span .result) w other
+          ∙ ap (λ (i : ℕ). firstOf (a .name .now) i (l .inv .0 - 1) (drop i s)) (sym h),
     ))
 
 returns-4 : tie.Need-returns-4 Inv-loop μ-loop
 returns-4 c =
-    let s = c .before .before .before .before .args .s .now in
+    let a = c .before .before .before .before .args in
+    let s = a .s .now in
     let l = c .before .loop in
-    let pos : 0 < l .inv .0 = omega arith in
-    sym (l .inv .2 ∙ first-none (c .before .before .before .before .args .name .now) s (l .at) (l .inv .0) (past s (l .at) 59 (omega arith) (c .loop-test .left)))
+    sym (l .inv .2 ∙ first-none (a .name .now) s (l .at) (l .inv .0) (past s (l .at) 59 (omega arith) (c .loop-test .left)))
 
 pub param-first-spec : {M : Type 1} → statement M
 param-first-spec =

@@ -54,26 +54,28 @@ enum-known-second c = search needs
 
 returns-4 : tie.Need-returns-4
 returns-4 c =
-    let s = c .before .before .before .before .before .before .before .before .before .before .args .s .now in
-    let n = c .before .before .before .before .before .before .first .given .0 .0 in
+    let m = c .before .before .before .before .before .before in
+    let s = m .before .before .before .before .args .s .now in
+    let n = m .first .given .0 .0 in
     let dot = c .before .before .if2 .left in
     let r = c .before .read-word2 .ensures in
     let keys = c .match2 .keys2 in
-    place-upto 0 (word 40 s) (c .before .before .before .before .before .before .before .before .read-word .ensures) (c .before .before .before .before .before .before .first .given .1) (λ w k q h.
+    place-upto 0 (word 40 s) (m .before .before .read-word .ensures) (m .first .given .1) (λ w k q h.
     let e : k ≡ n = omega arith in
     hand-up (n + 1) (word 40 (drop (n + 1) s)) r keys (λ x p. head-bad-name s w n (q ∙ ap (got w) e) x dot p))
 
 returns-5 : tie.Need-returns-5
 returns-5 c =
-    let s = c .before .before .before .before .before .before .before .before .before .before .before .before .args .s .now in
-    let n = c .before .before .before .before .before .before .before .before .first .given .0 .0 in
+    let m = c .before .before .before .before .before .before .before .before in
+    let s = m .before .before .before .before .args .s .now in
+    let n = m .first .given .0 .0 in
     let dot = c .before .before .before .before .if2 .left in
     let r = c .before .before .before .read-word2 .ensures in
     let told = c .before .second .given .1 in
-    place-upto 0 (word 40 s) (c .before .before .before .before .before .before .before .before .before .before .read-word .ensures) (c .before .before .before .before .before .before .before .before .first .given .1) (λ w k q h.
+    place-upto 0 (word 40 s) (m .before .before .read-word .ensures) (m .first .given .1) (λ w k q h.
     let e : k ≡ n = omega arith in
-    place-upto (n + 1) (word 40 (drop (n + 1) s)) r told (λ b m p g.
-    ap (Named n) g ∙ sym (head-grouped s w n (q ∙ ap (got w) e) b m dot p)))
+    place-upto (n + 1) (word 40 (drop (n + 1) s)) r told (λ b i p g.
+    ap (Named n) g ∙ sym (head-grouped s w n (q ∙ ap (got w) e) b i dot p)))
 
 pub read-head-spec : {M : Type 1} → statement M
 read-head-spec =

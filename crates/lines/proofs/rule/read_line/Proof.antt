@@ -37,24 +37,26 @@ returns-2 c =
 
 add-t9 : tie.Need-add-t9
 add-t9 c =
-    let s = c .before .before .before .before .before .before .before .before .before .args .s .now in
-    let n = c .before .before .before .before .before .first .given .0 .1 .0 in
+    let f = c .before .before .before .before .before in
+    let s = f .before .before .before .before .args .s .now in
+    let n = f .first .given .0 .1 .0 in
     let m = params (suc (length (drop n s))) (drop n s) in
     let r = c .before .before .before .read-params .ensures in
     let told = c .before .rest .given .1 in
-    headed-named (head s) (c .before .before .before .before .before .before .before .read-head .ensures) (c .before .before .before .before .before .first .given .1) (λ h q g.
+    headed-named (head s) (f .before .before .read-head .ensures) (f .first .given .1) (λ h q g.
     listed-list 0 n m r told (λ ps k p d e.
     let i = colon-inside s n (suc (length (drop n s))) ps k p in
     omega arith))
 
 returns-3 : tie.Need-returns-3
 returns-3 c =
-    let s = c .before .before .before .before .before .before .before .before .before .args .s .now in
-    let n = c .before .before .before .before .before .first .given .0 .1 .0 in
+    let f = c .before .before .before .before .before in
+    let s = f .before .before .before .before .args .s .now in
+    let n = f .first .given .0 .1 .0 in
     let m = params (suc (length (drop n s))) (drop n s) in
     let r = c .before .before .before .read-params .ensures in
     let told = c .before .rest .given .1 in
-    headed-named (head s) (c .before .before .before .before .before .before .before .read-head .ensures) (c .before .before .before .before .before .first .given .1) (λ h q g.
+    headed-named (head s) (f .before .before .read-head .ensures) (f .first .given .1) (λ h q g.
     listed-list 0 n m r told (λ ps k p d e.
     line-answer s h n q ps k _ _ _ p g d e))
 

@@ -35,10 +35,11 @@ shared-slice-read-if2 c = search needs
 
 returns-3 : tie.Need-returns-3
 returns-3 c =
-    let a = c .before .before .before .before .before .before .before .before .args in
+    let m = c .before .before .before .before in
+    let a = m .before .before .before .before .args in
     let s = a .s .now in
     let other = c .if2 .taken in
-    place-upto (a .at) (word 41 (drop (a .at) s)) (c .before .before .before .before .before .before .read-word .ensures) (c .before .before .before .before .name .given .1) (λ w k q h.
+    place-upto (a .at) (word 41 (drop (a .at) s)) (m .before .before .read-word .ensures) (m .name .given .1) (λ w k q h.
     sym (param-none s (a .at) w k q (λ e. other (ap (λ (i : ℕ). getD s i 0) h ∙ e))))
 
 add-read-values : tie.Need-add-read-values
@@ -49,11 +50,12 @@ read-values-requires c κs = search needs
 
 returns-4 : tie.Need-returns-4
 returns-4 c =
-    let a = c .before .before .before .before .before .before .before .before .before .args in
+    let m = c .before .before .before .before .before in
+    let a = m .before .before .before .before .args in
     let s = a .s .now in
     let same = c .before .if2 .left in
     let r = c .read-values .ensures in
-    place-upto (a .at) (word 41 (drop (a .at) s)) (c .before .before .before .before .before .before .before .read-word .ensures) (c .before .before .before .before .before .name .given .1) (λ w k q h.
+    place-upto (a .at) (word 41 (drop (a .at) s)) (m .before .before .read-word .ensures) (m .name .given .1) (λ w k q h.
     r ∙ ap (λ (i : ℕ). place (i + 1) (values (drop (i + 1) s))) h
     ∙ sym (param-values s (a .at) w k q (ap (λ (i : ℕ). getD s i 0) (sym h) ∙ same)))
 

@@ -7,7 +7,8 @@ use Rattle.lines.proofs.rule.value_span.Tie as tie
 
 returns : tie.Need-returns
 returns c =
-    sym (spanned-none (c .before .before .args .s .now) (c .before .before .args .at) (c .if1 .taken))
+    let a = c .before .before .args in
+    sym (spanned-none (a .s .now) (a .at) (c .if1 .taken))
 
 shared-slice-read-if2 : tie.Need-shared-slice-read-if2
 shared-slice-read-if2 c = search needs
@@ -17,7 +18,8 @@ span-requires c κs = search needs
 
 returns-2 : tie.Need-returns-2
 returns-2 c =
-    sym (spanned-bare (c .before .before .before .before .before .args .s .now) (c .before .before .before .before .before .args .at) (c .span .result) (c .before .if2 .taken) (c .span .ensures .0))
+    let a = c .before .before .before .before .before .args in
+    sym (spanned-bare (a .s .now) (a .at) (c .span .result) (c .before .if2 .taken) (c .span .ensures .0))
 
 add-span : tie.Need-add-span
 add-span c = search needs
@@ -30,7 +32,8 @@ add-t6 c = search needs
 
 returns-3 : tie.Need-returns-3
 returns-3 c =
-    sym (spanned-quoted (c .before .before .before .before .before .args .s .now) (c .before .before .before .before .before .args .at) (c .span2 .result) (c .before .if2 .left) (c .span2 .ensures .0))
+    let a = c .before .before .before .before .before .args in
+    sym (spanned-quoted (a .s .now) (a .at) (c .span2 .result) (c .before .if2 .left) (c .span2 .ensures .0))
 
 pub value-span-spec : {M : Type 1} → statement M
 value-span-spec =

@@ -24,7 +24,8 @@ returns : tie.Need-returns Inv-loop μ-loop
 returns c =
     let t = c .before .before in
     let l = t .before in
-    (sym (l .loop .inv .1 ∙ search-found (l .before .before .args .name .now) (l .loop .row) (t .loop-test .taken) (sym (c .before .is-row .ensures) ∙ c .if1 .taken)), t .loop-test .taken)
+    let low : l .loop .row < 39 = omega arith in
+    (sym (l .loop .inv .1 ∙ search-found (l .before .before .args .name .now) (l .loop .row) low (sym (c .before .is-row .ensures) ∙ c .if1 .taken)), low)
 
 add-row : tie.Need-add-row Inv-loop μ-loop
 add-row c = search needs
@@ -36,7 +37,8 @@ loop-again : tie.Need-loop-again Inv-loop μ-loop
 loop-again c =
     let t = c .before .before in
     let l = t .before in
-    (omega arith, l .loop .inv .1 ∙ search-next (l .before .before .args .name .now) (l .loop .row) (t .loop-test .taken) (sym (c .before .is-row .ensures) ∙ c .if1 .left))
+    let low : l .loop .row < 39 = omega arith in
+    (omega arith, l .loop .inv .1 ∙ search-next (l .before .before .args .name .now) (l .loop .row) low (sym (c .before .is-row .ensures) ∙ c .if1 .left))
 
 returns-2 : tie.Need-returns-2 Inv-loop μ-loop
 returns-2 c =

@@ -1,3 +1,4 @@
+-- `text::counts::backslashes` meets its contract. Assumes nothing.
 use borrow.Author.Needs.{needs}
 use mathlib.Core.Path.{_≡_, sym, _∙_}
 use Prim.Native.Nat.{_≤_, _+_, _-_}
@@ -10,8 +11,6 @@ use Rattle.text.specs.Counts.{count}
 use Rattle.text.proofs.BitLaws.{byte-bit, bit-le, count-step, count-end}
 use Rattle.text.proofs.counts.backslashes.Statement.{statement}
 use Rattle.text.proofs.counts.backslashes.Tie as tie
-use Rattle.text.proofs.counts.backslashes.Reads as reads
-use Rattle.text.proofs.counts.backslashes.Lts as lts
 
 abbrev Inv-loop : tie.InvT-loop
 Inv-loop s n₀ i₀ n i =
@@ -21,30 +20,27 @@ abbrev μ-loop : tie.MeasureT-loop
 μ-loop s n₀ i₀ n i =
     length s - i
 
--- src/counts.rt:37:5
 loop-holds : tie.Need-loop-holds Inv-loop μ-loop
 loop-holds c =
     (search needs, search needs, sym (zero-add _))
 
--- src/counts.rt:38:15
 shared-slice-read-n : tie.Need-shared-slice-read-n Inv-loop μ-loop
 shared-slice-read-n c = search needs
--- src/counts.rt:38:14
+
 cast-n : tie.Need-cast-n Inv-loop μ-loop
 cast-n c = search needs
--- src/counts.rt:38:9
+
 add-n : tie.Need-add-n Inv-loop μ-loop
 add-n c =
     let b = backslash (getD (c .before .before .before .args .s .now) (c .before .before .loop .i) 0) in
     omega (arith, bit-le b, byte-bit b)
 
--- src/counts.rt:39:9
 add-i : tie.Need-add-i Inv-loop μ-loop
 add-i c = search needs
--- src/counts.rt:37:5
+
 loop-less : tie.Need-loop-less Inv-loop μ-loop
 loop-less c = search needs
--- src/counts.rt:37:5
+
 loop-again : tie.Need-loop-again Inv-loop μ-loop
 loop-again c =
     let l = c .before .before .loop in
@@ -52,10 +48,9 @@ loop-again c =
     let b = backslash (getD s (l .i) 0) in
     (omega arith, omega (arith, bit-le b, byte-bit b), l .inv .2 ∙ count-step backslash s (l .i) (c .before .loop-test .taken) (l .n) (boolByte b) (byte-bit b))
 
--- src/counts.rt:41:5
 cast-result : tie.Need-cast-result Inv-loop μ-loop
 cast-result c = search needs
--- src/counts.rt:31:1
+
 returns : tie.Need-returns Inv-loop μ-loop
 returns c =
     let l = c .before .loop in

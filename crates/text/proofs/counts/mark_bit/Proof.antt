@@ -1,29 +1,23 @@
+-- `text::counts::mark_bit` meets its contract. Assumes nothing.
 use lib.Dec.{eqb}
 use Rattle.text.specs.Escapes.{special, marked}
 use Rattle.text.proofs.BitLaws.{mark-bits}
 use borrow.Author.Needs.{needs}
 use Rattle.text.proofs.counts.mark_bit.Statement.{statement}
 use Rattle.text.proofs.counts.mark_bit.Tie as tie
-use Rattle.text.proofs.counts.mark_bit.Reads as reads
-use Rattle.text.proofs.counts.mark_bit.Lts as lts
 
--- src/counts.rt:13:6
 cast-result : tie.Need-cast-result
 cast-result c = search needs
 
--- src/counts.rt:13:24
 cast-result-2 : tie.Need-cast-result-2
 cast-result-2 c = search needs
 
--- src/counts.rt:13:44
 cast-result-3 : tie.Need-cast-result-3
 cast-result-3 c = search needs
 
--- src/counts.rt:13:62
 cast-result-4 : tie.Need-cast-result-4
 cast-result-4 c = search needs
 
--- src/counts.rt:10:1
 returns : tie.Need-returns
 unfolding marked special
 returns c =

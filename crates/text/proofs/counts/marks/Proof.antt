@@ -1,3 +1,4 @@
+-- `text::counts::marks` meets its contract. Assumes nothing.
 use borrow.Author.Needs.{needs}
 use mathlib.Core.Path.{_≡_, sym, _∙_}
 use Prim.Native.Nat.{_≤_, _+_, _-_}
@@ -9,9 +10,6 @@ use Rattle.text.specs.Counts.{count}
 use Rattle.text.proofs.BitLaws.{bit-le, count-step, count-end}
 use Rattle.text.proofs.counts.marks.Statement.{statement}
 use Rattle.text.proofs.counts.marks.Tie as tie
-use Rattle.text.proofs.counts.marks.Reads as reads
-use Rattle.text.proofs.counts.marks.Lts as lts
-use Rattle.text.proofs.counts.mark_bit.Reads as mark-bit-reads
 
 abbrev Inv-loop : tie.InvT-loop
 Inv-loop s n₀ i₀ n i =
@@ -21,44 +19,39 @@ abbrev μ-loop : tie.MeasureT-loop
 μ-loop s n₀ i₀ n i =
     length s - i
 
--- src/counts.rt:23:5
 loop-holds : tie.Need-loop-holds Inv-loop μ-loop
 loop-holds c =
     (search needs, search needs, sym (zero-add _))
 
--- src/counts.rt:24:23
 shared-slice-read-mark-bit : tie.Need-shared-slice-read-mark-bit Inv-loop μ-loop
 shared-slice-read-mark-bit c = search needs
--- src/counts.rt:24:14
+
 mark-bit-requires : tie.Need-mark-bit-requires Inv-loop μ-loop
 mark-bit-requires c κs = search needs
--- src/counts.rt:24:14
+
 cast-n : tie.Need-cast-n Inv-loop μ-loop
 cast-n c =
     omega (arith, bit-le (marked (getD (c .before .before .before .before .before .args .s .now) (c .before .before .before .loop .i) 0)))
 
--- src/counts.rt:24:9
 add-n : tie.Need-add-n Inv-loop μ-loop
 add-n c =
     omega (arith, bit-le (marked (getD (c .before .before .before .before .before .args .s .now) (c .before .before .before .loop .i) 0)))
 
--- src/counts.rt:25:9
 add-i : tie.Need-add-i Inv-loop μ-loop
 add-i c = search needs
--- src/counts.rt:23:5
+
 loop-less : tie.Need-loop-less Inv-loop μ-loop
 loop-less c = search needs
--- src/counts.rt:23:5
+
 loop-again : tie.Need-loop-again Inv-loop μ-loop
 loop-again c =
     let l = c .before .before .before .loop in
     let s = c .before .before .before .before .before .args .s .now in
     (omega arith, omega (arith, bit-le (marked (getD s (l .i) 0))), l .inv .2 ∙ count-step marked s (l .i) (c .before .before .loop-test .taken) (l .n) (c .mark-bit .result) (c .mark-bit .ensures))
 
--- src/counts.rt:27:5
 cast-result : tie.Need-cast-result Inv-loop μ-loop
 cast-result c = search needs
--- src/counts.rt:17:1
+
 returns : tie.Need-returns Inv-loop μ-loop
 returns c =
     let l = c .before .loop in

@@ -1,3 +1,4 @@
+-- `text::escaping::letters` meets its contract. Assumes nothing.
 use mathlib.Core.Bool.{Bool}
 use mathlib.Core.List.{List}
 use Prim.Native.Nat.{ℕ}
@@ -9,8 +10,6 @@ use Rattle.text.specs.Escapes.{special, marked, letter, Letters}
 use borrow.Author.Needs.{needs}
 use Rattle.text.proofs.escaping.letters.Statement.{statement}
 use Rattle.text.proofs.escaping.letters.Tie as tie
-use Rattle.text.proofs.escaping.letters.Reads as reads
-use Rattle.text.proofs.escaping.letters.Lts as lts
 
 table : List ℕ
 table = set (set (set (set (replicate 256 0) 10 110) 44 44) 59 59) 92 92
@@ -18,23 +17,18 @@ table = set (set (set (set (replicate 256 0) 10 110) 44 44) 59 59) 92 92
 right : ℕ → ℕ → Bool
 right k x = eqb x (pick (marked k) (letter k) 0)
 
--- src/escaping.rt:13:5
 array-write-t : tie.Need-array-write-t
 array-write-t c = search needs
 
--- src/escaping.rt:14:5
 array-write-t-2 : tie.Need-array-write-t-2
 array-write-t-2 c = search needs
 
--- src/escaping.rt:15:5
 array-write-t-3 : tie.Need-array-write-t-3
 array-write-t-3 c = search needs
 
--- src/escaping.rt:16:5
 array-write-t-4 : tie.Need-array-write-t-4
 array-write-t-4 c = search needs
 
--- src/escaping.rt:9:1
 returns : tie.Need-returns
 unfolding table right Letters marked special letter
 returns c k h =

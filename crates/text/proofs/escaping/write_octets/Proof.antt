@@ -1,6 +1,7 @@
+-- `text::escaping::write_octets` meets its contract. Assumes nothing.
 use borrow.Author.Needs.{needs}
 use mathlib.Core.Path.{_≡_, sym, ap, _∙_}
-use mathlib.Core.List.{List, [], _∷_, _++_}
+use mathlib.Core.List.{[], _∷_, _++_}
 use Prim.Native.Nat.{ℕ, _≤_, _<_, _+_, _-_}
 use native.Mathlib.Omega.{arith}
 use lib.ListN.{length, drop, getD, length-set}
@@ -10,8 +11,6 @@ use Rattle.text.proofs.EscapeLaws.{no-letter, a-letter, escaped-octet, 
 use Rattle.text.proofs.PieceLaws.{one-room, put-one, two-room, put-two, all-written}
 use Rattle.text.proofs.escaping.write_octets.Statement.{statement}
 use Rattle.text.proofs.escaping.write_octets.Tie as tie
-use Rattle.text.proofs.escaping.write_octets.Reads as reads
-use Rattle.text.proofs.escaping.write_octets.Lts as lts
 
 abbrev Inv-loop : tie.InvT-loop
 Inv-loop t text out₀ i₀ j₀ out i j =
@@ -21,7 +20,6 @@ abbrev μ-loop : tie.MeasureT-loop
 μ-loop t text out₀ i₀ j₀ out i j =
     length text - i
 
--- HELPERS
 -- the octet, or its escape, is written next
 octet-next : (c : tie.Then1 Inv-loop μ-loop)
     → escaped (drop (c .before .before .before .before .loop .i) (c .before .before .before .before .before .args .text .now))
@@ -54,86 +52,72 @@ room-for-two : (c : tie.Else1 Inv-loop μ-loop) → c .before .before .before .b
 room-for-two c =
     two-room (c .before .before .before .before .loop .inv .1) (c .before .before .before .before .before .pre .1) _ _ _ (mark-next c)
 
--- ENDHELPERS
-
--- src/escaping.rt:28:5
 loop-holds : tie.Need-loop-holds Inv-loop μ-loop
 loop-holds c =
     (search needs, start (escaped (c .args .text .now)) (c .args .out .now))
 
--- src/escaping.rt:29:17
 shared-slice-read-b : tie.Need-shared-slice-read-b Inv-loop μ-loop
 shared-slice-read-b c = search needs
--- src/escaping.rt:30:19
+
 cast-x : tie.Need-cast-x Inv-loop μ-loop
 cast-x c =
     omega (arith, c .shared-slice-known .given (c .before .before .loop .i))
--- src/escaping.rt:30:17
+
 element-copy-out-x : tie.Need-element-copy-out-x Inv-loop μ-loop
 element-copy-out-x c =
     omega (arith, c .shared-slice-known .given (c .before .before .loop .i))
 
--- src/escaping.rt:32:13
 slice-write-out : tie.Need-slice-write-out Inv-loop μ-loop
 slice-write-out c =
     omega (arith, room-for-one c)
 
--- src/escaping.rt:33:13
 add-j : tie.Need-add-j Inv-loop μ-loop
 add-j c =
     omega (arith, room-for-one c, c .before .before .before .before .loop .inv .1 .same)
 
--- src/escaping.rt:34:13
 add-i : tie.Need-add-i Inv-loop μ-loop
 add-i c = search needs
--- src/escaping.rt:28:5
+
 loop-less : tie.Need-loop-less Inv-loop μ-loop
 loop-less c = search needs
--- src/escaping.rt:28:5
+
 loop-again : tie.Need-loop-again Inv-loop μ-loop
 loop-again c =
     let l = c .before .before .before .before .loop in
     (omega arith, put-one (l .inv .1) (c .before .before .before .before .before .pre .1) (escaped (drop (l .i + 1) (c .before .before .before .before .before .args .text .now))) (getD (c .before .before .before .before .before .args .text .now) (l .i) 0) (octet-next c))
 
--- src/escaping.rt:36:13
 slice-write-out-2 : tie.Need-slice-write-out-2 Inv-loop μ-loop
 slice-write-out-2 c =
     omega (arith, room-for-two c)
 
--- src/escaping.rt:37:17
 add-out : tie.Need-add-out Inv-loop μ-loop
 add-out c =
     omega (arith, room-for-two c, c .before .before .before .before .loop .inv .1 .same)
 
--- src/escaping.rt:37:13
 slice-write-out-3 : tie.Need-slice-write-out-3 Inv-loop μ-loop
 slice-write-out-3 c =
     simp length-set (omega (arith, room-for-two c))
 
--- src/escaping.rt:38:13
 add-j-2 : tie.Need-add-j-2 Inv-loop μ-loop
 add-j-2 c =
     omega (arith, room-for-two c, c .before .before .before .before .loop .inv .1 .same)
 
--- src/escaping.rt:39:13
 add-i-2 : tie.Need-add-i-2 Inv-loop μ-loop
 add-i-2 c = search needs
--- src/escaping.rt:28:5
+
 loop-less-2 : tie.Need-loop-less-2 Inv-loop μ-loop
 loop-less-2 c = search needs
--- src/escaping.rt:28:5
+
 loop-again-2 : tie.Need-loop-again-2 Inv-loop μ-loop
 loop-again-2 c =
     let l = c .before .before .before .before .loop in
     let a = c .before .before .before .before .before .args in
     (omega arith, put-two (l .inv .1) (c .before .before .before .before .before .pre .1) (escaped (drop (l .i + 1) (a .text .now))) 92 (getD (a .t .now) (getD (a .text .now) (l .i) 0) 0) (mark-next c))
 
--- src/escaping.rt:21:1
 same-length : tie.Need-same-length Inv-loop μ-loop
 same-length c =
     c .before .loop .inv .1 .same
 
--- src/escaping.rt:21:1
 returns : tie.Need-returns Inv-loop μ-loop
 returns c =
     all-written (c .before .loop .inv .1) (escaped-end (c .before .before .args .text .now) (c .before .loop .i) (c .loop-test .left))

@@ -1,7 +1,8 @@
+-- `text::unescaping::all_pairs` meets its contract. Assumes nothing.
 use borrow.Author.Needs.{needs}
 use mathlib.Core.Path.{_≡_, refl, sym, ap, _∙_}
 use mathlib.Core.Bool.{Bool, _&&_}
-use Prim.Native.Nat.{_≤_, _+_, _-_}
+use Prim.Native.Nat.{_≤_, _-_}
 use native.Mathlib.Omega.{arith}
 use lib.Dec.{eqb}
 use lib.ListN.{length, drop}
@@ -10,9 +11,6 @@ use Rattle.text.specs.Pairs.{settled}
 use Rattle.text.proofs.PairLaws.{settled-step, settled-end}
 use Rattle.text.proofs.unescaping.all_pairs.Statement.{statement}
 use Rattle.text.proofs.unescaping.all_pairs.Tie as tie
-use Rattle.text.proofs.unescaping.all_pairs.Reads as reads
-use Rattle.text.proofs.unescaping.all_pairs.Lts as lts
-use Rattle.text.proofs.unescaping.pair_bit.Reads as pair-bit-reads
 
 abbrev Inv-loop : tie.InvT-loop
 Inv-loop s bad₀ before₀ i₀ bad before i =
@@ -22,39 +20,35 @@ abbrev μ-loop : tie.MeasureT-loop
 μ-loop s bad₀ before₀ i₀ bad before i =
     length s - i
 
--- src/unescaping.rt:79:5
 loop-holds : tie.Need-loop-holds Inv-loop μ-loop
 loop-holds c =
     (search needs, refl)
 
--- src/unescaping.rt:80:38
 shared-slice-read-pair-bit : tie.Need-shared-slice-read-pair-bit Inv-loop μ-loop
 shared-slice-read-pair-bit c = search needs
--- src/unescaping.rt:80:21
+
 pair-bit-requires : tie.Need-pair-bit-requires Inv-loop μ-loop
 pair-bit-requires c κs = search needs
--- src/unescaping.rt:81:18
+
 shared-slice-read-before : tie.Need-shared-slice-read-before Inv-loop μ-loop
 shared-slice-read-before c = search needs
--- src/unescaping.rt:82:9
+
 add-i : tie.Need-add-i Inv-loop μ-loop
 add-i c = search needs
--- src/unescaping.rt:79:5
+
 loop-less : tie.Need-loop-less Inv-loop μ-loop
 loop-less c = search needs
--- src/unescaping.rt:79:5
+
 loop-again : tie.Need-loop-again Inv-loop μ-loop
 loop-again c =
     let l = c .before .before .before .before .loop in
     (omega arith, l .inv .1 ∙ settled-step (c .before .before .before .before .before .before .args .s .now) (l .i) (c .before .before .before .loop-test .taken) (l .before) (l .bad) (c .before .pair-bit .result) (c .before .pair-bit .ensures))
 
--- src/unescaping.rt:85:9
 returns : tie.Need-returns Inv-loop μ-loop
 returns c =
     let l = c .before .before .loop in
     sym (l .inv .1 ∙ ap (λ (t : Bool). t && settled (l .before) (drop (l .i) (c .before .before .before .before .args .s .now))) (ne-eqb (l .bad) 0 (c .if1 .taken)))
 
--- src/unescaping.rt:73:1
 returns-2 : tie.Need-returns-2 Inv-loop μ-loop
 returns-2 c =
     let l = c .before .before .loop in

@@ -1,4 +1,5 @@
-use mathlib.Core.Path.{_≡_, sym, _∙_}
+-- `text::unescaping::escape_at` meets its contract. Assumes nothing.
+use mathlib.Core.Path.{sym, _∙_}
 use native.Mathlib.Omega.{arith}
 use lib.ListN.{getD}
 use borrow.Author.Tests.{eq-eqb, ne-eqb}
@@ -6,43 +7,32 @@ use Rattle.text.proofs.EscapeLaws.{escape-eq, escape-short}
 use borrow.Author.Needs.{needs}
 use Rattle.text.proofs.unescaping.escape_at.Statement.{statement}
 use Rattle.text.proofs.unescaping.escape_at.Tie as tie
-use Rattle.text.proofs.unescaping.escape_at.Reads as reads
-use Rattle.text.proofs.unescaping.escape_at.Lts as lts
-use Rattle.text.proofs.unescaping.is_code.Reads as is-code-reads
 
--- src/unescaping.rt:39:8
 shared-slice-read-if1 : tie.Need-shared-slice-read-if1
 shared-slice-read-if1 c = search needs
 
--- src/unescaping.rt:40:9
 returns : tie.Need-returns
 returns c =
     let a = c .before .before .before .args in
     sym (escape-eq (a .s .now) (a .i) ∙ simp (ne-eqb (getD (a .s .now) (a .i) 0) 92 (c .if1 .taken)))
 
--- src/unescaping.rt:42:8
 sub-if2 : tie.Need-sub-if2
 sub-if2 c = search needs
 
--- src/unescaping.rt:43:9
 returns-2 : tie.Need-returns-2
 returns-2 c =
     let a = c .before .before .before .before .args in
     sym (escape-short (a .s .now) (a .i) (omega arith))
 
--- src/unescaping.rt:45:15
 add-is-code : tie.Need-add-is-code
 add-is-code c = search needs
 
--- src/unescaping.rt:45:13
 shared-slice-read-is-code : tie.Need-shared-slice-read-is-code
 shared-slice-read-is-code c = search needs
 
--- src/unescaping.rt:45:5
 is-code-requires : tie.Need-is-code-requires
 is-code-requires c κs = search needs
 
--- src/unescaping.rt:35:1
 returns-3 : tie.Need-returns-3
 returns-3 c =
     let a = c .before .before .before .before .before .before .args in

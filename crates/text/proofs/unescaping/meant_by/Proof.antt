@@ -1,23 +1,19 @@
+-- `text::unescaping::meant_by` meets its contract. Assumes nothing.
 use borrow.Author.Tests.{eq-eqb, ne-eqb}
 use Rattle.text.specs.Escapes.{meant}
 use Rattle.text.proofs.unescaping.meant_by.Statement.{statement}
 use Rattle.text.proofs.unescaping.meant_by.Tie as tie
-use Rattle.text.proofs.unescaping.meant_by.Reads as reads
-use Rattle.text.proofs.unescaping.meant_by.Lts as lts
 
--- src/unescaping.rt:70:9
 returns : tie.Need-returns
 unfolding meant
 returns c =
     simp (eq-eqb (c .before .args .b) 110 (c .if1 .taken))
 
--- src/unescaping.rt:73:9
 returns-2 : tie.Need-returns-2
 unfolding meant
 returns-2 c =
     simp (ne-eqb (c .before .before .args .b) 110 (c .before .if1 .left), eq-eqb (c .before .before .args .b) 78 (c .if2 .taken))
 
--- src/unescaping.rt:66:1
 returns-3 : tie.Need-returns-3
 unfolding meant
 returns-3 c =

@@ -1,3 +1,4 @@
+-- `text::unescaping::measure_each` meets its contract. Assumes nothing.
 use borrow.Author.Needs.{needs}
 use mathlib.Core.Path.{_≡_, sym, ap, _∙_}
 use Prim.Native.Nat.{_≤_, _+_, _-_}
@@ -9,9 +10,6 @@ use Rattle.text.specs.Escapes.{firstFault, unescaped}
 use Rattle.text.proofs.EscapeLaws.{escape-inside, escape-not, step-backslash, step-comma, fault-escape, fault-octet, fault-stop, fault-end, unescaped-escape, unescaped-octet, unescaped-end}
 use Rattle.text.proofs.unescaping.measure_each.Statement.{statement}
 use Rattle.text.proofs.unescaping.measure_each.Tie as tie
-use Rattle.text.proofs.unescaping.measure_each.Reads as reads
-use Rattle.text.proofs.unescaping.measure_each.Lts as lts
-use Rattle.text.proofs.unescaping.escape_at.Reads as escape-at-reads
 
 abbrev Inv-loop : tie.InvT-loop
 Inv-loop text i₀ kept₀ i kept =
@@ -21,18 +19,16 @@ abbrev μ-loop : tie.MeasureT-loop
 μ-loop text i₀ kept₀ i kept =
     length text - i
 
--- src/unescaping.rt:96:5
 loop-holds : tie.Need-loop-holds Inv-loop μ-loop
 loop-holds c =
     (search needs, search needs, sym (zero-add _), sym (zero-add _))
 
--- src/unescaping.rt:97:12
 shared-slice-read-if1 : tie.Need-shared-slice-read-if1 Inv-loop μ-loop
 shared-slice-read-if1 c = search needs
--- src/unescaping.rt:98:17
+
 escape-at-requires : tie.Need-escape-at-requires Inv-loop μ-loop
 escape-at-requires c κs = search needs
--- src/unescaping.rt:100:17
+
 returns : tie.Need-returns Inv-loop μ-loop
 returns c =
     let s = c .before .before .before .before .before .before .before .args .text .now in
@@ -40,22 +36,19 @@ returns c =
     let e = sym (c .before .escape-at .ensures) ∙ not-true _ (c .if2 .taken) in
     (sym (l .inv .2 ∙ fault-stop s (l .i) (step-backslash s (l .i) e (c .before .before .if1 .taken))), λ (z : l .i ≡ length s). absurd (omega arith))
 
--- src/unescaping.rt:102:13
 add-kept : tie.Need-add-kept Inv-loop μ-loop
 add-kept c = search needs
--- src/unescaping.rt:103:13
+
 add-i : tie.Need-add-i Inv-loop μ-loop
 add-i c =
     let e = sym (c .before .escape-at .ensures) ∙ not-false _ (c .if2 .left) in
     omega (arith, escape-inside (c .before .before .before .before .before .before .before .args .text .now) (c .before .before .before .before .before .loop .i) e)
 
--- src/unescaping.rt:96:5
 loop-less : tie.Need-loop-less Inv-loop μ-loop
 loop-less c =
     let e = sym (c .before .escape-at .ensures) ∙ not-false _ (c .if2 .left) in
     omega (arith, escape-inside (c .before .before .before .before .before .before .before .args .text .now) (c .before .before .before .before .before .loop .i) e)
 
--- src/unescaping.rt:96:5
 loop-again : tie.Need-loop-again Inv-loop μ-loop
 loop-again c =
     let s = c .before .before .before .before .before .before .before .args .text .now in
@@ -64,26 +57,24 @@ loop-again c =
     let h = c .before .before .before .before .loop-test .taken in
     (escape-inside s (l .i) e, omega arith, l .inv .2 ∙ fault-escape s (l .i) h e, omega (arith, l .inv .3, ap length (unescaped-escape s (l .i) h e)))
 
--- src/unescaping.rt:105:16
 shared-slice-read-if3 : tie.Need-shared-slice-read-if3 Inv-loop μ-loop
 shared-slice-read-if3 c = search needs
--- src/unescaping.rt:106:17
+
 returns-2 : tie.Need-returns-2 Inv-loop μ-loop
 returns-2 c =
     let s = c .before .before .before .before .before .before .before .args .text .now in
     let l = c .before .before .before .before .before .loop in
     (sym (l .inv .2 ∙ fault-stop s (l .i) (step-comma s (l .i) (escape-not s (l .i) (c .before .before .if1 .left)) (c .before .before .if1 .left) (c .if3 .taken))), λ (z : l .i ≡ length s). absurd (omega arith))
 
--- src/unescaping.rt:108:13
 add-kept-2 : tie.Need-add-kept-2 Inv-loop μ-loop
 add-kept-2 c = search needs
--- src/unescaping.rt:109:13
+
 add-i-2 : tie.Need-add-i-2 Inv-loop μ-loop
 add-i-2 c = search needs
--- src/unescaping.rt:96:5
+
 loop-less-2 : tie.Need-loop-less-2 Inv-loop μ-loop
 loop-less-2 c = search needs
--- src/unescaping.rt:96:5
+
 loop-again-2 : tie.Need-loop-again-2 Inv-loop μ-loop
 loop-again-2 c =
     let s = c .before .before .before .before .before .before .before .args .text .now in
@@ -92,7 +83,6 @@ loop-again-2 c =
     let h = c .before .before .before .before .loop-test .taken in
     (omega arith, omega arith, l .inv .2 ∙ fault-octet s (l .i) h e (c .before .before .if1 .left) (c .if3 .left), omega (arith, l .inv .3, ap length (unescaped-octet s (l .i) h e)))
 
--- src/unescaping.rt:91:1
 returns-3 : tie.Need-returns-3 Inv-loop μ-loop
 returns-3 c =
     let s = c .before .before .before .args .text .now in

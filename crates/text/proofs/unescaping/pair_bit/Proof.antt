@@ -1,45 +1,35 @@
+-- `text::unescaping::pair_bit` meets its contract. Assumes nothing.
 use lib.Dec.{eqb}
 use Rattle.text.specs.Pairs.{unsettled}
 use Rattle.text.proofs.BitLaws.{pair-bits}
 use borrow.Author.Needs.{needs}
 use Rattle.text.proofs.unescaping.pair_bit.Statement.{statement}
 use Rattle.text.proofs.unescaping.pair_bit.Tie as tie
-use Rattle.text.proofs.unescaping.pair_bit.Reads as reads
-use Rattle.text.proofs.unescaping.pair_bit.Lts as lts
 
--- src/unescaping.rt:68:18
 cast-coded : tie.Need-cast-coded
 cast-coded c = search needs
 
--- src/unescaping.rt:68:36
 cast-coded-2 : tie.Need-cast-coded-2
 cast-coded-2 c = search needs
 
--- src/unescaping.rt:68:56
 cast-coded-3 : tie.Need-cast-coded-3
 cast-coded-3 c = search needs
 
--- src/unescaping.rt:68:75
 cast-coded-4 : tie.Need-cast-coded-4
 cast-coded-4 c = search needs
 
--- src/unescaping.rt:69:6
 cast-result : tie.Need-cast-result
 cast-result c = search needs
 
--- src/unescaping.rt:69:29
 cast-result-2 : tie.Need-cast-result-2
 cast-result-2 c = search needs
 
--- src/unescaping.rt:69:52
 cast-result-3 : tie.Need-cast-result-3
 cast-result-3 c = search needs
 
--- src/unescaping.rt:69:75
 cast-result-4 : tie.Need-cast-result-4
 cast-result-4 c = search needs
 
--- src/unescaping.rt:65:1
 returns : tie.Need-returns
 unfolding unsettled
 returns c =

@@ -1,0 +1,1 @@
+// The laws of the reader: no code, the theorems stand in proofs/.
