@@ -1,1 +1,3 @@
+-- The laws that the routines cite. Assumes nothing.
 pub mod Places
+pub mod Lows

@@ -4,6 +4,7 @@ pub mod Runs
 pub mod Masks
 pub mod Scans
 pub mod Chars
+pub mod Chains
 pub mod PlainLaws
 pub mod CaseLaws
 pub mod Copies

@@ -5,7 +5,7 @@ use cards::state::Step;
 
 mod ends;
 mod sizes;
-mod walk;
+pub mod walk;
 mod writing;
 
 // The counts of cards and lines, or a refusal's number and place.

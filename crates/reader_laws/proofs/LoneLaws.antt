@@ -1,14 +1,14 @@
 -- Refusal 3: `firstLone` is the first lone CR or LF, and the length where there is none. Assumes nothing.
-use mathlib.Core.Path.{_≡_, refl, sym, ap, _∙_}
+use mathlib.Core.Path.{_≡_, refl}
 use mathlib.Core.Bool.{Bool, true, false}
 use mathlib.Core.List.{List, [], _∷_}
-use Prim.Native.Nat.{ℕ, zero, suc, _+_, _<_, _≤_}
+use Prim.Native.Nat.{ℕ, zero, suc, _<_, _≤_}
 use native.Mathlib.Nat.{le-of-suc-le-suc, not-suc-le-zero}
 use native.Mathlib.Omega.{arith}
 use lib.Dec.{eqb}
 use lib.ListN.{length, getD}
 use borrow.Author.Tests.{eqb-true, eqb-false}
-use Rattle.octets.specs.Scan.{after, scan}
+use Rattle.octets.specs.Scan.{scan}
 use Rattle.octets.proofs.Scans.{scan-le}
 use Rattle.reader.specs.Lone.{loneStep, firstLone}
 use Rattle.reader_laws.specs.Lone.{Alone, cr, lf, before, Lone}

@@ -1,15 +1,13 @@
 -- An accepted input: its logical lines are clean, and acceptance goes by the logical lines alone, whatever their places.
 -- Assumes nothing.
 use Prim.{tt}
-use mathlib.Core.Path.{_≡_, refl, sym, ap, _∙_}
-use mathlib.Core.Bool.{Bool, true, false}
+use mathlib.Core.Path.{_≡_, sym, ap, _∙_}
+use mathlib.Core.Bool.{true}
 use mathlib.Core.List.{List, [], _∷_, map}
-use Prim.Native.Nat.{ℕ, _+_, _<_, _≤_}
+use Prim.Native.Nat.{ℕ, _+_, _≤_}
 use native.Mathlib.Omega.{arith}
-use lib.Dec.{eqb, ltb}
 use lib.ListN.{length}
-use borrow.Author.Tests.{ne-eqb, eq-eqb, le-ltb, lt-ltb}
-use Rattle.octets.specs.Pick.{pick}
+use borrow.Author.Tests.{ne-eqb, eq-eqb, le-ltb}
 use Rattle.lines.specs.Folds.{unfolded}
 use Rattle.lines.specs.Logical.{rawLines}
 use Rattle.cards.specs.State.{freshCard}
@@ -17,11 +15,13 @@ use Rattle.cards.specs.Judge.{judgeLine}
 use Rattle.cards.specs.declared.state.Card.{Card}
 use Rattle.cards.specs.declared.state.Step.{Step}
 use Rattle.cards.specs.declared.state.Step.the-variants.{Next}
+use Rattle.cards.proofs.CardLaws.{line-clean}
 use Rattle.reader.specs.Lone.{firstLone, endsCrLf}
 use Rattle.reader.specs.Outcome.{onward, judgeLines, verdictOf, judgeOf, logicalLines, copyOf, recordsOf}
-use Rattle.reader.specs.declared.Verdict.the-variants.{Accepted, Refused}
+use Rattle.reader.specs.declared.Verdict.the-variants.{Accepted}
 use Rattle.reader.proofs.AcceptLaws.{onward-next, Accepting, accepting}
 use Rattle.reader_laws.specs.Lines.{Clean, All}
+use Rattle.reader_laws.proofs.Anywhere.{any-place}
 
 -- the converse of `accepting`: what it says is all that acceptance asks
 pub accepted : (i : List ℕ) (k n : ℕ) → Accepting i k n → judgeOf i ≡ Accepted k n
@@ -43,53 +43,54 @@ unfolding endsCrLf
 ends-some [] e h = let z : _≡_ {A = ℕ} 0 1 = cc in omega arith
 ends-some (x ∷ xs) e h = omega arith
 
--- two laws of the cards: a judged line is clean, and whether a line is refused does not go by its place
-module _
-    (line-clean : (c c′ : Card) (p : ℕ) (l : List ℕ) → judgeLine c p l ≡ Next c′ → Clean l)
-    (any-place : (c c′ : Card) (p q : ℕ) (l : List ℕ) → judgeLine c p l ≡ Next c′ → judgeLine c q l ≡ Next c′) where
-  clean-lines : (ls : List (List ℕ)) (p : ℕ) (c c′ : Card) → judgeLines ls p c ≡ Next c′ → All Clean (map unfolded ls)
-  unfolding judgeLines All
-  clean-lines [] p c c′ e = tt
-  clean-lines (l ∷ ls) p c c′ e =
-      onward-next (judgeLine c p (unfolded l)) (judgeLines ls (p + length l + 2)) c′ e
-      (λ d q r. (line-clean c d p (unfolded l) q, clean-lines ls (p + length l + 2) d c′ r))
+judged-clean : (c c′ : Card) (p : ℕ) (l : List ℕ) → judgeLine c p l ≡ Next c′ → Clean l
+judged-clean c c′ p l e =
+    let w = line-clean c c′ p l e in
+    record { whole = w .0; unspaced = w .1; untabbed = w .2; some = λ z. omega (arith, w .3) }
 
-  -- each logical line of an accepted input is clean
-  pub lines-clean : (i : List ℕ) (k n : ℕ) → judgeOf i ≡ Accepted k n → All Clean (logicalLines i)
-  unfolding logicalLines
-  lines-clean i k n e =
-      let a = accepting i k n e in
-      clean-lines (rawLines i) 0 freshCard (a .last) (a .walked)
+clean-lines : (ls : List (List ℕ)) (p : ℕ) (c c′ : Card) → judgeLines ls p c ≡ Next c′ → All Clean (map unfolded ls)
+unfolding judgeLines All
+clean-lines [] p c c′ e = tt
+clean-lines (l ∷ ls) p c c′ e =
+    onward-next (judgeLine c p (unfolded l)) (judgeLines ls (p + length l + 2)) c′ e
+    (λ d q r. (judged-clean c d p (unfolded l) q, clean-lines ls (p + length l + 2) d c′ r))
 
-  same-judged : (ls ms : List (List ℕ)) (p q : ℕ) (c c′ : Card) → map unfolded ms ≡ map unfolded ls → judgeLines ls p c ≡ Next c′ → judgeLines ms q c ≡ Next c′
-  unfolding judgeLines
-  same-judged [] [] p q c c′ m e = e
-  same-judged [] (y ∷ ys) p q c c′ m e = let z : _≡_ {A = ℕ} 0 1 = cc in absurd (omega arith)
-  same-judged (l ∷ ls) [] p q c c′ m e = let z : _≡_ {A = ℕ} 0 1 = cc in absurd (omega arith)
-  same-judged (l ∷ ls) (y ∷ ys) p q c c′ m e =
-      let h : unfolded y ≡ unfolded l = cc in
-      let t : map unfolded ys ≡ map unfolded ls = cc in
-      onward-next (judgeLine c p (unfolded l)) (judgeLines ls (p + length l + 2)) c′ e
-      (λ d j r. ap (λ (s : Step). onward s (judgeLines ys (q + length y + 2))) (ap (judgeLine c q) h ∙ any-place c d p q (unfolded l) j)
-      ∙ same-judged ls ys (p + length l + 2) (q + length y + 2) d c′ t r)
+-- each logical line of an accepted input is clean
+pub lines-clean : (i : List ℕ) (k n : ℕ) → judgeOf i ≡ Accepted k n → All Clean (logicalLines i)
+unfolding logicalLines
+lines-clean i k n e =
+    let a = accepting i k n e in
+    clean-lines (rawLines i) 0 freshCard (a .last) (a .walked)
 
-  -- an input with the same logical lines, which passes 1 to 4, is accepted with the same counts
-  pub same-lines : (i j : List ℕ) (k n : ℕ) → judgeOf i ≡ Accepted k n → logicalLines j ≡ logicalLines i
-      → length j ≤ 16384 → firstLone j ≡ length j → endsCrLf j ≡ true → judgeOf j ≡ judgeOf i
-  unfolding logicalLines
-  same-lines i j k n e m short unlone ends =
-      let a = accepting i k n e in
-      accepted j k n (record {
-        short = short;
-        some = ends-some j ends;
-        unlone = unlone;
-        ends = ends;
-        last = a .last;
-        walked = same-judged (rawLines i) (rawLines j) 0 0 freshCard (a .last) m (a .walked);
-        outside = a .outside;
-        cards = a .cards;
-        lines = a .lines;
-      }) ∙ sym e
+same-judged : (ls ms : List (List ℕ)) (p q : ℕ) (c c′ : Card) → map unfolded ms ≡ map unfolded ls → judgeLines ls p c ≡ Next c′ → judgeLines ms q c ≡ Next c′
+unfolding judgeLines
+same-judged [] [] p q c c′ m e = e
+same-judged [] (y ∷ ys) p q c c′ m e = let z : _≡_ {A = ℕ} 0 1 = cc in absurd (omega arith)
+same-judged (l ∷ ls) [] p q c c′ m e = let z : _≡_ {A = ℕ} 0 1 = cc in absurd (omega arith)
+same-judged (l ∷ ls) (y ∷ ys) p q c c′ m e =
+    let h : unfolded y ≡ unfolded l = cc in
+    let t : map unfolded ys ≡ map unfolded ls = cc in
+    onward-next (judgeLine c p (unfolded l)) (judgeLines ls (p + length l + 2)) c′ e
+    (λ d j r. ap (λ (s : Step). onward s (judgeLines ys (q + length y + 2))) (ap (judgeLine c q) h ∙ any-place c d p q (unfolded l) j)
+    ∙ same-judged ls ys (p + length l + 2) (q + length y + 2) d c′ t r)
+
+-- an input with the same logical lines, which passes 1 to 4, is accepted with the same counts
+pub same-lines : (i j : List ℕ) (k n : ℕ) → judgeOf i ≡ Accepted k n → logicalLines j ≡ logicalLines i
+    → length j ≤ 16384 → firstLone j ≡ length j → endsCrLf j ≡ true → judgeOf j ≡ judgeOf i
+unfolding logicalLines
+same-lines i j k n e m short unlone ends =
+    let a = accepting i k n e in
+    accepted j k n (record {
+      short = short;
+      some = ends-some j ends;
+      unlone = unlone;
+      ends = ends;
+      last = a .last;
+      walked = same-judged (rawLines i) (rawLines j) 0 0 freshCard (a .last) m (a .walked);
+      outside = a .outside;
+      cards = a .cards;
+      lines = a .lines;
+    }) ∙ sym e
 
 -- the copy and the records go by the logical lines
 pub same-copy : (i j : List ℕ) → logicalLines j ≡ logicalLines i → copyOf j ≡ copyOf i

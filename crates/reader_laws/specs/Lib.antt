@@ -1,2 +1,3 @@
+-- The declarative statements of the reader's laws. Assumes nothing.
 pub mod Lone
 pub mod Lines

@@ -63,11 +63,11 @@ module _ (x y : ℕ) (ys : List ℕ) (b : backslash x ≡ true) (c : code y ≡ 
   escape h =
       (ap (λ (k : ℕ). after k (scan textStep (y ∷ ys))) two-step ∙ ap (λ (k : ℕ). suc (suc k)) (h .0), rw (first-escape x (y ∷ ys) whole, b, n) (omega (arith, h .1)))
 
-and-left : (a b : Bool) → (a && b) ≡ true → a ≡ true
+pub and-left : (a b : Bool) → (a && b) ≡ true → a ≡ true
 and-left true b e = refl
 and-left false b e = e
 
-and-right : (a b : Bool) → (a && b) ≡ true → b ≡ true
+pub and-right : (a b : Bool) → (a && b) ≡ true → b ≡ true
 and-right true b e = e
 and-right false b e = absurd (clash (sym e))
 

@@ -10,15 +10,7 @@ use borrow.Author.Tests.{ltb-false, leb-true, lt-ltb, le-ltb, le-leb}
 use Rattle.octets.specs.Pick.{pick}
 use Rattle.octets.specs.Classes.{within}
 use Rattle.octets.specs.Characters.{lengthBy, second, tail, rest, charLength, unit}
-use Rattle.text.proofs.EscapeLaws.{clash}
-
-and-left : (a b : Bool) → (a && b) ≡ true → a ≡ true
-and-left true b e = refl
-and-left false b e = e
-
-and-right : (a b : Bool) → (a && b) ≡ true → b ≡ true
-and-right true b e = e
-and-right false b e = absurd (clash (sym e))
+use Rattle.text.proofs.PairLaws.{and-left, and-right}
 
 -- a character of n octets, whose first one p allows, at the start of a list
 pub record Begun (p : ℕ → Bool) (n : ℕ) (l : List ℕ) : Type 0 where

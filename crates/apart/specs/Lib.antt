@@ -1,0 +1,4 @@
+pub mod Ledger
+pub mod Uploads
+pub mod Desks
+pub mod Demand

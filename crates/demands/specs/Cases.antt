@@ -1,0 +1,89 @@
+-- The examples of document 01 that are marked (*): inputs, and what the entries' outcome definitions give for each. Assumes nothing.
+use Prim.Native.Nat.{ℕ, _-_}
+use Prim.Native.String.{String}
+use mathlib.Core.Path.{_≡_}
+use mathlib.Core.List.{List, [], _∷_, _++_}
+use lib.ListN.{length, replicate}
+use Rattle.octets.specs.Room.{Filled, filled}
+use Rattle.octets.specs.declared.rooms.Written.the-variants.{Wrote, Refused as Unwritten}
+use Rattle.folder.specs.Outcome.{foldOutcome}
+use Rattle.text.specs.Outcomes.{unescapeOutcome}
+use Rattle.properties.specs.Ascii.{octets}
+use Rattle.reader.specs.Outcome.{Taken, took, readOutcome}
+use Rattle.reader.specs.declared.Verdict.the-variants.{Accepted, Refused}
+
+-- a line with its end
+abbrev line : String → List ℕ
+line s = octets s ++ (13 ∷ 10 ∷ [])
+
+-- card M, up to its END, with what stands between FN and END
+abbrev pub start : List ℕ
+start = line "BEGIN:VCARD" ++ line "VERSION:4.0"
+
+abbrev pub cardWith : List ℕ → List ℕ
+cardWith more = start ++ (line "FN:A" ++ (more ++ line "END:VCARD"))
+
+unfoldable pub cardM : List ℕ
+cardM = cardWith []
+
+-- the same with a fold after `FN:`
+unfoldable pub foldedM : List ℕ
+foldedM = start ++ (octets "FN:" ++ (13 ∷ 10 ∷ 32 ∷ line "A") ++ line "END:VCARD")
+
+unfoldable pub recordsM : List ℕ
+recordsM =
+    1 ∷ 0 ∷ 11 ∷ 0 ∷ 5 ∷ 0 ∷ 6 ∷ 0 ∷
+    34 ∷ 13 ∷ 11 ∷ 0 ∷ 7 ∷ 0 ∷ 21 ∷ 0 ∷
+    6 ∷ 26 ∷ 4 ∷ 0 ∷ 2 ∷ 0 ∷ 29 ∷ 1 ∷
+    2 ∷ 32 ∷ 9 ∷ 0 ∷ 3 ∷ 0 ∷ 36 ∷ 0 ∷ []
+
+abbrev fullName : String
+fullName = "N:Public;John;Quinlan;Mr.;Esq."
+
+-- an example: what is read, folded or unescaped, the rooms, and the outcome
+pub data Case : Type 0 where
+  reads : (input copy records : List ℕ) → Taken → Case
+  folds : (input room : List ℕ) → Filled → Case
+  unescapes : (text room : List ℕ) → Filled → Case
+
+-- the outcome that the entry's contract names is the one expected
+abbrev pub Holds : Case → Type 0
+Holds (reads i c r t) = readOutcome i c r ≡ t
+Holds (folds i o f) = foldOutcome i o ≡ f
+Holds (unescapes t o f) = unescapeOutcome t o ≡ f
+
+-- refused: both rooms stay
+abbrev pub refusal : List ℕ → ℕ → ℕ → Case
+refusal i n p = reads i (replicate 64 0) (replicate 64 0) (took (Refused n p) (replicate 64 0) (replicate 64 0))
+
+-- accepted with card M's counts, copy and records, the rest of the rooms as it was
+abbrev pub asM : List ℕ → Case
+asM i =
+    reads i (replicate 64 0) (replicate 64 0)
+    (took (Accepted 1 4) (cardM ++ replicate 21 0) (recordsM ++ replicate 32 0))
+
+-- a NOTE line of n octets, and what may stand after it, in card M
+abbrev note : ℕ → List ℕ → List ℕ
+note n more = cardWith (octets "NOTE:" ++ (replicate (n - 5) 97 ++ more))
+
+-- a card is folded into a room of 160 octets to another, of n octets
+abbrev pub folding : List ℕ → ℕ → List ℕ → Case
+folding i n o = folds i (replicate 160 0) (filled (Wrote n) (o ++ replicate (160 - n) 0))
+
+abbrev pub cases : List Case
+cases =
+    asM cardM ∷
+    asM foldedM ∷
+    refusal (start ++ line "END:VCARD") 11 26 ∷
+    refusal (start ++ line "FN:A") 9 32 ∷
+    refusal (line "BEGIN:VCARD" ++ (line "VERSION:3.0" ++ (line "FN:A" ++ line "END:VCARD"))) 7 13 ∷
+    refusal (octets "BEGIN:VCARD" ++ (10 ∷ (line "VERSION:4.0" ++ (line "FN:A" ++ line "END:VCARD")))) 3 11 ∷
+    refusal (cardWith (line fullName ++ line fullName)) 10 64 ∷
+    refusal (cardWith (line "N:Doe;J")) 7 32 ∷
+    folding (note 75 (13 ∷ 10 ∷ [])) 120 (note 75 (13 ∷ 10 ∷ [])) ∷
+    folding (note 76 (13 ∷ 10 ∷ [])) 124 (note 75 (13 ∷ 10 ∷ 32 ∷ 97 ∷ 13 ∷ 10 ∷ [])) ∷
+    folding (note 74 (195 ∷ 169 ∷ 13 ∷ 10 ∷ [])) 124 (note 74 (13 ∷ 10 ∷ 32 ∷ 195 ∷ 169 ∷ 13 ∷ 10 ∷ [])) ∷
+    unescapes (octets "a\\,b") (replicate 8 0) (filled (Wrote 3) (octets "a,b" ++ replicate 5 0)) ∷
+    unescapes (octets "\\N") (replicate 8 0) (filled (Wrote 1) (10 ∷ replicate 7 0)) ∷
+    unescapes (octets "a,b") (replicate 8 0) (filled (Unwritten 30 1) (replicate 8 0)) ∷
+    []

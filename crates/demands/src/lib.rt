@@ -1,0 +1,1 @@
+// The demands, as theorems over the contracts' definitions; no code.

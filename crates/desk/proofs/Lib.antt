@@ -1,0 +1,4 @@
+pub mod Searches
+pub mod SoundLaws
+pub mod SlotLaws
+pub mod Patches

@@ -1,0 +1,32 @@
+-- What a slice holds when a part of it that was copied over or zeroed is back. Assumes nothing.
+use Prim.Native.Nat.{ℕ, _+_, _-_, _≤_}
+use mathlib.Core.Path.{_≡_}
+use mathlib.Core.List.{List, [], append-nil}
+use native.Mathlib.Omega.{arith}
+use lib.ListN.{length, take, drop, replicate, length-replicate, length-drop, drop-of-length-le}
+use lib.Seq.{length-take-le, take-all}
+use borrow.Rule.Slice.PartMut.{putMid}
+use Rattle.octets.specs.Room.{overlay}
+use Rattle.desk.specs.Steps.{patch}
+
+pub part-size : (a h : ℕ) → a + h - a ≡ h
+part-size a h = omega arith
+
+pub put-copied : (p q e : List ℕ) (a : ℕ) → a + length q ≤ length p → e ≡ overlay q (take (length p - a) (drop a p)) → putMid a (length p - a) p e ≡ patch p a q
+unfolding patch
+put-copied p q e a h w =
+    let k : length (drop a p) ≤ length p - a = rw length-drop (omega arith) in
+    let x : take (length p - a) (drop a p) ≡ drop a p = take-all (length p - a) (drop a p) k in
+    let y : drop (length p - a) (drop a p) ≡ [] = drop-of-length-le (drop a p) k in
+    let z : e ≡ overlay q (drop a p) = rw x at w in
+    rw (z, y, append-nil)
+
+pub put-zeroed : (p e : List ℕ) (a n : ℕ) → a + n ≤ length p → e ≡ replicate (length (take (a + n - a) (drop a p))) 0
+    → putMid a (a + n - a) p e ≡ patch p a (replicate n 0)
+unfolding patch
+put-zeroed p e a n h w =
+    let k : n ≤ length (drop a p) = rw length-drop (omega arith) in
+    let x : length (take (a + n - a) (drop a p)) ≡ n = rw part-size (length-take-le n (drop a p) k) in
+    let z : e ≡ replicate n 0 = rw x at w in
+    let l : length {A = ℕ} (replicate n 0) ≡ n = length-replicate n 0 in
+    rw (z, part-size, l)

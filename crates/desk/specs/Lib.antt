@@ -1,0 +1,4 @@
+pub mod Search
+pub mod Sound
+pub mod Looks
+pub mod Steps

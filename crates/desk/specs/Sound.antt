@@ -1,0 +1,69 @@
+-- A sound desk, in document 01's words and as a test. Assumes nothing.
+use Prim.Native.Nat.{ℕ, _<_, _≤_}
+use mathlib.Core.Path.{_≡_}
+use mathlib.Core.Bool.{Bool, true, false}
+use mathlib.Core.List.{List}
+use lib.Dec.{ltb, leb, eqb}
+use lib.ListN.{getD}
+use Rattle.octets.specs.Pick.{pick}
+use Rattle.desk.specs.Search.{allAt, count}
+use Rattle.desk.specs.declared.entries.Session.{Session}
+use Rattle.desk.specs.declared.entries.State.{State}
+use Rattle.desk.specs.declared.entries.State.the-variants.{Free, Open}
+use Rattle.desk.specs.declared.entries.Entry.{Entry}
+use Rattle.desk.specs.declared.Desk.{Desk}
+
+abbrev pub none : Entry
+none = record { state = Free }
+
+-- the state of entry i
+abbrev pub stateAt : List Entry → ℕ → State
+stateAt es i = getD es i none .state
+
+-- what a session has to be where the next ticket is this
+pub record Fit (next : ℕ) (s : Session) : Type 0 where
+  pub low : 1 ≤ s .ticket
+  pub high : s .ticket < next
+  pub room : s .held ≤ 16384
+
+-- slot count in range; entries past it free; open tickets distinct, at least 1 and below the next ticket; octets held at most 16,384;
+-- next ticket at least 1
+pub record Sound (d : Desk) : Type 0 where
+  pub some : 1 ≤ d .slots
+  pub most : d .slots ≤ 40
+  pub first : 1 ≤ d .next
+  pub past : (i : ℕ) → d .slots ≤ i → i < 40 → stateAt (d .entries) i ≡ Free
+  pub each : (i : ℕ) → i < 40 → (s : Session) → stateAt (d .entries) i ≡ Open s → Fit (d .next) s
+  pub distinct : (i j : ℕ) → i < 40 → j < 40 → (s u : Session) → stateAt (d .entries) i ≡ Open s → stateAt (d .entries) j ≡ Open u → s .ticket ≡ u .ticket → i ≡ j
+
+-- the ticket of an open entry, and 0 of a free one
+abbrev pub ticketOf : State → ℕ
+ticketOf Free = 0
+ticketOf (Open s) = s .ticket
+
+abbrev pub ticketAt : List Entry → ℕ → ℕ
+ticketAt es i = ticketOf (stateAt es i)
+
+abbrev pub fits : ℕ → ℕ → ℕ → State → Bool
+fits slots next i Free = true
+fits slots next i (Open s) = pick (ltb i slots) (pick (leb 1 (s .ticket)) (pick (ltb (s .ticket) next) (leb (s .held) 16384) false) false) false
+
+abbrev pub fitsAt : List Entry → ℕ → ℕ → ℕ → Bool
+fitsAt es slots next i = fits slots next i (stateAt es i)
+
+-- f has t at a place
+abbrev pub sameAs : (ℕ → ℕ) → ℕ → ℕ → Bool
+sameAs f t i = eqb (f i) t
+
+-- what f has at i is 0 or stands at no other of the 40 places
+unfoldable pub once : (ℕ → ℕ) → ℕ → Bool
+once f i = pick (eqb (f i) 0) true (eqb (count (sameAs f (f i)) 40) 1)
+
+unfoldable pub bounds : ℕ → ℕ → Bool
+bounds slots next = pick (leb 1 slots) (pick (leb slots 40) (leb 1 next) false) false
+
+unfoldable pub sound : Desk → Bool
+sound d =
+    pick (allAt (fitsAt (d .entries) (d .slots) (d .next)) 0 40)
+    (pick (bounds (d .slots) (d .next)) (allAt (once (ticketAt (d .entries))) 0 40) false)
+    false

@@ -1,0 +1,8 @@
+-- The laws of folding. Assumes nothing.
+pub mod CutLaws
+pub mod Greedy
+pub mod CopyLaws
+pub mod BackLaws
+pub mod PhysicalLaws
+pub mod WrittenLaws
+pub mod Cases

@@ -1,0 +1,1 @@
+// The laws of folding: no code, the theorems stand in proofs/.

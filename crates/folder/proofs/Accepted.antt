@@ -1,0 +1,35 @@
+-- An accepted input is short, and each of its logical lines has whatever each line has that was passed. Assumes nothing.
+use mathlib.Core.Path.{_≡_}
+use mathlib.Core.List.{List, [], _∷_, map}
+use Prim.Native.Nat.{ℕ, _+_, _≤_}
+use lib.ListN.{length}
+use Rattle.lines.specs.Folds.{unfolded}
+use Rattle.lines.specs.Logical.{rawLines}
+use Rattle.cards.specs.State.{freshCard}
+use Rattle.cards.specs.Judge.{judgeLine}
+use Rattle.cards.specs.declared.state.Card.{Card}
+use Rattle.cards.specs.declared.state.Step.the-variants.{Next}
+use Rattle.cards.proofs.CardLaws.{line-clean}
+use Rattle.reader.specs.Outcome.{judgeLines, judgeOf, logicalLines}
+use Rattle.reader.specs.declared.Verdict.the-variants.{Accepted}
+use Rattle.reader.proofs.AcceptLaws.{onward-next, accepting}
+use Rattle.folder.specs.Pieces.{Clean, All}
+
+module _ (P : List ℕ → Type 0) (each : (c c′ : Card) (p : ℕ) (l : List ℕ) → judgeLine c p l ≡ Next c′ → P l) where
+  all-judged : (ls : List (List ℕ)) (p : ℕ) (c c′ : Card) → judgeLines ls p c ≡ Next c′ → All P (map unfolded ls)
+  unfolding judgeLines All
+  all-judged [] p c c′ e = tt
+  all-judged (l ∷ ls) p c c′ e =
+      onward-next (judgeLine c p (unfolded l)) (judgeLines ls (p + length l + 2)) c′ e
+      (λ d q r. (each c d p (unfolded l) q, all-judged ls (p + length l + 2) d c′ r))
+
+  pub all-lines : (i : List ℕ) (k n : ℕ) → judgeOf i ≡ Accepted k n → All P (logicalLines i)
+  unfolding logicalLines
+  all-lines i k n e = let a = accepting i k n e in all-judged (rawLines i) 0 freshCard (a .last) (a .walked)
+
+line-whole : (c c′ : Card) (p : ℕ) (l : List ℕ) → judgeLine c p l ≡ Next c′ → Clean l
+unfolding Clean
+line-whole c c′ p l e = line-clean c c′ p l e .0
+
+pub accepted : (i : List ℕ) (k n : ℕ) → judgeOf i ≡ Accepted k n → All Clean (logicalLines i) × (length i ≤ 16384)
+accepted i k n e = (all-lines Clean line-whole i k n e, accepting i k n e .short)

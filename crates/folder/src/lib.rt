@@ -1,0 +1,21 @@
+// The folder: where a logical line is cut, a line folded, and the lines of an input folded.
+ghost use mathlib.Core.Path.{_≡_};
+ghost use Rattle.octets.specs.Room.{filled};
+ghost use Rattle.folder.specs.Outcome.{foldOutcome};
+use octets::rooms::Written;
+use reader::Verdict;
+
+mod cuts;
+mod folding;
+mod texts;
+
+// Folds an input: 1 to 12 as the reader does, then 16, 15, else the octets written; nothing is written on a refusal.
+pub fn fold(input: &[u8], out: &mut [u8]) -> Written
+    ensures { λ r. ⌜ filled r (now (out .exit)) ≡ foldOutcome (now (input .entry)) (now (out .entry)) ⌝ }
+{
+    let v = reader::judge(input);
+    match v {
+        Verdict::Accepted(cards, lines) => texts::fold_text(input, out),
+        Verdict::Refused(n, p) => Written::Refused(n, p),
+    }
+}

@@ -1,0 +1,44 @@
+-- Whether a line is refused does not go by its place. Assumes nothing.
+use mathlib.Core.Path.{_≡_}
+use mathlib.Core.Bool.{Bool, true, false, not, _&&_}
+use mathlib.Core.List.{List}
+use Prim.Native.Nat.{ℕ, _≤_}
+use native.Mathlib.Omega.{arith}
+use lib.Dec.{eqb}
+use lib.ListN.{length}
+use borrow.Author.Tests.{le-ltb}
+use Rattle.octets.specs.Pick.{pick}
+use Rattle.octets.specs.Characters.{allowed, firstBad}
+use Rattle.properties.specs.Rows.{isGroup}
+use Rattle.cards.specs.State.{onceBit, isSeen, noted, closed}
+use Rattle.cards.specs.Parts.{rowOfLine}
+use Rattle.cards.specs.Judge.{entered, judgeParts, judgeLine}
+use Rattle.cards.specs.declared.state.Card.{Card}
+use Rattle.cards.specs.declared.state.Step.the-variants.{Next}
+use Rattle.cards.proofs.CardLaws.{unless, only, passed}
+
+module _ (c c′ : Card) (p q : ℕ) where
+  closed-anywhere : closed c p ≡ Next c′ → closed c q ≡ Next c′
+  unfolding closed
+  closed-anywhere e =
+      only 11 p (c .named) _ e (λ t r. unless 12 p (c .member && not (c .group)) _ r (λ u s. simp (t, u) s))
+
+  noted-anywhere : (row : ℕ) (group : Bool) → noted c p row group ≡ Next c′ → noted c q row group ≡ Next c′
+  unfolding noted
+  noted-anywhere row group e = unless 10 p (isSeen (onceBit row) (c .seen)) _ e (λ t r. simp t r)
+
+  entered-anywhere : (row : ℕ) (v : List ℕ) → entered c p row v ≡ Next c′ → entered c q row v ≡ Next c′
+  unfolding entered
+  entered-anywhere row v e = by (eqb row 2) e
+    where
+      by : (t : Bool) → pick t (closed c p) (noted c p row (isGroup v)) ≡ Next c′ → pick t (closed c q) (noted c q row (isGroup v)) ≡ Next c′
+      by true r = closed-anywhere r
+      by false r = noted-anywhere row (isGroup v) r
+
+  pub any-place : (l : List ℕ) → judgeLine c p l ≡ Next c′ → judgeLine c q l ≡ Next c′
+  unfolding judgeLine judgeParts
+  any-place l e =
+      let w = passed c c′ p l e in
+      let h : length l ≤ firstBad (allowed false) l = omega (arith, w .clean) in
+      simp (le-ltb (firstBad (allowed false) l) (length l) h, w .parsed, w .order, w .unladen, w .fits)
+      (entered-anywhere (rowOfLine (w .parts)) (w .parts .value) (w .after))
