@@ -28,18 +28,26 @@ impl Input {
             ended: self.ended,
         }
     }
+
+    // Whether a line was begun.
+    pub fn is_within_line(self) -> bool {
+        if self.long {
+            return true;
+        }
+        self.from < self.to
+    }
 }
 
-// The place of the first LF from a place on, or the length.
-pub fn line_end(s: &[u8], from: usize) -> usize {
+// The place past the first LF from a place on, or 0 where there is none.
+pub fn next_line(s: &[u8], from: usize) -> usize {
     let mut i = from;
     while i < s.len() {
         if s[i] == 10 {
-            return i;
+            return i + 1;
         }
         i += 1;
     }
-    s.len()
+    0
 }
 
 // Moves the octets from `from` up to `to` to the front, and answers how many they are.

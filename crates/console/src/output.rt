@@ -1,16 +1,18 @@
-// The output: octets are added at the end of a buffer, which is sent on when it has filled far or more input is awaited.
+// The output: octets are added at the end of a buffer, which is sent on when it is full or more input is awaited.
 use libc::STDOUT_FILENO;
 
-// Output is sent on from this length on; the longest answer still fits the buffer then.
-const FAR: usize = 131072;
-
-// With one octet more.
+// With one octet more; a full buffer is sent on first.
 pub fn put(out: &mut [u8], at: usize, octet: u8) -> usize {
-    if at >= out.len() {
-        return at;
+    if at < out.len() {
+        out[at] = octet;
+        return at + 1;
     }
-    out[at] = octet;
-    at + 1
+    io::write_all(STDOUT_FILENO, out);
+    if out.len() == 0 {
+        return 0;
+    }
+    out[0] = octet;
+    1
 }
 
 // With a run of octets more.
@@ -41,12 +43,4 @@ pub fn put_next(out: &mut [u8], at: usize, n: usize) -> usize {
 pub fn sent(out: &[u8], at: usize) -> usize {
     io::write_all(STDOUT_FILENO, crate::parts::part(out, 0, at));
     0
-}
-
-// Sends on what waits if it is much.
-pub fn sent_if_far(out: &[u8], at: usize) -> usize {
-    if at < FAR {
-        return at;
-    }
-    sent(out, at)
 }

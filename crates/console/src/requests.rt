@@ -11,11 +11,8 @@ use crate::words::Words;
 use octets::rooms::Written;
 use reader::Verdict;
 
-// The most octets of a line, its LF and a CR before it not counted.
-const LINE: usize = 140000;
-
 // `judge OCTETS`.
-fn judge(line: &[u8], w: Words, octets: &mut [u8], out: &mut [u8], at: usize) -> usize {
+pub fn judge(line: &[u8], w: Words, octets: &mut [u8], out: &mut [u8], at: usize) -> usize {
     let Octets::Are(n) = hex::octets_of(words::word(line, w, 1), octets) else {
         return answers::bad(out, at);
     };
@@ -71,7 +68,7 @@ fn read_to(input: &[u8], copy: &mut [u8], records: &mut [u32], out: &mut [u8], a
 }
 
 // `read COPYROOM RECORDROOM OCTETS`.
-fn read(
+pub fn read(
     line: &[u8],
     w: Words,
     octets: &mut [u8],
@@ -108,7 +105,8 @@ fn read(
 fn call(name: Name, input: &[u8], room: &mut [u8]) -> Written {
     match name {
         Name::Escape => text::escape(input, room),
-        _ => text::unescape(input, room),
+        Name::Unescape => text::unescape(input, room),
+        _ => folder::fold(input, room),
     }
 }
 
@@ -124,7 +122,7 @@ fn write_to(name: Name, input: &[u8], room: &mut [u8], out: &mut [u8], at: usize
 }
 
 // `escape ROOM OCTETS`, and the others that write octets to room.
-fn write(
+pub fn write(
     name: Name,
     line: &[u8],
     w: Words,
@@ -143,28 +141,4 @@ fn write(
         return answers::bad(out, at);
     }
     write_to(name, parts::part(octets, 0, n), &mut room[0..r], out, at)
-}
-
-// The answer to a line without its end.
-pub fn answer(
-    line: &[u8],
-    octets: &mut [u8],
-    room: &mut [u8],
-    records: &mut [u32],
-    out: &mut [u8],
-    at: usize,
-) -> usize {
-    if line.len() > LINE {
-        return answers::bad(out, at);
-    }
-    let w = words::split(line);
-    let name = words::name_of(words::word(line, w, 0), w.spaces);
-    match name {
-        Name::Judge => judge(line, w, octets, out, at),
-        Name::Read => read(line, w, octets, room, records, out, at),
-        Name::Escape => write(name, line, w, octets, room, out, at),
-        Name::Unescape => write(name, line, w, octets, room, out, at),
-        Name::Fold => answers::bad(out, at),
-        Name::Bad => answers::bad(out, at),
-    }
 }

@@ -20,6 +20,14 @@ pub enum Name {
     Fold,
     Escape,
     Unescape,
+    Desk,
+    Open,
+    Add,
+    Check,
+    Show,
+    Held,
+    Release,
+    Pool,
     Bad,
 }
 
@@ -110,6 +118,21 @@ fn name_of_two(word: &[u8]) -> Name {
     if parts::same(word, b"judge") {
         return Name::Judge;
     }
+    if parts::same(word, b"open") {
+        return Name::Open;
+    }
+    if parts::same(word, b"check") {
+        return Name::Check;
+    }
+    if parts::same(word, b"show") {
+        return Name::Show;
+    }
+    if parts::same(word, b"held") {
+        return Name::Held;
+    }
+    if parts::same(word, b"release") {
+        return Name::Release;
+    }
     Name::Bad
 }
 
@@ -123,6 +146,15 @@ fn name_of_three(word: &[u8]) -> Name {
     }
     if parts::same(word, b"unescape") {
         return Name::Unescape;
+    }
+    if parts::same(word, b"desk") {
+        return Name::Desk;
+    }
+    if parts::same(word, b"add") {
+        return Name::Add;
+    }
+    if parts::same(word, b"pool") {
+        return Name::Pool;
     }
     Name::Bad
 }

@@ -1,9 +1,9 @@
--- `console::input::line_end` is safe and ends. Assumes nothing.
+-- `console::input::next_line` is safe and ends. Assumes nothing.
 use Prim.Native.Nat.{_-_}
 use native.Mathlib.Omega.{arith}
 use lib.ListN.{length}
-use Rattle.console.proofs.input.line_end.Statement.{statement}
-use Rattle.console.proofs.input.line_end.Tie as tie
+use Rattle.console.proofs.input.next_line.Statement.{statement}
+use Rattle.console.proofs.input.next_line.Tie as tie
 
 abbrev Inv-loop : tie.InvT-loop
 Inv-loop s from i₀ i = Unit {0}
@@ -16,6 +16,9 @@ loop-holds c = tt
 
 shared-slice-read-if1 : tie.Need-shared-slice-read-if1 Inv-loop μ-loop
 shared-slice-read-if1 c = omega arith
+
+add-result : tie.Need-add-result Inv-loop μ-loop
+add-result c = omega arith
 
 returns : tie.Need-returns Inv-loop μ-loop
 returns c = tt
@@ -32,14 +35,15 @@ loop-again c = tt
 returns-2 : tie.Need-returns-2 Inv-loop μ-loop
 returns-2 c = tt
 
-pub line-end-spec : {M : Type 1} → statement M
-line-end-spec =
+pub next-line-spec : {M : Type 1} → statement M
+next-line-spec =
     tie.close
     (tie.spec
     Inv-loop
     μ-loop
     loop-holds
     shared-slice-read-if1
+    add-result
     returns
     add-i
     loop-less
