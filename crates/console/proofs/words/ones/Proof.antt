@@ -1,0 +1,20 @@
+-- `console::words::ones` meets its contract. Assumes nothing.
+use borrow.Author.Tests.{lt-ltb, le-ltb}
+use borrow.Author.Needs.{needs}
+use Rattle.console.proofs.words.ones.Statement.{statement}
+use Rattle.console.proofs.words.ones.Tie as tie
+
+returns : tie.Need-returns
+returns c = simp (lt-ltb _ _ (c .if1 .taken))
+
+cast-result : tie.Need-cast-result
+cast-result c = search needs
+
+returns-2 : tie.Need-returns-2
+returns-2 c = simp (lt-ltb _ _ (c .if2 .taken), le-ltb _ _ (c .before .if1 .left))
+
+returns-3 : tie.Need-returns-3
+returns-3 c = simp (le-ltb _ _ (c .if2 .left), le-ltb _ _ (c .before .if1 .left))
+
+pub ones-spec : {M : Type 1} → statement M
+ones-spec = tie.close (tie.spec returns cast-result returns-2 returns-3)

@@ -1,0 +1,98 @@
+// Standard input, read in large pieces to a buffer and taken line by line.
+use libc::STDIN_FILENO;
+
+// The next line starts at from, and what was read ends at to; long tells that the line did not fit the buffer and lost octets.
+pub struct Input {
+    pub from: usize,
+    pub to: usize,
+    pub long: bool,
+    pub ended: bool,
+}
+
+impl Input {
+    pub fn new() -> Input {
+        Input {
+            from: 0,
+            to: 0,
+            long: false,
+            ended: false,
+        }
+    }
+
+    // After a line: the next one starts at from.
+    pub fn past(self, from: usize) -> Input {
+        Input {
+            from: from,
+            to: self.to,
+            long: false,
+            ended: self.ended,
+        }
+    }
+
+    // Whether a line was begun.
+    pub fn is_within_line(self) -> bool {
+        if self.long {
+            return true;
+        }
+        self.from < self.to
+    }
+}
+
+// The place past the first LF from a place on, or 0 where there is none.
+pub fn next_line(s: &[u8], from: usize) -> usize {
+    let mut i = from;
+    while i < s.len() {
+        if s[i] == 10 {
+            return i + 1;
+        }
+        i += 1;
+    }
+    0
+}
+
+// Moves the octets from `from` up to `to` to the front, and answers how many they are.
+fn moved_down(buffer: &mut [u8], from: usize, to: usize) -> usize {
+    let mut n: usize = 0;
+    let mut i = from;
+    while i < to {
+        if i >= buffer.len() {
+            return n;
+        }
+        buffer[n] = buffer[i];
+        n += 1;
+        i += 1;
+    }
+    n
+}
+
+// Reads once to the buffer's rest from `from` on, and answers where what was read ends.
+fn read_from(buffer: &mut [u8], from: usize) -> usize {
+    if from >= buffer.len() {
+        return from;
+    }
+    let rest = &mut buffer[from..];
+    let got = libc::read(STDIN_FILENO, rest);
+    let n = io::count(got, rest);
+    from + n
+}
+
+// With more of the input after what was not taken yet; where that fills the buffer, the line is too long and is dropped.
+pub fn refilled(buffer: &mut [u8], i: Input) -> Input {
+    let kept = moved_down(buffer, i.from, i.to);
+    if kept >= buffer.len() {
+        let end = read_from(buffer, 0);
+        return Input {
+            from: 0,
+            to: end,
+            long: true,
+            ended: end == 0,
+        };
+    }
+    let to = read_from(buffer, kept);
+    Input {
+        from: 0,
+        to: to,
+        long: i.long,
+        ended: to == kept,
+    }
+}
