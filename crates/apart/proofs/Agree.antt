@@ -1,34 +1,34 @@
 -- One call keeps the desk and the ledger in step; so does every list of calls. Assumes nothing.
-use Prim.Native.Nat.{ℕ, suc, _+_, _*_, _<_, _≤_}
+use Prim.Native.Nat.{ℕ, _+_, _*_, _<_, _≤_}
 use mathlib.Core.Path.{_≡_, refl, sym, ap, subst, _∙_}
 use mathlib.Core.Bool.{Bool, true, false, not}
 use mathlib.Core.List.{List, [], _∷_, _++_}
 use native.Mathlib.Omega.{arith}
 use lib.Dec.{ltb, eqb}
-use lib.ListN.{length, take, drop, set, replicate, length-set, length-drop, length-replicate, getD-replicate}
+use lib.ListN.{length, drop, set, replicate, length-set, length-drop, length-replicate, getD-replicate}
 use lib.Seq.{length-take-le}
 use borrow.Author.Tests.{ltb-false, eqb-true, eqb-false, eq-eqb, ne-eqb}
 use Rattle.octets.specs.Pick.{pick}
-use Rattle.desk.specs.Search.{firstAt, count}
-use Rattle.desk.specs.Sound.{none, stateAt, Fit, Sound, sound}
-use Rattle.desk.specs.Looks.{guarded}
-use Rattle.desk.specs.Steps.{Turned, refuse, freshDesk, newStep, isFree, freeAt, slotOf, opened, openIn, openStep, patch, grown, withState, addIn, addStep, releaseIn, releaseStep, octetsIn, showStep, heldStep, judgeStep}
-use Rattle.desk.proofs.Searches.{clash, firstAt-is, firstAt-not, count-same, count-le, count-zero}
+use Rattle.desk.specs.Search.{firstAt}
+use Rattle.desk.specs.Sound.{none, stateAt, Fit}
+use Rattle.desk.specs.Steps.{refused as refusing, newStep, isFree, freeAt, slotOf, opened, openIn, openStep, patch, grown, withState, addIn, addStep, releaseStep, octetsIn, showStep, heldStep, judgeStep}
+use Rattle.desk.proofs.Searches.{clash, firstAt-is, firstAt-not, unbarred}
 use Rattle.desk.proofs.SoundLaws.{is-sound, in-bounds}
-use Rattle.desk.proofs.SlotLaws.{Granted, granted}
+use Rattle.desk.proofs.SlotLaws.{Granted}
 use Rattle.desk.specs.declared.tickets.Place.{Place}
-use Rattle.desk.specs.declared.tickets.Place.the-variants.{At, Nowhere}
+use Rattle.desk.specs.declared.tickets.Place.the-variants.{At, Nowhere, Barred}
 use Rattle.desk.specs.declared.entries.Session.{Session}
 use Rattle.desk.specs.declared.entries.Entry.{Entry}
 use Rattle.desk.specs.declared.entries.State.{State}
 use Rattle.desk.specs.declared.entries.State.the-variants.{Free, Open}
 use Rattle.desk.specs.declared.Desk.{Desk}
 use Rattle.desk.specs.declared.Slot.the-variants.{Held, No}
-use Rattle.apart.specs.Ledger.{Deed, adds, judges, shows, asks, releases, Call, opens, on, Reply, refused, told, part, Found, absent, present, answer, leaves, Row, Ledger, lookup, change, Out, opening, ledgerStep, freshLedger, run, after}
-use Rattle.apart.specs.Desks.{World, said, took, deedStep, deskStep, fresh}
-use Rattle.apart.proofs.Rows.{no, Below, change-same, change-other, change-absent, change-back, below-change, length-put, length-close}
-use Rattle.apart.proofs.Patched.{patch-in, length-patch, patch-other, count-full, count-more}
-use Rattle.apart.proofs.Steady.{same-at, other-at, made, sound-set, Backed, taken, Stands, is-open, is-free, backed-set, View, seen, unseen, view}
+use Rattle.apart.specs.Ledger.{Deed, adds, judges, shows, asks, releases, Call, opens, on, told, absent, present, answer, leaves, Row, Ledger, lookup, change, Out, opening, ledgerStep, freshLedger, run, after}
+use Rattle.apart.specs.Desks.{World, took, deedStep, deskStep}
+use Rattle.apart.proofs.Rows.{no, change-same, change-other, change-absent, change-back, below-change, length-put, length-close}
+use Rattle.apart.proofs.Patched.{patch-in, length-patch, patch-other}
+use Rattle.apart.proofs.Counts.{count, count-same, count-le, count-zero, count-full, count-more}
+use Rattle.apart.proofs.Steady.{same-at, other-at, sound-set, taken, Stands, is-open, is-free, backed-set, View, seen, unseen, view}
 
 -- the same answer, and still in step
 pub record Agrees (a : Out World) (b : Out Ledger) : Type 0 where
@@ -200,6 +200,7 @@ opening-agrees d p l m r =
         (granted-open d p l m r i e c)
 
     place : (x : Place) → firstAt (freeAt (d .entries)) 0 (d .slots) ≡ x → eqb (d .next) 4294967295 ≡ false → Agrees (took (openIn d p m x)) (opening l)
+    place (Barred n) e h = unbarred (freeAt (d .entries)) (d .slots) 0 n e
     place Nowhere e h =
         let k = count-full (taken (d .entries)) (d .slots) (λ j b. ap not (firstAt-not (freeAt (d .entries)) (d .slots) 0 e j (omega arith) (omega arith))) in
         let n = r .many in
@@ -215,7 +216,7 @@ opening-agrees d p l m r =
         rw (same-limit false h, ne-eqb (length (l .rows)) (l .slots) (λ w. omega arith)) (record { same = ap told (sym (r .next)); keeps = g })
 
     limit : (b : Bool) → eqb (d .next) 4294967295 ≡ b
-        → Agrees (took (pick (eqb (d .next) 4294967295) (refuse d p 0 21) (openIn d p m (firstAt (freeAt (d .entries)) 0 (d .slots))))) (opening l)
+        → Agrees (took (pick (eqb (d .next) 4294967295) (refusing d p 0 21) (openIn d p m (firstAt (freeAt (d .entries)) 0 (d .slots))))) (opening l)
     limit true h = rw (h, same-limit true h) (record { same = refl; keeps = r })
     limit false h = rw h (place (firstAt (freeAt (d .entries)) 0 (d .slots)) refl h)
 

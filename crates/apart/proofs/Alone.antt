@@ -4,14 +4,14 @@ use mathlib.Core.Path.{_≡_, refl, sym, ap, _∙_}
 use mathlib.Core.Bool.{Bool, true, false}
 use mathlib.Core.List.{List, [], _∷_, _++_, map}
 use native.Mathlib.Omega.{arith}
-use lib.Dec.{ltb, eqb}
+use lib.Dec.{eqb}
 use lib.ListN.{length, take}
 use borrow.Author.Tests.{eqb-true, eqb-false, eq-eqb, ne-eqb}
 use Rattle.octets.specs.Pick.{pick}
 use Rattle.desk.proofs.Searches.{clash}
-use Rattle.apart.specs.Ledger.{Deed, Call, opens, on, Reply, refused, told, Found, absent, present, answer, leaves, Row, Ledger, lookup, change, Out, opening, ledgerStep, freshLedger, run, after}
+use Rattle.apart.specs.Ledger.{Deed, Call, opens, on, Reply, refused, told, Found, absent, present, answer, leaves, Row, Ledger, lookup, change, Out, opening, ledgerStep, run, after}
 use Rattle.apart.specs.Uploads.{keep, mine, own, solo, unnamed}
-use Rattle.apart.proofs.Rows.{no, Below, below-absent, change-same, change-other, change-absent, below-change}
+use Rattle.apart.proofs.Rows.{Below, change-same, change-other, change-absent, below-change}
 
 -- ---- one call of the ledger
 

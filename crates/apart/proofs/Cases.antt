@@ -1,18 +1,18 @@
 -- Document 01's worked case of the desk: two openings with identifier 0, a release of ticket 1, an opening. Assumes nothing.
-use Prim.Native.Nat.{ℕ, _*_}
-use mathlib.Core.Path.{_≡_, refl, sym, ap, _∙_}
+use Prim.Native.Nat.{ℕ}
+use mathlib.Core.Path.{_≡_, refl, _∙_}
 use mathlib.Core.List.{List, [], _∷_}
 use native.Mathlib.Omega.{arith}
-use lib.ListN.{length, replicate, set}
+use lib.ListN.{length, replicate}
 use borrow.Author.Tests.{eq-eqb}
-use Rattle.desk.specs.Search.{firstAt, allAt, count}
-use Rattle.desk.specs.Sound.{none, stateAt, bounds, once, sound}
-use Rattle.desk.specs.Steps.{Turned, newStep, openStep, patch, slotOf, releaseStep}
+use Rattle.desk.specs.Search.{firstAt, allAt, among}
+use Rattle.desk.specs.Sound.{none, stateAt, bounds, goodAt, sound}
+use Rattle.desk.specs.Steps.{newStep, openStep, patch, slotOf, releaseStep}
 use Rattle.desk.specs.declared.entries.State.the-variants.{Free, Open}
 use Rattle.desk.specs.declared.entries.State.{State}
 use Rattle.desk.specs.declared.Desk.{Desk}
 use Rattle.desk.specs.declared.Answer.the-variants.{Done}
-use Rattle.apart.specs.Ledger.{releases, Call, opens, on, Reply, told, lookup, change, ledgerStep, freshLedger, run, after}
+use Rattle.apart.specs.Ledger.{releases, Call, opens, on, told, lookup, change, ledgerStep, freshLedger, run, after}
 use Rattle.apart.specs.Demand.{Proper, answers, world}
 use Rattle.apart.proofs.Patched.{length-patch}
 use Rattle.apart.proofs.Claim.{demand3}
@@ -40,20 +40,20 @@ two : State → State → ℕ → Desk
 two a b next = record { entries = record { state = a } ∷ record { state = b } ∷ replicate 38 none; slots = 2; next = next }
 
 first : (p : List ℕ) → length p ≡ 32768 → openStep (newStep 2 .desk) p 0 ≡ record { answer = Done 1; desk = two (session 1) Free 2; pool = p }
-unfolding openStep newStep sound allAt once count bounds firstAt two session
+unfolding openStep newStep sound allAt goodAt among bounds firstAt two session
 first p e = rw (eq-eqb (length p) 32768 e)
 
 second : (p : List ℕ) → length p ≡ 32768 → openStep (two (session 1) Free 2) p 0 ≡ record { answer = Done 2; desk = two (session 1) (session 2) 3; pool = p }
-unfolding openStep sound allAt once count bounds firstAt two session
+unfolding openStep sound allAt goodAt among bounds firstAt two session
 second p e = rw (eq-eqb (length p) 32768 e)
 
 third : (p : List ℕ) → length p ≡ 32768
     → releaseStep (two (session 1) (session 2) 3) p 1 ≡ record { answer = Done 0; desk = two Free (session 2) 3; pool = patch p 0 (replicate 16384 0) }
-unfolding releaseStep slotOf sound allAt once count bounds firstAt two session
+unfolding releaseStep slotOf sound allAt goodAt among bounds firstAt two session
 third p e = rw (eq-eqb (length p) 32768 e)
 
 fourth : (p : List ℕ) → length p ≡ 32768 → openStep (two Free (session 2) 3) p 0 ≡ record { answer = Done 3; desk = two (session 3) (session 2) 4; pool = p }
-unfolding openStep sound allAt once count bounds firstAt two session
+unfolding openStep sound allAt goodAt among bounds firstAt two session
 fourth p e = rw (eq-eqb (length p) 32768 e)
 
 -- ticket 3 stands in slot 0

@@ -1,7 +1,7 @@
 -- Demand 3, and what follows from it by name. Assumes nothing.
-use Prim.Native.Nat.{ℕ, _+_, _*_, _<_, _≤_}
-use mathlib.Core.Path.{_≡_, refl, sym, ap, subst, _∙_}
-use mathlib.Core.Bool.{Bool, true, false, not}
+use Prim.Native.Nat.{ℕ, _+_, _*_, _<_}
+use mathlib.Core.Path.{_≡_, refl, sym, ap, _∙_}
+use mathlib.Core.Bool.{Bool, true, false}
 use mathlib.Core.List.{List, [], _∷_, _++_, map}
 use native.Mathlib.Omega.{arith}
 use lib.Dec.{ltb, eqb}
@@ -11,27 +11,25 @@ use Rattle.octets.specs.Pick.{pick}
 use Rattle.reader.specs.Outcome.{judgeOf}
 use Rattle.desk.specs.Search.{firstAt}
 use Rattle.desk.specs.Sound.{stateAt, Sound}
-use Rattle.desk.specs.Looks.{guarded}
-use Rattle.desk.specs.Steps.{Turned, refuse, isFree, freeAt, newStep, slotOf, openIn, openStep, octetsIn, showStep, heldStep, judgeStep}
-use Rattle.desk.proofs.Searches.{clash, firstAt-is, firstAt-not}
+use Rattle.desk.specs.Steps.{Turned, refused, isFree, freeAt, newStep, openIn, openStep, octetsIn, showStep, heldStep, judgeStep}
+use Rattle.desk.proofs.Searches.{clash, firstAt-is, firstAt-not, unbarred}
 use Rattle.desk.proofs.SoundLaws.{is-sound}
 use Rattle.desk.specs.declared.tickets.Place.{Place}
-use Rattle.desk.specs.declared.tickets.Place.the-variants.{At, Nowhere}
+use Rattle.desk.specs.declared.tickets.Place.the-variants.{At, Nowhere, Barred}
 use Rattle.desk.specs.declared.entries.Session.{Session}
 use Rattle.desk.specs.declared.entries.State.{State}
 use Rattle.desk.specs.declared.entries.State.the-variants.{Free, Open}
 use Rattle.desk.specs.declared.Desk.{Desk}
 use Rattle.desk.specs.declared.Answer.the-variants.{Done, Refused}
-use Rattle.desk.specs.declared.Slot.the-variants.{Held, No}
-use Rattle.apart.specs.Ledger.{Deed, releases, Call, opens, on, Reply, told, Found, absent, present, shut, answer, leaves, Ledger, lookup, ledgerStep, freshLedger, run, after}
+use Rattle.apart.specs.Ledger.{Deed, releases, Call, opens, on, Reply, Found, absent, present, shut, answer, leaves, Ledger, lookup, ledgerStep, freshLedger, run, after}
 use Rattle.apart.specs.Uploads.{keep, mine, own, solo, joined, unnamed}
 use Rattle.apart.specs.Desks.{World, deskStep, fresh}
 use Rattle.apart.specs.Demand.{Proper, answers, world, ledger, OpenOn, OpenIn, Holds, Afterwards, Grants, ownAnswers, asked, Alike, Closed, used-up, no-slot, Opening, Demand3}
-use Rattle.apart.proofs.Rows.{no, Below}
+use Rattle.apart.proofs.Rows.{no}
 use Rattle.apart.proofs.Steady.{Stands, View, seen, unseen, view}
 use Rattle.apart.proofs.Agree.{octets-length, step-agrees, agree, after-stands, fresh-stands}
-use Rattle.apart.proofs.Alone.{Given, same-slots, falls-after, given-after, starts, own-solo, fates, after-fates, solo-take, fates-append, fates-absent, mine-append, after-append, run-unnamed}
-use Rattle.apart.proofs.Joins.{base, joins}
+use Rattle.apart.proofs.Alone.{Given, same-slots, falls-after, starts, own-solo, fates, after-fates, solo-take, fates-append, fates-absent, mine-append, after-append, run-unnamed}
+use Rattle.apart.proofs.Joins.{joins}
 
 -- ---- desk and ledger after the same calls
 
@@ -152,7 +150,7 @@ module _ (d : Desk) (p : List ℕ) (m : ℕ) (s : Sound d) (z : length p ≡ d .
   so-free Free e = refl
   so-free (Open u) e = clash cc
 
-  open-so : openStep d p m ≡ pick (eqb (d .next) 4294967295) (refuse d p 0 21) (openIn d p m (firstAt (freeAt (d .entries)) 0 (d .slots)))
+  open-so : openStep d p m ≡ pick (eqb (d .next) 4294967295) (refused d p 0 21) (openIn d p m (firstAt (freeAt (d .entries)) 0 (d .slots)))
   unfolding openStep
   open-so = rw (is-sound d s, eq-eqb (length p) (d .slots * 16384) z)
 
@@ -170,7 +168,7 @@ module _ (d : Desk) (p : List ℕ) (m : ℕ) (s : Sound d) (z : length p ≡ d .
   left : (d .next ≡ 4294967295 → ⊥) → openStep d p m ≡ openIn d p m (firstAt (freeAt (d .entries)) 0 (d .slots))
   left n = open-so ∙ rw (ne-eqb (d .next) 4294967295 n)
 
-  used : d .next ≡ 4294967295 → openStep d p m ≡ refuse d p 0 21
+  used : d .next ≡ 4294967295 → openStep d p m ≡ refused d p 0 21
   used h = open-so ∙ rw (eq-eqb (d .next) 4294967295 h)
 
   pub opening : Opening d p m
@@ -184,6 +182,7 @@ module _ (d : Desk) (p : List ℕ) (m : ℕ) (s : Sound d) (z : length p ≡ d .
     where
       second : (d .next ≡ 4294967295 → ⊥) → Closed d → (x : Place) → firstAt (freeAt (d .entries)) 0 (d .slots) ≡ x → openStep d p m .answer ≡ Refused 20 0
       second n (used-up h) x e = absurd (n h)
+      second n (no-slot f) (Barred k) e = unbarred (freeAt (d .entries)) (d .slots) 0 k e
       second n (no-slot f) Nowhere e = ap (λ (r : Turned). r .answer) (left n ∙ ap (openIn d p m) e)
       second n (no-slot f) (At i) e =
           let w = firstAt-is (freeAt (d .entries)) (d .slots) 0 i e in
@@ -191,12 +190,14 @@ module _ (d : Desk) (p : List ℕ) (m : ℕ) (s : Sound d) (z : length p ≡ d .
 
       only : (r a : ℕ) → openStep d p m .answer ≡ Refused r a → (b : Bool) → eqb (d .next) 4294967295 ≡ b → (x : Place) → firstAt (freeAt (d .entries)) 0 (d .slots) ≡ x → Closed d
       only r a e true b x q = used-up (eqb-true (d .next) 4294967295 b)
+      only r a e false b (Barred k) q = unbarred (freeAt (d .entries)) (d .slots) 0 k q
       only r a e false b Nowhere q = full q
       only r a e false b (At i) q =
           let w : Done (d .next) ≡ Refused r a = sym (ap (λ (r : Turned). r .answer) (left (eqb-false (d .next) 4294967295 b) ∙ ap (openIn d p m) q)) ∙ e in
           clash cc
 
       else : (Closed d → ⊥) → (x : Place) → firstAt (freeAt (d .entries)) 0 (d .slots) ≡ x → openStep d p m .answer ≡ Done (d .next)
+      else n (Barred k) e = unbarred (freeAt (d .entries)) (d .slots) 0 k e
       else n Nowhere e = absurd (n (full e))
       else n (At i) e = ap (λ (r : Turned). r .answer) (left (λ h. n (used-up h)) ∙ ap (openIn d p m) e)
 

@@ -6,12 +6,11 @@ use mathlib.Core.List.{List, [], _∷_, _++_, append-assoc, append-nil}
 use native.Mathlib.Omega.{arith}
 use lib.Dec.{ltb, eqb}
 use lib.ListN.{length}
-use borrow.Author.Tests.{ltb-true, ltb-false, eqb-true, eqb-false, eq-eqb, ne-eqb}
+use borrow.Author.Tests.{ltb-true, ltb-false, eqb-true, eqb-false}
 use Rattle.octets.specs.Pick.{pick}
-use Rattle.desk.proofs.Searches.{clash}
-use Rattle.apart.specs.Ledger.{Deed, adds, judges, shows, asks, releases, Call, opens, on, Reply, refused, told, part, Found, absent, present, answer, leaves, Row, Ledger, lookup, change, Out, opening, ledgerStep, run, after}
+use Rattle.apart.specs.Ledger.{Deed, adds, judges, shows, asks, releases, Call, opens, on, refused, told, Found, absent, present, answer, leaves, Ledger, lookup, Out, opening, ledgerStep, run, after}
 use Rattle.apart.specs.Uploads.{accepted, chunk, joined}
-use Rattle.apart.proofs.Rows.{no, Below, below-absent, change-same, change-other, change-absent}
+use Rattle.apart.proofs.Rows.{no, Below, below-absent, change-same, change-other}
 use Rattle.apart.proofs.Alone.{Given, Opens, stays, grants, opens-so, made, falls-step, given-step, fates, fates-absent, after-fates}
 use Rattle.apart.specs.Uploads.{mine}
 

@@ -1,5 +1,6 @@
 pub mod Rows
 pub mod Patched
+pub mod Counts
 pub mod Steady
 pub mod Agree
 pub mod Alone

@@ -1,18 +1,15 @@
--- Laws of a list with a part of it replaced, and of counts where one place changes. Assumes nothing.
-use Prim.Native.Nat.{ℕ, zero, suc, _+_, _*_, _-_, _<_, _≤_}
-use mathlib.Core.Path.{_≡_, refl, sym, ap, _∙_}
+-- Laws of a list with a part of it replaced. Assumes nothing.
+use Prim.Native.Nat.{ℕ, _+_, _*_, _-_, _<_, _≤_}
+use mathlib.Core.Path.{_≡_, refl, sym, _∙_}
 use mathlib.Core.Bool.{Bool, true, false}
 use mathlib.Core.List.{List, _++_, append-assoc}
 use native.Mathlib.Omega.{arith}
-use lib.Dec.{ltb, eqb}
+use lib.Dec.{ltb}
 use lib.ListN.{length, take, drop, length-append, length-drop, take-append-drop}
 use lib.Seq.{length-take-le, drop-drop, take-append-le, drop-append-le, take-append-add, drop-append-add, drop-at, take-add, take-append-seam}
-use borrow.Author.Tests.{ltb-true, ltb-false, eqb-true, eqb-false}
-use Rattle.octets.specs.Classes.{bit}
+use borrow.Author.Tests.{ltb-true, ltb-false}
 use Rattle.octets.specs.Room.{overlay}
-use Rattle.desk.specs.Search.{count}
 use Rattle.desk.specs.Steps.{patch}
-use Rattle.desk.proofs.Searches.{count-same}
 
 prefix-part : (x y : List ℕ) (b h : ℕ) → b + h ≤ length x → take h (drop b (x ++ y)) ≡ take h (drop b x)
 prefix-part x y b h k =
@@ -64,28 +61,3 @@ patch-other p q i j a h n low high fits small = go (ltb j i) refl
     go : (t : Bool) → ltb j i ≡ t → take h (drop (j * 16384) (patch p a q)) ≡ take h (drop (j * 16384) p)
     go true e = let w : j < i = ltb-true j i e in patch-before p q a (j * 16384) h (omega arith) (omega arith)
     go false e = let w : i ≤ j = ltb-false j i e in rw (patch-after p q a (j * 16384) (omega arith) (omega arith))
-
--- ---- counts
-
-pub count-full : (f : ℕ → Bool) (n : ℕ) → ((j : ℕ) → j < n → f j ≡ true) → count f n ≡ n
-unfolding count
-count-full f zero h = refl
-count-full f (suc n) h = let x = count-full f n (λ j l. h j (omega arith)) in rw (h n (omega arith)) (omega arith)
-
--- g is f with i besides
-pub count-more : (f g : ℕ → Bool) (n i : ℕ) → i < n → f i ≡ false → g i ≡ true → ((j : ℕ) → (j ≡ i → ⊥) → f j ≡ g j) → count g n ≡ suc (count f n)
-unfolding count
-count-more f g zero i l a b h = absurd (omega arith)
-count-more f g (suc n) i l a b h = go (λ k. count-more f g n i k a b h) (eqb n i) refl
-  where
-    go : (i < n → count g n ≡ suc (count f n)) → (t : Bool) → eqb n i ≡ t → bit (g n) 1 + count g n ≡ suc (bit (f n) 1 + count f n)
-    go ih true q =
-        let w : n ≡ i = eqb-true n i q in
-        let x : count f n ≡ count g n = count-same f g n (λ j k. h j (λ e. omega arith)) in
-        let fn : f n ≡ false = rw w a in
-        let gn : g n ≡ true = rw w b in
-        rw (fn, gn) (omega arith)
-    go ih false q =
-        let w : n ≡ i → ⊥ = eqb-false n i q in
-        let x = ih (omega arith) in
-        rw (h n w) (omega arith)

@@ -1,21 +1,21 @@
 -- A sound desk stays sound when an entry is set, and the desk with its pool stands for the ledger. Assumes nothing.
-use Prim.Native.Nat.{ℕ, _+_, _*_, _<_, _≤_}
+use Prim.Native.Nat.{ℕ, _*_, _<_, _≤_}
 use mathlib.Core.Path.{_≡_, refl, sym, ap, _∙_}
 use mathlib.Core.Bool.{Bool, true, false, not}
 use mathlib.Core.List.{List}
 use native.Mathlib.Omega.{arith}
-use lib.Dec.{ltb, eqb}
-use lib.ListN.{length, getD, take, drop, set}
+use lib.Dec.{eqb}
+use lib.ListN.{length, set}
 use lib.Seq.{getD-set-same, getD-set-other}
-use borrow.Author.Tests.{ltb-true, ltb-false, eqb-true, eqb-false, eq-eqb}
-use Rattle.desk.specs.Search.{firstAt, count}
+use borrow.Author.Tests.{eqb-true, eqb-false, eq-eqb}
+use Rattle.desk.specs.Search.{firstAt}
 use Rattle.desk.specs.Sound.{none, stateAt, Fit, Sound, sound}
 use Rattle.desk.specs.Steps.{isFree, openAt, slotOf, octetsIn}
-use Rattle.desk.proofs.Searches.{clash, firstAt-is, firstAt-not}
+use Rattle.desk.proofs.Searches.{clash, firstAt-is, firstAt-not, unbarred}
 use Rattle.desk.proofs.SoundLaws.{is-sound}
 use Rattle.desk.proofs.SlotLaws.{Granted, granted}
 use Rattle.desk.specs.declared.tickets.Place.{Place}
-use Rattle.desk.specs.declared.tickets.Place.the-variants.{At, Nowhere}
+use Rattle.desk.specs.declared.tickets.Place.the-variants.{At, Nowhere, Barred}
 use Rattle.desk.specs.declared.entries.Session.{Session}
 use Rattle.desk.specs.declared.entries.Entry.{Entry}
 use Rattle.desk.specs.declared.entries.State.{State}
@@ -24,6 +24,7 @@ use Rattle.desk.specs.declared.Desk.{Desk}
 use Rattle.desk.specs.declared.Slot.the-variants.{Held, No}
 use Rattle.apart.specs.Ledger.{Found, absent, present, Row, Ledger, lookup}
 use Rattle.apart.proofs.Rows.{no, Below}
+use Rattle.apart.proofs.Counts.{count}
 
 -- ---- an entry is set
 
@@ -176,6 +177,7 @@ view d p l t r = go (firstAt (openAt (d .entries) t) 0 40) refl
         seen i s e (granted d (length p) t i s e) (rw y at (r .rows .holds i h s x))
 
     go : (x : Place) → firstAt (openAt (d .entries) t) 0 40 ≡ x → View d p l t
+    go (Barred n) q = unbarred (openAt (d .entries) t) 40 0 n q
     go Nowhere q = unseen (rw (so, le, q)) (none-row q (lookup (l .rows) t) refl)
     go (At i) q =
         let f = firstAt-is (openAt (d .entries) t) 40 0 i q in

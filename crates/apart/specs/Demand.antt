@@ -10,7 +10,7 @@ use Rattle.desk.specs.declared.entries.Session.{Session}
 use Rattle.desk.specs.declared.entries.State.the-variants.{Free, Open}
 use Rattle.desk.specs.declared.Desk.{Desk}
 use Rattle.desk.specs.declared.Answer.the-variants.{Done, Refused}
-use Rattle.apart.specs.Ledger.{Deed, Call, opens, on, Reply, told, Found, present, Ledger, lookup, ledgerStep, freshLedger, run, after}
+use Rattle.apart.specs.Ledger.{Deed, Call, opens, on, Reply, told, present, Ledger, lookup, ledgerStep, freshLedger, run, after}
 use Rattle.apart.specs.Uploads.{mine, own, solo, joined, unnamed}
 use Rattle.apart.specs.Desks.{World, deskStep, fresh}
 

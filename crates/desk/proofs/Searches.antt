@@ -1,17 +1,14 @@
--- Laws of searches, of tests at every place and of counts: each turn of a loop, and what the whole tells. Assumes nothing.
+-- Laws of searches and of tests at every place: each turn of a loop, and what the whole tells. Assumes nothing.
 use Prim.Native.Nat.{ℕ, zero, suc, _+_, _-_, _<_, _≤_}
 use mathlib.Core.Path.{_≡_, refl, sym, ap, _∙_}
 use mathlib.Core.Bool.{Bool, true, false}
-use native.Mathlib.Numerals.{add-one}
 use native.Mathlib.Omega.{arith}
 use lib.Dec.{eqb}
-use borrow.Author.Tests.{eqb-true, eqb-false}
-use mir.Val.{boolByte}
+use borrow.Author.Tests.{eqb-true, eqb-false, eq-eqb, ne-eqb}
 use Rattle.octets.specs.Pick.{pick}
-use Rattle.octets.specs.Classes.{bit}
-use Rattle.desk.specs.Search.{firstAt, allAt, count}
+use Rattle.desk.specs.Search.{firstAt, allAt, sameAs, isAt, among}
 use Rattle.desk.specs.declared.tickets.Place.{Place}
-use Rattle.desk.specs.declared.tickets.Place.the-variants.{At, Nowhere}
+use Rattle.desk.specs.declared.tickets.Place.the-variants.{At, Nowhere, Barred}
 
 -- no two constructors are equal
 pub clash : {A : Type 0} → _≡_ {A = ℕ} 0 1 → A
@@ -53,18 +50,6 @@ pub allAt-miss : (p : ℕ → Bool) (n i : ℕ) → i < n → p i ≡ false → 
 unfolding allAt
 allAt-miss p n i h e = rw (rest n i h, e)
 
-pub count-none : (p : ℕ → Bool) → count p 0 ≡ 0
-unfolding count
-count-none p = refl
-
-pub byte-bit : (b : Bool) → boolByte b ≡ bit b 1
-byte-bit true = refl
-byte-bit false = refl
-
-pub count-next : (p : ℕ → Bool) (i : ℕ) → count p (i + 1) ≡ count p i + bit (p i) 1
-unfolding count
-count-next p i = rw add-one (omega arith)
-
 -- ---- what the whole tells
 
 pub allAt-all : (p : ℕ → Bool) (k i : ℕ) → allAt p i k ≡ true → (j : ℕ) → i ≤ j → j < i + k → p j ≡ true
@@ -84,16 +69,6 @@ all-allAt p zero i f = refl
 all-allAt p (suc k) i f = rw (f i (omega arith) (omega arith)) (all-allAt p k (i + 1) (λ j h l. f j (omega arith) (omega arith)))
 
 -- tests that agree at every place
-pub allAt-same : (p q : ℕ → Bool) (k i : ℕ) → ((j : ℕ) → i ≤ j → j < i + k → p j ≡ q j) → allAt p i k ≡ allAt q i k
-unfolding allAt
-allAt-same p q zero i f = refl
-allAt-same p q (suc k) i f = rw (f i (omega arith) (omega arith), allAt-same p q k (i + 1) (λ j h l. f j (omega arith) (omega arith)))
-
-pub count-same : (p q : ℕ → Bool) (n : ℕ) → ((j : ℕ) → j < n → p j ≡ q j) → count p n ≡ count q n
-unfolding count
-count-same p q zero f = refl
-count-same p q (suc n) f = rw (f n (omega arith), count-same p q n (λ j h. f j (omega arith)))
-
 pub firstAt-same : (p q : ℕ → Bool) (k i : ℕ) → ((j : ℕ) → i ≤ j → j < i + k → p j ≡ q j) → firstAt p i k ≡ firstAt q i k
 unfolding firstAt
 firstAt-same p q zero i f = refl
@@ -122,59 +97,39 @@ firstAt-not p (suc k) i e j h l = go (λ x. firstAt-not p k (i + 1) x j) (p i) r
     go ih true q x = clash cc
     go ih false q x = fin (ih x) q (eqb i j) refl
 
--- ---- how often
-
-pub bit-le : (b : Bool) → bit b 1 ≤ 1
-bit-le true = omega arith
-bit-le false = omega arith
-
-pub count-le : (p : ℕ → Bool) (n : ℕ) → count p n ≤ n
-unfolding count
-count-le p zero = omega arith
-count-le p (suc n) = let x = count-le p n in let y = bit-le (p n) in omega arith
-
--- a place counts
-pub count-some : (p : ℕ → Bool) (n i : ℕ) → i < n → p i ≡ true → 1 ≤ count p n
-unfolding count
-count-some p zero i h e = absurd (omega arith)
-count-some p (suc n) i h e = go (λ l. count-some p n i l e) (eqb n i) refl
+-- a search is never barred
+pub unbarred : {A : Type 0} (p : ℕ → Bool) (k i n : ℕ) → firstAt p i k ≡ Barred n → A
+unfolding firstAt
+unbarred p zero i n e = clash cc
+unbarred {A} p (suc k) i n e = go (λ h. unbarred p k (i + 1) n h) (p i) e
   where
-    go : (i < n → 1 ≤ count p n) → (t : Bool) → eqb n i ≡ t → 1 ≤ bit (p n) 1 + count p n
-    go ih true q = let w : n ≡ i = eqb-true n i q in rw (w, e) (omega arith)
-    go ih false q = let w : n ≡ i → ⊥ = eqb-false n i q in let x = ih (omega arith) in omega arith
+    go : (firstAt p (i + 1) k ≡ Barred n → A) → (b : Bool) → pick b (At i) (firstAt p (i + 1) k) ≡ Barred n → A
+    go ih true h = clash cc
+    go ih false h = ih h
 
--- two places count twice
-pub count-two : (p : ℕ → Bool) (n i j : ℕ) → i < j → j < n → p i ≡ true → p j ≡ true → 2 ≤ count p n
-unfolding count
-count-two p zero i j h l e f = absurd (omega arith)
-count-two p (suc n) i j h l e f = go (λ m. count-two p n i j h m e f) (eqb n j) refl
+-- ---- numbers side by side
+
+pub among-not : (f : ℕ → ℕ) (t n : ℕ) → among f t n ≡ false → (t ≡ 0 → ⊥) → (j : ℕ) → j < n → f j ≡ t → ⊥
+unfolding among
+among-not f t n e z j h q = go (firstAt (sameAs f t) 0 n) refl
   where
-    go : (j < n → 2 ≤ count p n) → (t : Bool) → eqb n j ≡ t → 2 ≤ bit (p n) 1 + count p n
-    go ih true q =
-        let w : n ≡ j = eqb-true n j q in
-        let x : 1 ≤ count p n = count-some p n i (omega arith) e in
-        let f′ : p n ≡ true = rw w f in
-        rw f′ (omega arith)
-    go ih false q = let w : n ≡ j → ⊥ = eqb-false n j q in let x = ih (omega arith) in omega arith
+    go : (r : Place) → firstAt (sameAs f t) 0 n ≡ r → ⊥
+    go (At i) s = let w : true ≡ false = rw (ne-eqb t 0 z, s) at e in clash cc
+    go Nowhere s = let w : true ≡ false = sym (eq-eqb (f j) t q) ∙ firstAt-not (sameAs f t) n 0 s j (omega arith) (omega arith) in clash cc
+    go (Barred m) s = unbarred (sameAs f t) n 0 m s
 
-pub count-zero : (p : ℕ → Bool) (n : ℕ) → ((j : ℕ) → j < n → p j ≡ false) → count p n ≡ 0
-unfolding count
-count-zero p zero h = refl
-count-zero p (suc n) h = let x = count-zero p n (λ j l. h j (omega arith)) in rw (h n (omega arith)) (omega arith)
-
--- one place that counts alone
-pub count-one : (p : ℕ → Bool) (n i : ℕ) → i < n → p i ≡ true → ((j : ℕ) → j < n → (j ≡ i → ⊥) → p j ≡ false) → count p n ≡ 1
-unfolding count
-count-one p zero i h e f = absurd (omega arith)
-count-one p (suc n) i h e f = go (λ l. count-one p n i l e (λ j m. f j (omega arith))) (eqb n i) refl
+pub not-among : (f : ℕ → ℕ) (t n : ℕ) → ((t ≡ 0 → ⊥) → (j : ℕ) → j < n → f j ≡ t → ⊥) → among f t n ≡ false
+unfolding among
+not-among f t n u = go (eqb t 0) refl (firstAt (sameAs f t) 0 n) refl
   where
-    go : (i < n → count p n ≡ 1) → (t : Bool) → eqb n i ≡ t → bit (p n) 1 + count p n ≡ 1
-    go ih true q =
-        let w : n ≡ i = eqb-true n i q in
-        let x : count p n ≡ 0 = count-zero p n (λ j l. f j (omega arith) (λ z. omega arith)) in
-        let e′ : p n ≡ true = rw w e in
-        rw e′ (omega arith)
-    go ih false q =
-        let w : n ≡ i → ⊥ = eqb-false n i q in
-        let x = ih (omega arith) in
-        rw (f n (omega arith) w) (omega arith)
+    go : (b : Bool) → eqb t 0 ≡ b → (r : Place) → firstAt (sameAs f t) 0 n ≡ r → pick b false (isAt r) ≡ false
+    go true z r s = refl
+    go false z Nowhere s = refl
+    go false z (Barred m) s = refl
+    go false z (At i) s =
+        let w = firstAt-is (sameAs f t) n 0 i s in
+        absurd (u (eqb-false t 0 z) i (omega arith) (eqb-true (f i) t (w .0)))
+
+pub among-same : (f g : ℕ → ℕ) (t n : ℕ) → ((j : ℕ) → j < n → f j ≡ g j) → among f t n ≡ among g t n
+unfolding among
+among-same f g t n e = ap (λ (r : Place). pick (eqb t 0) false (isAt r)) (firstAt-same (sameAs f t) (sameAs g t) n 0 (λ j h l. ap (λ (x : ℕ). eqb x t) (e j (omega arith))))

@@ -1,28 +1,26 @@
--- The refusals 25 and 24, the slot of a ticket and the lowest free slot, found among the tickets alone. Assumes nothing.
-use Prim.Native.Nat.{ℕ, zero, suc, _+_, _*_, _-_, _<_, _≤_}
+-- The refusals 25 and 24, and the slot of a ticket and the lowest free slot, found by one look along the tickets. Assumes nothing.
+use Prim.Native.Nat.{ℕ, _+_, _*_, _<_, _≤_}
 use mathlib.Core.Path.{_≡_, refl, sym, ap, _∙_}
 use mathlib.Core.Bool.{Bool, true, false}
 use mathlib.Core.List.{List}
 use native.Mathlib.Omega.{arith}
-use lib.Dec.{ltb, leb, eqb}
+use lib.Dec.{ltb, eqb}
 use lib.ListN.{length, set}
 use lib.Seq.{getD-set-same, getD-set-other}
 use borrow.Author.Tests.{ltb-true, ltb-false, eqb-true, eqb-false, eq-eqb, ne-eqb}
 use Rattle.octets.specs.Pick.{pick}
-use Rattle.desk.specs.Search.{firstAt, allAt, count}
-use Rattle.desk.specs.Sound.{stateAt, Fit, Sound, ticketOf, ticketAt, fitsAt, sameAs, once, sound}
-use Rattle.desk.specs.Looks.{column, Column, guarded}
-use Rattle.desk.specs.Steps.{isFree, hasTicket, freeAt, openAt, inState, inPlace, slotOf, refuse, openIn, openStep}
-use Rattle.desk.proofs.Searches.{clash, firstAt-is, firstAt-not, firstAt-same, allAt-same, count-same}
+use Rattle.desk.specs.Search.{firstAt, column, sameAs, among}
+use Rattle.desk.specs.Sound.{stateAt, Sound, ticketOf, ticketAt, sound}
+use Rattle.desk.specs.Steps.{Turned, refused, guarded, freeAt, openAt, inState, inPlace, lookStep, slotOf, openIn, openStep}
+use Rattle.desk.proofs.Searches.{clash, firstAt-is, firstAt-not, firstAt-same, unbarred, among-same}
 use Rattle.desk.proofs.SoundLaws.{sound-is}
 use Rattle.desk.specs.declared.tickets.Place.{Place}
-use Rattle.desk.specs.declared.tickets.Place.the-variants.{At, Nowhere}
+use Rattle.desk.specs.declared.tickets.Place.the-variants.{At, Nowhere, Barred}
 use Rattle.desk.specs.declared.entries.Session.{Session}
 use Rattle.desk.specs.declared.entries.State.{State}
 use Rattle.desk.specs.declared.entries.State.the-variants.{Free, Open}
 use Rattle.desk.specs.declared.entries.Entry.{Entry}
 use Rattle.desk.specs.declared.Desk.{Desk}
-use Rattle.desk.specs.declared.Slot.{Slot}
 use Rattle.desk.specs.declared.Slot.the-variants.{Held, No}
 
 -- ---- 25 and 24
@@ -59,23 +57,6 @@ barred {A} d size f a n = go (sound d) (eqb size (d .slots * 16384)) n
     go true false h = refl
     go false y h = refl
 
--- what 25 or 0 of a survey tells of the entries
-pub unfit : (d : Desk) (n : ℕ) → n ≡ pick (allAt (fitsAt (d .entries) (d .slots) (d .next)) 0 40) 0 25 → (n ≡ 0 → ⊥)
-    → (n ≡ 25) × (allAt (fitsAt (d .entries) (d .slots) (d .next)) 0 40 ≡ false)
-unfit d n e z = go (allAt (fitsAt (d .entries) (d .slots) (d .next)) 0 40) e
-  where
-    go : (b : Bool) → n ≡ pick b 0 25 → (n ≡ 25) × (b ≡ false)
-    go true h = absurd (z h)
-    go false h = (h, refl)
-
-pub fit : (d : Desk) (n : ℕ) → n ≡ pick (allAt (fitsAt (d .entries) (d .slots) (d .next)) 0 40) 0 25 → n ≡ 0
-    → allAt (fitsAt (d .entries) (d .slots) (d .next)) 0 40 ≡ true
-fit d n e z = go (allAt (fitsAt (d .entries) (d .slots) (d .next)) 0 40) e
-  where
-    go : (b : Bool) → n ≡ pick b 0 25 → b ≡ true
-    go true h = refl
-    go false h = absurd (omega arith)
-
 -- ---- the tickets side by side
 
 -- the tickets of the first n entries
@@ -94,51 +75,38 @@ begun-more es ts n t l e b i h = go (eqb i n) refl
     go true q = let w : i ≡ n = eqb-true i n q in rw w (getD-set-same ts n t 0 l ∙ e)
     go false q = let w : i ≡ n → ⊥ = eqb-false i n q in getD-set-other ts n i t 0 w ∙ b i (omega arith)
 
-pub begun-all : (es : List Entry) (ts : List ℕ) (n : ℕ) → 40 ≤ n → Begun es ts n → Column es ts
-unfolding Begun Column
-begun-all es ts n h b i l = b i (omega arith)
+pub begun-among : (es : List Entry) (ts : List ℕ) (n t : ℕ) → Begun es ts n → among (column ts) t n ≡ among (ticketAt es) t n
+unfolding Begun
+begun-among es ts n t b = among-same (column ts) (ticketAt es) t n b
 
--- ---- a ticket among the tickets
+pub begun-first : (es : List Entry) (ts : List ℕ) (m n t : ℕ) → m ≤ n → Begun es ts n → firstAt (sameAs (column ts) t) 0 m ≡ firstAt (sameAs (ticketAt es) t) 0 m
+unfolding Begun
+begun-first es ts m n t h b =
+    firstAt-same (sameAs (column ts) t) (sameAs (ticketAt es) t) m 0 (λ j k l. ap (λ (x : ℕ). eqb x t) (b j (omega arith)))
 
--- the tickets say what the entries say of standing once
-pub once-column : (es : List Entry) (ts : List ℕ) → Column es ts → allAt (once (column ts)) 0 40 ≡ allAt (once (ticketAt es)) 0 40
-unfolding once Column
-once-column es ts c =
-    allAt-same (once (column ts)) (once (ticketAt es)) 40 0
-    (λ j h l.
-    (let k : j < 40 = omega arith in
-    rw (c j k, count-same (λ i. eqb (column ts i) (ticketAt es j)) (sameAs (ticketAt es) (ticketAt es j)) 40 (λ i m. rw (c i m)))))
+-- ---- a ticket among the entries
 
-module _ (d : Desk) (ts : List ℕ) (s : Sound d) (c : Column (d .entries) ts) where
-  -- an entry is free where 0 stands
-  free-zero : (j : ℕ) → j < 40 → (x : State) → stateAt (d .entries) j ≡ x → sameAs (column ts) 0 j ≡ freeAt (d .entries) j
-  unfolding Column
-  free-zero j h Free q = rw (c j h, q)
-  free-zero j h (Open o) q = let f = s .each j h o q in let l = f .low in rw (c j h, q) (ne-eqb (o .ticket) 0 (λ z. omega arith))
+module _ (d : Desk) (s : Sound d) where
+  -- an entry is free where its ticket counts as 0
+  free-zero : (j : ℕ) → j < 40 → (x : State) → stateAt (d .entries) j ≡ x → sameAs (ticketAt (d .entries)) 0 j ≡ freeAt (d .entries) j
+  free-zero j h Free q = rw q
+  free-zero j h (Open o) q = let f = s .each j h o q in let l = f .low in rw q (ne-eqb (o .ticket) 0 (λ z. omega arith))
 
-  pub lowest-free : firstAt (sameAs (column ts) 0) 0 (d .slots) ≡ firstAt (freeAt (d .entries)) 0 (d .slots)
+  lowest-free : firstAt (sameAs (ticketAt (d .entries)) 0) 0 (d .slots) ≡ firstAt (freeAt (d .entries)) 0 (d .slots)
   lowest-free =
       let m = s .most in
-      firstAt-same (sameAs (column ts) 0) (freeAt (d .entries)) (d .slots) 0 (λ j h l. free-zero j (omega arith) (stateAt (d .entries) j) refl)
+      firstAt-same (sameAs (ticketAt (d .entries)) 0) (freeAt (d .entries)) (d .slots) 0 (λ j h l. free-zero j (omega arith) (stateAt (d .entries) j) refl)
 
-  ticket-there : (t j : ℕ) → j < 40 → sameAs (column ts) t j ≡ true → (x : State) → stateAt (d .entries) j ≡ x → ticketOf x ≡ t
-  unfolding Column
-  ticket-there t j h e x q = let w : column ts j ≡ t = eqb-true (column ts j) t e in rw (← q) (sym (c j h) ∙ w)
+  pub slot-inside : (j : ℕ) → j < 40 → (o : Session) → stateAt (d .entries) j ≡ Open o → (b : Bool) → ltb j (d .slots) ≡ b → j < d .slots
+  slot-inside j h o q true b = ltb-true j (d .slots) b
+  slot-inside j h o q false b = let w : Free ≡ Open o = sym (s .past j (ltb-false j (d .slots) b) h) ∙ q in clash cc
 
-  there-ticket : (t j : ℕ) → j < 40 → (o : Session) → stateAt (d .entries) j ≡ Open o → o .ticket ≡ t → sameAs (column ts) t j ≡ true
-  unfolding Column
-  there-ticket t j h o q e = rw (c j h, q) (eq-eqb (o .ticket) t e)
-
-  pub same-slot : (t : ℕ) → inPlace (d .entries) (firstAt (sameAs (column ts) t) 0 (d .slots)) ≡ inPlace (d .entries) (firstAt (openAt (d .entries) t) 0 40)
-  same-slot t = go (firstAt (sameAs (column ts) t) 0 (d .slots)) refl (firstAt (openAt (d .entries) t) 0 40) refl
+  same-slot : (t : ℕ) → inPlace (d .entries) (firstAt (sameAs (ticketAt (d .entries)) t) 0 (d .slots)) ≡ inPlace (d .entries) (firstAt (openAt (d .entries) t) 0 40)
+  same-slot t = go (firstAt (sameAs (ticketAt (d .entries)) t) 0 (d .slots)) refl (firstAt (openAt (d .entries) t) 0 40) refl
     where
       opens : (j : ℕ) → openAt (d .entries) t j ≡ true → (x : State) → stateAt (d .entries) j ≡ x → (o : Session) × ((x ≡ Open o) × (o .ticket ≡ t))
       opens j e Free q = let z : false ≡ true = rw q at e in clash cc
       opens j e (Open o) q = (o, (refl, eqb-true (o .ticket) t (rw q at e)))
-
-      inside : (j : ℕ) → j < 40 → (o : Session) → stateAt (d .entries) j ≡ Open o → (b : Bool) → ltb j (d .slots) ≡ b → j < d .slots
-      inside j h o q true b = ltb-true j (d .slots) b
-      inside j h o q false b = let w : Free ≡ Open o = sym (s .past j (ltb-false j (d .slots) b) h) ∙ q in clash cc
 
       nowhere : (j : ℕ) → firstAt (openAt (d .entries) t) 0 40 ≡ Nowhere → j < 40 → (x : State) → stateAt (d .entries) j ≡ x → ticketOf x ≡ t → inState j x ≡ No 22
       nowhere j e h Free q w = refl
@@ -146,73 +114,91 @@ module _ (d : Desk) (ts : List ℕ) (s : Sound d) (c : Column (d .entries) ts) w
           let z : false ≡ true = sym (firstAt-not (openAt (d .entries) t) 40 0 e j (omega arith) (omega arith)) ∙ rw q (eq-eqb (o .ticket) t w) in
           clash cc
 
-      both : (i j : ℕ) → i < d .slots → j < 40 → sameAs (column ts) t i ≡ true → (o : Session) → stateAt (d .entries) j ≡ Open o → o .ticket ≡ t
+      both : (i j : ℕ) → i < d .slots → j < 40 → ticketAt (d .entries) i ≡ t → (o : Session) → stateAt (d .entries) j ≡ Open o → o .ticket ≡ t
           → (x : State) → stateAt (d .entries) i ≡ x → i ≡ j
       both i j h l e o q w Free r =
-          let m = s .most in
-          let z : 0 ≡ t = ticket-there t i (omega arith) e Free r in
-          let f = s .each j l o q in
-          let k = f .low in
+          let z : 0 ≡ t = rw r at e in
+          let k = s .each j l o q .low in
           absurd (omega arith)
       both i j h l e o q w (Open u) r =
           let m = s .most in
-          s .distinct i j (omega arith) l u o r q (ticket-there t i (omega arith) e (Open u) r ∙ sym w)
+          s .distinct i j (omega arith) l u o r q ((rw r at e) ∙ sym w)
 
-      go : (p : Place) → firstAt (sameAs (column ts) t) 0 (d .slots) ≡ p → (r : Place) → firstAt (openAt (d .entries) t) 0 40 ≡ r → inPlace (d .entries) p ≡ inPlace (d .entries) r
+      go : (p : Place) → firstAt (sameAs (ticketAt (d .entries)) t) 0 (d .slots) ≡ p → (r : Place) → firstAt (openAt (d .entries) t) 0 40 ≡ r → inPlace (d .entries) p ≡ inPlace (d .entries) r
+      go (Barred n) e r f = unbarred (sameAs (ticketAt (d .entries)) t) (d .slots) 0 n e
+      go Nowhere e (Barred n) f = unbarred (openAt (d .entries) t) 40 0 n f
+      go (At i) e (Barred n) f = unbarred (openAt (d .entries) t) 40 0 n f
       go Nowhere e Nowhere f = refl
       go (At i) e Nowhere f =
           let m = s .most in
-          let w = firstAt-is (sameAs (column ts) t) (d .slots) 0 i e in
-          nowhere i f (omega arith) (stateAt (d .entries) i) refl (ticket-there t i (omega arith) (w .0) (stateAt (d .entries) i) refl)
+          let w = firstAt-is (sameAs (ticketAt (d .entries)) t) (d .slots) 0 i e in
+          nowhere i f (omega arith) (stateAt (d .entries) i) refl (eqb-true (ticketAt (d .entries) i) t (w .0))
       go Nowhere e (At j) f =
           let w = firstAt-is (openAt (d .entries) t) 40 0 j f in
           let o = opens j (w .0) (stateAt (d .entries) j) refl in
-          let k = inside j (omega arith) (o .0) (o .1 .0) (ltb j (d .slots)) refl in
-          let z : false ≡ true = sym (firstAt-not (sameAs (column ts) t) (d .slots) 0 e j (omega arith) (omega arith)) ∙ there-ticket t j (omega arith) (o .0) (o .1 .0) (o .1 .1) in
+          let k = slot-inside j (omega arith) (o .0) (o .1 .0) (ltb j (d .slots)) refl in
+          let y : sameAs (ticketAt (d .entries)) t j ≡ true = rw (o .1 .0) (eq-eqb (o .0 .ticket) t (o .1 .1)) in
+          let z : false ≡ true = sym (firstAt-not (sameAs (ticketAt (d .entries)) t) (d .slots) 0 e j (omega arith) (omega arith)) ∙ y in
           clash cc
       go (At i) e (At j) f =
-          let v = firstAt-is (sameAs (column ts) t) (d .slots) 0 i e in
+          let v = firstAt-is (sameAs (ticketAt (d .entries)) t) (d .slots) 0 i e in
           let w = firstAt-is (openAt (d .entries) t) 40 0 j f in
           let o = opens j (w .0) (stateAt (d .entries) j) refl in
-          ap (λ (n : ℕ). inPlace (d .entries) (At n)) (both i j (omega arith) (omega arith) (v .0) (o .0) (o .1 .0) (o .1 .1) (stateAt (d .entries) i) refl)
+          ap (λ (n : ℕ). inPlace (d .entries) (At n)) (both i j (omega arith) (omega arith) (eqb-true (ticketAt (d .entries) i) t (v .0)) (o .0) (o .1 .0) (o .1 .1) (stateAt (d .entries) i) refl)
 
-pub slot-barred : (d : Desk) (size t n : ℕ) → n ≡ guarded d size (λ m. m) 0 → (n ≡ 0 → ⊥) → No n ≡ slotOf d size t
-unfolding slotOf
-slot-barred d size t n e z = ap No e ∙ sym (barred d size No (inPlace (d .entries) (firstAt (openAt (d .entries) t) 0 40)) (λ h. z (e ∙ h)))
+-- ---- a look
 
--- the search among the tickets leads to the ticket's slot
-pub found : (d : Desk) (size t : ℕ) (ts : List ℕ) (p : Place) → guarded d size (λ n. n) 0 ≡ 0 → Column (d .entries) ts → firstAt (sameAs (column ts) t) 0 (d .slots) ≡ p
-    → inPlace (d .entries) p ≡ slotOf d size t
-unfolding slotOf
-found d size t ts p e c f =
-    sym (ap (inPlace (d .entries)) f) ∙ same-slot d ts (clear d size e .sound) c t ∙ sym (cleared d size No (inPlace (d .entries) (firstAt (openAt (d .entries) t) 0 40)) e)
+-- barred, or clear with what was found
+pub look-place : (d : Desk) (size t i : ℕ) → lookStep d size t ≡ At i → i < 40
+unfolding lookStep
+look-place d size t i e = go (eqb (guarded d size (λ n. n) 0) 0) refl
+  where
+    go : (b : Bool) → eqb (guarded d size (λ n. n) 0) 0 ≡ b → i < 40
+    go true b =
+        let z : guarded d size (λ n. n) 0 ≡ 0 = eqb-true (guarded d size (λ n. n) 0) 0 b in
+        let m = clear d size z .sound .most in
+        let w = firstAt-is (sameAs (ticketAt (d .entries)) t) (d .slots) 0 i (sym (cleared d size Barred (firstAt (sameAs (ticketAt (d .entries)) t) 0 (d .slots)) z) ∙ e) in
+        omega arith
+    go false b =
+        let h : Barred (guarded d size (λ n. n) 0) ≡ At i = sym (barred d size Barred (firstAt (sameAs (ticketAt (d .entries)) t) 0 (d .slots)) (eqb-false (guarded d size (λ n. n) 0) 0 b)) ∙ e in
+        clash cc
 
--- ---- an opening
+-- a look for a ticket leads to its slot
+pub slot-look : (d : Desk) (size t : ℕ) (p : Place) → lookStep d size t ≡ p → inPlace (d .entries) p ≡ slotOf d size t
+unfolding lookStep slotOf
+slot-look d size t p e = sym (ap (inPlace (d .entries)) e) ∙ go (sound d) refl (eqb size (d .slots * 16384)) refl
+  where
+    go : (a : Bool) → sound d ≡ a → (b : Bool) → eqb size (d .slots * 16384) ≡ b
+        → inPlace (d .entries) (pick a (pick b (firstAt (sameAs (ticketAt (d .entries)) t) 0 (d .slots)) (Barred 24)) (Barred 25))
+        ≡ pick a (pick b (inPlace (d .entries) (firstAt (openAt (d .entries) t) 0 40)) (No 24)) (No 25)
+    go true a true b = same-slot d (sound-is d a) t
+    go true a false b = refl
+    go false a b c = refl
 
-pub open-barred : (d : Desk) (p : List ℕ) (m n : ℕ) → n ≡ guarded d (length p) (λ x. x) 0 → (n ≡ 0 → ⊥) → refuse d p 0 n ≡ openStep d p m
-unfolding openStep
-open-barred d p m n e z =
-    ap (refuse d p 0) e
-    ∙ sym
-    (barred d (length p) (refuse d p 0) (pick (eqb (d .next) 4294967295) (refuse d p 0 21) (openIn d p m (firstAt (freeAt (d .entries)) 0 (d .slots))))
-    (λ h. z (e ∙ h)))
+-- a look for 0 leads to what an opening does
+abbrev openAfter : Desk → List ℕ → ℕ → Place → Turned
+openAfter d p m (Barred n) = refused d p 0 n
+openAfter d p m Nowhere = pick (eqb (d .next) 4294967295) (refused d p 0 21) (openIn d p m Nowhere)
+openAfter d p m (At i) = pick (eqb (d .next) 4294967295) (refused d p 0 21) (openIn d p m (At i))
 
-pub open-clear : (d : Desk) (p : List ℕ) (m : ℕ) → guarded d (length p) (λ x. x) 0 ≡ 0
-    → openStep d p m ≡ pick (eqb (d .next) 4294967295) (refuse d p 0 21) (openIn d p m (firstAt (freeAt (d .entries)) 0 (d .slots)))
-unfolding openStep
-open-clear d p m e =
-    cleared d (length p) (refuse d p 0) (pick (eqb (d .next) 4294967295) (refuse d p 0 21) (openIn d p m (firstAt (freeAt (d .entries)) 0 (d .slots)))) e
+pub open-look : (d : Desk) (p : List ℕ) (m : ℕ) (x : Place) → lookStep d (length p) 0 ≡ x → openAfter d p m x ≡ openStep d p m
+unfolding lookStep openStep
+open-look d p m x e = sym (ap (openAfter d p m) e) ∙ go (sound d) refl (eqb (length p) (d .slots * 16384))
+  where
+    place : (r : Place) → firstAt (sameAs (ticketAt (d .entries)) 0) 0 (d .slots) ≡ r
+        → openAfter d p m r ≡ pick (eqb (d .next) 4294967295) (refused d p 0 21) (openIn d p m r)
+    place (At i) q = refl
+    place Nowhere q = refl
+    place (Barred n) q = unbarred (sameAs (ticketAt (d .entries)) 0) (d .slots) 0 n q
 
-pub used-up : (d : Desk) (p : List ℕ) (m : ℕ) → guarded d (length p) (λ x. x) 0 ≡ 0 → d .next ≡ 4294967295 → refuse d p 0 21 ≡ openStep d p m
-used-up d p m e h = sym (open-clear d p m e ∙ rw (eq-eqb (d .next) 4294967295 h))
-
--- the search for 0 among the tickets leads to the lowest free slot
-pub opens : (d : Desk) (p : List ℕ) (m : ℕ) (ts : List ℕ) (x : Place) → guarded d (length p) (λ n. n) 0 ≡ 0 → (d .next ≡ 4294967295 → ⊥) → Column (d .entries) ts
-    → firstAt (sameAs (column ts) 0) 0 (d .slots) ≡ x → openIn d p m x ≡ openStep d p m
-opens d p m ts x e n c f =
-    sym
-    (open-clear d p m e
-    ∙ rw (ne-eqb (d .next) 4294967295 n) (ap (openIn d p m) (sym (lowest-free d ts (clear d (length p) e .sound) c) ∙ f)))
+    go : (a : Bool) → sound d ≡ a → (b : Bool)
+        → openAfter d p m (pick a (pick b (firstAt (sameAs (ticketAt (d .entries)) 0) 0 (d .slots)) (Barred 24)) (Barred 25))
+        ≡ pick {A = Turned} a (pick b (pick (eqb (d .next) 4294967295) (refused d p 0 21) (openIn d p m (firstAt (freeAt (d .entries)) 0 (d .slots)))) (refused d p 0 24)) (refused d p 0 25)
+    go true a true =
+        place (firstAt (sameAs (ticketAt (d .entries)) 0) 0 (d .slots)) refl
+        ∙ ap (λ (r : Place). pick (eqb (d .next) 4294967295) (refused d p 0 21) (openIn d p m r)) (lowest-free d (sound-is d a))
+    go true a false = refl
+    go false a b = refl
 
 -- ---- a granted slot
 
@@ -235,6 +221,7 @@ granted d size t i s e = go (eqb (guarded d size (λ n. n) 0) 0) refl
   where
     place : (p : Place) → firstAt (openAt (d .entries) t) 0 40 ≡ p → inPlace (d .entries) p ≡ Held i s → firstAt (openAt (d .entries) t) 0 40 ≡ At i
     place Nowhere q h = never 22 i s h
+    place (Barred n) q h = never n i s h
     place (At j) q h = q ∙ ap At (at (stateAt (d .entries) j) h)
       where
         at : (x : State) → inState j x ≡ Held i s → j ≡ i
@@ -244,10 +231,6 @@ granted d size t i s e = go (eqb (guarded d size (λ n. n) 0) 0) refl
     open-there : (x : State) → inState i x ≡ Held i s → x ≡ Open s
     open-there Free h = never 22 i s h
     open-there (Open o) h = let w : o ≡ s = cc in ap Open w
-
-    inside : Sound d → stateAt (d .entries) i ≡ Open s → i < 40 → (b : Bool) → ltb i (d .slots) ≡ b → i < d .slots
-    inside g q h true b = ltb-true i (d .slots) b
-    inside g q h false b = let w : Free ≡ Open s = sym (g .past i (ltb-false i (d .slots) b) h) ∙ q in clash cc
 
     go : (b : Bool) → eqb (guarded d size (λ n. n) 0) 0 ≡ b → Granted d size t i s
     go true b =
@@ -265,7 +248,7 @@ granted d size t i s e = go (eqb (guarded d size (λ n. n) 0) 0) refl
           ticket = eqb-true (s .ticket) t (rw q at (f .0));
           short = l;
           few = k .sound .most;
-          inside = inside (k .sound) q l (ltb i (d .slots)) refl;
+          inside = slot-inside d (k .sound) i l s q (ltb i (d .slots)) refl;
           room = k .sound .each i l s q .room;
         }
     go false b =

@@ -1,15 +1,14 @@
 -- The test of a desk says that it is sound, in both directions. Assumes nothing.
-use Prim.Native.Nat.{ℕ, zero, suc, _+_, _-_, _<_, _≤_}
-use mathlib.Core.Path.{_≡_, refl, sym, ap, _∙_}
-use mathlib.Core.Bool.{Bool, true, false}
+use Prim.Native.Nat.{ℕ, _<_, _≤_}
+use mathlib.Core.Path.{_≡_, refl, sym, _∙_}
+use mathlib.Core.Bool.{Bool, true, false, not}
 use mathlib.Core.List.{List}
 use native.Mathlib.Omega.{arith}
-use lib.Dec.{ltb, leb, eqb}
-use borrow.Author.Tests.{ltb-true, ltb-false, leb-true, eqb-true, eqb-false, lt-ltb, le-leb, eq-eqb, ne-eqb}
-use Rattle.octets.specs.Pick.{pick}
-use Rattle.desk.specs.Search.{allAt, count}
-use Rattle.desk.specs.Sound.{stateAt, Fit, Sound, ticketOf, ticketAt, fits, fitsAt, sameAs, once, bounds, sound}
-use Rattle.desk.proofs.Searches.{clash, pick-both, allAt-all, all-allAt, count-two, count-one}
+use lib.Dec.{ltb, eqb}
+use borrow.Author.Tests.{ltb-true, ltb-false, leb-true, eqb-true, eqb-false, lt-ltb, le-leb}
+use Rattle.desk.specs.Search.{allAt, among}
+use Rattle.desk.specs.Sound.{stateAt, Fit, Sound, ticketAt, fits, fitsAt, goodAt, bounds, sound}
+use Rattle.desk.proofs.Searches.{clash, pick-both, allAt-all, all-allAt, among-not, not-among}
 use Rattle.desk.specs.declared.entries.Session.{Session}
 use Rattle.desk.specs.declared.entries.State.{State}
 use Rattle.desk.specs.declared.entries.State.the-variants.{Free, Open}
@@ -31,48 +30,6 @@ fit-fits : (slots next i : ℕ) (s : Session) → i < slots → Fit next s → f
 fit-fits slots next i s h f =
     rw (lt-ltb i slots h, le-leb 1 (s .ticket) (f .low), lt-ltb (s .ticket) next (f .high)) (le-leb (s .held) 16384 (f .room))
 
--- ---- a ticket that stands once
-
-pub once-alone : (f : ℕ → ℕ) (i j : ℕ) → i < 40 → j < 40 → once f i ≡ true → (f i ≡ 0 → ⊥) → f j ≡ f i → i ≡ j
-unfolding once
-once-alone f i j h l e n q = go (eqb i j) refl (ltb i j) refl
-  where
-    one : count (sameAs f (f i)) 40 ≡ 1
-    one = eqb-true (count (sameAs f (f i)) 40) 1 (rw (ne-eqb (f i) 0 n) at e)
-
-    here : sameAs f (f i) i ≡ true
-    here = eq-eqb (f i) (f i) refl
-
-    there : sameAs f (f i) j ≡ true
-    there = eq-eqb (f j) (f i) q
-
-    go : (a : Bool) → eqb i j ≡ a → (b : Bool) → ltb i j ≡ b → i ≡ j
-    go true a b c = eqb-true i j a
-    go false a true c =
-        let w : i < j = ltb-true i j c in
-        let t = count-two (sameAs f (f i)) 40 i j w l here there in
-        let o = one in
-        absurd (omega arith)
-    go false a false c =
-        let w : j ≤ i = ltb-false i j c in
-        let d : i ≡ j → ⊥ = eqb-false i j a in
-        let t = count-two (sameAs f (f i)) 40 j i (omega arith) h there here in
-        let o = one in
-        absurd (omega arith)
-
-alone-once : (f : ℕ → ℕ) (i : ℕ) → i < 40 → ((j : ℕ) → j < 40 → (f i ≡ 0 → ⊥) → f j ≡ f i → j ≡ i) → once f i ≡ true
-unfolding once
-alone-once f i h u = go (eqb (f i) 0) refl
-  where
-    other : (f i ≡ 0 → ⊥) → (j : ℕ) → j < 40 → (j ≡ i → ⊥) → sameAs f (f i) j ≡ false
-    other n j l d = ne-eqb (f j) (f i) (λ q. d (u j l n q))
-
-    go : (b : Bool) → eqb (f i) 0 ≡ b → pick (eqb (f i) 0) true (eqb (count (sameAs f (f i)) 40) 1) ≡ true
-    go true q = rw q
-    go false q =
-        rw q
-        (eq-eqb (count (sameAs f (f i)) 40) 1 (count-one (sameAs f (f i)) 40 i h (eq-eqb (f i) (f i) refl) (other (eqb-false (f i) 0 q))))
-
 -- ---- bounds
 
 pub bounds-are : (slots next : ℕ) → bounds slots next ≡ true → (1 ≤ slots) × (slots ≤ 40) × (1 ≤ next)
@@ -88,51 +45,85 @@ in-bounds slots next a b c = rw (le-leb 1 slots a, le-leb slots 40 b) (le-leb 1 
 
 -- ---- the desk
 
+good-fits : (es : List Entry) (slots next i : ℕ) → goodAt es slots next i ≡ true → fitsAt es slots next i ≡ true
+unfolding goodAt
+good-fits es slots next i e = pick-both (fitsAt es slots next i) (not (among (ticketAt es) (ticketAt es i) i)) e .0
+
+good-new : (es : List Entry) (slots next i : ℕ) → goodAt es slots next i ≡ true → among (ticketAt es) (ticketAt es i) i ≡ false
+unfolding goodAt
+good-new es slots next i e = go (among (ticketAt es) (ticketAt es i) i) (pick-both (fitsAt es slots next i) (not (among (ticketAt es) (ticketAt es i) i)) e .1)
+  where
+    go : (b : Bool) → not b ≡ true → b ≡ false
+    go true h = clash cc
+    go false h = refl
+
+pub unfit : (es : List Entry) (slots next i : ℕ) → fitsAt es slots next i ≡ false → goodAt es slots next i ≡ false
+unfolding goodAt
+unfit es slots next i e = rw e
+
+pub repeated : (es : List Entry) (slots next i : ℕ) → fitsAt es slots next i ≡ true → among (ticketAt es) (ticketAt es i) i ≡ true → goodAt es slots next i ≡ false
+unfolding goodAt
+repeated es slots next i e f = rw (e, f)
+
+pub good : (es : List Entry) (slots next i : ℕ) → fitsAt es slots next i ≡ true → among (ticketAt es) (ticketAt es i) i ≡ false → goodAt es slots next i ≡ true
+unfolding goodAt
+good es slots next i e f = rw (e, f)
+
 module _ (d : Desk) where
-  parts : sound d ≡ true → (allAt (fitsAt (d .entries) (d .slots) (d .next)) 0 40 ≡ true) × (bounds (d .slots) (d .next) ≡ true) × (allAt (once (ticketAt (d .entries))) 0 40 ≡ true)
+  parts : sound d ≡ true → (bounds (d .slots) (d .next) ≡ true) × (allAt (goodAt (d .entries) (d .slots) (d .next)) 0 40 ≡ true)
   unfolding sound
-  parts e =
-      let a = pick-both (allAt (fitsAt (d .entries) (d .slots) (d .next)) 0 40) (pick (bounds (d .slots) (d .next)) (allAt (once (ticketAt (d .entries))) 0 40) false) e in
-      let b = pick-both (bounds (d .slots) (d .next)) (allAt (once (ticketAt (d .entries))) 0 40) (a .1) in
-      (a .0, b .0, b .1)
+  parts e = pick-both (bounds (d .slots) (d .next)) (allAt (goodAt (d .entries) (d .slots) (d .next)) 0 40) e
+
+  each-good : sound d ≡ true → (i : ℕ) → i < 40 → goodAt (d .entries) (d .slots) (d .next) i ≡ true
+  each-good e i h = allAt-all (goodAt (d .entries) (d .slots) (d .next)) 40 0 (parts e .1) i (omega arith) (omega arith)
 
   each-fits : sound d ≡ true → (i : ℕ) → i < 40 → (x : State) → stateAt (d .entries) i ≡ x → fits (d .slots) (d .next) i x ≡ true
-  each-fits e i h x q = rw q at (allAt-all (fitsAt (d .entries) (d .slots) (d .next)) 40 0 (parts e .0) i (omega arith) (omega arith))
+  each-fits e i h x q = rw q at (good-fits (d .entries) (d .slots) (d .next) i (each-good e i h))
 
-  each-once : sound d ≡ true → (i : ℕ) → i < 40 → once (ticketAt (d .entries)) i ≡ true
-  each-once e i h = allAt-all (once (ticketAt (d .entries))) 40 0 (parts e .2) i (omega arith) (omega arith)
+  -- no ticket is that of an entry before
+  no-repeat : sound d ≡ true → (i j : ℕ) → j < 40 → i < j → (s : Session) → stateAt (d .entries) j ≡ Open s → ticketAt (d .entries) i ≡ s .ticket → ⊥
+  no-repeat e i j h l s q r =
+      let f = fits-fit (d .slots) (d .next) j s (each-fits e j h (Open s) q) in
+      let z : s .ticket ≡ 0 → ⊥ = λ x. (let k = f .low in omega arith) in
+      let a : among (ticketAt (d .entries)) (s .ticket) j ≡ false = rw q at (good-new (d .entries) (d .slots) (d .next) j (each-good e j h)) in
+      among-not (ticketAt (d .entries)) (s .ticket) j a z i l r
 
   -- what the test tells
   pub sound-is : sound d ≡ true → Sound d
   sound-is e =
-      let b = bounds-are (d .slots) (d .next) (parts e .1) in
+      let b = bounds-are (d .slots) (d .next) (parts e .0) in
       record {
         some = b .0;
         most = b .1;
         first = b .2;
         past = λ i h l. past i h l (stateAt (d .entries) i) refl;
         each = λ i h s q. fits-fit (d .slots) (d .next) i s (each-fits e i h (Open s) q);
-        distinct = λ i j h l s u q r t.
-            (let f = fits-fit (d .slots) (d .next) i s (each-fits e i h (Open s) q) in
-            once-alone (ticketAt (d .entries)) i j h l (each-once e i h) (rw q (λ z. absurd (zero-no f z))) (rw (q, r) (sym t)));
+        distinct = λ i j h l s u q r t. distinct i j h l s u q r t (eqb i j) refl (ltb i j) refl;
       }
     where
-      zero-no : {s : Session} → Fit (d .next) s → s .ticket ≡ 0 → ⊥
-      zero-no f z = let l = f .low in omega arith
-
       past : (i : ℕ) → d .slots ≤ i → i < 40 → (x : State) → stateAt (d .entries) i ≡ x → x ≡ Free
       past i h l Free q = refl
       past i h l (Open s) q = let w = fits-inside (d .slots) (d .next) i s (each-fits e i l (Open s) q) in absurd (omega arith)
+
+      distinct : (i j : ℕ) → i < 40 → j < 40 → (s u : Session) → stateAt (d .entries) i ≡ Open s → stateAt (d .entries) j ≡ Open u → s .ticket ≡ u .ticket
+          → (a : Bool) → eqb i j ≡ a → (b : Bool) → ltb i j ≡ b → i ≡ j
+      distinct i j h l s u q r t true a b c = eqb-true i j a
+      distinct i j h l s u q r t false a true c = absurd (no-repeat e i j l (ltb-true i j c) u r (rw q t))
+      distinct i j h l s u q r t false a false c =
+          let w : j ≤ i = ltb-false i j c in
+          let n : i ≡ j → ⊥ = eqb-false i j a in
+          absurd (no-repeat e j i h (omega arith) s q (rw r (sym t)))
 
   -- and nothing less
   pub is-sound : Sound d → sound d ≡ true
   unfolding sound
   is-sound g =
-      rw (
-        all-allAt (fitsAt (d .entries) (d .slots) (d .next)) 40 0 (λ j h l. fit j (omega arith) (stateAt (d .entries) j) refl),
-        in-bounds (d .slots) (d .next) (g .some) (g .most) (g .first),
-      )
-      (all-allAt (once (ticketAt (d .entries))) 40 0 (λ j h l. alone-once (ticketAt (d .entries)) j (omega arith) (λ m k. alone j m (omega arith) k (stateAt (d .entries) j) refl (stateAt (d .entries) m) refl)))
+      rw (in-bounds (d .slots) (d .next) (g .some) (g .most) (g .first))
+      (all-allAt (goodAt (d .entries) (d .slots) (d .next)) 40 0
+      (λ j h l.
+      good (d .entries) (d .slots) (d .next) j (fit j (omega arith) (stateAt (d .entries) j) refl)
+      (not-among (ticketAt (d .entries)) (ticketAt (d .entries) j) j
+      (λ n m k e. alone j m (omega arith) k (stateAt (d .entries) j) refl (stateAt (d .entries) m) refl n e))))
     where
       inside : (i : ℕ) → i < 40 → (s : Session) → stateAt (d .entries) i ≡ Open s → (b : Bool) → ltb i (d .slots) ≡ b → i < d .slots
       inside i h s q true b = ltb-true i (d .slots) b
@@ -142,8 +133,10 @@ module _ (d : Desk) where
       fit j h Free q = rw q
       fit j h (Open s) q = rw q (fit-fits (d .slots) (d .next) j s (inside j h s q (ltb j (d .slots)) refl) (g .each j h s q))
 
-      alone : (j m : ℕ) → j < 40 → m < 40 → (x : State) → stateAt (d .entries) j ≡ x → (y : State) → stateAt (d .entries) m ≡ y
-          → (ticketAt (d .entries) j ≡ 0 → ⊥) → ticketAt (d .entries) m ≡ ticketAt (d .entries) j → m ≡ j
-      alone j m h l Free q y r n e = absurd (n (rw q))
-      alone j m h l (Open s) q Free r n e = absurd (n (sym e ∙ rw r))
-      alone j m h l (Open s) q (Open u) r n e = g .distinct m j l h u s r q (rw (r, q) at e)
+      alone : (j m : ℕ) → j < 40 → m < j → (x : State) → stateAt (d .entries) j ≡ x → (y : State) → stateAt (d .entries) m ≡ y
+          → (ticketAt (d .entries) j ≡ 0 → ⊥) → ticketAt (d .entries) m ≡ ticketAt (d .entries) j → ⊥
+      alone j m h l Free q y r n e = n (rw q)
+      alone j m h l (Open s) q Free r n e = n (sym e ∙ rw r)
+      alone j m h l (Open s) q (Open u) r n e =
+          let w = g .distinct m j (omega arith) h u s r q (rw (r, q) at e) in
+          omega arith

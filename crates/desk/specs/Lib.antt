@@ -1,4 +1,3 @@
 pub mod Search
 pub mod Sound
-pub mod Looks
 pub mod Steps

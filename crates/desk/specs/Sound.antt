@@ -1,12 +1,12 @@
 -- A sound desk, in document 01's words and as a test. Assumes nothing.
 use Prim.Native.Nat.{ℕ, _<_, _≤_}
 use mathlib.Core.Path.{_≡_}
-use mathlib.Core.Bool.{Bool, true, false}
+use mathlib.Core.Bool.{Bool, true, false, not}
 use mathlib.Core.List.{List}
-use lib.Dec.{ltb, leb, eqb}
+use lib.Dec.{ltb, leb}
 use lib.ListN.{getD}
 use Rattle.octets.specs.Pick.{pick}
-use Rattle.desk.specs.Search.{allAt, count}
+use Rattle.desk.specs.Search.{allAt, among}
 use Rattle.desk.specs.declared.entries.Session.{Session}
 use Rattle.desk.specs.declared.entries.State.{State}
 use Rattle.desk.specs.declared.entries.State.the-variants.{Free, Open}
@@ -51,19 +51,12 @@ fits slots next i (Open s) = pick (ltb i slots) (pick (leb 1 (s .ticket)) (pick 
 abbrev pub fitsAt : List Entry → ℕ → ℕ → ℕ → Bool
 fitsAt es slots next i = fits slots next i (stateAt es i)
 
--- f has t at a place
-abbrev pub sameAs : (ℕ → ℕ) → ℕ → ℕ → Bool
-sameAs f t i = eqb (f i) t
-
--- what f has at i is 0 or stands at no other of the 40 places
-unfoldable pub once : (ℕ → ℕ) → ℕ → Bool
-once f i = pick (eqb (f i) 0) true (eqb (count (sameAs f (f i)) 40) 1)
+-- entry i fits, and no entry before it has its ticket
+unfoldable pub goodAt : List Entry → ℕ → ℕ → ℕ → Bool
+goodAt es slots next i = pick (fitsAt es slots next i) (not (among (ticketAt es) (ticketAt es i) i)) false
 
 unfoldable pub bounds : ℕ → ℕ → Bool
 bounds slots next = pick (leb 1 slots) (pick (leb slots 40) (leb 1 next) false) false
 
 unfoldable pub sound : Desk → Bool
-sound d =
-    pick (allAt (fitsAt (d .entries) (d .slots) (d .next)) 0 40)
-    (pick (bounds (d .slots) (d .next)) (allAt (once (ticketAt (d .entries))) 0 40) false)
-    false
+sound d = pick (bounds (d .slots) (d .next)) (allAt (goodAt (d .entries) (d .slots) (d .next)) 0 40) false

@@ -1,5 +1,5 @@
 -- What each call answers, the next desk and what the pool holds then, for every desk, pool and ticket. Assumes nothing.
-use Prim.Native.Nat.{ℕ, _+_, _*_, _-_, _<_, _≤_}
+use Prim.Native.Nat.{ℕ, _+_, _*_}
 use mathlib.Core.Path.{_≡_}
 use mathlib.Core.Bool.{Bool, true, false}
 use mathlib.Core.List.{List, [], _++_}
@@ -11,11 +11,10 @@ use Rattle.octets.specs.Room.{overlay}
 use Rattle.reader.specs.Outcome.{judgeOf}
 use Rattle.reader.specs.declared.Verdict.{Verdict}
 use Rattle.reader.specs.declared.Verdict.the-variants.{Refused as Unread}
-use Rattle.desk.specs.Search.{firstAt}
-use Rattle.desk.specs.Sound.{none, stateAt, bounds, sound}
-use Rattle.desk.specs.Looks.{guarded}
+use Rattle.desk.specs.Search.{firstAt, sameAs}
+use Rattle.desk.specs.Sound.{none, stateAt, ticketAt, bounds, sound}
 use Rattle.desk.specs.declared.tickets.Place.{Place}
-use Rattle.desk.specs.declared.tickets.Place.the-variants.{At, Nowhere}
+use Rattle.desk.specs.declared.tickets.Place.the-variants.{At, Nowhere, Barred}
 use Rattle.desk.specs.declared.entries.Session.{Session}
 use Rattle.desk.specs.declared.entries.State.{State}
 use Rattle.desk.specs.declared.entries.State.the-variants.{Free, Open}
@@ -36,9 +35,16 @@ pub record Turned : Type 0 where
 abbrev pub turned : Turn → List ℕ → Turned
 turned r p = record { answer = r .answer; desk = r .desk; pool = p }
 
--- a refusal changes nothing
-abbrev pub refuse : Desk → List ℕ → ℕ → ℕ → Turned
-refuse d p at n = record { answer = Refused n at; desk = d; pool = p }
+-- a refusal's number and place; it changes nothing
+abbrev pub refuse : Desk → ℕ → ℕ → Turn
+refuse d n at = record { answer = Refused n at; desk = d }
+
+abbrev pub refused : Desk → List ℕ → ℕ → ℕ → Turned
+refused d p at n = turned (refuse d n at) p
+
+-- 25 where the desk is not sound, then 24 where the pool has another size, else a
+abbrev pub guarded : {A : Type 0} → Desk → ℕ → (ℕ → A) → A → A
+guarded d size bar a = pick (sound d) (pick (eqb size (d .slots * 16384)) a (bar 24)) (bar 25)
 
 -- ---- a new desk
 
@@ -46,7 +52,7 @@ abbrev pub freshDesk : ℕ → Desk
 freshDesk n = record { entries = replicate 40 none; slots = n; next = 1 }
 
 unfoldable pub newStep : ℕ → Turn
-newStep n = pick (bounds n 1) (record { answer = Done 0; desk = freshDesk n }) (record { answer = Refused 26 0; desk = freshDesk 0 })
+newStep n = pick (bounds n 1) (record { answer = Done 0; desk = freshDesk n }) (refuse (freshDesk 0) 26 0)
 
 -- ---- the slot of a ticket
 
@@ -71,6 +77,11 @@ inState i (Open s) = Held i s
 abbrev pub inPlace : List Entry → Place → Slot
 inPlace es Nowhere = No 22
 inPlace es (At i) = inState i (stateAt es i)
+inPlace es (Barred n) = No n
+
+-- 25, 24, or the first slot that has a ticket; a free one has 0
+unfoldable pub lookStep : Desk → ℕ → ℕ → Place
+lookStep d size t = guarded d size Barred (firstAt (sameAs (ticketAt (d .entries)) t) 0 (d .slots))
 
 -- 25, 24, 22, or the slot of a ticket with its session
 unfoldable pub slotOf : Desk → ℕ → ℕ → Slot
@@ -86,13 +97,14 @@ opened d m i =
     record { entries = set (d .entries) i (record { state = Open (record { ticket = d .next; tram = m; held = 0 }) }); slots = d .slots; next = d .next + 1 }
 
 abbrev pub openIn : Desk → List ℕ → ℕ → Place → Turned
-openIn d p m Nowhere = refuse d p 0 20
+openIn d p m Nowhere = refused d p 0 20
 openIn d p m (At i) = record { answer = Done (d .next); desk = opened d m i; pool = p }
+openIn d p m (Barred n) = refused d p 0 n
 
 -- 25, 24, 21, 20; else the next ticket in the lowest free slot
 unfoldable pub openStep : Desk → List ℕ → ℕ → Turned
 openStep d p m =
-    guarded d (length p) (refuse d p 0) (pick (eqb (d .next) 4294967295) (refuse d p 0 21) (openIn d p m (firstAt (freeAt (d .entries)) 0 (d .slots))))
+    guarded d (length p) (refused d p 0) (pick (eqb (d .next) 4294967295) (refused d p 0 21) (openIn d p m (firstAt (freeAt (d .entries)) 0 (d .slots))))
 
 -- ---- add
 
@@ -104,9 +116,9 @@ abbrev pub grown : Session → ℕ → Session
 grown s n = record { ticket = s .ticket; tram = s .tram; held = s .held + n }
 
 abbrev pub addIn : Desk → List ℕ → List ℕ → Slot → Turned
-addIn d p q (No n) = refuse d p 0 n
+addIn d p q (No n) = refused d p 0 n
 addIn d p q (Held i s) =
-    pick (ltb 16384 (s .held + length q)) (refuse d p (s .held) 23)
+    pick (ltb 16384 (s .held + length q)) (refused d p (s .held) 23)
     (record { answer = Done (s .held + length q); desk = withState d i (Open (grown s (length q))); pool = patch p (i * 16384 + s .held) q })
 
 unfoldable pub addStep : Desk → List ℕ → ℕ → List ℕ → Turned
@@ -115,7 +127,7 @@ addStep d p t q = addIn d p q (slotOf d (length p) t)
 -- ---- release
 
 abbrev pub releaseIn : Desk → List ℕ → Slot → Turned
-releaseIn d p (No n) = refuse d p 0 n
+releaseIn d p (No n) = refused d p 0 n
 releaseIn d p (Held i s) = record { answer = Done 0; desk = withState d i Free; pool = patch p (i * 16384) (replicate 16384 0) }
 
 unfoldable pub releaseStep : Desk → List ℕ → ℕ → Turned

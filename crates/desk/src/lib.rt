@@ -8,10 +8,8 @@ use entries::State;
 use reader::Verdict;
 use tickets::Place;
 ghost use mathlib.Core.Path.{_≡_};
-ghost use lib.ListN.{length};
 ghost use Rattle.desk.specs.Sound.{bounds};
-ghost use Rattle.desk.specs.Looks.{Surveyed, Looked};
-ghost use Rattle.desk.specs.Steps.{slotOf, turned, newStep, openStep, addStep, releaseStep, heldStep, judgeStep, showStep, Lies};
+ghost use Rattle.desk.specs.Steps.{refuse, lookStep, slotOf, turned, newStep, openStep, addStep, releaseStep, heldStep, judgeStep, showStep, Lies};
 
 pub const SLOTS: usize = 40;
 
@@ -35,12 +33,6 @@ pub enum Answer {
 pub struct Turn {
     pub answer: Answer,
     pub desk: Desk,
-}
-
-// A refusal that a call meets before it looks for a ticket, or 0, and then the ticket of each entry.
-pub struct Look {
-    pub refusal: u32,
-    pub tickets: [u32; SLOTS],
 }
 
 // The slot of a ticket with its session, or a refusal.
@@ -87,76 +79,52 @@ impl Desk {
         }
     }
 
-    // 25 where an entry does not fit, or 0.
-    fn survey(self) -> Look
-        ensures { λ r. ⌜ Surveyed self r ⌝ }
+    // The desk as it is, with a refusal.
+    fn refused(self, number: u32, at: usize) -> Turn
+        ensures { λ r. ⌜ r ≡ refuse self number at ⌝ }
+    {
+        Turn {
+            answer: Answer::Refused(number, at),
+            desk: self,
+        }
+    }
+
+    // 25, 24, or the first slot that has a ticket; a free one has 0.
+    fn look(self, size: usize, t: u32) -> Place
+        ensures { λ r. ⌜ r ≡ lookStep self size t ⌝ }
     {
         let n = self.slots;
         let next = self.next;
+        if !in_bounds(n, next) {
+            return Place::Barred(25);
+        }
         let mut ts = [0u32; SLOTS];
         let mut i: usize = 0;
         while i < SLOTS {
             let e = self.entries[i];
             if !entries::fits(e, i, n, next) {
-                return Look {
-                    refusal: 25,
-                    tickets: ts,
-                };
+                return Place::Barred(25);
             }
-            ts[i] = entries::ticket_of(e);
+            let u = entries::ticket_of(e);
+            if tickets::stands(&ts, u, i) {
+                return Place::Barred(25);
+            }
+            ts[i] = u;
             i += 1;
         }
-        Look {
-            refusal: 0,
-            tickets: ts,
-        }
-    }
-
-    // 25, 24 or 0.
-    fn look(self, size: usize) -> Look
-        ensures { λ r. ⌜ Looked self size r ⌝ }
-    {
-        let n = self.slots;
-        let next = self.next;
-        let found = self.survey();
-        if found.refusal != 0 {
-            return found;
-        }
-        let ts = found.tickets;
-        if !in_bounds(n, next) {
-            return Look {
-                refusal: 25,
-                tickets: ts,
-            };
-        }
-        if !tickets::distinct(&ts) {
-            return Look {
-                refusal: 25,
-                tickets: ts,
-            };
-        }
         if size != n * SLOT_SIZE {
-            return Look {
-                refusal: 24,
-                tickets: ts,
-            };
+            return Place::Barred(24);
         }
-        found
+        tickets::find(&ts, t, n)
     }
 
     // 25, 24, 22, or the slot of a ticket.
     fn at_ticket(self, size: usize, t: u32) -> Slot
         ensures { λ r. ⌜ r ≡ slotOf self size t ⌝ }
     {
-        let look = self.look(size);
-        let refusal = look.refusal;
-        if refusal != 0 {
-            return Slot::No(refusal);
-        }
-        let n = self.slots;
-        let ts = look.tickets;
-        let p = tickets::find(&ts, t, n);
+        let p = self.look(size, t);
         match p {
+            Place::Barred(r) => Slot::No(r),
             Place::Nowhere => Slot::No(22),
             Place::At(i) => {
                 let e = self.entries[i];
@@ -172,30 +140,20 @@ impl Desk {
     pub fn open(mut self, pool: &[u8], tram: u32) -> Turn
         ensures { λ r. ⌜ turned r (now (pool .entry)) ≡ openStep self (now (pool .entry)) tram ⌝ }
     {
-        let look = self.look(pool.len());
-        let refusal = look.refusal;
-        if refusal != 0 {
-            return Turn {
-                answer: Answer::Refused(refusal, 0),
-                desk: self,
-            };
-        }
         let t = self.next;
-        if t == USED_UP {
-            return Turn {
-                answer: Answer::Refused(21, 0),
-                desk: self,
-            };
-        }
-        let n = self.slots;
-        let ts = look.tickets;
-        let p = tickets::find(&ts, 0, n);
+        let p = self.look(pool.len(), 0);
         match p {
-            Place::Nowhere => Turn {
-                answer: Answer::Refused(20, 0),
-                desk: self,
-            },
+            Place::Barred(r) => self.refused(r, 0),
+            Place::Nowhere => {
+                if t == USED_UP {
+                    return self.refused(21, 0);
+                }
+                self.refused(20, 0)
+            }
             Place::At(i) => {
+                if t == USED_UP {
+                    return self.refused(21, 0);
+                }
                 self.entries[i] = Entry {
                     state: State::Open(Session {
                         ticket: t,
@@ -217,17 +175,11 @@ impl Desk {
     {
         let slot = self.at_ticket(pool.len(), t);
         match slot {
-            Slot::No(r) => Turn {
-                answer: Answer::Refused(r, 0),
-                desk: self,
-            },
+            Slot::No(r) => self.refused(r, 0),
             Slot::Held(i, o) => {
                 let h = o.held as usize;
                 if chunk.len() > SLOT_SIZE - h {
-                    return Turn {
-                        answer: Answer::Refused(23, h),
-                        desk: self,
-                    };
+                    return self.refused(23, h);
                 }
                 let start = i * SLOT_SIZE + h;
                 octets::copying::copy_in(&mut pool[start..], chunk);
@@ -252,10 +204,7 @@ impl Desk {
     {
         let slot = self.at_ticket(pool.len(), t);
         match slot {
-            Slot::No(r) => Turn {
-                answer: Answer::Refused(r, 0),
-                desk: self,
-            },
+            Slot::No(r) => self.refused(r, 0),
             Slot::Held(i, o) => {
                 let start = i * SLOT_SIZE;
                 let end = start + SLOT_SIZE;

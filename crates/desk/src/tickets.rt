@@ -1,52 +1,13 @@
 // The tickets of a desk's entries side by side, 0 for a free one, and searches among them.
 ghost use mathlib.Core.Path.{_≡_};
-ghost use Prim.Native.Nat.{_<_, _≤_};
-ghost use Rattle.desk.specs.Search.{firstAt, allAt, count};
-ghost use Rattle.desk.specs.Sound.{once, sameAs};
-ghost use Rattle.desk.specs.Looks.{column};
+ghost use Prim.Native.Nat.{_≤_};
+ghost use Rattle.desk.specs.Search.{firstAt, column, sameAs, among};
 
+// Where something stands, or the refusal that keeps a call from looking.
 pub enum Place {
     At(usize),
     Nowhere,
-}
-
-// How often a ticket stands among the tickets.
-pub fn times(tickets: &[u32; 40], t: u32) -> usize
-    ensures { λ r. ⌜ r ≡ count (sameAs (column (now (tickets .entry))) t) 40 ⌝ }
-{
-    let mut n: usize = 0;
-    let mut i: usize = 0;
-    while i < 40 {
-        n += (tickets[i] == t) as usize;
-        i += 1;
-    }
-    n
-}
-
-// Whether place i is free or its ticket stands at no other.
-pub fn stands_once(tickets: &[u32; 40], i: usize) -> bool
-    requires { ⌜ i < 40 ⌝ }
-    ensures { λ r. ⌜ r ≡ once (column (now (tickets .entry))) i ⌝ }
-{
-    let t = tickets[i];
-    if t == 0 {
-        return true;
-    }
-    times(tickets, t) == 1
-}
-
-// Whether no ticket stands twice.
-pub fn distinct(tickets: &[u32; 40]) -> bool
-    ensures { λ r. ⌜ r ≡ allAt (once (column (now (tickets .entry)))) 0 40 ⌝ }
-{
-    let mut i: usize = 0;
-    while i < 40 {
-        if !stands_once(tickets, i) {
-            return false;
-        }
-        i += 1;
-    }
-    true
+    Barred(u32),
 }
 
 // The first of n places that has a ticket; 0 stands at a free one.
@@ -62,4 +23,20 @@ pub fn find(tickets: &[u32; 40], t: u32, n: usize) -> Place
         place += 1;
     }
     Place::Nowhere
+}
+
+// Whether a ticket, which 0 is none of, stands at one of the first n places.
+pub fn stands(tickets: &[u32; 40], t: u32, n: usize) -> bool
+    requires { ⌜ n ≤ 40 ⌝ }
+    ensures { λ r. ⌜ r ≡ among (column (now (tickets .entry))) t n ⌝ }
+{
+    if t == 0 {
+        return false;
+    }
+    let p = find(tickets, t, n);
+    match p {
+        Place::At(_) => true,
+        Place::Nowhere => false,
+        Place::Barred(_) => false,
+    }
 }

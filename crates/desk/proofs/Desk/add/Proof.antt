@@ -1,7 +1,7 @@
 -- `desk::Desk::add` meets its contract. Assumes nothing.
 use denote.Ref.{now}
-use Prim.Native.Nat.{ℕ, _+_, _*_, _<_, _≤_}
-use mathlib.Core.Path.{_≡_, sym, _∙_}
+use Prim.Native.Nat.{_+_, _*_, _<_, _≤_}
+use mathlib.Core.Path.{sym, _∙_}
 use native.Mathlib.Omega.{arith}
 use lib.ListN.{length}
 use borrow.Author.Needs.{needs}
@@ -23,6 +23,9 @@ at-ticket-requires c κs = search needs
 enum-known-slot : tie.Need-enum-known-slot
 enum-known-slot c = search needs
 
+refused-requires : tie.Need-refused-requires
+refused-requires c κs = search needs
+
 enum-known-slot-2 : tie.Need-enum-known-slot-2
 enum-known-slot-2 c = search needs
 
@@ -32,12 +35,15 @@ cast-h c = search needs
 sub-if1 : tie.Need-sub-if1
 sub-if1 c = let g = grant (c .before .before) in omega arith
 
+refused-requires-2 : tie.Need-refused-requires-2
+refused-requires-2 c κs = search needs
+
 returns : tie.Need-returns
 unfolding addStep
 returns c =
-    let g = grant (c .before .before .before) in
-    let h : 16384 < c .before .before .before .slot2 .given .0 .1 .0 .held + length (now (c .before .before .before .before .before .before .before .before .args .chunk)) = omega arith in
-    simp (sym (c .before .before .before .before .before .at-ticket .ensures) ∙ c .before .before .before .slot2 .given .1, lt-ltb _ _ h)
+    let g = grant (c .before .before .before .before) in
+    let h : 16384 < c .before .before .before .before .slot2 .given .0 .1 .0 .held + length (now (c .before .before .before .before .before .before .before .before .before .args .chunk)) = omega arith in
+    simp (sym (c .before .before .before .before .before .before .at-ticket .ensures) ∙ c .before .before .before .before .slot2 .given .1, lt-ltb _ _ h, c .refused2 .ensures)
 
 mul-start : tie.Need-mul-start
 mul-start c = let g = grant (c .before .before .before) in omega arith
@@ -61,12 +67,12 @@ add-m : tie.Need-add-m
 add-m c =
     let g = grant (c .before .before .before .before .before .before .before) in omega arith
 
-cast-t27 : tie.Need-cast-t27
-cast-t27 c =
+cast-t25 : tie.Need-cast-t25
+cast-t25 c =
     let g = grant (c .before .before .before .before .before .before .before) in omega arith
 
-mul-t19 : tie.Need-mul-t19
-mul-t19 c =
+mul-t18 : tie.Need-mul-t18
+mul-t18 c =
     let g = grant (c .before .before .before .before .before .before .before) in omega arith
 
 element-set-from-self : tie.Need-element-set-from-self
@@ -76,7 +82,7 @@ element-set-from-self c =
 returns-2 : tie.Need-returns-2
 unfolding addStep
 returns-2 c =
-    simp (sym (c .before .before .before .at-ticket .ensures) ∙ c .before .slot .given .1)
+    simp (sym (c .before .before .before .before .at-ticket .ensures) ∙ c .before .before .slot .given .1, c .refused .ensures)
 
 same-length : tie.Need-same-length
 same-length c = search needs
@@ -95,9 +101,11 @@ add-spec =
     (tie.spec
     at-ticket-requires
     enum-known-slot
+    refused-requires
     enum-known-slot-2
     cast-h
     sub-if1
+    refused-requires-2
     returns
     mul-start
     add-start
@@ -106,8 +114,8 @@ add-spec =
     part-copy-in-end
     copy-in-requires
     add-m
-    cast-t27
-    mul-t19
+    cast-t25
+    mul-t18
     element-set-from-self
     returns-2
     same-length

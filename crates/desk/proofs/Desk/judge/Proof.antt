@@ -1,7 +1,7 @@
 -- `desk::Desk::judge` meets its contract. Assumes nothing.
 use denote.Ref.{now}
-use Prim.Native.Nat.{ℕ, _*_}
-use mathlib.Core.Path.{_≡_, sym, _∙_}
+use Prim.Native.Nat.{_*_}
+use mathlib.Core.Path.{sym, _∙_}
 use native.Mathlib.Omega.{arith}
 use lib.ListN.{length}
 use borrow.Author.Needs.{needs}
@@ -35,10 +35,10 @@ add-past : tie.Need-add-past
 add-past c = let g = grant (c .before .before) in omega arith
 
 sub-judge : tie.Need-sub-judge
-sub-judge c = search needs
+sub-judge c = let g = grant (c .before .before) in omega arith
 
 part-judge-start : tie.Need-part-judge-start
-part-judge-start c = search needs
+part-judge-start c = let g = grant (c .before .before) in omega arith
 
 part-judge-end : tie.Need-part-judge-end
 part-judge-end c = let g = grant (c .before .before) in omega arith

@@ -1,84 +1,136 @@
 -- `desk::Desk::look` meets its contract. Assumes nothing.
-use mathlib.Core.Path.{_≡_, sym, _∙_}
-use mathlib.Core.Bool.{Bool, true, false}
+use Prim.Native.Nat.{_-_, _≤_}
+use mathlib.Core.Path.{_≡_, refl, sym, _∙_}
+use mathlib.Core.Bool.{true}
 use native.Mathlib.Omega.{arith}
+use lib.ListN.{length, length-set}
 use borrow.Author.Needs.{needs}
 use borrow.Author.Tests.{eq-eqb, ne-eqb, not-true, not-false}
 use Rattle.desk.specs.Search.{allAt}
-use Rattle.desk.specs.Sound.{sound, ticketAt, fitsAt, once, bounds}
-use Rattle.desk.proofs.SoundLaws.{bounds-are}
-use Rattle.desk.proofs.SlotLaws.{fit, unfit, once-column}
+use Rattle.desk.specs.Sound.{goodAt, bounds, sound}
+use Rattle.desk.specs.Steps.{lookStep}
+use Rattle.desk.proofs.Searches.{allAt-none, allAt-hit, allAt-miss}
+use Rattle.desk.proofs.SoundLaws.{bounds-are, unfit, repeated, good}
+use Rattle.desk.proofs.SlotLaws.{Begun, begun-none, begun-more, begun-among, begun-first}
 use Rattle.desk.proofs.Desk.look.Statement.{statement}
 use Rattle.desk.proofs.Desk.look.Tie as tie
 
--- all entries fit
-fitting : (c : tie.Else1)
-    → allAt (fitsAt (c .before .before .before .args .self .entries) (c .before .before .before .args .self .slots) (c .before .before .before .args .self .next)) 0 40 ≡ true
-fitting c = fit (c .before .before .before .args .self) (c .before .before .survey .result .refusal) (c .before .before .survey .ensures .refusal) (c .if1 .left)
+abbrev Inv-loop : tie.InvT-loop
+Inv-loop size t self n next ts₀ i₀ ts i = (i ≤ 40) × (length ts ≡ 40) × (allAt (goodAt (self .entries) n next) 0 40 ≡ allAt (goodAt (self .entries) n next) i (40 - i)) × Begun (self .entries) ts i
 
-bounded : (c : tie.Else2)
-    → bounds (c .before .before .before .before .before .before .args .self .slots) (c .before .before .before .before .before .before .args .self .next) ≡ true
-bounded c = sym (c .before .in-bounds .ensures) ∙ not-false _ (c .if2 .left)
+abbrev μ-loop : tie.MeasureT-loop
+μ-loop size t self n next ts₀ i₀ ts i = 40 - i
 
--- the test of the tickets is the test of the entries
-standing : (c : tie.After-distinct)
-    → allAt (once (ticketAt (c .before .before .before .before .before .before .before .before .args .self .entries))) 0 40 ≡ c .distinct .result
-standing c =
-    let e = c .before .before .before .before .before in
-    sym (c .distinct .ensures ∙ once-column (e .before .before .before .args .self .entries) (e .before .before .survey .result .tickets) (e .before .before .survey .ensures .told (e .if1 .left)))
+bounded : (c : tie.Else1 Inv-loop μ-loop) → bounds (c .before .before .args .t1 .slots) (c .before .before .args .t1 .next) ≡ true
+bounded c = sym (c .before .in-bounds .ensures) ∙ not-false _ (c .if1 .left)
 
-survey-requires : tie.Need-survey-requires
-survey-requires c κs = search needs
-
-returns : tie.Need-returns
-unfolding sound
-returns c =
-    let u = unfit (c .before .before .before .args .self) (c .before .before .survey .result .refusal) (c .before .before .survey .ensures .refusal) (c .if1 .taken) in
-    record { refusal = u .0 ∙ simp (u .1); told = c .before .before .survey .ensures .told }
-
-in-bounds-requires : tie.Need-in-bounds-requires
+in-bounds-requires : tie.Need-in-bounds-requires Inv-loop μ-loop
 in-bounds-requires c κs = search needs
 
-returns-2 : tie.Need-returns-2
-unfolding sound
+returns : tie.Need-returns Inv-loop μ-loop
+unfolding lookStep sound
+returns c = simp (sym (c .before .in-bounds .ensures) ∙ not-true _ (c .if1 .taken))
+
+loop-holds : tie.Need-loop-holds Inv-loop μ-loop
+loop-holds c = (search needs, refl, refl, begun-none _ _)
+
+mul-e : tie.Need-mul-e Inv-loop μ-loop
+mul-e c = omega arith
+
+element-copy-out-e : tie.Need-element-copy-out-e Inv-loop μ-loop
+element-copy-out-e c = omega arith
+
+fits-requires : tie.Need-fits-requires Inv-loop μ-loop
+fits-requires c κs = search needs
+
+returns-2 : tie.Need-returns-2 Inv-loop μ-loop
+unfolding lookStep sound
 returns-2 c =
-    let b = sym (c .before .in-bounds .ensures) ∙ not-true _ (c .if2 .taken) in
-    record { refusal = simp (fitting (c .before .before .before), b); told = λ z. absurd (omega arith) }
+    let d = c .before .before .before .before .before .before .before .args .t1 in
+    let l = c .before .before .before .before .loop in
+    let f = unfit (d .entries) (d .slots) (d .next) (l .i) (sym (c .before .fits2 .ensures) ∙ not-true _ (c .if2 .taken)) in
+    simp (bounded (c .before .before .before .before .before), l .inv .2 ∙ allAt-miss (goodAt (d .entries) (d .slots) (d .next)) 40 (l .i) (search needs) f)
 
-distinct-requires : tie.Need-distinct-requires
-distinct-requires c κs = search needs
+ticket-of-requires : tie.Need-ticket-of-requires Inv-loop μ-loop
+ticket-of-requires c κs = search needs
 
-returns-3 : tie.Need-returns-3
-unfolding sound
+stands-requires : tie.Need-stands-requires Inv-loop μ-loop
+stands-requires c κs = omega arith
+
+returns-3 : tie.Need-returns-3 Inv-loop μ-loop
+unfolding lookStep sound
 returns-3 c =
-    let o = standing (c .before) ∙ not-true _ (c .if3 .taken) in
-    record { refusal = simp (fitting (c .before .before .before .before .before .before), bounded (c .before .before .before), o); told = λ z. absurd (omega arith) }
+    let d = c .before .before .before .before .before .before .before .before .before .before .before .args .t1 in
+    let l = c .before .before .before .before .before .before .before .before .loop in
+    let a = sym (begun-among (d .entries) (l .ts) (l .i) _ (l .inv .3)) ∙ sym (c .before .stands .ensures) ∙ c .if3 .taken in
+    let f = repeated (d .entries) (d .slots) (d .next) (l .i) (sym (c .before .before .before .before .before .fits2 .ensures) ∙ not-false _ (c .before .before .before .before .if2 .left)) (rw (c .before .before .before .ticket-of .ensures) at a) in
+    simp (bounded (c .before .before .before .before .before .before .before .before .before), l .inv .2 ∙ allAt-miss (goodAt (d .entries) (d .slots) (d .next)) 40 (l .i) (search needs) f)
 
-mul-if4 : tie.Need-mul-if4
-mul-if4 c = let b = bounds-are _ _ (bounded (c .before .before .before)) in omega arith
+mul-ts : tie.Need-mul-ts Inv-loop μ-loop
+mul-ts c = omega arith
 
-returns-4 : tie.Need-returns-4
-unfolding sound
+array-write-ts : tie.Need-array-write-ts Inv-loop μ-loop
+array-write-ts c = omega arith
+
+add-i : tie.Need-add-i Inv-loop μ-loop
+add-i c = omega arith
+
+loop-less : tie.Need-loop-less Inv-loop μ-loop
+loop-less c = omega arith
+
+loop-again : tie.Need-loop-again Inv-loop μ-loop
+loop-again c =
+    let d = c .before .before .before .before .before .before .before .before .before .before .before .args .t1 in
+    let l = c .before .before .before .before .before .before .before .before .loop in
+    let a = sym (begun-among (d .entries) (l .ts) (l .i) _ (l .inv .3)) ∙ sym (c .before .stands .ensures) ∙ c .if3 .left in
+    let f = good (d .entries) (d .slots) (d .next) (l .i) (sym (c .before .before .before .before .before .fits2 .ensures) ∙ not-false _ (c .before .before .before .before .if2 .left)) (rw (c .before .before .before .ticket-of .ensures) at a) in
+    (search needs, simp length-set (l .inv .1), l .inv .2 ∙ allAt-hit (goodAt (d .entries) (d .slots) (d .next)) 40 (l .i) (search needs) f, begun-more (d .entries) (l .ts) (l .i) (c .before .before .before .ticket-of .result) (omega arith) (c .before .before .before .ticket-of .ensures) (l .inv .3))
+
+mul-if4 : tie.Need-mul-if4 Inv-loop μ-loop
+mul-if4 c = let b = bounds-are _ _ (bounded (c .before .before)) in omega arith
+
+returns-4 : tie.Need-returns-4 Inv-loop μ-loop
+unfolding lookStep sound
 returns-4 c =
-    let o = standing (c .before .before) ∙ not-false _ (c .before .if3 .left) in
-    record { refusal = simp (fitting (c .before .before .before .before .before .before .before), bounded (c .before .before .before .before), o, ne-eqb _ _ (c .if4 .taken)); told = λ z. absurd (omega arith) }
+    let d = c .before .before .before .before .before .args .t1 in
+    let l = c .before .before .loop in
+    simp (bounded (c .before .before .before), l .inv .2 ∙ allAt-none (goodAt (d .entries) (d .slots) (d .next)) 40 (l .i) (search needs), ne-eqb _ _ (c .if4 .taken))
 
-returns-5 : tie.Need-returns-5
-unfolding sound
+find-requires : tie.Need-find-requires Inv-loop μ-loop
+find-requires c κs =
+    let b = bounds-are _ _ (bounded (c .before .before .before .before)) in omega arith
+
+returns-5 : tie.Need-returns-5 Inv-loop μ-loop
+unfolding lookStep sound
 returns-5 c =
-    let o = standing (c .before .before) ∙ not-false _ (c .before .if3 .left) in
-    record { refusal = c .before .before .before .before .before .before .before .if1 .left ∙ simp (fitting (c .before .before .before .before .before .before .before), bounded (c .before .before .before .before), o, eq-eqb _ _ (c .if4 .left)); told = c .before .before .before .before .before .before .before .before .before .survey .ensures .told }
+    let d = c .before .before .before .before .before .before .before .args .t1 in
+    let l = c .before .before .before .before .loop in
+    let b = bounds-are _ _ (bounded (c .before .before .before .before .before)) in
+    let f = begun-first (d .entries) (l .ts) (d .slots) (l .i) (c .before .before .before .before .before .before .before .args .t) (omega arith) (l .inv .3) in
+    c .find .ensures ∙ f ∙ simp (bounded (c .before .before .before .before .before), l .inv .2 ∙ allAt-none (goodAt (d .entries) (d .slots) (d .next)) 40 (l .i) (search needs), eq-eqb _ _ (c .before .before .if4 .left))
 
 pub look-spec : {M : Type 1} → statement M
 look-spec =
     tie.close
     (tie.spec
-    survey-requires
-    returns
+    Inv-loop
+    μ-loop
     in-bounds-requires
+    returns
+    loop-holds
+    mul-e
+    element-copy-out-e
+    fits-requires
     returns-2
-    distinct-requires
+    ticket-of-requires
+    stands-requires
     returns-3
+    mul-ts
+    array-write-ts
+    add-i
+    loop-less
+    loop-again
     mul-if4
     returns-4
+    find-requires
     returns-5)

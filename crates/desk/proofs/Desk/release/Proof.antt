@@ -1,7 +1,7 @@
 -- `desk::Desk::release` meets its contract. Assumes nothing.
 use denote.Ref.{now}
-use Prim.Native.Nat.{ℕ, _*_}
-use mathlib.Core.Path.{_≡_, sym, _∙_}
+use Prim.Native.Nat.{_*_}
+use mathlib.Core.Path.{sym, _∙_}
 use native.Mathlib.Omega.{arith}
 use lib.ListN.{length}
 use borrow.Author.Needs.{needs}
@@ -22,6 +22,9 @@ at-ticket-requires c κs = search needs
 enum-known-slot : tie.Need-enum-known-slot
 enum-known-slot c = search needs
 
+refused-requires : tie.Need-refused-requires
+refused-requires c κs = search needs
+
 enum-known-slot-2 : tie.Need-enum-known-slot-2
 enum-known-slot-2 c = search needs
 
@@ -32,10 +35,10 @@ add-end : tie.Need-add-end
 add-end c = let g = grant (c .before) in omega arith
 
 sub-zero : tie.Need-sub-zero
-sub-zero c = search needs
+sub-zero c = let g = grant (c .before) in omega arith
 
 part-zero-start : tie.Need-part-zero-start
-part-zero-start c = search needs
+part-zero-start c = let g = grant (c .before) in omega arith
 
 part-zero-end : tie.Need-part-zero-end
 part-zero-end c = let g = grant (c .before) in omega arith
@@ -43,8 +46,8 @@ part-zero-end c = let g = grant (c .before) in omega arith
 zero-requires : tie.Need-zero-requires
 zero-requires c κs = search needs
 
-mul-t18 : tie.Need-mul-t18
-mul-t18 c = let g = grant (c .before .before .before .before .before) in omega arith
+mul-t17 : tie.Need-mul-t17
+mul-t17 c = let g = grant (c .before .before .before .before .before) in omega arith
 
 element-set-from-self : tie.Need-element-set-from-self
 element-set-from-self c = let g = grant (c .before .before .before .before .before) in omega arith
@@ -52,7 +55,7 @@ element-set-from-self c = let g = grant (c .before .before .before .before .befo
 returns : tie.Need-returns
 unfolding releaseStep
 returns c =
-    simp (sym (c .before .before .before .at-ticket .ensures) ∙ c .before .slot .given .1)
+    simp (sym (c .before .before .before .before .at-ticket .ensures) ∙ c .before .before .slot .given .1, c .refused .ensures)
 
 same-length : tie.Need-same-length
 same-length c = search needs
@@ -70,6 +73,7 @@ release-spec =
     (tie.spec
     at-ticket-requires
     enum-known-slot
+    refused-requires
     enum-known-slot-2
     mul-start
     add-end
@@ -77,7 +81,7 @@ release-spec =
     part-zero-start
     part-zero-end
     zero-requires
-    mul-t18
+    mul-t17
     element-set-from-self
     returns
     same-length

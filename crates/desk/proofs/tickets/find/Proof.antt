@@ -1,13 +1,11 @@
 -- `desk::tickets::find` meets its contract. Assumes nothing.
 use denote.Ref.{now}
 use Prim.Native.Nat.{_-_, _≤_}
-use mathlib.Core.Path.{_≡_, refl, sym, ap, _∙_}
+use mathlib.Core.Path.{_≡_, sym, ap, _∙_}
 use native.Mathlib.Omega.{arith}
 use borrow.Author.Needs.{needs}
 use borrow.Author.Tests.{eq-eqb, ne-eqb}
-use Rattle.desk.specs.Search.{firstAt}
-use Rattle.desk.specs.Sound.{sameAs}
-use Rattle.desk.specs.Looks.{column}
+use Rattle.desk.specs.Search.{firstAt, column, sameAs}
 use Rattle.desk.proofs.Searches.{firstAt-none, firstAt-hit, firstAt-miss}
 use Rattle.desk.proofs.tickets.find.Statement.{statement}
 use Rattle.desk.proofs.tickets.find.Tie as tie
