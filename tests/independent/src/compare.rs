@@ -13,7 +13,7 @@ use crate::generator::readers;
 use crate::generator::texts::texts;
 use crate::ledger_console::LedgerConsole;
 
-/// How much of each family is compared; a family of 0 is left out.
+/// How much of each family is compared; a family of 0 is left out. Desk values are compared inside this program (`beside`).
 #[derive(Clone, Copy, Debug, PartialEq, Eq)]
 pub struct Plan {
     pub protocol: usize,
@@ -21,13 +21,22 @@ pub struct Plan {
     pub folds: usize,
     pub texts: usize,
     pub lists: usize,
+    pub desks: usize,
     pub seed: u64,
 }
 
 impl Default for Plan {
     /// What is compared if nothing else is said.
     fn default() -> Plan {
-        Plan { protocol: 1000, readers: 100_000, folds: 10_000, texts: 80_000, lists: 2_000, seed: 1 }
+        Plan {
+            protocol: 1000,
+            readers: 100_000,
+            folds: 10_000,
+            texts: 80_000,
+            lists: 2_000,
+            desks: 3_000,
+            seed: 1,
+        }
     }
 }
 
