@@ -1,10 +1,10 @@
-// Knows the command line: console, ledger, generate, survey, desks and compare.
+// Knows the command line: console, ledger, generate, survey, desks, compare and routines.
 
 use std::io::{self, BufWriter, Write};
 use std::process::ExitCode;
 
 use independent::beside::{compare_desks, survey_desks};
-use independent::compare::{compare, steps, Plan};
+use independent::compare::{compare, steps, Plan, Side};
 use independent::console::{serve, Console, BAD_REQUEST};
 use independent::ledger_console::LedgerConsole;
 use independent::survey::survey;
@@ -17,6 +17,8 @@ const USAGE: &str = "usage:
   independent desks [COUNTS]                   compares desk and ledger on generated desk values
   independent compare PROGRAM [COUNTS] [-- ARGUMENTS]
                                                compares another console with this one
+  independent routines PROGRAM [COUNTS] [-- ARGUMENTS]
+                                               compares the C routines, called by tests/routines.c, with this program
 COUNTS: --readers N --folds N --texts N --lists N --desks N --protocol N --seed S; a family of 0 is left out";
 
 fn main() -> ExitCode {
@@ -40,7 +42,8 @@ fn run(arguments: &[String]) -> Result<(), String> {
         ["generate", counts @ ..] => generate(plan_of(counts)?),
         ["survey", counts @ ..] => run_survey(plan_of(counts)?),
         ["desks", counts @ ..] => run_desks(plan_of(counts)?),
-        ["compare", program, rest @ ..] => run_compare(program, rest),
+        ["compare", program, rest @ ..] => run_compare(Side::Console, program, rest),
+        ["routines", program, rest @ ..] => run_compare(Side::Routines, program, rest),
         _ => Err(USAGE.to_string()),
     }
 }
@@ -79,13 +82,13 @@ fn run_desks(plan: Plan) -> Result<(), String> {
     Ok(())
 }
 
-fn run_compare(program: &str, rest: &[&str]) -> Result<(), String> {
+fn run_compare(side: Side, program: &str, rest: &[&str]) -> Result<(), String> {
     let (counts, arguments) = match rest.iter().position(|word| *word == "--") {
         Some(at) => (&rest[..at], &rest[at + 1..]),
         None => (rest, &[][..]),
     };
     let arguments: Vec<String> = arguments.iter().map(|word| word.to_string()).collect();
-    println!("{}", compare(program, &arguments, plan_of(counts)?)?);
+    println!("{}", compare(side, program, &arguments, plan_of(counts)?)?);
     Ok(())
 }
 
