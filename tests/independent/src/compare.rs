@@ -1,4 +1,4 @@
-// Knows how to compare another console with this program, request by request, to the first difference.
+// Knows how to compare another console, or the C routines, with this program, request by request, to the first difference.
 
 use std::io::{BufRead, BufReader, BufWriter, Write};
 use std::process::{Child, ChildStdin, ChildStdout, Command, Stdio};
@@ -13,7 +13,7 @@ use crate::generator::readers;
 use crate::generator::texts::texts;
 use crate::ledger_console::LedgerConsole;
 
-/// How much of each family is compared; a family of 0 is left out.
+/// How much of each family is compared; a family of 0 is left out. Desk values are compared inside this program (`beside`).
 #[derive(Clone, Copy, Debug, PartialEq, Eq)]
 pub struct Plan {
     pub protocol: usize,
@@ -21,13 +21,22 @@ pub struct Plan {
     pub folds: usize,
     pub texts: usize,
     pub lists: usize,
+    pub desks: usize,
     pub seed: u64,
 }
 
 impl Default for Plan {
     /// What is compared if nothing else is said.
     fn default() -> Plan {
-        Plan { protocol: 1000, readers: 100_000, folds: 10_000, texts: 80_000, lists: 2_000, seed: 1 }
+        Plan {
+            protocol: 1000,
+            readers: 100_000,
+            folds: 10_000,
+            texts: 80_000,
+            lists: 2_000,
+            desks: 3_000,
+            seed: 1,
+        }
     }
 }
 
@@ -53,17 +62,54 @@ pub fn steps(plan: Plan) -> impl Iterator<Item = Step> {
         .chain(calls)
 }
 
-/// Compares the console that this command starts; answers one line with the counts, or the report
+/// What speaks on the other side.
+#[derive(Clone, Copy, Debug, PartialEq, Eq)]
+pub enum Side {
+    /// A console: every request of CONSOLE.md.
+    Console,
+    /// The C routines: `judge`, whose answer has the cards alone, `fold` and `unescape`.
+    Routines,
+}
+
+impl Side {
+    /// The steps of a plan that this side can answer; the counts are of such steps.
+    fn steps(self, plan: Plan) -> Box<dyn Iterator<Item = Step>> {
+        match self {
+            Side::Console => Box::new(steps(plan)),
+            Side::Routines => Box::new(routine_steps(plan)),
+        }
+    }
+
+    /// This side's answer where a console has the one given.
+    fn answer(self, step: &Step, answer: String) -> String {
+        match (self, answer.split(' ').collect::<Vec<&str>>().as_slice()) {
+            (Side::Routines, ["ok", cards, _]) if step.line.starts_with("judge ") => format!("ok {cards}"),
+            _ => answer,
+        }
+    }
+}
+
+/// The steps of a plan for the C routines: inputs judged, folds, texts unescaped.
+fn routine_steps(plan: Plan) -> impl Iterator<Item = Step> {
+    let of = |family| move |line| Step { family, begins: false, line };
+    let judged = readers(plan.seed).filter(|line| line.starts_with("judge "));
+    let unescaped = texts(plan.seed).filter(|line| line.starts_with("unescape "));
+    (judged.take(plan.readers).map(of("readers")))
+        .chain(folds(plan.seed).take(plan.folds).map(of("folds")))
+        .chain(unescaped.take(plan.texts).map(of("texts")))
+}
+
+/// Compares the program that this command starts; answers one line with the counts, or the report
 /// of the first difference.
-pub fn compare(program: &str, arguments: &[String], plan: Plan) -> Result<String, String> {
+pub fn compare(side: Side, program: &str, arguments: &[String], plan: Plan) -> Result<String, String> {
     let mut command = Command::new(program);
     command.args(arguments).stdin(Stdio::piped()).stdout(Stdio::piped());
     let mut child = command.spawn().map_err(|error| format!("cannot start {program}: {error}"))?;
     let input = child.stdin.take().expect("a pipe to the console");
     let output = child.stdout.take().expect("a pipe from the console");
     let (sender, receiver) = channel();
-    let writer = thread::spawn(move || write_steps(plan, input, sender));
-    let result = compare_answers(receiver, output).and_then(|counts| {
+    let writer = thread::spawn(move || write_steps(side.steps(plan), input, sender));
+    let result = compare_answers(side, receiver, output).and_then(|counts| {
         check_end(&mut child)?;
         Ok(counts)
     });
@@ -76,9 +122,9 @@ pub fn compare(program: &str, arguments: &[String], plan: Plan) -> Result<String
 
 /// Sends each step to the comparing side and its line to the console. The channel has no bound, so
 /// that this side waits only for the console; it stops when either side has gone.
-fn write_steps(plan: Plan, input: ChildStdin, sender: Sender<Step>) {
+fn write_steps(steps: impl Iterator<Item = Step>, input: ChildStdin, sender: Sender<Step>) {
     let mut input = BufWriter::with_capacity(1 << 16, input);
-    for step in steps(plan) {
+    for step in steps {
         let line = step.line.clone();
         if sender.send(step).is_err() || writeln!(input, "{line}").is_err() {
             return;
@@ -87,12 +133,12 @@ fn write_steps(plan: Plan, input: ChildStdin, sender: Sender<Step>) {
 }
 
 /// Compares answer by answer; then the console must have nothing more to say.
-fn compare_answers(receiver: Receiver<Step>, output: ChildStdout) -> Result<String, String> {
+fn compare_answers(side: Side, receiver: Receiver<Step>, output: ChildStdout) -> Result<String, String> {
     let mut answers = BufReader::with_capacity(1 << 16, output);
     let mut own = Own::default();
     for step in receiver {
         let received = next_line(&mut answers)?;
-        own.check(step, received)?;
+        own.check(side, step, received)?;
     }
     match next_line(&mut answers)? {
         None => Ok(own.counts()),
@@ -135,10 +181,10 @@ struct Own {
 
 impl Own {
     /// Compares the console's answer, none if it has ended, with the own one and the ledger's.
-    fn check(&mut self, step: Step, received: Option<String>) -> Result<(), String> {
+    fn check(&mut self, side: Side, step: Step, received: Option<String>) -> Result<(), String> {
         self.count(&step);
         let received = received.unwrap_or("(nothing: the console has ended)".to_string());
-        let expected = self.console.answer(step.line.as_bytes());
+        let expected = side.answer(&step, self.console.answer(step.line.as_bytes()));
         if received != expected {
             return Err(self.report(&step, "expected", &expected, &received));
         }

@@ -37,6 +37,7 @@ const ROOM_NUMBER: u32 = 2_779_096_485;
 pub const BAD_REQUEST: &str = "bad request";
 
 /// The desk and the pool that the console keeps from request to request.
+#[derive(Clone, Debug, PartialEq, Eq)]
 pub struct Console {
     desk: Desk,
     pool: Vec<u8>,
@@ -50,6 +51,11 @@ impl Default for Console {
 }
 
 impl Console {
+    /// A console that begins with this desk value and this pool.
+    pub fn at(desk: Desk, pool: Vec<u8>) -> Console {
+        Console { desk, pool }
+    }
+
     /// The answer to one line, given without its LF.
     pub fn answer(&mut self, line: &[u8]) -> String {
         match request_of(line) {

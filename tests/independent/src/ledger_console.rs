@@ -12,6 +12,11 @@ pub struct LedgerConsole {
 }
 
 impl LedgerConsole {
+    /// A console that begins with this ledger.
+    pub fn at(ledger: Ledger) -> LedgerConsole {
+        LedgerConsole { ledger: Some(ledger) }
+    }
+
     /// The answer to one line, or nothing where the ledger has none: requests that aren't the
     /// desk's, a look at the pool, and every call without a fresh desk and a proper pool.
     pub fn answer(&mut self, line: &[u8]) -> Option<String> {

@@ -1,9 +1,10 @@
-// Knows the command line: console, ledger, generate, survey and compare.
+// Knows the command line: console, ledger, generate, survey, desks, compare and routines.
 
 use std::io::{self, BufWriter, Write};
 use std::process::ExitCode;
 
-use independent::compare::{compare, steps, Plan};
+use independent::beside::{compare_desks, survey_desks};
+use independent::compare::{compare, steps, Plan, Side};
 use independent::console::{serve, Console, BAD_REQUEST};
 use independent::ledger_console::LedgerConsole;
 use independent::survey::survey;
@@ -13,9 +14,12 @@ const USAGE: &str = "usage:
   independent ledger                           answers desk requests from the plain ledger
   independent generate [COUNTS]                prints the generated requests
   independent survey [COUNTS]                  counts what they reach, family by family
+  independent desks [COUNTS]                   compares desk and ledger on generated desk values
   independent compare PROGRAM [COUNTS] [-- ARGUMENTS]
                                                compares another console with this one
-COUNTS: --readers N --folds N --texts N --lists N --protocol N --seed S; a family of 0 is left out";
+  independent routines PROGRAM [COUNTS] [-- ARGUMENTS]
+                                               compares the C routines, called by tests/routines.c, with this program
+COUNTS: --readers N --folds N --texts N --lists N --desks N --protocol N --seed S; a family of 0 is left out";
 
 fn main() -> ExitCode {
     let arguments: Vec<String> = std::env::args().skip(1).collect();
@@ -37,7 +41,9 @@ fn run(arguments: &[String]) -> Result<(), String> {
         ["ledger"] => run_ledger(),
         ["generate", counts @ ..] => generate(plan_of(counts)?),
         ["survey", counts @ ..] => run_survey(plan_of(counts)?),
-        ["compare", program, rest @ ..] => run_compare(program, rest),
+        ["desks", counts @ ..] => run_desks(plan_of(counts)?),
+        ["compare", program, rest @ ..] => run_compare(Side::Console, program, rest),
+        ["routines", program, rest @ ..] => run_compare(Side::Routines, program, rest),
         _ => Err(USAGE.to_string()),
     }
 }
@@ -67,16 +73,22 @@ fn run_survey(plan: Plan) -> Result<(), String> {
         let lines = steps(plan).filter(|step| step.family == family).map(|step| step.line);
         println!("{family}: {}", survey(lines));
     }
+    println!("desks: {}", survey_desks(plan.seed, plan.desks)?);
     Ok(())
 }
 
-fn run_compare(program: &str, rest: &[&str]) -> Result<(), String> {
+fn run_desks(plan: Plan) -> Result<(), String> {
+    println!("{}", compare_desks(plan.seed, plan.desks)?);
+    Ok(())
+}
+
+fn run_compare(side: Side, program: &str, rest: &[&str]) -> Result<(), String> {
     let (counts, arguments) = match rest.iter().position(|word| *word == "--") {
         Some(at) => (&rest[..at], &rest[at + 1..]),
         None => (rest, &[][..]),
     };
     let arguments: Vec<String> = arguments.iter().map(|word| word.to_string()).collect();
-    println!("{}", compare(program, &arguments, plan_of(counts)?)?);
+    println!("{}", compare(side, program, &arguments, plan_of(counts)?)?);
     Ok(())
 }
 
@@ -92,6 +104,7 @@ fn plan_of(words: &[&str]) -> Result<Plan, String> {
             "--readers" => plan.readers = count as usize,
             "--folds" => plan.folds = count as usize,
             "--texts" => plan.texts = count as usize,
+            "--desks" => plan.desks = count as usize,
             "--lists" => plan.lists = count as usize,
             "--protocol" => plan.protocol = count as usize,
             "--seed" => plan.seed = count,

@@ -26,7 +26,7 @@ pub fn survey(lines: impl IntoIterator<Item = String>) -> Survey {
 
 impl Survey {
     /// Counts one answer.
-    fn count(&mut self, answer: &str) {
+    pub fn count(&mut self, answer: &str) {
         self.requests += 1;
         let words: Vec<&str> = answer.split(' ').collect();
         match words.as_slice() {

@@ -2,8 +2,11 @@
 
 use std::collections::HashSet;
 
+use independent::beside::{compare_desks, survey_desks};
 use independent::compare::{steps, Plan};
-use independent::generator::{folds, folds::folds, hand, lists, lists::lists, readers, texts, texts::texts};
+use independent::generator::{
+    desks::desks, folds, folds::folds, hand, lists, lists::lists, readers, texts, texts::texts,
+};
 use independent::hex::word_of;
 use independent::survey::{survey, Survey};
 
@@ -42,8 +45,7 @@ fn texts_reach_1_15_16_30_and_31() {
     assert!(survey.accepted >= 20_000 && survey.bad_requests == 0, "{survey}");
 }
 
-/// Refusal 21 needs 4,294,967,294 openings, so no list reaches it; tests/desk.rs does, with a desk
-/// whose next ticket is set.
+/// No list of requests reaches 21: a console starts with ticket 1, and 21 needs 4,294,967,294 openings.
 #[test]
 fn lists_reach_20_and_22_to_26_and_2_to_12() {
     let survey = survey(lists(1).take(2_000).flatten());
@@ -56,12 +58,46 @@ fn lists_reach_20_and_22_to_26_and_2_to_12() {
     assert_eq!((times(&survey, 1), times(&survey, 21)), (0, 0));
 }
 
+/// Desk values are what reaches 21; console requests have no way to set a next ticket.
 #[test]
-fn together_they_reach_every_refusal_of_the_paper_but_21() {
-    let survey = survey(steps(Plan::default()).map(|step| step.line));
+fn desk_values_reach_2_to_12_and_20_to_25() {
+    let survey = survey_desks(1, Plan::default().desks).expect("desk and ledger agree");
     let reached: Vec<u32> = survey.refusals.keys().copied().collect();
+    assert_eq!(reached, (2..=12).chain(20..=25).collect::<Vec<u32>>());
+    for number in 20..=25 {
+        assert!(times(&survey, number) >= 1_000, "{number}: {survey}");
+    }
+    assert!(survey.accepted >= 20_000, "{survey}");
+}
+
+#[test]
+fn desk_values_are_sound_where_no_rule_is_broken() {
+    let mut broken = 0;
+    for case in desks(2).take(1_000) {
+        assert_eq!(case.desk.is_sound(), case.refused != Some(25), "{:?}", case.desk);
+        broken += usize::from(case.refused == Some(25));
+    }
+    assert!(broken >= 100);
+}
+
+#[test]
+fn desk_and_ledger_agree_on_desk_values() {
+    for seed in 2..6 {
+        let counts = compare_desks(seed, 500).expect("no difference");
+        assert!(counts.starts_with("same answers: desk and ledger, 500 desk values of "), "{counts}");
+    }
+}
+
+/// Every number of document 01's table, and no other.
+#[test]
+fn together_they_reach_every_refusal_of_the_paper() {
+    let plan = Plan::default();
+    let requests = survey(steps(plan).map(|step| step.line));
+    let desk_values = survey_desks(plan.seed, plan.desks).expect("desk and ledger agree");
+    let mut reached = requests.refusals;
+    reached.extend(desk_values.refusals);
     let all = (1..=16).chain(20..=26).chain([30, 31]);
-    assert_eq!(reached, all.filter(|&number| number != 21).collect::<Vec<u32>>());
+    assert_eq!(reached.into_keys().collect::<Vec<u32>>(), all.collect::<Vec<u32>>());
 }
 
 /// The octets of request lines, the last word of each.
@@ -104,7 +140,7 @@ fn no_line_is_longer_than_the_console_takes() {
 
 #[test]
 fn a_family_of_0_is_left_out() {
-    let plan = Plan { protocol: 0, readers: 10, folds: 0, texts: 5, lists: 0, seed: 1 };
+    let plan = Plan { protocol: 0, readers: 10, folds: 0, texts: 5, lists: 0, desks: 0, seed: 1 };
     let families: Vec<&str> = steps(plan).map(|step| step.family).collect();
     assert_eq!(families, [["readers"; 10].as_slice(), &["texts"; 5]].concat());
 }

@@ -202,11 +202,16 @@ fn list_by_chance(dice: &mut Dice, sources: &[Vec<u8>]) -> Vec<String> {
         1 => (slots, *dice.pick(&[0, 1, slots * MOST_OCTETS - 1, (slots - 1) * MOST_OCTETS])),
         _ => (slots, slots * MOST_OCTETS),
     };
-    let list = vec![format!("desk {asked_slots} {pool}")];
+    let mut list = vec![format!("desk {asked_slots} {pool}")];
+    list.extend(calls_by_chance(dice, Ledger::new(slots), pool, sources));
+    list
+}
+
+/// Calls by chance on a desk of this ledger and so many octets of pool.
+pub fn calls_by_chance(dice: &mut Dice, ledger: Ledger, pool: usize, sources: &[Vec<u8>]) -> Vec<String> {
     let large = dice.once_in(8);
     let calls = dice.between(5, 60);
-    let ledger = Ledger::new(slots);
-    let mut caller = Caller { dice, ledger, pool, large, plans: BTreeMap::new(), list };
+    let mut caller = Caller { dice, ledger, pool, large, plans: BTreeMap::new(), list: Vec::new() };
     for _ in 0..calls {
         caller.call(sources);
     }
@@ -238,7 +243,7 @@ impl Caller<'_> {
         let next = self.ledger.next_ticket;
         if open.is_empty() || self.dice.once_in(7) {
             let closed = self.dice.between(1, next as usize) as u32;
-            return *self.dice.pick(&[closed, closed, next, next + 1, 0, u32::MAX, u32::MAX - 1]);
+            return *self.dice.pick(&[closed, closed, next, next.wrapping_add(1), 0, u32::MAX, u32::MAX - 1]);
         }
         *self.dice.pick(&open)
     }
