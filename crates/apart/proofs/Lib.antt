@@ -6,4 +6,4 @@ pub mod Agree
 pub mod Alone
 pub mod Joins
 pub mod Claim
-pub mod Cases
+pub mod Blind

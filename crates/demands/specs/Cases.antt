@@ -2,8 +2,8 @@
 use Prim.Native.Nat.{ℕ, _-_}
 use Prim.Native.String.{String}
 use mathlib.Core.Path.{_≡_}
-use mathlib.Core.List.{List, [], _∷_, _++_}
-use lib.ListN.{length, replicate}
+use mathlib.Core.List.{List, [], _∷_, _++_, map}
+use lib.ListN.{replicate}
 use Rattle.octets.specs.Room.{Filled, filled}
 use Rattle.octets.specs.declared.rooms.Written.the-variants.{Wrote, Refused as Unwritten}
 use Rattle.folder.specs.Outcome.{foldOutcome}
@@ -11,6 +11,13 @@ use Rattle.text.specs.Outcomes.{unescapeOutcome}
 use Rattle.properties.specs.Ascii.{octets}
 use Rattle.reader.specs.Outcome.{Taken, took, readOutcome}
 use Rattle.reader.specs.declared.Verdict.the-variants.{Accepted, Refused}
+use Rattle.desk.specs.Sound.{stateAt}
+use Rattle.desk.specs.Steps.{newStep}
+use Rattle.desk.specs.declared.entries.Session.{Session}
+use Rattle.desk.specs.declared.entries.State.the-variants.{Open}
+use Rattle.desk.specs.declared.Answer.the-variants.{Done}
+use Rattle.apart.specs.Ledger.{Call, opens, on, releases, told}
+use Rattle.apart.specs.Demand.{Proper, answers, world}
 
 -- a line with its end
 abbrev line : String → List ℕ
@@ -40,17 +47,26 @@ recordsM =
 abbrev fullName : String
 fullName = "N:Public;John;Quinlan;Mr.;Esq."
 
--- an example: what is read, folded or unescaped, the rooms, and the outcome
+-- an example: what is read, folded or unescaped, the rooms, and the outcome; or the calls on a fresh desk, the number that answers each,
+-- and which session then stands in which slot
 pub data Case : Type 0 where
   reads : (input copy records : List ℕ) → Taken → Case
   folds : (input room : List ℕ) → Filled → Case
   unescapes : (text room : List ℕ) → Filled → Case
+  turns : (slots : ℕ) (calls : List Call) (numbers : List ℕ) (slot : ℕ) (session : Session) → Case
+
+-- such a desk is granted; and with its proper pool, whatever this holds, the steps of the desk's contracts answer and end so
+pub record Turns (n : ℕ) (cs : List Call) (ns : List ℕ) (i : ℕ) (s : Session) : Type 0 where
+  pub granted : newStep n .answer ≡ Done 0
+  pub answered : (p : List ℕ) → Proper n p → answers n p cs ≡ map told ns
+  pub slot : (p : List ℕ) → Proper n p → stateAt (world n p cs .desk .entries) i ≡ Open s
 
 -- the outcome that the entry's contract names is the one expected
 abbrev pub Holds : Case → Type 0
 Holds (reads i c r t) = readOutcome i c r ≡ t
 Holds (folds i o f) = foldOutcome i o ≡ f
 Holds (unescapes t o f) = unescapeOutcome t o ≡ f
+Holds (turns n cs ns i s) = Turns n cs ns i s
 
 -- refused: both rooms stay
 abbrev pub refusal : List ℕ → ℕ → ℕ → Case
@@ -86,4 +102,5 @@ cases =
     unescapes (octets "a\\,b") (replicate 8 0) (filled (Wrote 3) (octets "a,b" ++ replicate 5 0)) ∷
     unescapes (octets "\\N") (replicate 8 0) (filled (Wrote 1) (10 ∷ replicate 7 0)) ∷
     unescapes (octets "a,b") (replicate 8 0) (filled (Unwritten 30 1) (replicate 8 0)) ∷
+    turns 2 (opens 0 ∷ opens 0 ∷ on 1 releases ∷ opens 0 ∷ []) (1 ∷ 2 ∷ 0 ∷ 3 ∷ []) 0 (record { ticket = 3; tram = 0; held = 0 }) ∷
     []
