@@ -1,6 +1,6 @@
 // The property table: the row of a name, what a row says, and the kind that a VALUE parameter names.
 ghost use mathlib.Core.Path.{_≡_};
-ghost use Prim.Native.Nat.{_<_, _≤_};
+ghost use Prim.Native.Nat.{_/_, _%_, _<_, _≤_};
 ghost use lib.ListN.{length};
 ghost use Rattle.octets.specs.Cases.{same};
 ghost use Rattle.properties.specs.Rows.{rowOf, rowAt, Skipped, kindAt, single, takesValue, kindNamed, isGroup, Lists};
@@ -56,22 +56,22 @@ pub fn table() -> [u8; 624]
     ROWS
 }
 
-// The next row from `from` on whose name has n octets, or 39. It goes by the places of the lengths, so that a row costs one look.
+// Where the next row, from the one whose length stands at `from`, has its length if that is n, or 636: one look a row.
 fn next_sized(rows: &[u8; 624], from: usize, n: u8) -> usize
     requires { ⌜ Lists (now rows) ⌝ }
-    requires { ⌜ from ≤ 39 ⌝ }
-    ensures { λ r. ⌜ (from ≤ r) × (r ≤ 39) ⌝ }
-    ensures { λ r. ⌜ Skipped n from r ⌝ }
-    ensures { λ r. ⌜ (r < 39 → length (rowAt r .name) ≡ n) ⌝ }
+    requires { ⌜ (from % 16 ≡ 12) × (from ≤ 636) ⌝ }
+    ensures { λ r. ⌜ (r % 16 ≡ 12) × (from ≤ r) × (r ≤ 636) ⌝ }
+    ensures { λ r. ⌜ Skipped n (from / 16) (r / 16) ⌝ }
+    ensures { λ r. ⌜ (r < 624 → length (rowAt (r / 16) .name) ≡ n) ⌝ }
 {
-    let mut at = from * 16 + 12;
+    let mut at = from;
     while at < 624 {
         if rows[at] == n {
-            return at / 16;
+            return at;
         }
         at += 16;
     }
-    39
+    at
 }
 
 // Whether the row's name, which is as long, is this one without case: a capital and an octet differ at most in the bit of 32.
@@ -102,12 +102,13 @@ pub fn find_row(rows: &[u8; 624], name: &[u8]) -> usize
         return 0;
     }
     let n = name.len() as u8;
-    let mut row = next_sized(rows, 1, n);
-    while row < 39 {
+    let mut at = next_sized(rows, 28, n);
+    while at < 624 {
+        let row = at / 16;
         if spells(rows, row, name) {
             return row;
         }
-        row = next_sized(rows, row + 1, n);
+        at = next_sized(rows, at + 16, n);
     }
     0
 }

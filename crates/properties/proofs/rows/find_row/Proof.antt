@@ -1,8 +1,8 @@
 -- `properties::rows::find_row` meets its contract. Assumes nothing.
 use borrow.Author.Needs.{needs}
-use mathlib.Core.Path.{_≡_, sym, ap, _∙_}
+use mathlib.Core.Path.{_≡_, refl, sym, ap, _∙_}
 use mathlib.Core.List.{List}
-use Prim.Native.Nat.{ℕ, _+_, _-_, _<_, _≤_}
+use Prim.Native.Nat.{ℕ, _+_, _-_, _/_, _%_, _<_, _≤_}
 use native.Mathlib.Omega.{arith}
 use lib.ListN.{length}
 use Rattle.properties.specs.Rows.{rowOf, rowAt, Skipped}
@@ -11,10 +11,10 @@ use Rattle.properties.proofs.rows.find_row.Statement.{statement}
 use Rattle.properties.proofs.rows.find_row.Tie as tie
 
 abbrev Inv-loop : tie.InvT-loop
-Inv-loop rows name n row₀ row = (row ≤ 39) × (rowOf name ≡ searchFrom name row) × (row < 39 → length (rowAt row .name) ≡ length name)
+Inv-loop rows name n at₀ at = (at % 16 ≡ 12) × (at ≤ 636) × (rowOf name ≡ searchFrom name (at / 16)) × (at < 624 → length (rowAt (at / 16) .name) ≡ length name)
 
 abbrev μ-loop : tie.MeasureT-loop
-μ-loop rows name n row₀ row = 39 - row
+μ-loop rows name n at₀ at = 640 - at
 
 -- the search goes on at the next row of the name's length
 onward : (v : List ℕ) (a e : ℕ) → a ≤ e → e ≤ 39 → Skipped (length v) a e → searchFrom v a ≡ searchFrom v e
@@ -29,32 +29,36 @@ cast-n : tie.Need-cast-n Inv-loop μ-loop
 cast-n c = search needs
 
 next-sized-requires : tie.Need-next-sized-requires Inv-loop μ-loop
-next-sized-requires c κs = search needs
+next-sized-requires c κs = (search needs, (refl, omega arith))
 
 loop-holds : tie.Need-loop-holds Inv-loop μ-loop
 loop-holds c =
     let v = c .before .before .before .args .name .now in
     let e = c .next-sized .ensures in
-    (e .0 .1, search-start v ∙ onward v 1 (c .next-sized .result) (e .0 .0) (e .0 .1) (e .1 .0), e .1 .1)
+    let r = c .next-sized .result in
+    let first : 1 ≤ r / 16 = omega (arith, e .0) in
+    let last : r / 16 ≤ 39 = omega (arith, e .0) in
+    (e .0 .0, e .0 .2, search-start v ∙ onward v 1 (r / 16) first last (e .1 .0), e .1 .1)
 
 spells-requires : tie.Need-spells-requires Inv-loop μ-loop
-spells-requires c κs = (search needs, (search needs, c .before .loop .inv .2 (omega arith)))
+spells-requires c κs = (search needs, (omega arith, c .before .loop .inv .3 (omega arith)))
 
 returns-2 : tie.Need-returns-2 Inv-loop μ-loop
 returns-2 c =
     let l = c .before .before .before in
     let v = l .before .before .before .before .args .name .now in
-    let low : l .loop .row < 39 = omega arith in
-    (sym (l .loop .inv .1 ∙ search-found v (l .loop .row) low (sym (c .before .spells .ensures) ∙ c .if2 .taken)), low)
+    let row = l .loop .at / 16 in
+    let low : row < 39 = omega arith in
+    (sym (l .loop .inv .2 ∙ search-found v row low (sym (c .before .spells .ensures) ∙ c .if2 .taken)), low)
 
 add-next-sized : tie.Need-add-next-sized Inv-loop μ-loop
 add-next-sized c = search needs
 
 next-sized-requires-2 : tie.Need-next-sized-requires-2 Inv-loop μ-loop
-next-sized-requires-2 c κs = search needs
+next-sized-requires-2 c κs = (search needs, (omega arith, omega arith))
 
 loop-less : tie.Need-loop-less Inv-loop μ-loop
-loop-less c = omega (arith, c .next-sized2 .ensures .0 .0)
+loop-less c = omega (arith, c .next-sized2 .ensures .0 .1)
 
 loop-again : tie.Need-loop-again Inv-loop μ-loop
 loop-again c =
@@ -62,11 +66,17 @@ loop-again c =
     let l = s .before .before in
     let v = l .before .before .before .before .args .name .now in
     let e = c .next-sized2 .ensures in
-    let low : l .loop .row < 39 = omega arith in (
-      e .0 .1,
-      l .loop .inv .1
-          ∙ search-next v (l .loop .row) low (sym (s .spells .ensures) ∙ c .before .if2 .left)
-          ∙ onward v (l .loop .row + 1) (c .next-sized2 .result) (e .0 .0) (e .0 .1) (e .1 .0),
+    let at = l .loop .at in
+    let r = c .next-sized2 .result in
+    let low : at / 16 < 39 = omega arith in
+    let next : (at + 16) / 16 ≡ at / 16 + 1 = omega arith in
+    let first : at / 16 + 1 ≤ r / 16 = omega (arith, e .0) in
+    let last : r / 16 ≤ 39 = omega (arith, e .0) in (
+      e .0 .0,
+      e .0 .2,
+      l .loop .inv .2
+          ∙ search-next v (at / 16) low (sym (s .spells .ensures) ∙ c .before .if2 .left)
+          ∙ onward v (at / 16 + 1) (r / 16) first last (rw (sym next) (e .1 .0)),
       e .1 .1,
     )
 
@@ -74,8 +84,8 @@ returns-3 : tie.Need-returns-3 Inv-loop μ-loop
 returns-3 c =
     let l = c .before in
     let v = l .before .before .before .before .args .name .now in
-    let over : l .loop .row ≡ 39 = omega arith in
-    (sym (l .loop .inv .1 ∙ ap (searchFrom v) over ∙ search-none v), omega arith)
+    let over : l .loop .at / 16 ≡ 39 = omega arith in
+    (sym (l .loop .inv .2 ∙ ap (searchFrom v) over ∙ search-none v), omega arith)
 
 pub find-row-spec : {M : Type 1} → statement M
 find-row-spec =

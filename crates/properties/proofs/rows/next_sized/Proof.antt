@@ -12,7 +12,7 @@ use Rattle.properties.proofs.rows.next_sized.Statement.{statement}
 use Rattle.properties.proofs.rows.next_sized.Tie as tie
 
 abbrev Inv-loop : tie.InvT-loop
-Inv-loop rows from n at₀ at = (at % 16 ≡ 12) × (from ≤ at / 16) × (at / 16 ≤ 39) × Skipped n from (at / 16)
+Inv-loop rows from n at₀ at = (at % 16 ≡ 12) × (from ≤ at) × (at ≤ 636) × Skipped n (from / 16) (at / 16)
 
 abbrev μ-loop : tie.MeasureT-loop
 μ-loop rows from n at₀ at = 640 - at
@@ -23,29 +23,20 @@ long t at h l e =
     let there : at / 16 * 16 + 12 ≡ at = omega arith in
     ap (λ (k : ℕ). getD t k 0) (sym there) ∙ listed t h (at / 16) l .long
 
-mul-at : tie.Need-mul-at Inv-loop μ-loop
-mul-at c = search needs
-
-add-at : tie.Need-add-at Inv-loop μ-loop
-add-at c = search needs
-
 loop-holds : tie.Need-loop-holds Inv-loop μ-loop
-loop-holds c =
-    let start : (c .args .from * 16 + 12) / 16 ≡ c .args .from = omega arith in
-    (omega arith, omega arith, omega arith, λ k g f e. omega arith)
+loop-holds c = (c .pre .1 .0, omega arith, c .pre .1 .1, λ k g f e. omega arith)
 
 element-copy-out-if1 : tie.Need-element-copy-out-if1 Inv-loop μ-loop
 element-copy-out-if1 c = search needs
 
 returns : tie.Need-returns Inv-loop μ-loop
 returns c =
-    let l = c .before .before .before in (
-      (l .loop .inv .1, l .loop .inv .2),
-      (l .loop .inv .3, λ h. sym (long (l .before .args .rows .now) (l .loop .at) (l .before .pre .0) h (l .loop .inv .0)) ∙ c .if1 .taken),
-    )
+    let l = c .before .before .before in
+    let i = l .loop .inv in
+    ((i .0, i .1, i .2), (i .3, λ h. sym (long (l .before .args .rows .now) (l .loop .at) (l .before .pre .0) (omega arith) (i .0)) ∙ c .if1 .taken))
 
-add-at-2 : tie.Need-add-at-2 Inv-loop μ-loop
-add-at-2 c = search needs
+add-at : tie.Need-add-at Inv-loop μ-loop
+add-at c = search needs
 
 loop-less : tie.Need-loop-less Inv-loop μ-loop
 loop-less c = search needs
@@ -53,23 +44,20 @@ loop-less c = search needs
 loop-again : tie.Need-loop-again Inv-loop μ-loop
 loop-again c =
     let l = c .before .before .before in
-    let n = l .before .args .n in
-    let from = l .before .args .from in
+    let a = l .before .args in
     let row = l .loop .at / 16 in
     let next : (l .loop .at + 16) / 16 ≡ row + 1 = omega arith in
-    let low : row < 39 = omega arith in
-    let other : from ≤ row → length (rowAt row .name) ≡ n → ⊥ = λ f e. c .if1 .left (long (l .before .args .rows .now) (l .loop .at) (l .before .pre .0) low (l .loop .inv .0) ∙ e) in (
+    let other : a .from / 16 ≤ row → length (rowAt row .name) ≡ a .n → ⊥ = λ f e. c .if1 .left (long (a .rows .now) (l .loop .at) (l .before .pre .0) (omega arith) (l .loop .inv .0) ∙ e) in (
       omega arith,
       omega arith,
       omega arith,
-      rw (next) (below-more (λ (k : ℕ). from ≤ k → length (rowAt k .name) ≡ n → ⊥) row (l .loop .inv .3) other),
+      rw (next) (below-more (λ (k : ℕ). a .from / 16 ≤ k → length (rowAt k .name) ≡ a .n → ⊥) row (l .loop .inv .3) other),
     )
 
 returns-2 : tie.Need-returns-2 Inv-loop μ-loop
 returns-2 c =
-    let l = c .before in
-    let over : l .loop .at / 16 ≡ 39 = omega arith in
-    ((omega arith, omega arith), (λ k g. l .loop .inv .3 k (omega arith), λ h. absurd (omega arith)))
+    let i = c .before .loop .inv in
+    ((i .0, i .1, i .2), (i .3, λ h. absurd (omega arith)))
 
 pub next-sized-spec : {M : Type 1} → statement M
 next-sized-spec =
@@ -77,12 +65,10 @@ next-sized-spec =
     (tie.spec
     Inv-loop
     μ-loop
-    mul-at
-    add-at
     loop-holds
     element-copy-out-if1
     returns
-    add-at-2
+    add-at
     loop-less
     loop-again
     returns-2)
