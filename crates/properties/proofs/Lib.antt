@@ -5,3 +5,4 @@ pub mod StepLaws
 pub mod TableLaws
 pub mod QuietLaws
 pub mod RowLaws
+pub mod Letters

@@ -2,8 +2,9 @@
 use mathlib.Core.Path.{_≡_, refl, sym, ap, subst, _∙_}
 use mathlib.Core.Bool.{Bool, true, false}
 use mathlib.Core.List.{List, [], _∷_}
-use Prim.Native.Nat.{ℕ, suc, _+_, _*_, _<_}
+use Prim.Native.Nat.{ℕ, zero, suc, _+_, _*_, _<_, _≤_}
 use native.Mathlib.Numerals.{add-one}
+use native.Mathlib.Nat.{add-zero}
 use native.Mathlib.Omega.{arith}
 use lib.Dec.{eqb, ltb}
 use lib.ListN.{length, getD, take, drop}
@@ -11,8 +12,9 @@ use lib.Seq.{drop-cons}
 use borrow.Author.Tests.{ltb-true}
 use Rattle.octets.specs.Pick.{pick}
 use Rattle.octets.specs.Cases.{same}
+use Rattle.octets.proofs.CaseLaws.{same-length}
 use Rattle.properties.specs.Ascii.{octets}
-use Rattle.properties.specs.Rows.{Row, noRow, rows, search, rowOf, rowAt, kindAt, single, takesValue, entries, entriesFrom, Lists}
+use Rattle.properties.specs.Rows.{Row, noRow, rows, search, rowOf, rowAt, Skipped, kindAt, single, takesValue, entries, entriesFrom, Lists}
 use Rattle.properties.proofs.Upto.{upto, alike}
 
 abbrev all : List Row
@@ -40,10 +42,24 @@ pub search-none : (v : List ℕ) → searchFrom v 39 ≡ 0
 unfolding searchFrom search rows
 search-none v = refl
 
+-- rows of other lengths are passed
+pub search-skip : (v : List ℕ) (d n : ℕ) → n + d ≤ 39 → Skipped (length v) n (n + d) → searchFrom v n ≡ searchFrom v (n + d)
+search-skip v zero n h k = ap (searchFrom v) (sym (add-zero n))
+search-skip v (suc d) n h k =
+    let here = same-length v (rowAt n .name) (λ e. k n (omega arith) (omega arith) (sym e)) in
+    let later : Skipped (length v) (n + 1) (n + 1 + d) = λ m g f. k m (omega arith) (omega arith) in
+    let there : n + 1 + d ≡ n + suc d = omega arith in
+    search-next v n (omega arith) here ∙ search-skip v d (n + 1) (omega arith) later ∙ ap (searchFrom v) there
+
 -- each name has at most twelve octets, and each kind is one of nine
 pub name-short : (n : ℕ) → n < 39 → length (rowAt n .name) < 13
 unfolding upto rowAt rows octets
 name-short n h = ltb-true _ _ (alike (λ j. ltb (length (rowAt j .name)) 13) (λ j. true) 39 refl n h)
+
+pub search-long : (v : List ℕ) → 12 < length v → rowOf v ≡ 0
+search-long v h =
+    let none : Skipped (length v) 1 39 = λ k g f e. omega (arith, name-short k g, e) in
+    search-start v ∙ search-skip v 38 1 (omega arith) none ∙ search-none v
 
 pub kind-low : (n : ℕ) → n < 39 → kindAt n < 9
 unfolding upto kindAt rowAt rows

@@ -13,7 +13,7 @@ use Rattle.octets.specs.Pick.{pick}
 use Rattle.properties.specs.Octets.{Octets, holds}
 use Rattle.properties.specs.Shapes.{Shape, never, empty, one, _then_, _or_, many, mayEnd, lost, after, faultFrom}
 use Rattle.properties.specs.Kinds.{text, texts, uri, component, parts, components, gender, pidmap, vcard, version}
-use Rattle.properties.specs.States.{states, stateShape, speaker, Scanner}
+use Rattle.properties.specs.States.{states, stateShape, speaker, Scanner, Next}
 use Rattle.properties.specs.declared.values.Fault.{Fault}
 use Rattle.properties.specs.declared.values.Fault.the-variants.{Fits, Breaks}
 use Rattle.properties.proofs.Upto.{upto, alike}
@@ -36,10 +36,6 @@ after-alike x y h (one p) = rw (h p)
 after-alike x y h (a then b) = rw (after-alike x y h a, after-alike x y h b)
 after-alike x y h (a or b) = rw (after-alike x y h a, after-alike x y h b)
 after-alike x y h (many a) = rw (after-alike x y h a)
-
-pub record Next (q b n : ℕ) : Type 0 where
-  pub inside : n < 38
-  pub right : stateShape n ≡ after b (stateShape q)
 
 pub next : (t : List ℕ) (q b : ℕ) → Scanner t → q < 38 → b < 256 → Next q b (getD t (256 + (q * 20 + getD t b 0)) 0)
 next t q b h hq hb =

@@ -12,7 +12,7 @@ upto f i zero = []
 upto f i (suc n) = f i ∷ upto f (suc i) n
 
 module _ {A : Type 0} (f g : ℕ → A) where
-  from : (n i : ℕ) → upto f i n ≡ upto g i n → (k : ℕ) → k < n → f (i + k) ≡ g (i + k)
+  pub from : (n i : ℕ) → upto f i n ≡ upto g i n → (k : ℕ) → k < n → f (i + k) ≡ g (i + k)
   unfolding upto
   from zero i e k h = absurd (not-suc-le-zero h)
   from (suc n) i e zero h = rw (add-zero i) (cc)

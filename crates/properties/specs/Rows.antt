@@ -1,5 +1,5 @@
 -- The property table, as document 01 lists it, the row of a name, and the kind of a line. Assumes nothing.
-use Prim.Native.Nat.{ℕ, zero, suc}
+use Prim.Native.Nat.{ℕ, zero, suc, _<_, _≤_}
 use Prim.Native.String.{String}
 use mathlib.Core.Path.{_≡_}
 use mathlib.Core.Bool.{Bool, true, false, not, _&&_, _||_}
@@ -80,6 +80,10 @@ noRow = record { name = []; kind = 0; times = often }
 
 unfoldable pub rowAt : ℕ → Row
 rowAt n = getD (noRow ∷ rows) n noRow
+
+-- none of the rows from a up to e has a name of n octets
+abbrev pub Skipped : ℕ → ℕ → ℕ → Type 0
+Skipped n a e = (k : ℕ) → k < e → a ≤ k → length (rowAt k .name) ≡ n → ⊥
 
 unfoldable pub kindAt : ℕ → ℕ
 kindAt n = rowAt n .kind

@@ -71,3 +71,8 @@ pub record Scanner (t : List ℕ) : Type 0 where
   pub sort : (b : ℕ) → b < 256 → (p : Octets) → holds p b ≡ holds p (speaker (getD t b 0))
   pub step-low : (k : ℕ) → k < 760 → getD t (256 + k) 0 < 38
   pub step : (k : ℕ) → k < 760 → stateShape (getD t (256 + k) 0) ≡ after (speaker (k % 20)) (stateShape (k / 20))
+
+-- the octet b leads from state q to state n
+pub record Next (q b n : ℕ) : Type 0 where
+  pub inside : n < 38
+  pub right : stateShape n ≡ after b (stateShape q)

@@ -1,8 +1,9 @@
 // The property table: the row of a name, what a row says, and the kind that a VALUE parameter names.
 ghost use mathlib.Core.Path.{_≡_};
-ghost use Prim.Native.Nat.{_<_};
+ghost use Prim.Native.Nat.{_/_, _%_, _<_, _≤_};
+ghost use lib.ListN.{length};
 ghost use Rattle.octets.specs.Cases.{same};
-ghost use Rattle.properties.specs.Rows.{rowOf, rowAt, kindAt, single, takesValue, kindNamed, isGroup, Lists};
+ghost use Rattle.properties.specs.Rows.{rowOf, rowAt, Skipped, kindAt, single, takesValue, kindNamed, isGroup, Lists};
 use crate::values::wide;
 use octets::cases::same_name;
 
@@ -55,20 +56,40 @@ pub fn table() -> [u8; 624]
     ROWS
 }
 
-// Whether the row has this name without case.
-fn is_row(rows: &[u8; 624], row: usize, name: &[u8]) -> bool
+// Where the next row, from the one whose length stands at `from`, has its length if that is n, or 636: one look a row.
+fn next_sized(rows: &[u8; 624], from: usize, n: u8) -> usize
+    requires { ⌜ Lists (now rows) ⌝ }
+    requires { ⌜ (from % 16 ≡ 12) × (from ≤ 636) ⌝ }
+    ensures { λ r. ⌜ (r % 16 ≡ 12) × (from ≤ r) × (r ≤ 636) ⌝ }
+    ensures { λ r. ⌜ Skipped n (from / 16) (r / 16) ⌝ }
+    ensures { λ r. ⌜ (r < 624 → length (rowAt (r / 16) .name) ≡ n) ⌝ }
+{
+    let mut at = from;
+    while at < 624 {
+        if rows[at] == n {
+            return at;
+        }
+        at += 16;
+    }
+    at
+}
+
+// Whether the row's name, which is as long, is this one without case: a capital and an octet differ at most in the bit of 32.
+fn spells(rows: &[u8; 624], row: usize, name: &[u8]) -> bool
     requires { ⌜ Lists (now rows) ⌝ }
     requires { ⌜ row < 39 ⌝ }
+    requires { ⌜ length (rowAt row .name) ≡ length (now name) ⌝ }
     ensures { λ r. ⌜ r ≡ same (now (name .entry)) (rowAt row .name) ⌝ }
 {
     let base = row * 16;
-    let n = wide(rows[base + 12]);
-    if name.len() != n {
-        return false;
+    let mut i: usize = 0;
+    while i < name.len() {
+        if name[i] | 32 != rows[base + i] | 32 {
+            return false;
+        }
+        i += 1;
     }
-    let end = base + n;
-    let all = &rows[..];
-    same_name(name, &all[base..end])
+    true
 }
 
 // The number of the row with this name without case, or 0.
@@ -77,12 +98,17 @@ pub fn find_row(rows: &[u8; 624], name: &[u8]) -> usize
     ensures { λ r. ⌜ r ≡ rowOf (now (name .entry)) ⌝ }
     ensures { λ r. ⌜ r < 39 ⌝ }
 {
-    let mut row: usize = 1;
-    while row < 39 {
-        if is_row(rows, row, name) {
+    if 12 < name.len() {
+        return 0;
+    }
+    let n = name.len() as u8;
+    let mut at = next_sized(rows, 28, n);
+    while at < 624 {
+        let row = at / 16;
+        if spells(rows, row, name) {
             return row;
         }
-        row += 1;
+        at = next_sized(rows, at + 16, n);
     }
     0
 }

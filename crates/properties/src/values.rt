@@ -1,14 +1,14 @@
 // Whether a value satisfies its kind, and if not, from which octet on nothing could.
 ghost use mathlib.Core.Path.{_≡_};
 ghost use mathlib.Core.Bool.{true, not};
-ghost use Prim.Native.Nat.{_+_, _<_};
+ghost use Prim.Native.Nat.{_+_, _<_, _≤_};
 ghost use lib.ListN.{length, drop};
 ghost use Rattle.octets.specs.Classes.{bit};
 ghost use Rattle.properties.specs.Octets.{neither, graphic, semicolon, holds};
 ghost use Rattle.properties.specs.Shapes.{faultFrom};
 ghost use Rattle.properties.specs.Quiet.{allIn, countOf};
 ghost use Rattle.properties.specs.Kinds.{shapeOf, kindScan, valueScan};
-ghost use Rattle.properties.specs.States.{stateShape, Scanner};
+ghost use Rattle.properties.specs.States.{stateShape, Scanner, Next};
 
 // A value fits, or the first octet from which nothing could, or the end.
 pub enum Fault {
@@ -186,19 +186,44 @@ fn quick(kind: usize, s: &[u8]) -> bool
     }
 }
 
+// The state after the octet x in the state q.
+fn step(steps: &[u8; 1016], q: u8, x: u8) -> u8
+    requires { ⌜ Scanner (now steps) ⌝ }
+    requires { ⌜ q < 38 ⌝ }
+    ensures { λ r. ⌜ Next q x r ⌝ }
+{
+    let c = steps[wide(x)];
+    steps[256 + (wide(q) * 20 + wide(c))]
+}
+
 // True only where the step at i led into a URI's last part and all that comes is of it.
-fn settled(q: u8, n: u8, s: &[u8], i: usize) -> bool
+fn settled(n: u8, s: &[u8], i: usize) -> bool
     requires { ⌜ i < length (now s) ⌝ }
     ensures { λ r. ⌜ (r ≡ true → (n ≡ 32) × (allIn (holds graphic) (drop (i + 1) (now (s .entry))) ≡ true)) ⌝ }
 {
     if n != 32 {
         return false;
     }
-    if q == 32 {
-        return false;
-    }
     let a = i + 1;
     printing(&s[a..])
+}
+
+// A place up to which all octets from `from` on leave the state as it is.
+fn stay(steps: &[u8; 1016], q: u8, s: &[u8], from: usize) -> usize
+    requires { ⌜ Scanner (now steps) ⌝ }
+    requires { ⌜ (0 < q) × (q < 38) ⌝ }
+    requires { ⌜ from ≤ length (now s) ⌝ }
+    ensures { λ r. ⌜ (from ≤ r) × (r ≤ length (now (s .entry))) ⌝ }
+    ensures { λ r. ⌜ faultFrom (stateShape q) from (drop from (now (s .entry))) ≡ faultFrom (stateShape q) r (drop r (now (s .entry))) ⌝ }
+{
+    let mut i = from;
+    while i < s.len() {
+        if step(steps, q, s[i]) != q {
+            return i;
+        }
+        i += 1;
+    }
+    i
 }
 
 // The fault of s from a state on.
@@ -210,16 +235,19 @@ fn scan(steps: &[u8; 1016], first: u8, s: &[u8]) -> Fault
     let mut q = first;
     let mut i: usize = 0;
     while i < s.len() {
-        let c = steps[wide(s[i])];
-        let n = steps[256 + (wide(q) * 20 + wide(c))];
+        let n = step(steps, q, s[i]);
         if n == 0 {
             return Fault::Breaks(i);
         }
-        if settled(q, n, s, i) {
-            return Fault::Fits;
+        if n == q {
+            i = stay(steps, q, s, i + 1);
+        } else {
+            if settled(n, s, i) {
+                return Fault::Fits;
+            }
+            q = n;
+            i += 1;
         }
-        q = n;
-        i += 1;
     }
     if q < 29 {
         return Fault::Breaks(i);

@@ -14,9 +14,6 @@ use Rattle.properties.proofs.values.settled.Tie as tie
 returns : tie.Need-returns
 returns c = λ e. absurd (false≢true e)
 
-returns-2 : tie.Need-returns-2
-returns-2 c = λ e. absurd (false≢true e)
-
 add-a : tie.Need-add-a
 add-a c = search needs
 
@@ -32,22 +29,21 @@ part-printing-end c = search needs
 printing-requires : tie.Need-printing-requires
 printing-requires c κs = search needs
 
-returns-3 : tie.Need-returns-3
-returns-3 c =
-    let a = c .before .before .before .before .before .args in
+returns-2 : tie.Need-returns-2
+returns-2 c =
+    let a = c .before .before .before .before .args in
     let t = drop (a .i + 1) (a .s .now) in
     let le : length t ≤ length (a .s .now) - (a .i + 1) = omega (arith, length-drop (a .i + 1) (a .s .now)) in
-    λ e. (c .before .before .before .if1 .left, ap (allIn (holds graphic)) (sym (take-all (length (a .s .now) - (a .i + 1)) t le)) ∙ sym (c .printing .ensures) ∙ e)
+    λ e. (c .before .before .if1 .left, ap (allIn (holds graphic)) (sym (take-all (length (a .s .now) - (a .i + 1)) t le)) ∙ sym (c .printing .ensures) ∙ e)
 
 pub settled-spec : {M : Type 1} → statement M
 settled-spec =
     tie.close
     (tie.spec
     returns
-    returns-2
     add-a
     sub-printing
     part-printing-start
     part-printing-end
     printing-requires
-    returns-3)
+    returns-2)
