@@ -1,0 +1,69 @@
+-- `timed::timed_desk` meets its contract. Assumes nothing.
+use mathlib.Core.Path.{_≡_, sym, ap, _∙_}
+use mathlib.Core.List.{List}
+use Prim.Native.Nat.{ℕ}
+use Rattle.desk.specs.Steps.{Turned, turned, newStep}
+use Rattle.desk.specs.declared.Turn.{Turn}
+use Rattle.timed.specs.Answers.{answerNumber}
+use Rattle.timed.specs.Calls.{run, served}
+use borrow.Author.Needs.{needs}
+use Rattle.timed.proofs.timed_desk.Statement.{statement}
+use Rattle.timed.proofs.timed_desk.Tie as tie
+
+-- a fresh desk, the openings, and the calls after them
+by-turns : (p q : List ℕ) (opens kind n : ℕ) {fresh : Turn} {ready done : Turned} → fresh ≡ newStep 40 → ready ≡ run q 0 opens 1 opens (turned fresh p)
+    → done ≡ run q kind opens 1 n ready → done ≡ served p q opens kind n
+unfolding served
+by-turns p q opens kind n e f g =
+    g ∙ ap (run q kind opens 1 n) (f ∙ ap (λ (t : Turn). run q 0 opens 1 opens (turned t p)) e)
+
+new-requires : tie.Need-new-requires
+new-requires c κs = search needs
+
+run-requires : tie.Need-run-requires
+run-requires c κs = search needs
+
+run-requires-2 : tie.Need-run-requires-2
+run-requires-2 c κs = search needs
+
+enum-known-a : tie.Need-enum-known-a
+enum-known-a c = search needs
+
+enum-known-a-2 : tie.Need-enum-known-a-2
+enum-known-a-2 c = search needs
+
+refusal-requires : tie.Need-refusal-requires
+refusal-requires c κs = search needs
+
+same-length : tie.Need-same-length
+same-length c = search needs
+
+returns : tie.Need-returns
+returns c =
+    let b = c .before .before .before .before .before in
+    let e = by-turns _ _ _ _ _ (b .before .before .before .before .before .before .new .ensures) (b .before .before .before .before .run .ensures) (b .run2 .ensures) in
+    (ap answerNumber (sym (c .before .a .given .1)) ∙ ap (λ (s : Turned). answerNumber (s .answer)) e, ap (λ (s : Turned). s .pool) e)
+
+same-length-2 : tie.Need-same-length-2
+same-length-2 c = search needs
+
+returns-2 : tie.Need-returns-2
+returns-2 c =
+    let b = c .before .before .before .before .before .before in
+    let e = by-turns _ _ _ _ _ (b .before .before .before .before .before .before .new .ensures) (b .before .before .before .before .run .ensures) (b .run2 .ensures) in
+    (c .refusal .ensures ∙ ap answerNumber (sym (c .before .before .a2 .given .1)) ∙ ap (λ (s : Turned). answerNumber (s .answer)) e, ap (λ (s : Turned). s .pool) e)
+
+pub timed-desk-spec : {M : Type 1} → statement M
+timed-desk-spec =
+    tie.close
+    (tie.spec
+    new-requires
+    run-requires
+    run-requires-2
+    enum-known-a
+    enum-known-a-2
+    refusal-requires
+    same-length
+    returns
+    same-length-2
+    returns-2)
