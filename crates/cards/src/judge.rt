@@ -76,10 +76,12 @@ fn judge_parts(steps: &[u8; 1016], x: Parts, value: &[u8], at: usize, c: Card) -
     requires { ⌜ (c .cards ≤ c .lines) × (c .lines < 65536) ⌝ }
     ensures { λ r. ⌜ r ≡ judgeParts c at (x .row) (x .group) (x .params) (x .kind) (now (value .entry)) ⌝ }
 {
-    if !in_order(c.phase, x.row) {
+    let placed = in_order(c.phase, x.row);
+    let laden = is_laden(x);
+    if !placed {
         return Step::Refused(9, at);
     }
-    if is_laden(x) {
+    if laden {
         return Step::Refused(8, at);
     }
     let f = properties::values::judge_value(steps, x.row, x.kind, value);

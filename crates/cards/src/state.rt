@@ -98,15 +98,10 @@ pub fn close(c: Card, at: usize) -> Step
             return Step::Refused(12, at);
         }
     }
-    Step::Next(Card {
-        phase: 0,
-        seen: 0,
-        named: false,
-        member: false,
-        group: false,
-        cards: c.cards + 1,
-        lines: c.lines + 1,
-    })
+    let mut next = fresh();
+    next.cards = c.cards + 1;
+    next.lines = c.lines + 1;
+    Step::Next(next)
 }
 
 // A line of the row, not END: 10, or the state after it. `group` says whether its value is group.

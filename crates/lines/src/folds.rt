@@ -30,19 +30,19 @@ pub fn line_end(s: &[u8], from: usize) -> usize
     requires { ⌜ from ≤ length (now s) ⌝ }
     ensures { λ r. ⌜ (r ≡ from + lineLength (drop from (now (s .entry)))) × (r ≤ length (now (s .entry))) ⌝ }
 {
-    let mut i = from;
-    while i < s.len() {
-        if s[i] == 13 {
-            let fold = fold_at(s, i);
+    let mut at = from;
+    while at < s.len() {
+        if s[at] == 13 {
+            let fold = fold_at(s, at);
             if !fold {
-                return i;
+                return at;
             }
-            i += 3;
+            at += 3;
         } else {
-            i += 1;
+            at += 1;
         }
     }
-    i
+    at
 }
 
 // Writes s without its folds to the start of d, and answers how many octets that are.

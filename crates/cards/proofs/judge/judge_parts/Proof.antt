@@ -9,16 +9,16 @@ use Rattle.cards.proofs.judge.judge_parts.Tie as tie
 in-order-requires : tie.Need-in-order-requires
 in-order-requires c κs = search needs
 
-returns : tie.Need-returns
-unfolding judgeParts
-returns c = simp (sym (c .before .in-order .ensures) ∙ not-true (c .before .in-order .result) (c .if1 .taken))
-
 is-laden-requires : tie.Need-is-laden-requires
 is-laden-requires c κs = search needs
 
+returns : tie.Need-returns
+unfolding judgeParts
+returns c = simp (sym (c .before .before .in-order .ensures) ∙ not-true (c .before .before .in-order .result) (c .if1 .taken))
+
 returns-2 : tie.Need-returns-2
 unfolding judgeParts
-returns-2 c = simp (sym (c .before .before .before .in-order .ensures) ∙ not-false (c .before .before .before .in-order .result) (c .before .before .if1 .left), sym (c .before .is-laden .ensures) ∙ c .if2 .taken)
+returns-2 c = simp (sym (c .before .before .before .in-order .ensures) ∙ not-false (c .before .before .before .in-order .result) (c .before .if1 .left), sym (c .before .before .is-laden .ensures) ∙ c .if2 .taken)
 
 judge-value-requires : tie.Need-judge-value-requires
 judge-value-requires c κs = search needs
@@ -33,8 +33,8 @@ returns-3 : tie.Need-returns-3
 unfolding judgeParts
 returns-3 c =
     simp (
-      sym (c .before .before .before .before .before .before .in-order .ensures) ∙ not-false (c .before .before .before .before .before .before .in-order .result) (c .before .before .before .before .before .if1 .left),
-      sym (c .before .before .before .before .is-laden .ensures) ∙ c .before .before .before .if2 .left,
+      sym (c .before .before .before .before .before .before .in-order .ensures) ∙ not-false (c .before .before .before .before .before .before .in-order .result) (c .before .before .before .before .if1 .left),
+      sym (c .before .before .before .before .before .is-laden .ensures) ∙ c .before .before .before .if2 .left,
       sym (c .before .before .judge-value .ensures) ∙ c .enum-told2 .given .1,
     )
 
@@ -45,8 +45,8 @@ returns-4 : tie.Need-returns-4
 unfolding judgeParts
 returns-4 c =
     simp (
-      sym (c .before .before .before .before .before .before .before .in-order .ensures) ∙ not-false (c .before .before .before .before .before .before .before .in-order .result) (c .before .before .before .before .before .before .if1 .left),
-      sym (c .before .before .before .before .before .is-laden .ensures) ∙ c .before .before .before .before .if2 .left,
+      sym (c .before .before .before .before .before .before .before .in-order .ensures) ∙ not-false (c .before .before .before .before .before .before .before .in-order .result) (c .before .before .before .before .before .if1 .left),
+      sym (c .before .before .before .before .before .before .is-laden .ensures) ∙ c .before .before .before .before .if2 .left,
       sym (c .before .before .before .judge-value .ensures) ∙ c .before .enum-told .given .1,
     )
     (c .enter .ensures)
@@ -56,8 +56,8 @@ judge-parts-spec =
     tie.close
     (tie.spec
     in-order-requires
-    returns
     is-laden-requires
+    returns
     returns-2
     judge-value-requires
     enum-told

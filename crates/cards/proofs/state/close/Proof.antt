@@ -18,11 +18,14 @@ returns-2 c =
     let k = c .before .before .before .before .before .args .c in
     simp (not-false (k .named) (c .before .before .before .if1 .left), c .before .before .if2 .taken, not-true (k .group) (c .if3 .taken))
 
-add-t5 : tie.Need-add-t5
-add-t5 c = search needs
+fresh-requires : tie.Need-fresh-requires
+fresh-requires c κs = search needs
 
-add-t6 : tie.Need-add-t6
-add-t6 c = search needs
+add-next : tie.Need-add-next
+add-next c = search needs
+
+add-next-2 : tie.Need-add-next-2
+add-next-2 c = search needs
 
 -- no MEMBER, or a group
 kept : (c : tie.Joined2) → (c .before .before .before .args .c .member && not (c .before .before .before .args .c .group)) ≡ false
@@ -36,7 +39,11 @@ kept c =
 returns-3 : tie.Need-returns-3
 unfolding closed
 returns-3 c =
-    simp (not-false (c .before .before .before .before .before .args .c .named) (c .before .before .before .if1 .left), kept (c .before .before))
+    simp (
+      not-false (c .before .before .before .before .before .before .args .c .named) (c .before .before .before .before .if1 .left),
+      kept (c .before .before .before),
+      c .before .before .fresh .ensures,
+    )
 
 pub close-spec : {M : Type 1} → statement M
-close-spec = tie.close (tie.spec returns returns-2 add-t5 add-t6 returns-3)
+close-spec = tie.close (tie.spec returns returns-2 fresh-requires add-next add-next-2 returns-3)

@@ -13,10 +13,10 @@ use Rattle.lines.proofs.folds.line_end.Statement.{statement}
 use Rattle.lines.proofs.folds.line_end.Tie as tie
 
 abbrev Inv-loop : tie.InvT-loop
-Inv-loop s from i₀ i = (i ≤ length s) × (from + scan lineStep (drop from s) 0 ≡ i + scan lineStep (drop i s) 0)
+Inv-loop s from at₀ at = (at ≤ length s) × (from + scan lineStep (drop from s) 0 ≡ at + scan lineStep (drop at s) 0)
 
 abbrev μ-loop : tie.MeasureT-loop
-μ-loop s from i₀ i = length s - i
+μ-loop s from at₀ at = length s - at
 
 loop-holds : tie.Need-loop-holds Inv-loop μ-loop
 loop-holds c = search needs
@@ -32,35 +32,35 @@ unfolding lineLength
 returns c =
     let l = c .before .before .before .before .before in
     let s = l .before .before .args .s .now in
-    let i = l .loop .i in
+    let at = l .loop .at in
     let e = sym (c .before .fold-at .ensures) ∙ not-true _ (c .if2 .taken) in
-    (sym (l .loop .inv .1 ∙ scan-stop lineStep s i (line-stop s i e (c .before .before .if1 .taken))), l .loop .inv .0)
+    (sym (l .loop .inv .1 ∙ scan-stop lineStep s at (line-stop s at e (c .before .before .if1 .taken))), l .loop .inv .0)
 
-add-i : tie.Need-add-i Inv-loop μ-loop
-add-i c =
+add-at : tie.Need-add-at Inv-loop μ-loop
+add-at c =
     let l = c .before .before .before .before .before in
     let s = l .before .before .args .s .now in
-    let i = l .loop .i in
-    omega (arith, fold-inside s i (sym (c .before .fold-at .ensures) ∙ not-false _ (c .if2 .left)))
+    let at = l .loop .at in
+    omega (arith, fold-inside s at (sym (c .before .fold-at .ensures) ∙ not-false _ (c .if2 .left)))
 
 loop-less : tie.Need-loop-less Inv-loop μ-loop
 loop-less c =
     let l = c .before .before .before .before .before in
     let s = l .before .before .args .s .now in
-    let i = l .loop .i in
-    omega (arith, fold-inside s i (sym (c .before .fold-at .ensures) ∙ not-false _ (c .if2 .left)))
+    let at = l .loop .at in
+    omega (arith, fold-inside s at (sym (c .before .fold-at .ensures) ∙ not-false _ (c .if2 .left)))
 
 loop-again : tie.Need-loop-again Inv-loop μ-loop
 loop-again c =
     let l = c .before .before .before .before .before in
     let s = l .before .before .args .s .now in
-    let i = l .loop .i in
+    let at = l .loop .at in
     let e = sym (c .before .fold-at .ensures) ∙ not-false _ (c .if2 .left) in
-    let h = fold-inside s i e in
-    (h, l .loop .inv .1 ∙ scan-step lineStep s i 3 (line-fold s i e) (omega arith) h)
+    let h = fold-inside s at e in
+    (h, l .loop .inv .1 ∙ scan-step lineStep s at 3 (line-fold s at e) (omega arith) h)
 
-add-i-2 : tie.Need-add-i-2 Inv-loop μ-loop
-add-i-2 c = search needs
+add-at-2 : tie.Need-add-at-2 Inv-loop μ-loop
+add-at-2 c = search needs
 
 loop-less-2 : tie.Need-loop-less-2 Inv-loop μ-loop
 loop-less-2 c = search needs
@@ -69,15 +69,15 @@ loop-again-2 : tie.Need-loop-again-2 Inv-loop μ-loop
 loop-again-2 c =
     let l = c .before .before .before in
     let s = l .before .before .args .s .now in
-    let i = l .loop .i in
-    let h : i + 1 ≤ length s = omega arith in
-    (h, l .loop .inv .1 ∙ scan-step lineStep s i 1 (line-octet s i (c .if1 .left)) (omega arith) h)
+    let at = l .loop .at in
+    let h : at + 1 ≤ length s = omega arith in
+    (h, l .loop .inv .1 ∙ scan-step lineStep s at 1 (line-octet s at (c .if1 .left)) (omega arith) h)
 
 returns-2 : tie.Need-returns-2 Inv-loop μ-loop
 unfolding lineLength
 returns-2 c =
     let l = c .before in
-    (sym (l .loop .inv .1 ∙ scan-end lineStep (l .before .before .args .s .now) (l .loop .i) (c .loop-test .left)), l .loop .inv .0)
+    (sym (l .loop .inv .1 ∙ scan-end lineStep (l .before .before .args .s .now) (l .loop .at) (c .loop-test .left)), l .loop .inv .0)
 
 pub line-end-spec : {M : Type 1} → statement M
 line-end-spec =
@@ -89,10 +89,10 @@ line-end-spec =
     shared-slice-read-if1
     fold-at-requires
     returns
-    add-i
+    add-at
     loop-less
     loop-again
-    add-i-2
+    add-at-2
     loop-less-2
     loop-again-2
     returns-2)
