@@ -1,144 +1,87 @@
-// The requests to reader, folder and text.
-use crate::answers;
+// A request: the name, the numbers and the octets that a line has.
 use crate::hex;
 use crate::hex::Octets;
-use crate::parts;
-use crate::rooms;
 use crate::words;
 use crate::words::Name;
 use crate::words::Number;
 use crate::words::Words;
-use octets::rooms::Written;
-use reader::Verdict;
 
-// `judge OCTETS`.
-pub fn judge(line: &[u8], w: Words, octets: &mut [u8], out: &mut [u8], at: usize) -> usize {
-    let Octets::Are(n) = hex::octets_of(words::word(line, w, 1), octets) else {
-        return answers::bad(out, at);
-    };
-    let v = reader::judge(parts::part(octets, 0, n));
-    let end = answers::verdict(out, at, v);
-    answers::ended(out, end)
+// A number that the request does not have is 0, and the octets stand at the front of the buffer for them.
+pub struct Request {
+    pub name: Name,
+    pub first: usize,
+    pub second: usize,
+    pub count: usize,
 }
 
-// How many numbers so many records have, of at most so many.
-fn numbers_of(lines: usize, most: usize) -> usize {
-    if lines > most / 8 {
-        return most;
+// What a line has that is no request.
+fn none() -> Request {
+    Request {
+        name: Name::Bad,
+        first: 0,
+        second: 0,
+        count: 0,
     }
-    lines * 8
 }
 
-// Where a line that starts and is so long ends, CR LF and all.
-fn past_line(start: u32, length: u32) -> usize {
-    start as usize + length as usize + 2
-}
-
-// How long the copy is: the last record says where its last line ends.
-fn copy_length(records: &[u32]) -> usize {
-    let n = records.len();
-    if n < 8 {
-        return 0;
-    }
-    past_line(records[n - 7], records[n - 6])
-}
-
-// The answer after the reader accepted.
-fn accepted(lines: usize, copy: &[u8], records: &[u32], out: &mut [u8], at: usize) -> usize {
-    let k = numbers_of(lines, records.len());
-    let taken = parts::numbers(records, k);
-    let n = copy_length(taken);
-    let end = answers::octets(out, at, parts::part(copy, 0, n));
-    let last = answers::numbers(out, end, taken);
-    let kept = rooms::is_kept(copy, n) && rooms::are_kept(records, k);
-    answers::looked_at(out, last, kept)
-}
-
-// The reader's answer with these rooms.
-fn read_to(input: &[u8], copy: &mut [u8], records: &mut [u32], out: &mut [u8], at: usize) -> usize {
-    rooms::fill(copy);
-    rooms::fill_numbers(records);
-    let v = reader::read(input, copy, records);
-    let end = answers::verdict(out, at, v);
-    let Verdict::Accepted(cards, lines) = v else {
-        let kept = rooms::is_kept(copy, 0) && rooms::are_kept(records, 0);
-        return answers::looked_at(out, end, kept);
-    };
-    accepted(lines, copy, records, out, end)
-}
-
-// `read COPYROOM RECORDROOM OCTETS`.
-pub fn read(
-    line: &[u8],
-    w: Words,
-    octets: &mut [u8],
-    room: &mut [u8],
-    records: &mut [u32],
-    out: &mut [u8],
-    at: usize,
-) -> usize {
-    let Number::Is(r) = words::number_of(words::word(line, w, 1)) else {
-        return answers::bad(out, at);
-    };
-    let Number::Is(k) = words::number_of(words::word(line, w, 2)) else {
-        return answers::bad(out, at);
-    };
-    let Octets::Are(n) = hex::octets_of(words::word(line, w, 3), octets) else {
-        return answers::bad(out, at);
-    };
-    if r > room.len() {
-        return answers::bad(out, at);
-    }
-    if k > records.len() {
-        return answers::bad(out, at);
-    }
-    read_to(
-        parts::part(octets, 0, n),
-        &mut room[0..r],
-        &mut records[0..k],
-        out,
-        at,
-    )
-}
-
-// What the entry of that name writes to room.
-fn call(name: Name, input: &[u8], room: &mut [u8]) -> Written {
+// How many numbers stand after a name.
+fn numbers_after(name: Name) -> usize {
     match name {
-        Name::Escape => text::escape(input, room),
-        Name::Unescape => text::unescape(input, room),
-        _ => folder::fold(input, room),
+        Name::Judge => 0,
+        Name::Read => 2,
+        Name::Desk => 2,
+        Name::Pool => 2,
+        _ => 1,
     }
 }
 
-// The answer of the entry of that name with this room.
-fn write_to(name: Name, input: &[u8], room: &mut [u8], out: &mut [u8], at: usize) -> usize {
-    rooms::fill(room);
-    let w = call(name, input, room);
-    let end = answers::written(out, at, w, room);
-    match w {
-        Written::Wrote(count) => answers::looked_at(out, end, rooms::is_kept(room, count)),
-        Written::Refused(_, _) => answers::looked_at(out, end, rooms::is_kept(room, 0)),
+// Which word after a name the octets are, or 0 where it has none.
+fn place_of_octets(name: Name) -> usize {
+    match name {
+        Name::Judge => 1,
+        Name::Read => 3,
+        Name::Fold => 2,
+        Name::Escape => 2,
+        Name::Unescape => 2,
+        Name::Add => 2,
+        _ => 0,
     }
 }
 
-// `escape ROOM OCTETS`, and the others that write octets to room.
-pub fn write(
-    name: Name,
-    line: &[u8],
-    w: Words,
-    octets: &mut [u8],
-    room: &mut [u8],
-    out: &mut [u8],
-    at: usize,
-) -> usize {
-    let Number::Is(r) = words::number_of(words::word(line, w, 1)) else {
-        return answers::bad(out, at);
-    };
-    let Octets::Are(n) = hex::octets_of(words::word(line, w, 2), octets) else {
-        return answers::bad(out, at);
-    };
-    if r > room.len() {
-        return answers::bad(out, at);
+// Number k of so many.
+fn number(line: &[u8], w: Words, k: usize, numbers: usize) -> Number {
+    if k > numbers {
+        return Number::Is(0);
     }
-    write_to(name, parts::part(octets, 0, n), &mut room[0..r], out, at)
+    words::number_of(words::word(line, w, k))
+}
+
+// The octets of word k, and none where k is 0.
+fn octets(line: &[u8], w: Words, k: usize, out: &mut [u8]) -> Octets {
+    if k == 0 {
+        return Octets::Are(0);
+    }
+    hex::octets_of(words::word(line, w, k), out)
+}
+
+// The request of a line, with its octets at the front of out.
+pub fn request_of(line: &[u8], out: &mut [u8]) -> Request {
+    let w = words::split(line);
+    let name = words::name_of(words::word(line, w, 0), w.spaces);
+    let n = numbers_after(name);
+    let Number::Is(first) = number(line, w, 1, n) else {
+        return none();
+    };
+    let Number::Is(second) = number(line, w, 2, n) else {
+        return none();
+    };
+    let Octets::Are(count) = octets(line, w, place_of_octets(name), out) else {
+        return none();
+    };
+    Request {
+        name: name,
+        first: first,
+        second: second,
+        count: count,
+    }
 }

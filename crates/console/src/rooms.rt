@@ -1,25 +1,16 @@
-// Room that is lent to an entry: filled with one value before the call, and looked at afterwards.
+// Room that is lent to an entry: of one value before the call, and looked at afterwards.
 
 // What each octet of room is at first.
-const OCTET: u8 = 165;
+pub const OCTET: u8 = 165;
 
 // What each number of room is at first.
-const NUMBER: u32 = 2779096485;
+pub const NUMBER: u32 = 2779096485;
 
 // Sets every octet.
 pub fn fill(room: &mut [u8]) {
     let mut i: usize = 0;
     while i < room.len() {
         room[i] = OCTET;
-        i += 1;
-    }
-}
-
-// Sets every number.
-pub fn fill_numbers(room: &mut [u32]) {
-    let mut i: usize = 0;
-    while i < room.len() {
-        room[i] = NUMBER;
         i += 1;
     }
 }

@@ -1,13 +1,10 @@
 // The requests to the desk, and the one that looks at the pool.
 use crate::answers;
 use crate::hex;
-use crate::hex::Octets;
 use crate::parts;
+use crate::requests::Request;
 use crate::rooms;
-use crate::words;
 use crate::words::Name;
-use crate::words::Number;
-use crate::words::Words;
 use desk::Answer;
 use desk::Desk;
 use desk::Turn;
@@ -17,11 +14,6 @@ pub struct Console {
     pub desk: Desk,
     pub size: usize,
     pub at: usize,
-}
-
-enum Ticket {
-    Is(u32),
-    Bad,
 }
 
 impl Console {
@@ -74,25 +66,8 @@ fn turned(t: Turn, size: usize, out: &mut [u8], at: usize) -> Console {
     }
 }
 
-// A ticket, or a tram's identifier.
-fn ticket_of(word: &[u8]) -> Ticket {
-    let Number::Is(n) = words::number_of(word) else {
-        return Ticket::Bad;
-    };
-    if n > 4294967295 {
-        return Ticket::Bad;
-    }
-    Ticket::Is(n as u32)
-}
-
 // `desk SLOTS POOL`.
-pub fn new_desk(c: Console, line: &[u8], w: Words, pool: &mut [u8], out: &mut [u8]) -> Console {
-    let Number::Is(slots) = words::number_of(words::word(line, w, 1)) else {
-        return c.refused(out);
-    };
-    let Number::Is(n) = words::number_of(words::word(line, w, 2)) else {
-        return c.refused(out);
-    };
+fn new_desk(c: Console, slots: usize, n: usize, pool: &mut [u8], out: &mut [u8]) -> Console {
     if n > pool.len() {
         return c.refused(out);
     }
@@ -100,56 +75,17 @@ pub fn new_desk(c: Console, line: &[u8], w: Words, pool: &mut [u8], out: &mut [u
     turned(Desk::new(slots), n, out, c.at)
 }
 
-// `add TICKET OCTETS`.
-pub fn add(
-    c: Console,
-    line: &[u8],
-    w: Words,
-    octets: &mut [u8],
-    pool: &mut [u8],
-    out: &mut [u8],
-) -> Console {
-    let Ticket::Is(t) = ticket_of(words::word(line, w, 1)) else {
-        return c.refused(out);
-    };
-    let Octets::Are(n) = hex::octets_of(words::word(line, w, 2), octets) else {
-        return c.refused(out);
-    };
-    let size = c.size;
-    if size > pool.len() {
-        return c.refused(out);
+// `open TRAM`, `add TICKET OCTETS` or `release TICKET`, over the pool that is lent.
+fn call(name: Name, d: Desk, t: u32, chunk: &[u8], pool: &mut [u8]) -> Turn {
+    match name {
+        Name::Open => d.open(pool, t),
+        Name::Add => d.add(pool, t, chunk),
+        _ => d.release(pool, t),
     }
-    let d = c.desk;
-    let turn = d.add(&mut pool[0..size], t, parts::part(octets, 0, n));
-    turned(turn, c.size, out, c.at)
 }
 
-// `open TRAM`.
-pub fn open(c: Console, line: &[u8], w: Words, pool: &[u8], out: &mut [u8]) -> Console {
-    let Ticket::Is(tram) = ticket_of(words::word(line, w, 1)) else {
-        return c.refused(out);
-    };
-    let d = c.desk;
-    let turn = d.open(parts::part(pool, 0, c.size), tram);
-    turned(turn, c.size, out, c.at)
-}
-
-// `release TICKET`.
-pub fn release(c: Console, line: &[u8], w: Words, pool: &mut [u8], out: &mut [u8]) -> Console {
-    let Ticket::Is(t) = ticket_of(words::word(line, w, 1)) else {
-        return c.refused(out);
-    };
-    let size = c.size;
-    if size > pool.len() {
-        return c.refused(out);
-    }
-    let d = c.desk;
-    let turn = d.release(&mut pool[0..size], t);
-    turned(turn, c.size, out, c.at)
-}
-
-// The answer of `check`, `show` or `held` for a ticket, over the pool that is lent.
-fn seen(name: Name, d: Desk, pool: &[u8], t: u32, out: &mut [u8], at: usize) -> usize {
+// `check TICKET`, `show TICKET` or `held TICKET`, over the pool that is lent.
+fn seen(name: Name, d: Desk, t: u32, pool: &[u8], out: &mut [u8], at: usize) -> usize {
     match name {
         Name::Check => {
             let end = answers::verdict(out, at, d.judge(pool, t));
@@ -163,24 +99,39 @@ fn seen(name: Name, d: Desk, pool: &[u8], t: u32, out: &mut [u8], at: usize) -> 
     }
 }
 
-// `check TICKET`, `show TICKET` or `held TICKET`.
-pub fn look(name: Name, c: Console, line: &[u8], w: Words, pool: &[u8], out: &mut [u8]) -> Console {
-    let Ticket::Is(t) = ticket_of(words::word(line, w, 1)) else {
-        return c.refused(out);
-    };
+// Whether a request hands the next desk back.
+fn turns(name: Name) -> bool {
+    match name {
+        Name::Open => true,
+        Name::Add => true,
+        Name::Release => true,
+        _ => false,
+    }
+}
+
+// The answer to a request with a ticket or a tram's identifier.
+fn with_ticket(
+    name: Name,
+    c: Console,
+    t: u32,
+    chunk: &[u8],
+    pool: &mut [u8],
+    out: &mut [u8],
+) -> Console {
+    let size = c.size;
     let d = c.desk;
-    let at = seen(name, d, parts::part(pool, 0, c.size), t, out, c.at);
-    c.with_output(at)
+    if size > pool.len() {
+        return c.refused(out);
+    }
+    if turns(name) {
+        let turn = call(name, d, t, chunk, &mut pool[0..size]);
+        return turned(turn, size, out, c.at);
+    }
+    c.with_output(seen(name, d, t, &pool[0..size], out, c.at))
 }
 
 // `pool FROM COUNT`, over the pool that is lent.
-pub fn pool_part(line: &[u8], w: Words, pool: &[u8], out: &mut [u8], at: usize) -> usize {
-    let Number::Is(from) = words::number_of(words::word(line, w, 1)) else {
-        return answers::bad(out, at);
-    };
-    let Number::Is(count) = words::number_of(words::word(line, w, 2)) else {
-        return answers::bad(out, at);
-    };
+fn pool_part(from: usize, count: usize, pool: &[u8], out: &mut [u8], at: usize) -> usize {
     if from > pool.len() {
         return answers::bad(out, at);
     }
@@ -189,4 +140,33 @@ pub fn pool_part(line: &[u8], w: Words, pool: &[u8], out: &mut [u8], at: usize) 
     }
     let end = hex::put_octets(out, at, parts::part(pool, from, from + count));
     answers::ended(out, end)
+}
+
+// The answer to a request with a number that must fit a ticket.
+fn with_number(
+    name: Name,
+    n: usize,
+    c: Console,
+    chunk: &[u8],
+    pool: &mut [u8],
+    out: &mut [u8],
+) -> Console {
+    if n > 4294967295 {
+        return c.refused(out);
+    }
+    with_ticket(name, c, n as u32, chunk, pool, out)
+}
+
+// The answer to a request to the desk, to one that looks at the pool, or to none.
+pub fn answer(q: Request, c: Console, chunk: &[u8], pool: &mut [u8], out: &mut [u8]) -> Console {
+    let name = q.name;
+    match name {
+        Name::Desk => new_desk(c, q.first, q.second, pool, out),
+        Name::Pool => {
+            let lent = parts::part(pool, 0, c.size);
+            c.with_output(pool_part(q.first, q.second, lent, out, c.at))
+        }
+        Name::Bad => c.refused(out),
+        _ => with_number(name, q.first, c, chunk, pool, out),
+    }
 }
