@@ -1,2 +1,10 @@
+-- The demands, proved by the laws of the crates below. Assumes nothing.
 pub mod Tested
 pub mod Examples
+pub mod Refusing
+pub mod Texts
+pub mod Cards
+pub mod Desks
+pub mod Total
+pub mod Exact
+pub mod Whole

@@ -1,1 +1,5 @@
+-- What the demands say, and the marked examples. Assumes nothing.
 pub mod Cases
+pub mod Demand1
+pub mod Demand2
+pub mod Demands

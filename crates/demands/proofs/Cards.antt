@@ -1,0 +1,102 @@
+-- What the reader and the folder refuse. Assumes nothing.
+use Prim.Native.Nat.{ℕ}
+use mathlib.Core.Path.{_≡_, refl, sym, ap, _∙_}
+use mathlib.Core.List.{List}
+use lib.Dec.{ltb}
+use lib.ListN.{length}
+use borrow.Author.Tests.{ltb-true, ltb-false}
+use Rattle.octets.specs.Room.{refuse, fillBounded}
+use Rattle.octets.specs.declared.rooms.Written.the-variants.{Refused as Unwritten}
+use Rattle.reader.specs.Outcome.{judgeOf, copyOf, recordsOf, Taken, took, writeOutcome, outcomeBy, readOutcome}
+use Rattle.reader.specs.declared.Verdict.{Verdict}
+use Rattle.reader.specs.declared.Verdict.the-variants.{Accepted, Refused}
+use Rattle.reader.proofs.ReadLaws.{read-refused, numbers-counted, read-13, read-14}
+use Rattle.folder.specs.Outcome.{foldBy, foldOutcome}
+use Rattle.grammar.specs.Inputs.{InputOf}
+use Rattle.grammar.specs.Refusals.{RefusedBy}
+use Rattle.grammar.proofs.Accepted.{lines-law, accepted-law}
+use Rattle.grammar.proofs.RecordLaws.{copy-law}
+use Rattle.grammar.proofs.Refused.{refused-law}
+use Rattle.demands.specs.Demand1.{Exactly, Filling, copied, folded, ReadBy, unread, copy-room, record-room, FoldBy, not-read, fold-over, fold-room}
+use Rattle.demands.proofs.Refusing.{clash, Telling, itself, first}
+use Rattle.demands.proofs.Texts.{written-tells, bounded-told, over-so, short-so, within-so}
+
+refusal-number : (m q n p : ℕ) → Refused m q ≡ Refused n p → m ≡ n
+refusal-number m q n p e = cc
+
+refusal-place : (m q n p : ℕ) → Refused m q ≡ Refused n p → q ≡ p
+refusal-place m q n p e = cc
+
+pub verdict-tells : Telling (λ (v : Verdict). v) Refused
+verdict-tells = record { number = refusal-number; place = refusal-place }
+
+pub accepted-no : {A : Type 0} (k m n p : ℕ) → Accepted k m ≡ Refused n p → A
+accepted-no k m n p e = clash cc
+
+module _ (i : List ℕ) where
+  pub judge-exactly : Exactly (λ (v : Verdict). v) (judgeOf i) Refused (RefusedBy i)
+  judge-exactly = record { told = λ n p e. refused-law i n p .0 e; unchanged = λ n p b. refused-law i n p .1 b }
+
+  -- ---- read
+
+  module _ (copy records : List ℕ) where
+    read-tells : Telling (λ (t : Taken). t .answer) (λ n p. took (Refused n p) copy records)
+    read-tells = record { number = refusal-number; place = refusal-place }
+
+    read-written : (k m n p : ℕ) → judgeOf i ≡ Accepted k m → writeOutcome (Accepted k m) (copyOf i) (recordsOf i) copy records .answer ≡ Refused n p → ReadBy i copy records n p
+    unfolding writeOutcome
+    read-written k m n p v e =
+        let h = accepted-law i k m .0 v in
+        let c = copy-law i k m h in
+        let r = numbers-counted i copy records k m (length (copyOf i)) v refl in
+        first read-tells (ReadBy i copy records) (ltb (length copy) (length (copyOf i))) 13 (length (copyOf i)) n p _ e
+        (λ a. rw c (copy-room h (rw c at (ltb-true (length copy) (length (copyOf i)) a)))) (λ a f.
+        first read-tells (ReadBy i copy records) (ltb (length records) (length (recordsOf i))) 14 (length (recordsOf i)) n p _ f
+        (λ b. rw r (record-room h (rw c at (ltb-false (length copy) (length (copyOf i)) a)) (rw r at (ltb-true (length records) (length (recordsOf i)) b))))
+        (λ b g. accepted-no k m n p g))
+
+    read-told : (n p : ℕ) → readOutcome i copy records .answer ≡ Refused n p → ReadBy i copy records n p
+    unfolding readOutcome outcomeBy
+    read-told n p e = go (judgeOf i) refl e
+      where
+        go : (v : Verdict) → judgeOf i ≡ v → outcomeBy v i copy records .answer ≡ Refused n p → ReadBy i copy records n p
+        go (Accepted k m) v e = read-written k m n p v e
+        go (Refused m q) v e = itself read-tells (ReadBy i copy records) m q n p e (unread (refused-law i m q .0 v))
+
+    read-so : (n p : ℕ) → ReadBy i copy records n p → readOutcome i copy records ≡ took (Refused n p) copy records
+    read-so n p (unread b) = sym (read-refused i copy records (Refused n p) n p (sym (refused-law i n p .1 b)) refl)
+    read-so n p (copy-room {k} {n = m} h l) =
+        sym (read-13 i copy records k m (length (copied h)) (accepted-law i k m .1 h) (ap length (sym (copy-law i k m h))) l)
+    read-so n p (record-room {k} {n = m} h c l) =
+        sym (read-14 i copy records k m (length (copied h)) (accepted-law i k m .1 h) (ap length (sym (copy-law i k m h))) c l)
+
+    pub read-exactly : Exactly (λ (t : Taken). t .answer) (readOutcome i copy records) (λ n p. took (Refused n p) copy records) (ReadBy i copy records)
+    read-exactly = record { told = read-told; unchanged = read-so }
+
+  -- ---- fold
+
+  module _ (out : List ℕ) where
+    pub fold-form : (k m : ℕ) (h : InputOf i k m) → foldOutcome i out ≡ fillBounded (folded h) out
+    unfolding foldOutcome foldBy
+    fold-form k m h = rw (accepted-law i k m .1 h, lines-law i k m h)
+
+    fold-told : (n p : ℕ) → foldOutcome i out .answer ≡ Unwritten n p → FoldBy i out n p
+    unfolding foldOutcome foldBy
+    fold-told n p e = go (judgeOf i) refl
+      where
+        go : (v : Verdict) → judgeOf i ≡ v → FoldBy i out n p
+        go (Refused m q) v =
+            let w : Unwritten m q ≡ Unwritten n p = rw v at e in
+            itself (written-tells out) (FoldBy i out) m q n p w (not-read (refused-law i m q .0 v))
+        go (Accepted k m) v =
+            let h = accepted-law i k m .0 v in
+            bounded-told (FoldBy i out) (folded h) out n p (rw (fold-form k m h) at e) (λ l. fold-over h l) (λ s l. fold-room h s l)
+
+    fold-so : (n p : ℕ) → FoldBy i out n p → foldOutcome i out ≡ refuse n p out
+    unfolding foldOutcome foldBy
+    fold-so n p (not-read b) = rw (refused-law i n p .1 b)
+    fold-so n p (fold-over {k} {n = m} h l) = fold-form k m h ∙ over-so (folded h) out l
+    fold-so n p (fold-room {k} {n = m} h s l) = fold-form k m h ∙ within-so (folded h) out s ∙ short-so (folded h) out l
+
+    pub fold-exactly : Filling (foldOutcome i out) out (FoldBy i out)
+    fold-exactly = record { told = fold-told; unchanged = fold-so }

@@ -1,0 +1,138 @@
+-- Demand 2, whole. Assumes nothing.
+use Prim.Native.Nat.{ℕ, _*_, _≤_}
+use mathlib.Core.Path.{_≡_, refl, sym, ap, _∙_}
+use mathlib.Core.Bool.{Bool, true, false}
+use mathlib.Core.List.{List, _∷_}
+use mathlib.Core.Logic.{_↔_}
+use native.Mathlib.Omega.{arith}
+use lib.Dec.{ltb}
+use lib.ListN.{length, drop}
+use lib.Seq.{take-at, drop-at}
+use borrow.Author.Tests.{ltb-true, ltb-false, le-ltb}
+use Rattle.octets.specs.Room.{overlay, fill, fillBounded}
+use Rattle.octet_laws.proofs.Utf8.{allowed-only}
+use Rattle.text.specs.Escapes.{escaped, firstFault}
+use Rattle.text.specs.Outcomes.{faultless, escapeOutcome, unescapeOutcome}
+use Rattle.text.specs.Stands.{Stands}
+use Rattle.text_laws.proofs.StandsLaws.{stands-exactly}
+use Rattle.text_laws.proofs.BackLaws.{round-trip}
+use Rattle.lines.specs.Grammar.{Line, render}
+use Rattle.reader.specs.Outcome.{judgeOf, copyOf, recordsOf, Taken, took, readOutcome}
+use Rattle.reader.specs.declared.Verdict.{Verdict}
+use Rattle.reader.specs.declared.Verdict.the-variants.{Accepted, Refused}
+use Rattle.reader.proofs.ReadLaws.{read-refused, numbers-counted, read-written, read-13, read-14}
+use Rattle.folder.specs.Pieces.{pieces, first, later, Clean}
+use Rattle.fold_laws.specs.Cuttings.{Cutting}
+use Rattle.fold_laws.proofs.CutLaws.{cutting}
+use Rattle.fold_laws.proofs.Greedy.{only as no-other}
+use Rattle.fold_laws.proofs.WrittenLaws.{fold-written}
+use Rattle.fold_laws.proofs.Again.{read-again}
+use Rattle.firmware.specs.Word.{wordOutcome}
+use Rattle.grammar.specs.Cards.{Readable}
+use Rattle.grammar.specs.Inputs.{InputOf}
+use Rattle.grammar.proofs.Accepted.{accepted-law, one-reading}
+use Rattle.grammar.proofs.RecordLaws.{copy-law, records-law}
+use Rattle.demands.specs.Demand1.{folded, Fair}
+use Rattle.demands.specs.Demand2.{Roomy, ReadAs, wrote, Demand2}
+use Rattle.demands.proofs.Texts.{checked-fair, within-so}
+use Rattle.demands.proofs.Cards.{accepted-no, fold-form}
+
+-- ---- read
+
+module _ (i copy records : List ℕ) (k n : ℕ) where
+  read-so : (h : InputOf i k n) → Roomy h copy records → readOutcome i copy records ≡ took (Accepted k n) (overlay (copyOf i) copy) (overlay (recordsOf i) records)
+  read-so h r =
+      sym (read-written i copy records k n (length (copyOf i)) (accepted-law i k n .1 h) refl (rw (copy-law i k n h) (r .octets)) (r .numbers) _ _ refl refl)
+
+  reads : (h : InputOf i k n) → Roomy h copy records → ReadAs h copy records (readOutcome i copy records)
+  reads h r =
+      let e = accepted-law i k n .1 h in
+      let c = copy-law i k n h in
+      let m = numbers-counted i copy records k n (length (copyOf i)) e refl in
+      rw (read-so h r)
+      (record {
+        counts = refl;
+        copies = ap (λ (xs : List ℕ). overlay xs copy) c;
+        tells = rw (take-at (recordsOf i) (drop (length (recordsOf i)) records) (n * 8) m) (records-law i k n h (drop (length (copyOf i)) copy));
+        past = drop-at (recordsOf i) (drop (length (recordsOf i)) records) (n * 8) m ∙ ap (λ (x : ℕ). drop x records) m;
+      })
+
+  only : readOutcome i copy records .answer ≡ Accepted k n → (h : InputOf i k n) × Roomy h copy records
+  only e = go (judgeOf i) refl
+    where
+      never : {A : Type 0} (m q : ℕ) → took (Refused m q) copy records ≡ readOutcome i copy records → A
+      never m q f = accepted-no k n m q (sym e ∙ ap (λ (t : Taken). t .answer) (sym f))
+
+      fits : (l m : ℕ) → judgeOf i ≡ Accepted l m → (a : Bool) → ltb (length copy) (length (copyOf i)) ≡ a → (b : Bool) → ltb (length records) (m * 8) ≡ b
+          → (h : InputOf i k n) × Roomy h copy records
+      fits l m v true a b c = never 13 (length (copyOf i)) (read-13 i copy records l m (length (copyOf i)) v refl (ltb-true (length copy) (length (copyOf i)) a))
+      fits l m v false a true c =
+          never 14 (m * 8)
+          (read-14 i copy records l m (length (copyOf i)) v refl (ltb-false (length copy) (length (copyOf i)) a) (ltb-true (length records) (m * 8) c))
+      fits l m v false a false c =
+          let p = ltb-false (length copy) (length (copyOf i)) a in
+          let q = ltb-false (length records) (m * 8) c in
+          let w : Accepted l m ≡ Accepted k n = ap (λ (t : Taken). t .answer) (read-written i copy records l m (length (copyOf i)) v refl p q _ _ refl refl) ∙ e in
+          let x : m ≡ n = cc in
+          let h = accepted-law i k n .0 (v ∙ w) in
+          (h, record { octets = rw (copy-law i k n h) at p; numbers = rw x at q })
+
+      go : (v : Verdict) → judgeOf i ≡ v → (h : InputOf i k n) × Roomy h copy records
+      go (Refused m q) v = never m q (read-refused i copy records (Refused m q) m q (sym v) refl)
+      go (Accepted l m) v = fits l m v (ltb (length copy) (length (copyOf i))) refl (ltb (length records) (m * 8)) refl
+
+-- ---- fold
+
+fill-so : (xs out : List ℕ) → length xs ≤ length out → fill xs out ≡ wrote xs out
+unfolding fill
+fill-so xs out h = rw (le-ltb (length out) (length xs) h)
+
+bounded-so : (xs out : List ℕ) → length xs ≤ 16384 → length xs ≤ length out → fillBounded xs out ≡ wrote xs out
+bounded-so xs out s h = within-so xs out s ∙ fill-so xs out h
+
+line-clean : (x : Line) → Readable x → Clean (render x)
+unfolding Clean
+line-clean x r = allowed-only false (render x) .1 (r .clean .characters, r .clean .octets)
+
+greedy : (x : Line) → Readable x → (p : List ℕ) (ps : List (List ℕ)) → Cutting (render x) p ps ↔ (p ∷ ps ≡ pieces (render x))
+unfolding pieces
+greedy x r p ps = (no-other (render x) p ps, λ e. so e)
+  where
+    so : p ∷ ps ≡ first (render x) 75 ∷ later (render x) 75 → Cutting (render x) p ps
+    so e =
+        let a : p ≡ first (render x) 75 = cc in
+        let b : ps ≡ later (render x) 75 = cc in
+        rw (a, b) (cutting (render x) (line-clean x r))
+
+-- ---- text
+
+escapes : (t out : List ℕ) → Fair true t → length (escaped t) ≤ 16384 → length (escaped t) ≤ length out → escapeOutcome t out ≡ wrote (escaped t) out
+unfolding escapeOutcome
+escapes t out f s h = checked-fair true t out _ f ∙ bounded-so (escaped t) out s h
+
+unescapes : (t u out : List ℕ) → Fair false t → Stands t u → length u ≤ length out → unescapeOutcome t out ≡ wrote u out
+unfolding unescapeOutcome faultless
+unescapes t u out f s h =
+    let w = stands-exactly t u .0 s in
+    checked-fair false t out _ f ∙ rw (le-ltb (firstFault t) (length t) (omega (arith, w .0)), w .1) (fill-so u out h)
+
+-- ---- the whole
+
+pub demand2 : Demand2
+demand2 =
+    record {
+      accepts = accepted-law;
+      one-reading = one-reading;
+      reads = reads;
+      only = only;
+      folds = λ i out k n h s l. (fold-form i out k n h ∙ bounded-so (folded h) out s l);
+      greedy = greedy;
+      physical = λ i out after n e. fold-written i out after n (sym e);
+      read-again = λ i out after n e. read-again i out after n (sym e);
+      escapes = escapes;
+      unescapes = unescapes;
+      back = λ t out after room n e r. round-trip t out after room n e r;
+      c-judge = λ i k n h. rw (accepted-law i k n .1 h);
+      c-fold = λ i out after n e. ap wordOutcome e;
+      c-unescape = λ t out after n e. ap wordOutcome e;
+    }

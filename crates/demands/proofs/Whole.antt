@@ -1,0 +1,9 @@
+-- The three demands and the marked examples, proved. Assumes nothing.
+use Rattle.apart.proofs.Claim.{demand3}
+use Rattle.demands.specs.Demands.{Demands}
+use Rattle.demands.proofs.Examples.{examples}
+use Rattle.demands.proofs.Total.{demand1}
+use Rattle.demands.proofs.Exact.{demand2}
+
+pub demands : Demands
+demands = record { total = demand1; exact = demand2; apart = demand3; examples = examples }

@@ -1,0 +1,168 @@
+-- Demand 1: what each entry refuses, with which number and place, and that a refusal changes nothing. Every outcome named here is the one
+-- that the entry's contract equates with its answer and with all lent memory at exit. Assumes nothing.
+use Prim.Native.Nat.{ℕ, _+_, _*_, _<_, _≤_}
+use mathlib.Core.Path.{_≡_}
+use mathlib.Core.Bool.{Bool, true, false}
+use mathlib.Core.List.{List, [], map}
+use mathlib.Core.Logic.{_⊎_}
+use lib.ListN.{length, take, drop}
+use Rattle.octets.specs.Characters.{allowed}
+use Rattle.octets.specs.Room.{Filled, refuse}
+use Rattle.octet_laws.specs.Texts.{Text, Stops}
+use Rattle.text.specs.Escapes.{escaped}
+use Rattle.text.specs.Outcomes.{escapeOutcome, unescapeOutcome}
+use Rattle.text.specs.Stands.{Stands, Faulty}
+use Rattle.lines.specs.Grammar.{render}
+use Rattle.reader.specs.Outcome.{judgeOf, ended, Taken, took, readOutcome}
+use Rattle.reader.specs.declared.Verdict.{Verdict}
+use Rattle.reader.specs.declared.Verdict.the-variants.{Refused as Unread}
+use Rattle.folder.specs.Pieces.{foldedLines}
+use Rattle.folder.specs.Outcome.{foldOutcome}
+use Rattle.desk.specs.Sound.{stateAt, Sound}
+use Rattle.desk.specs.Steps.{Turned, refuse as refuseNew, refused, freshDesk, newStep, openStep, addStep, releaseStep, octetsIn, showStep, heldStep, judgeStep}
+use Rattle.desk.specs.declared.entries.Session.{Session}
+use Rattle.desk.specs.declared.entries.State.the-variants.{Free, Open}
+use Rattle.desk.specs.declared.Desk.{Desk}
+use Rattle.desk.specs.declared.Turn.{Turn}
+use Rattle.desk.specs.declared.Answer.{Answer}
+use Rattle.desk.specs.declared.Answer.the-variants.{Refused}
+use Rattle.firmware.specs.Word.{verdictWord, wordOutcome}
+use Rattle.apart.specs.Demand.{OpenOn}
+use Rattle.grammar.specs.Inputs.{InputOf}
+use Rattle.grammar.specs.Refusals.{RefusedBy}
+
+-- an outcome answers a refusal only where `By` has its number and place; and there the whole outcome, lent memory too, is that refusal's
+pub record Exactly {A B : Type 0} (answer : A → B) (outcome : A) (refusal : ℕ → ℕ → A) (By : ℕ → ℕ → Type 0) : Type 0 where
+  pub told : (n p : ℕ) → answer outcome ≡ answer (refusal n p) → By n p
+  pub unchanged : (n p : ℕ) → By n p → outcome ≡ refusal n p
+
+-- ---- reader and folder
+
+-- the copy, and the folded form, of the lines of an input
+abbrev pub copied : {i : List ℕ} {k n : ℕ} → InputOf i k n → List ℕ
+copied h = ended (map render (h .lines))
+
+abbrev pub folded : {i : List ℕ} {k n : ℕ} → InputOf i k n → List ℕ
+folded h = foldedLines (map render (h .lines))
+
+-- 1 to 12, then 13, 14
+pub data ReadBy (i copy records : List ℕ) : ℕ → ℕ → Type 0 where
+  unread : {n p : ℕ} → RefusedBy i n p → ReadBy i copy records n p
+  copy-room : {k n : ℕ} (h : InputOf i k n) → length copy < length (copied h) → ReadBy i copy records 13 (length (copied h))
+  record-room : {k n : ℕ} (h : InputOf i k n) → length (copied h) ≤ length copy → length records < n * 8 → ReadBy i copy records 14 (n * 8)
+
+-- 1 to 12, then 16, 15
+pub data FoldBy (i out : List ℕ) : ℕ → ℕ → Type 0 where
+  not-read : {n p : ℕ} → RefusedBy i n p → FoldBy i out n p
+  fold-over : {k n : ℕ} (h : InputOf i k n) → 16384 < length (folded h) → FoldBy i out 16 16384
+  fold-room : {k n : ℕ} (h : InputOf i k n) → length (folded h) ≤ 16384 → length out < length (folded h) → FoldBy i out 15 (length (folded h))
+
+-- ---- text
+
+-- allowed characters before p, and none at p; lf says whether 0A is allowed
+pub record BadAt (lf : Bool) (t : List ℕ) (p : ℕ) : Type 0 where
+  pub inside : p < length t
+  pub before : Text (allowed lf) (take p t)
+  pub there : Stops (allowed lf) (drop p t)
+
+-- neither 1 nor 31
+pub record Fair (lf : Bool) (t : List ℕ) : Type 0 where
+  pub short : length t ≤ 16384
+  pub clean : Text (allowed lf) t
+
+-- 1, 31
+pub data Unfair (lf : Bool) (t : List ℕ) : ℕ → ℕ → Type 0 where
+  long : 16384 < length t → Unfair lf t 1 16384
+  octet : {p : ℕ} → length t ≤ 16384 → BadAt lf t p → Unfair lf t 31 p
+
+-- 1, 31, 16, 15
+pub data EscapeBy (t out : List ℕ) : ℕ → ℕ → Type 0 where
+  no-text : {n p : ℕ} → Unfair true t n p → EscapeBy t out n p
+  escape-over : Fair true t → 16384 < length (escaped t) → EscapeBy t out 16 16384
+  escape-room : Fair true t → length (escaped t) ≤ 16384 → length out < length (escaped t) → EscapeBy t out 15 (length (escaped t))
+
+-- 1, 31, 30, 15; u is what the text stands for
+pub data UnescapeBy (t out : List ℕ) : ℕ → ℕ → Type 0 where
+  no-kind-1 : {n p : ℕ} → Unfair false t n p → UnescapeBy t out n p
+  fault : {p : ℕ} {u : List ℕ} → Fair false t → p < length t → Stands (take p t) u → Faulty (drop p t) → UnescapeBy t out 30 p
+  text-room : {u : List ℕ} → Fair false t → Stands t u → length out < length u → UnescapeBy t out 15 (length u)
+
+-- ---- desk
+
+-- neither 25 nor 24
+pub record Ready (d : Desk) (p : List ℕ) : Type 0 where
+  pub sound : Sound d
+  pub size : length p ≡ d .slots * 16384
+
+-- 25, 24
+pub data Unready (d : Desk) (p : List ℕ) : ℕ → ℕ → Type 0 where
+  unsound : (Sound d → ⊥) → Unready d p 25 0
+  other-size : Sound d → (length p ≡ d .slots * 16384 → ⊥) → Unready d p 24 0
+
+-- 25, 24, 22
+pub data TicketBy (d : Desk) (p : List ℕ) (t : ℕ) : ℕ → ℕ → Type 0 where
+  unready : {n q : ℕ} → Unready d p n q → TicketBy d p t n q
+  closed : Ready d p → (OpenOn d t → ⊥) → TicketBy d p t 22 0
+
+-- the session s in slot i has the ticket t
+pub record Holds (d : Desk) (p : List ℕ) (t i : ℕ) (s : Session) : Type 0 where
+  pub ready : Ready d p
+  pub inside : i < d .slots
+  pub state : stateAt (d .entries) i ≡ Open s
+  pub ticket : s .ticket ≡ t
+
+-- 26
+pub data NewBy (slots : ℕ) : ℕ → ℕ → Type 0 where
+  range : (slots ≡ 0) ⊎ (40 < slots) → NewBy slots 26 0
+
+-- 25, 24, 21, 20
+pub data OpenBy (d : Desk) (p : List ℕ) : ℕ → ℕ → Type 0 where
+  no-desk : {n q : ℕ} → Unready d p n q → OpenBy d p n q
+  used-up : Ready d p → d .next ≡ 4294967295 → OpenBy d p 21 0
+  full : Ready d p → (d .next ≡ 4294967295 → ⊥) → ((i : ℕ) → i < d .slots → stateAt (d .entries) i ≡ Free → ⊥) → OpenBy d p 20 0
+
+-- 25, 24, 22, 23
+pub data AddBy (d : Desk) (p : List ℕ) (t : ℕ) (chunk : List ℕ) : ℕ → ℕ → Type 0 where
+  no-upload : {n q : ℕ} → TicketBy d p t n q → AddBy d p t chunk n q
+  too-much : {i : ℕ} {s : Session} → Holds d p t i s → 16384 < s .held + length chunk → AddBy d p t chunk 23 (s .held)
+
+-- 25, 24, 22, then 1 to 12 of the octets held
+pub data JudgeBy (d : Desk) (p : List ℕ) (t : ℕ) : ℕ → ℕ → Type 0 where
+  nothing : {n q : ℕ} → TicketBy d p t n q → JudgeBy d p t n q
+  octets : {i n q : ℕ} {s : Session} → Holds d p t i s → RefusedBy (octetsIn p i s) n q → JudgeBy d p t n q
+
+-- ---- the whole
+
+-- outcomes that are answers alone, and those that have lent memory or a desk beside the answer
+abbrev pub Filling : Filled → List ℕ → (ℕ → ℕ → Type 0) → Type 0
+Filling outcome room By = Exactly (λ (f : Filled). f .answer) outcome (λ n p. refuse n p room) By
+
+abbrev pub Turning : Turned → Desk → List ℕ → (ℕ → ℕ → Type 0) → Type 0
+Turning outcome d pool By = Exactly (λ (r : Turned). r .answer) outcome (λ n p. refused d pool p n) By
+
+-- a word whose halves are a refusal's number and place
+pub record Halves (r n p : ℕ) : Type 0 where
+  pub word : r ≡ n * 4294967296 + p
+  pub low : p < 4294967296
+
+pub record Demand1 : Type 0 where
+  pub judges : (i : List ℕ) → Exactly (λ (v : Verdict). v) (judgeOf i) Unread (RefusedBy i)
+  pub reads : (i copy records : List ℕ) → Exactly (λ (t : Taken). t .answer) (readOutcome i copy records) (λ n p. took (Unread n p) copy records) (ReadBy i copy records)
+  pub folds : (i out : List ℕ) → Filling (foldOutcome i out) out (FoldBy i out)
+  pub escapes : (t out : List ℕ) → Filling (escapeOutcome t out) out (EscapeBy t out)
+  pub unescapes : (t out : List ℕ) → Filling (unescapeOutcome t out) out (UnescapeBy t out)
+  -- a refused desk has 0 slots
+  pub starts : (slots : ℕ) → Exactly (λ (r : Turn). r .answer) (newStep slots) (λ n p. refuseNew (freshDesk 0) n p) (NewBy slots)
+  pub opens : (d : Desk) (pool : List ℕ) (m : ℕ) → Turning (openStep d pool m) d pool (OpenBy d pool)
+  pub adds : (d : Desk) (pool : List ℕ) (t : ℕ) (chunk : List ℕ) → Turning (addStep d pool t chunk) d pool (AddBy d pool t chunk)
+  pub releases : (d : Desk) (pool : List ℕ) (t : ℕ) → Turning (releaseStep d pool t) d pool (TicketBy d pool t)
+  pub counts : (d : Desk) (pool : List ℕ) (t : ℕ) → Exactly (λ (a : Answer). a) (heldStep d pool t) Refused (TicketBy d pool t)
+  pub judges-held : (d : Desk) (pool : List ℕ) (t : ℕ) → Exactly (λ (v : Verdict). v) (judgeStep d pool t) Unread (JudgeBy d pool t)
+  -- show answers a part alone: the session's octets, and an empty one on a refusal
+  pub shows-none : (d : Desk) (pool : List ℕ) (t n p : ℕ) → TicketBy d pool t n p → showStep d pool t .octets ≡ []
+  pub shows : (d : Desk) (pool : List ℕ) (t i : ℕ) (s : Session) → Holds d pool t i s → showStep d pool t .octets ≡ octetsIn pool i s
+  -- the routines for C answer a refusal as one word, and leave the room as it was
+  pub c-judge : (i : List ℕ) (n p : ℕ) → RefusedBy i n p → Halves (verdictWord (judgeOf i)) n p
+  pub c-fold : (i out : List ℕ) (n p : ℕ) → FoldBy i out n p → Halves (wordOutcome (foldOutcome i out) .answer) n p × (wordOutcome (foldOutcome i out) .room ≡ out)
+  pub c-unescape : (t out : List ℕ) (n p : ℕ) → UnescapeBy t out n p
+      → Halves (wordOutcome (unescapeOutcome t out) .answer) n p × (wordOutcome (unescapeOutcome t out) .room ≡ out)

@@ -1,0 +1,68 @@
+-- Demand 2: what the reader accepts and writes, what the folder writes and how it reads again, and that escaped text comes back. Every
+-- outcome named here is the one that the entry's contract equates with its answer and with all lent memory at exit. Assumes nothing.
+use Prim.Native.Nat.{ℕ, _*_, _≤_}
+use mathlib.Core.Path.{_≡_}
+use mathlib.Core.Bool.{true, false}
+use mathlib.Core.List.{List, _∷_}
+use mathlib.Core.Logic.{_↔_}
+use lib.ListN.{length, take, drop}
+use Rattle.octets.specs.Room.{Filled, filled, overlay}
+use Rattle.octets.specs.declared.rooms.Written.the-variants.{Wrote}
+use Rattle.text.specs.Escapes.{escaped}
+use Rattle.text.specs.Outcomes.{escapeOutcome, unescapeOutcome}
+use Rattle.text.specs.Stands.{Stands}
+use Rattle.lines.specs.Grammar.{Line, render}
+use Rattle.reader.specs.Outcome.{judgeOf, logicalLines, Taken, readOutcome}
+use Rattle.reader.specs.declared.Verdict.the-variants.{Accepted}
+use Rattle.folder.specs.Pieces.{pieces}
+use Rattle.folder.specs.Outcome.{foldOutcome}
+use Rattle.fold_laws.specs.Cuttings.{Cutting}
+use Rattle.fold_laws.specs.Written.{Folds}
+use Rattle.firmware.specs.Word.{verdictWord, worded, wordOutcome}
+use Rattle.grammar.specs.Cards.{Readable}
+use Rattle.grammar.specs.Inputs.{InputOf}
+use Rattle.grammar.specs.Records.{Records}
+use Rattle.demands.specs.Demand1.{copied, folded, Fair}
+
+-- both rooms hold what reading the input writes
+pub record Roomy {i : List ℕ} {k n : ℕ} (h : InputOf i k n) (copy records : List ℕ) : Type 0 where
+  pub octets : length (copied h) ≤ length copy
+  pub numbers : n * 8 ≤ length records
+
+-- the counts; the copy, and the room past it as it was; the records, which tell of the lines in the copy, and the room past them as it was
+pub record ReadAs {i : List ℕ} {k n : ℕ} (h : InputOf i k n) (copy records : List ℕ) (t : Taken) : Type 0 where
+  pub counts : t .answer ≡ Accepted k n
+  pub copies : t .copy ≡ overlay (copied h) copy
+  pub tells : Records (t .copy) 0 (h .lines) (take (n * 8) (t .records))
+  pub past : drop (n * 8) (t .records) ≡ drop (n * 8) records
+
+-- xs stand at the start of the room, which is as it was past them
+abbrev pub wrote : List ℕ → List ℕ → Filled
+wrote xs room = filled (Wrote (length xs)) (overlay xs room)
+
+pub record Demand2 : Type 0 where
+  -- the reader accepts exactly the cards that document 01 draws
+  pub accepts : (i : List ℕ) (k n : ℕ) → (judgeOf i ≡ Accepted k n) ↔ InputOf i k n
+  -- which have one reading
+  pub one-reading : (i : List ℕ) (k m n p : ℕ) (h : InputOf i k n) (g : InputOf i m p) → h .lines ≡ g .lines
+  -- given room, with counts, copy and records; and without room it accepts nothing
+  pub reads : (i copy records : List ℕ) (k n : ℕ) (h : InputOf i k n) → Roomy h copy records → ReadAs h copy records (readOutcome i copy records)
+  pub only : (i copy records : List ℕ) (k n : ℕ) → readOutcome i copy records .answer ≡ Accepted k n → (h : InputOf i k n) × Roomy h copy records
+  -- the folder writes the folded form, which is made of each line's greedy cutting
+  pub folds : (i out : List ℕ) (k n : ℕ) (h : InputOf i k n) → length (folded h) ≤ 16384 → length (folded h) ≤ length out → foldOutcome i out ≡ wrote (folded h) out
+  pub greedy : (x : Line) → Readable x → (p : List ℕ) (ps : List (List ℕ)) → Cutting (render x) p ps ↔ (p ∷ ps ≡ pieces (render x))
+  -- what it wrote has physical lines of at most 75 octets, with no character split,
+  pub physical : (i out after : List ℕ) (n : ℕ) → foldOutcome i out ≡ filled (Wrote n) after → Folds (logicalLines i) (take n after)
+  -- and read again gives the same answer, copy and records
+  pub read-again : (i out after : List ℕ) (n : ℕ) → foldOutcome i out ≡ filled (Wrote n) after
+      → (copy records : List ℕ) → readOutcome (take n after) copy records ≡ readOutcome i copy records
+  -- escape writes the escaped form of a text; unescape writes what a text stands for
+  pub escapes : (t out : List ℕ) → Fair true t → length (escaped t) ≤ 16384 → length (escaped t) ≤ length out → escapeOutcome t out ≡ wrote (escaped t) out
+  pub unescapes : (t u out : List ℕ) → Fair false t → Stands t u → length u ≤ length out → unescapeOutcome t out ≡ wrote u out
+  -- text escaped, then unescaped, comes back the same
+  pub back : (t out after room : List ℕ) (n : ℕ) → escapeOutcome t out ≡ filled (Wrote n) after → length t ≤ length room
+      → unescapeOutcome (take n after) room ≡ wrote t room
+  -- the routines for C answer the count alone, and leave the room as the entry does
+  pub c-judge : (i : List ℕ) (k n : ℕ) → InputOf i k n → verdictWord (judgeOf i) ≡ k
+  pub c-fold : (i out after : List ℕ) (n : ℕ) → foldOutcome i out ≡ filled (Wrote n) after → wordOutcome (foldOutcome i out) ≡ worded n after
+  pub c-unescape : (t out after : List ℕ) (n : ℕ) → unescapeOutcome t out ≡ filled (Wrote n) after → wordOutcome (unescapeOutcome t out) ≡ worded n after

@@ -1,0 +1,12 @@
+-- The three demands and the marked examples, side by side. Assumes nothing.
+use Rattle.lines.specs.Grammar.{Each}
+use Rattle.apart.specs.Demand.{Demand3}
+use Rattle.demands.specs.Cases.{Holds, cases}
+use Rattle.demands.specs.Demand1.{Demand1}
+use Rattle.demands.specs.Demand2.{Demand2}
+
+pub record Demands : Type 0 where
+  pub total : Demand1
+  pub exact : Demand2
+  pub apart : Demand3
+  pub examples : Each Holds cases
