@@ -2,7 +2,7 @@
 use mathlib.Core.Path.{_≡_, refl, sym, ap, _∙_}
 use mathlib.Core.Bool.{Bool, true, false, not, _&&_, _||_, and-true, and-false, and-assoc, or-true}
 use mathlib.Core.List.{List, [], _∷_, _++_}
-use Prim.Native.Nat.{ℕ, suc, _+_, _<_, _≤_, zero}
+use Prim.Native.Nat.{ℕ, suc, _+_, _-_, _<_, _≤_, zero}
 use native.Mathlib.Numerals.{add-one}
 use native.Mathlib.Omega.{arith}
 use lib.Dec.{eqb, ltb}
@@ -10,11 +10,12 @@ use lib.Bits.{bitOr, or-zero-r, or-add-and, and-le-l}
 use lib.ListN.{length, getD, take, drop, drop-of-length-le, length-drop, take-append-drop}
 use lib.Seq.{drop-cons, drop-drop, length-take-le}
 use native.Mathlib.Nat.{zero-add, add-zero, suc-add}
-use borrow.Author.Tests.{ne-eqb, eqb-true, ltb-false, le-leb}
-use Rattle.octets.specs.Classes.{bit, valued}
+use borrow.Author.Tests.{ne-eqb, eqb-true, ltb-false, lt-ltb, le-ltb, le-leb}
+use Rattle.octets.specs.Classes.{bit, has, valued}
+use Rattle.octets.proofs.Masks.{has-valued}
 use Rattle.octets.specs.Scan.{after, scan}
-use Rattle.octets.proofs.Chars.{ascii, unit-inside, bad-step}
-use Rattle.octets.specs.Characters.{odd, allPlain, allowed, unit, firstBad, Strides}
+use Rattle.octets.proofs.Chars.{ascii, char-at, unit-yes, unit-inside, bad-step}
+use Rattle.octets.specs.Characters.{lengthBy, second, tail, odd, allPlain, allowed, unit, firstBad, Strides, Easy, Reached}
 
 -- a mark is kept once it is set
 or-mark : (a : ℕ) (t : Bool) → eqb (bitOr a (bit t 1)) 0 ≡ (eqb a 0 && not t)
@@ -58,6 +59,35 @@ plain-unit lf x xs e =
     let o = plain-octet x e in
     simp (o .1) (ascii (x ∷ xs) 0 (omega arith) (omega arith))
 
+-- a plain octet, and a character of two octets
+module _ (s : List ℕ) (i : ℕ) where
+  pub unit-plain : (r : ℕ) → r ≡ bit (odd (getD s i 0)) 1 → i < length s → r ≡ 0 → (lf : Bool) → unit (allowed lf) (drop i s) ≡ 1
+  unit-plain r e h z lf = by (odd (getD s i 0)) refl (sym e ∙ z)
+    where
+      by : (o : Bool) → odd (getD s i 0) ≡ o → bit o 1 ≡ 0 → unit (allowed lf) (drop i s) ≡ 1
+      by true q w = absurd (omega arith)
+      by false q w = rw (drop-cons s i 0 h) (plain-unit lf (getD s i 0) (drop (suc i) s) q)
+
+  module _ (lo : 0xC2 ≤ getD s i 0) (hi : getD s i 0 ≤ 0xDF) where
+    two-long : 2 ≡ lengthBy (getD s i 0)
+    unfolding lengthBy
+    two-long = simp (le-ltb (getD s i 0) 0x80 (omega arith), le-ltb (getD s i 0) 0xC2 lo, lt-ltb (getD s i 0) 0xE0 (omega arith))
+
+    two-second : (c : ℕ) → second (getD s i 0) c ≡ tail c
+    unfolding second tail
+    two-second c =
+        simp (ne-eqb (getD s i 0) 0xE0 (λ e. omega arith), ne-eqb (getD s i 0) 0xED (λ e. omega arith), ne-eqb (getD s i 0) 0xF0 (λ e. omega arith), ne-eqb (getD s i 0) 0xF4 (λ e. omega arith))
+
+    high : has 32 (getD s i 0) ≡ true
+    unfolding valued
+    high = has-valued (getD s i 0) ∙ simp (le-leb 128 (getD s i 0) (omega arith), or-true)
+
+    pub unit-two : i + 2 ≤ length s → tail (getD s (i + 1) 0) ≡ true → (lf : Bool) → unit (allowed lf) (drop i s) ≡ 2
+    unit-two h t lf =
+        unit-yes s i lf high
+        ∙ char-at s i 2 two-long
+        ∙ simp (le-leb 2 (length s - i) (omega arith), two-second (getD s (i + 1) 0), t)
+
 pub plain-all : (lf : Bool) (s : List ℕ) → allPlain s ≡ true → firstBad (allowed lf) s ≡ length s
 unfolding allPlain firstBad scan
 plain-all lf [] e = refl
@@ -96,3 +126,9 @@ unit-stride lf s i n h e = record { stops = λ z. sym e ∙ z; goes = by n e; in
     by : (m : ℕ) → m ≡ unit (allowed lf) (drop i s) → i + firstBad (allowed lf) (drop i s) ≡ i + m + firstBad (allowed lf) (drop (i + m) s)
     by zero q = ap (λ (j : ℕ). j + firstBad (allowed lf) (drop j s)) (sym (add-zero i))
     by (suc m) q = bad-step (allowed lf) s i (suc m) q (λ z. omega arith) (omega arith)
+
+-- an easy character reaches further
+pub reach-step : (s : List ℕ) (i n : ℕ) → i < length s → Reached s i → Easy s i n → (n ≡ 0 → ⊥) → Reached s (i + n)
+reach-step s i n h r e z =
+    let k : (lf : Bool) → Strides (allowed lf) s i n = λ lf. unit-stride lf s i n h (e .whole lf z) in
+    record { goes = λ lf. r .goes lf ∙ k lf .goes; inside = k false .inside }

@@ -53,6 +53,15 @@ pub record Strides (p : ℕ → Bool) (s : List ℕ) (i n : ℕ) : Type 0 where
   pub goes : i + firstBad p (drop i s) ≡ i + n + firstBad p (drop (i + n) s)
   pub inside : i + n ≤ length s
 
+-- n octets from i on are one character that is allowed, LF or no LF; or n is 0
+pub record Easy (s : List ℕ) (i n : ℕ) : Type 0 where
+  pub whole : (lf : Bool) → (n ≡ 0 → ⊥) → n ≡ unit (allowed lf) (drop i s)
+
+-- no bad octet stands before n
+pub record Reached (s : List ℕ) (n : ℕ) : Type 0 where
+  pub goes : (lf : Bool) → firstBad (allowed lf) s ≡ n + firstBad (allowed lf) (drop n s)
+  pub inside : n ≤ length s
+
 -- an octet that is neither a tab nor one of 20-7E
 unfoldable pub odd : ℕ → Bool
 odd b = ltb 126 b || (ltb b 32 && not (eqb b 9))

@@ -5,3 +5,4 @@ pub mod classes;
 pub mod copying;
 pub mod plain;
 pub mod rooms;
+pub mod texts;

@@ -4,7 +4,7 @@ ghost use Rattle.octets.specs.Classes.{bit};
 ghost use Rattle.octets.specs.Characters.{odd, allPlain};
 
 // 1 for an octet that is neither a tab nor one of 20-7E, 0 for any other.
-fn odd_bit(b: u8) -> u8
+pub fn odd_bit(b: u8) -> u8
     ensures { λ r. ⌜ r ≡ bit (odd b) 1 ⌝ }
 {
     (126 < b) as u8 | ((b < 32) as u8 & (b != 9) as u8)

@@ -1,6 +1,6 @@
 -- Tests joined as bits, marks that are kept once set, and counts. Assumes nothing.
 use mathlib.Core.Path.{_≡_, refl, sym, ap, _∙_}
-use mathlib.Core.Bool.{Bool, true, false, not, _&&_, _||_, and-true, and-false, and-assoc, or-assoc}
+use mathlib.Core.Bool.{Bool, true, false, not, _&&_, _||_, and-true, and-false, and-assoc}
 use mathlib.Core.List.{List}
 use Prim.Native.Nat.{ℕ, _+_, _<_, _≤_}
 use native.Mathlib.Nat.{add-zero}
@@ -38,10 +38,8 @@ byte-bit false = refl
 four : (a b c d : Bool) → bitOr (bitOr (boolByte a) (boolByte b)) (bitOr (boolByte c) (boolByte d)) ≡ boolByte ((a || b) || (c || d))
 four a b c d = rw (or-bytes a b, or-bytes c d) (or-bytes (a || b) (c || d))
 
-pub mark-bits : (a b c d : Bool)
-    → bitOr (bitOr (boolByte a) (boolByte b)) (bitOr (boolByte c) (boolByte d)) ≡ bit ((a || (b || c)) || d) 1
-mark-bits a b c d =
-    four a b c d ∙ ap boolByte (sym (or-assoc (a || b) c d) ∙ ap (λ (t : Bool). t || d) (or-assoc a b c)) ∙ byte-bit ((a || (b || c)) || d)
+pub held-bits : (a b c d : Bool) → bitOr (bitOr (boolByte a) (boolByte b)) (bitOr (boolByte c) (boolByte d)) ≡ bit ((a || b) || (c || d)) 1
+held-bits a b c d = four a b c d ∙ byte-bit ((a || b) || (c || d))
 
 pub pair-bits : (p a b c d : Bool)
     → bitOr (bitAnd (boolByte p) (boolByte (eqb (bitOr (bitOr (boolByte a) (boolByte b)) (bitOr (boolByte c) (boolByte d))) 0))) (bitAnd (boolByte (not p)) (boolByte a))

@@ -3,4 +3,5 @@ pub mod EscapeLaws
 pub mod LengthLaws
 pub mod PairLaws
 pub mod PieceLaws
+pub mod LookLaws
 pub mod OutcomeLaws

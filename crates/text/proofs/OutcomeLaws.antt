@@ -1,14 +1,18 @@
--- Refusals 1 and 31 before the outcome that is left, by what was found. Assumes nothing.
-use mathlib.Core.Path.{_≡_, sym}
-use mathlib.Core.Bool.{Bool}
+-- Refusals 1, 31 and 30 before the outcome that is left, by what was found. Assumes nothing.
+use mathlib.Core.Path.{_≡_, refl, sym}
+use mathlib.Core.Bool.{Bool, false}
 use mathlib.Core.List.{List}
 use Prim.Native.Nat.{ℕ, _<_, _≤_}
+use native.Mathlib.Omega.{arith}
 use lib.ListN.{length}
 use borrow.Author.Tests.{lt-ltb, le-ltb}
-use Rattle.octets.specs.Room.{Filled, refuse}
+use Rattle.octets.specs.Room.{Filled, refuse, fill, fillBounded}
 use Rattle.octets.specs.Characters.{firstBad}
-use Rattle.text.specs.Escapes.{firstFault}
+use Rattle.text.specs.Escapes.{escaped, firstFault, unescaped}
+use Rattle.text.specs.Looks.{any, held}
 use Rattle.text.specs.Outcomes.{checked, faultless}
+use Rattle.octets.proofs.RoomLaws.{within-bound}
+use Rattle.text.proofs.LookLaws.{same-unmarked, bare}
 
 module _ (p : ℕ → Bool) (t room : List ℕ) (left : Filled) where
   pub too-long : 16384 < length t → refuse 1 16384 room ≡ checked p t room left
@@ -32,3 +36,13 @@ module _ (t room : List ℕ) (left : Filled) (f : ℕ) (e : f ≡ firstFault t) 
   pub no-fault : length t ≤ f → left ≡ faultless t room left
   unfolding faultless
   no-fault l = simp (sym e, le-ltb f (length t) l)
+
+-- a text with nothing to escape, and one with nothing to unescape
+module _ (t room : List ℕ) where
+  pub escape-same : length t ≤ 16384 → any (held 59 10) t ≡ false → fill t room ≡ fillBounded (escaped t) room
+  escape-same h e = let q = same-unmarked t e in rw q (within-bound t room (length t) refl h)
+
+  pub unescape-same : any (held 44 44) t ≡ false → fill t room ≡ faultless t room (fill (unescaped t) room)
+  unescape-same e =
+      let q = bare t e in
+      rw (q .1) (no-fault t room (fill t room) (length t) (sym (q .0)) (omega arith))

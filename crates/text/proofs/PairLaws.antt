@@ -35,7 +35,7 @@ Sound l = (firstFault l ≡ length l) × (length (unescaped l) + count backslash
 
 -- an octet that stands for itself, before sound text
 module _ (x : ℕ) (xs : List ℕ) (b : backslash x ≡ false) where
-  flat : escapeAt (x ∷ xs) ≡ false
+  pub flat : escapeAt (x ∷ xs) ≡ false
   unfolding escapeAt
   flat = simp b
 
@@ -43,10 +43,13 @@ module _ (x : ℕ) (xs : List ℕ) (b : backslash x ≡ false) where
   unfolding textStep
   one-step c = simp (flat, b, c)
 
+  pub fault-past : eqb x 44 ≡ false → firstFault xs ≡ length xs → firstFault (x ∷ xs) ≡ suc (length xs)
+  unfolding firstFault scan
+  fault-past c h = ap (λ (k : ℕ). after k (scan textStep xs)) (one-step c) ∙ ap suc h
+
   octet : eqb x 44 ≡ false → Sound xs → Sound (x ∷ xs)
-  unfolding firstFault scan count
-  octet c h =
-      (ap (λ (k : ℕ). after k (scan textStep xs)) (one-step c) ∙ ap suc (h .0), rw (first-octet x xs flat, b) (omega (arith, h .1)))
+  unfolding count
+  octet c h = (fault-past c (h .0), rw (first-octet x xs flat, b) (omega (arith, h .1)))
 
 -- an escape that is no escaped backslash, before sound text
 module _ (x y : ℕ) (ys : List ℕ) (b : backslash x ≡ true) (c : code y ≡ true) (n : backslash y ≡ false) where

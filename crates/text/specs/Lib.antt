@@ -1,5 +1,6 @@
 pub mod Escapes
 pub mod Counts
 pub mod Pairs
+pub mod Looks
 pub mod Outcomes
 pub mod Stands

@@ -6,7 +6,7 @@ ghost use Rattle.octets.specs.Room.{overlay};
 ghost use Rattle.text.specs.Escapes.{Letters, escaped};
 
 // What follows the backslash in the escape of each octet, and 0 for one that stays as it is.
-fn letters() -> [u8; 256]
+pub fn letters() -> [u8; 256]
     ensures { λ r. ⌜ Letters r ⌝ }
 {
     let mut t = [0u8; 256];
@@ -17,8 +17,8 @@ fn letters() -> [u8; 256]
     t
 }
 
-// Writes the escaped form to the start of out, octet by octet.
-fn write_octets(t: &[u8; 256], text: &[u8], out: &mut [u8])
+// Writes the escaped form to the start of out.
+pub fn write(t: &[u8; 256], text: &[u8], out: &mut [u8])
     requires { ⌜ Letters (now t) ⌝ }
     requires { ⌜ length (escaped (now text)) ≤ length (now out) ⌝ }
     ensures { λ _. ⌜ now (out .exit) ≡ overlay (escaped (now (text .entry))) (now (out .entry)) ⌝ }
@@ -39,18 +39,4 @@ fn write_octets(t: &[u8; 256], text: &[u8], out: &mut [u8])
             i += 1;
         }
     }
-}
-
-// Writes the escaped form, which has n octets, to the start of out.
-pub fn write(text: &[u8], out: &mut [u8], n: usize)
-    requires { ⌜ n ≡ length (escaped (now text)) ⌝ }
-    requires { ⌜ n ≤ length (now out) ⌝ }
-    ensures { λ _. ⌜ now (out .exit) ≡ overlay (escaped (now (text .entry))) (now (out .entry)) ⌝ }
-{
-    if n == text.len() {
-        octets::copying::copy_in(out, text);
-        return;
-    }
-    let t = letters();
-    write_octets(&t, text, out);
 }

@@ -120,6 +120,9 @@ pub fn measure(text: &[u8]) -> Measured
     requires { ⌜ length (now text) ≤ 16384 ⌝ }
     ensures { λ r. ⌜ (r .fault ≡ firstFault (now (text .entry))) × (r .fault ≡ length (now (text .entry)) → r .kept ≡ length (unescaped (now (text .entry)))) ⌝ }
 {
+    if text.len() < 32 {
+        return measure_each(text);
+    }
     if all_pairs(text) {
         return Measured {
             fault: text.len(),
@@ -129,8 +132,8 @@ pub fn measure(text: &[u8]) -> Measured
     measure_each(text)
 }
 
-// Writes what a text without faults stands for to the start of out, octet by octet.
-fn write_octets(text: &[u8], out: &mut [u8])
+// Writes what a text without faults stands for to the start of out.
+pub fn write(text: &[u8], out: &mut [u8])
     requires { ⌜ firstFault (now text) ≡ length (now text) ⌝ }
     requires { ⌜ length (unescaped (now text)) ≤ length (now out) ⌝ }
     ensures { λ _. ⌜ now (out .exit) ≡ overlay (unescaped (now (text .entry))) (now (out .entry)) ⌝ }
@@ -148,18 +151,4 @@ fn write_octets(text: &[u8], out: &mut [u8])
             i += 1;
         }
     }
-}
-
-// Writes what a text without faults stands for, which has n octets, to the start of out.
-pub fn write(text: &[u8], out: &mut [u8], n: usize)
-    requires { ⌜ firstFault (now text) ≡ length (now text) ⌝ }
-    requires { ⌜ n ≡ length (unescaped (now text)) ⌝ }
-    requires { ⌜ n ≤ length (now out) ⌝ }
-    ensures { λ _. ⌜ now (out .exit) ≡ overlay (unescaped (now (text .entry))) (now (out .entry)) ⌝ }
-{
-    if n == text.len() {
-        octets::copying::copy_in(out, text);
-        return;
-    }
-    write_octets(text, out);
 }

@@ -1,13 +1,17 @@
 -- `text::counts::marks` meets its contract. Assumes nothing.
 use borrow.Author.Needs.{needs}
-use mathlib.Core.Path.{_≡_, sym, _∙_}
+use mathlib.Core.Path.{_≡_, sym, ap, _∙_}
+use mathlib.Core.Bool.{Bool}
 use Prim.Native.Nat.{_≤_, _+_, _-_}
 use native.Mathlib.Nat.{zero-add}
 use native.Mathlib.Omega.{arith}
 use lib.ListN.{length, drop, getD}
+use Rattle.octets.specs.Classes.{bit}
 use Rattle.text.specs.Escapes.{marked}
+use Rattle.text.specs.Looks.{held}
 use Rattle.text.specs.Counts.{count}
 use Rattle.text.proofs.BitLaws.{bit-le, count-step, count-end}
+use Rattle.text.proofs.LookLaws.{held-marked}
 use Rattle.text.proofs.counts.marks.Statement.{statement}
 use Rattle.text.proofs.counts.marks.Tie as tie
 
@@ -23,19 +27,19 @@ loop-holds : tie.Need-loop-holds Inv-loop μ-loop
 loop-holds c =
     (search needs, search needs, sym (zero-add _))
 
-shared-slice-read-mark-bit : tie.Need-shared-slice-read-mark-bit Inv-loop μ-loop
-shared-slice-read-mark-bit c = search needs
+shared-slice-read-held-bit : tie.Need-shared-slice-read-held-bit Inv-loop μ-loop
+shared-slice-read-held-bit c = search needs
 
-mark-bit-requires : tie.Need-mark-bit-requires Inv-loop μ-loop
-mark-bit-requires c κs = search needs
+held-bit-requires : tie.Need-held-bit-requires Inv-loop μ-loop
+held-bit-requires c κs = search needs
 
 cast-n : tie.Need-cast-n Inv-loop μ-loop
 cast-n c =
-    omega (arith, bit-le (marked (getD (c .before .before .before .before .before .args .s .now) (c .before .before .before .loop .i) 0)))
+    omega (arith, bit-le (held 59 10 (getD (c .before .before .before .before .before .args .s .now) (c .before .before .before .loop .i) 0)))
 
 add-n : tie.Need-add-n Inv-loop μ-loop
 add-n c =
-    omega (arith, bit-le (marked (getD (c .before .before .before .before .before .args .s .now) (c .before .before .before .loop .i) 0)))
+    omega (arith, bit-le (held 59 10 (getD (c .before .before .before .before .before .args .s .now) (c .before .before .before .loop .i) 0)))
 
 add-i : tie.Need-add-i Inv-loop μ-loop
 add-i c = search needs
@@ -47,7 +51,7 @@ loop-again : tie.Need-loop-again Inv-loop μ-loop
 loop-again c =
     let l = c .before .before .before .loop in
     let s = c .before .before .before .before .before .args .s .now in
-    (omega arith, omega (arith, bit-le (marked (getD s (l .i) 0))), l .inv .2 ∙ count-step marked s (l .i) (c .before .before .loop-test .taken) (l .n) (c .mark-bit .result) (c .mark-bit .ensures))
+    (omega arith, omega (arith, bit-le (held 59 10 (getD s (l .i) 0))), l .inv .2 ∙ count-step marked s (l .i) (c .before .before .loop-test .taken) (l .n) (c .held-bit .result) (c .held-bit .ensures ∙ ap (λ (t : Bool). bit t 1) (held-marked (getD s (l .i) 0))))
 
 cast-result : tie.Need-cast-result Inv-loop μ-loop
 cast-result c = search needs
@@ -64,8 +68,8 @@ marks-spec =
     Inv-loop
     μ-loop
     loop-holds
-    shared-slice-read-mark-bit
-    mark-bit-requires
+    shared-slice-read-held-bit
+    held-bit-requires
     cast-n
     add-n
     add-i

@@ -1,0 +1,68 @@
+-- `text::escape_odd` meets its contract. Assumes nothing.
+use mathlib.Core.Path.{_∙_}
+use mathlib.Core.Bool.{true}
+use native.Mathlib.Omega.{arith}
+use Rattle.octets.specs.Room.{fillBounded}
+use Rattle.octets.specs.Characters.{allowed}
+use Rattle.text.specs.Escapes.{escaped}
+use Rattle.text.specs.Outcomes.{escapeOutcome}
+use Rattle.text.proofs.LookLaws.{seen-1}
+use Rattle.text.proofs.OutcomeLaws.{bad-octet, good, escape-same}
+use borrow.Author.Needs.{needs}
+use Rattle.text.proofs.escape_odd.Statement.{statement}
+use Rattle.text.proofs.escape_odd.Tie as tie
+
+first-bad-requires : tie.Need-first-bad-requires
+first-bad-requires c κs = search needs
+
+returns : tie.Need-returns
+unfolding escapeOutcome
+returns c =
+    let a = c .before .before .before .before .args in
+    let t = a .text .now in
+    let b = c .before .first-bad in
+    bad-octet (allowed true) t (a .out .now) (fillBounded (escaped t) (a .out .now)) (c .before .before .before .before .pre .0) (b .result) (b .ensures) (c .if1 .taken)
+
+put-requires : tie.Need-put-requires
+put-requires c κs = search needs
+
+same-length : tie.Need-same-length
+same-length c = search needs
+
+returns-2 : tie.Need-returns-2
+unfolding escapeOutcome
+returns-2 c =
+    let a = c .before .before .before .before .before .before .before .before .before .args in
+    let t = a .text .now in
+    let b = c .before .before .before .before .before .before .first-bad in
+    c .before .before .put .ensures
+    ∙ escape-same t (a .out .now) (c .before .before .before .before .before .before .before .before .before .pre .0) (seen-1 t (a .look) 59 10 (c .before .before .before .before .before .before .before .before .before .pre .1) (c .before .before .before .before .if2 .taken))
+    ∙ good (allowed true) t (a .out .now) (fillBounded (escaped t) (a .out .now)) (c .before .before .before .before .before .before .before .before .before .pre .0) (b .result) (b .ensures) (omega arith)
+
+escape-each-requires : tie.Need-escape-each-requires
+escape-each-requires c κs = search needs
+
+same-length-2 : tie.Need-same-length-2
+same-length-2 c = search needs
+
+returns-3 : tie.Need-returns-3
+unfolding escapeOutcome
+returns-3 c =
+    let a = c .before .before .before .before .before .before .before .before .before .args in
+    let t = a .text .now in
+    let b = c .before .before .before .before .before .before .first-bad in
+    c .before .before .escape-each .ensures
+    ∙ good (allowed true) t (a .out .now) (fillBounded (escaped t) (a .out .now)) (c .before .before .before .before .before .before .before .before .before .pre .0) (b .result) (b .ensures) (omega arith)
+
+pub escape-odd-spec : {M : Type 1} → statement M
+escape-odd-spec =
+    tie.close
+    (tie.spec
+    first-bad-requires
+    returns
+    put-requires
+    same-length
+    returns-2
+    escape-each-requires
+    same-length-2
+    returns-3)
