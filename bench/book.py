@@ -1,5 +1,5 @@
 #!/usr/bin/env python3
-"""Writes inputs for the benchmark: a phone book of 16 KB, small cards, long folded lines, damaged inputs, and texts.
+"""Writes inputs for the benchmark: a phone book of 16 KB, a denser one, small cards, long folded lines, damaged inputs, and texts.
 
   book.py FOLDER
 """
@@ -45,20 +45,55 @@ def card(dice):
     return b"".join(fold(line) for line in lines)
 
 
+def dense_card(dice):
+    """An entry of many short lines, none of them folded."""
+    first, last, place = dice.choice(FIRST), dice.choice(LAST), dice.choice(PLACES)
+    number = dice.randrange(1000, 9999)
+    lines = [
+        "BEGIN:VCARD",
+        "VERSION:4.0",
+        f"PRODID:-//Betriebshof//Buch {dice.randrange(1, 9)}//DE",
+        f"UID:urn:uuid:4fbe8971-0bc3-424c-9c26-{dice.randrange(10**11, 10**12)}",
+        "KIND:individual",
+        f"FN:{first} {last}",
+        f"N:{last};{first};;;",
+        f"NICKNAME:{first[:3]},{last[:3]}",
+        f"TITLE:Fahrdienst {dice.randrange(1, 9)}",
+        "ROLE:Leitung",
+        f"ORG:Verkehrsbetriebe;{place}",
+        f"TEL;VALUE=uri;TYPE=voice:tel:+49-30-5550-{number}",
+        f"funk.TEL;TYPE=cell:+49 170 {dice.randrange(1000000, 9999999)}",
+        f"EMAIL;PREF=1:dienst{number}@tram.example",
+        f"ADR:;;Gleisweg {dice.randrange(1, 99)};Berlin;;12345;",
+        f"URL:https://tram.example/dienst/{number}",
+        f"NOTE:Linie {dice.randrange(1, 80)}\\, Schicht {dice.randrange(1, 4)}",
+        "CATEGORIES:Tram,Depot,Nacht",
+        f"REV:20261115T0500{dice.randrange(10, 59)}Z",
+        "END:VCARD",
+    ]
+    return b"".join(line.encode() + b"\r\n" for line in lines)
+
+
+def filled(make):
+    """As many cards as an input holds."""
+    dice, book = random.Random(7), b""
+    while True:
+        more = make(dice)
+        if len(book) + len(more) > LIMIT:
+            return book
+        book += more
+
+
 def main():
     folder = pathlib.Path(sys.argv[1])
     folder.mkdir(parents=True, exist_ok=True)
-    dice, book = random.Random(7), b""
-    while True:
-        more = card(dice)
-        if len(book) + len(more) > LIMIT:
-            break
-        book += more
+    book = filled(card)
     small = b"BEGIN:VCARD\r\nVERSION:4.0\r\nFN:A\r\nEND:VCARD\r\n"
     long = b"BEGIN:VCARD\r\nVERSION:4.0\r\nFN:A\r\n" + fold("NOTE:" + "Umspannwerk " * 1200) + b"END:VCARD\r\n"
     prose = "Bei Störung der Oberleitung zuerst das Umspannwerk rufen, dann die Leitstelle; Funk auf Kanal 4 lassen.\n" * 70
     files = {
         "book": book,
+        "dense": filled(dense_card),
         "small": small * (LIMIT // len(small)),
         "long": long[:LIMIT] if len(long) <= LIMIT else long,
         "damaged": book[:-20] + b"\x01" + book[-19:],
