@@ -1,78 +1,235 @@
-/* Times the unit's C routines beside a plain C program of the same checks, in one run with interleaved repeats. */
-#include "plain.h"
+/* The benchmark's tables: the unit's routines and desk calls beside plain C, EVCard and memcpy; and what an input costs by its size and shape.
+ *
+ *   bench tables FOLDER COUNTS   the tables; the file COUNTS has callgrind's numbers, one a line, or is empty
+ *   bench count FOLDER           the tables' jobs in the order of those numbers, for callgrind
+ *   bench costs FOLDER NAME ..   for each input: its name, its octets, a routine, nanoseconds an octet
+ */
+#include "jobs.h"
 #include <stdio.h>
 #include <stdlib.h>
 #include <string.h>
-#include <time.h>
 
-extern uint64_t judge(const uint8_t *input, size_t len);
-extern uint64_t fold(const uint8_t *input, size_t len, uint8_t *out, size_t room);
-extern uint64_t unescape(const uint8_t *text, size_t len, uint8_t *out, size_t room);
+#define LENGTH(a) (sizeof(a) / sizeof(a)[0])
+#define SECONDS 15
 
-static uint8_t octets[20000], out[20000];
-static size_t length;
+static const struct row {
+    enum routine routine;
+    const char *input;
+    size_t most;
+} rows[] = {
+    {JUDGE_INPUT, "book", LIMIT},
+    {JUDGE_INPUT, "dense", LIMIT},
+    {JUDGE_INPUT, "small", LIMIT},
+    {JUDGE_INPUT, "long", LIMIT},
+    {JUDGE_INPUT, "damaged", LIMIT},
+    {READ, "book", LIMIT},
+    {READ, "dense", LIMIT},
+    {READ, "small", LIMIT},
+    {READ, "long", LIMIT},
+    {READ, "damaged", LIMIT},
+    {FOLD, "book", LIMIT},
+    {FOLD, "dense", LIMIT},
+    {FOLD, "small", LIMIT},
+    {FOLD, "long", LIMIT},
+    {FOLD, "damaged", LIMIT},
+    {UNESCAPE, "escaped", LIMIT},
+    {UNESCAPE, "plain", LIMIT},
+    {UNESCAPE, "plain", 32},
+    {UNESCAPE, "plain", 12},
+    {UNESCAPE, "plain", 4},
+    {ESCAPE, "prose", LIMIT},
+    {ESCAPE, "plain", LIMIT},
+    {ESCAPE, "plain", 32},
+    {ESCAPE, "plain", 12},
+    {ESCAPE, "plain", 4},
+    {MEMCPY, "book", LIMIT},
+};
+#define ROWS LENGTH(rows)
 
-static uint64_t unit(int job) {
-    return job == 0 ? judge(octets, length) : job == 1 ? fold(octets, length, out, 16384) : unescape(octets, length, out, 16384);
-}
+static const struct desk_row {
+    const char *name, *chunk;
+    size_t most;
+    uint32_t opens;
+    size_t adds;
+    enum call kind;
+    size_t n;
+} desk_rows[] = {
+    {"open", "book", 0, 0, 0, OPEN, 40},
+    {"add 0 octets", "book", 0, 40, 0, ADD, 1600},
+    {"add 400 octets", "book", 400, 40, 0, ADD, 1600},
+    {"add a book", "book", LIMIT, 40, 0, ADD, 40},
+    {"octets held", "book", 0, 40, 0, HELD, 1600},
+    {"judge a book", "book", LIMIT, 40, 40, JUDGE, 8},
+    {"judge small cards", "small", LIMIT, 40, 40, JUDGE, 8},
+    {"judge a long line", "long", LIMIT, 40, 40, JUDGE, 8},
+    {"judge a damaged book", "damaged", LIMIT, 40, 40, JUDGE, 8},
+    {"release", "book", LIMIT, 40, 40, RELEASE, 40},
+};
+#define DESK_ROWS LENGTH(desk_rows)
 
-static uint64_t plain(int job) {
-    return job == 0 ? plain_judge(octets, length) : job == 1 ? plain_fold(octets, length, out, 16384) : plain_unescape(octets, length, out, 16384);
-}
+static struct input inputs[ROWS], chunks[DESK_ROWS];
+/* the unit's, plain C's and EVCard's */
+static struct job jobs[ROWS][3];
+/* by whether the n calls are made: the difference is what they cost */
+static struct calls calls[DESK_ROWS][2];
+static struct job desks[DESK_ROWS][DESKS][2];
 
-static double now(void) {
-    struct timespec t;
-    clock_gettime(CLOCK_MONOTONIC, &t);
-    return t.tv_sec + t.tv_nsec * 1e-9;
-}
-
-static double timed(uint64_t (*f)(int), int job) {
-    double start = now();
-    for (int i = 0; i < 4; i++) f(job);
-    return (now() - start) / 4;
-}
-
-static const char *const jobs[] = {"judge", "fold", "unescape"};
-
-static void load(const char *folder, const char *name) {
-    char path[512];
-    snprintf(path, sizeof path, "%s/%s", folder, name);
-    FILE *f = fopen(path, "rb");
-    if (!f) {
-        fprintf(stderr, "bench: %s can't be read\n", path);
-        exit(2);
+static void make_jobs(const char *folder) {
+    for (size_t r = 0; r < ROWS; r++) {
+        const struct row *row = &rows[r];
+        load(&inputs[r], folder, row->input, row->most);
+        jobs[r][0] = (struct job){.run = unit_jobs[row->routine], .what = &inputs[r]};
+        jobs[r][1] = (struct job){.run = plain_jobs[row->routine], .what = &inputs[r]};
+        if (row->routine == READ && strcmp(row->input, "damaged") != 0) jobs[r][2] = (struct job){.run = evcard_read, .what = &inputs[r]};
+        if (jobs[r][1].run) compare(jobs[r][0].run, jobs[r][1].run, &inputs[r], row->input);
     }
-    length = fread(octets, 1, sizeof octets, f);
-    fclose(f);
+    for (size_t r = 0; r < DESK_ROWS; r++) {
+        const struct desk_row *row = &desk_rows[r];
+        load(&chunks[r], folder, row->chunk, row->most);
+        for (size_t made = 0; made < 2; made++) calls[r][made] = (struct calls){&chunks[r], row->opens, row->adds, row->kind, made * row->n};
+        for (size_t d = 0; d < DESKS; d++) {
+            for (size_t made = 0; made < 2; made++) desks[r][d][made] = (struct job){.run = desk_jobs[d], .what = &calls[r][made]};
+            compare(desk_jobs[0], desk_jobs[d], &calls[r][1], row->name);
+        }
+    }
 }
 
-/* bench FOLDER: the table. bench FOLDER NAME JOB (u|p) COUNT: that many calls, for counting instructions. */
+/* How often callgrind sees a row's job: often enough for what surrounds a call not to count. */
+static size_t repeats(size_t r) { return inputs[r].length < 1000 ? 100 : 2; }
+
+static void count_jobs(void) {
+    for (size_t r = 0; r < ROWS; r++)
+        for (size_t who = 0; who < 2; who++)
+            if (jobs[r][who].run) counted(&jobs[r][who], repeats(r));
+    for (size_t r = 0; r < DESK_ROWS; r++)
+        for (size_t d = 0; d < DESKS; d++)
+            for (size_t made = 0; made < 2; made++) counted(&desks[r][d][made], 1);
+}
+
+static double row_counts[ROWS][2], desk_counts[DESK_ROWS][DESKS][2];
+
+/* The next number of the file, or 0. */
+static double next_count(FILE *f) {
+    double x;
+    return f && fscanf(f, "%lf", &x) == 1 ? x : 0;
+}
+
+static void read_counts(const char *path) {
+    FILE *f = fopen(path, "r");
+    for (size_t r = 0; r < ROWS; r++)
+        for (size_t who = 0; who < 2; who++)
+            if (jobs[r][who].run) row_counts[r][who] = next_count(f);
+    for (size_t r = 0; r < DESK_ROWS; r++)
+        for (size_t d = 0; d < DESKS; d++)
+            for (size_t made = 0; made < 2; made++) desk_counts[r][d][made] = next_count(f);
+    if (f) fclose(f);
+}
+
+/* A cell of a table, or a dash where nothing was measured. */
+static void cell(double x, int digits) {
+    if (x > 0)
+        printf(" %9.*f |", digits, x);
+    else
+        printf(" %9s |", "-");
+}
+
+/* The rate of a job on an input, or 0 where there is none. */
+static double rate(const struct input *in, const struct job *job) { return job->run ? in->length / job->seconds / 1e6 : 0; }
+
+static void print_rows(void) {
+    time_jobs(jobs[0], 3 * ROWS, SECONDS);
+    printf("| Routine  | Input   | Octets | Unit MB/s | C MB/s    | Unit / C  | EVCard    | Unit i/o  | C i/o     |\n");
+    printf("|---|---|---|---|---|---|---|---|---|\n");
+    for (size_t r = 0; r < ROWS; r++) {
+        const struct input *in = &inputs[r];
+        double plain = rate(in, &jobs[r][1]);
+        printf("| %-8s | %-7s | %6zu |", routine_names[rows[r].routine], in->name, in->length);
+        cell(rate(in, &jobs[r][0]), 0);
+        cell(plain, 0);
+        cell(plain > 0 ? rate(in, &jobs[r][0]) / plain : 0, 2);
+        cell(rate(in, &jobs[r][2]), 1);
+        for (size_t who = 0; who < 2; who++) cell(row_counts[r][who] / repeats(r) / in->length, 1);
+        printf("\n");
+    }
+}
+
+static void print_desk(void) {
+    time_jobs(desks[0][0], 2 * DESKS * DESK_ROWS, SECONDS);
+    printf("\n| Desk call            | Unit ns   | C -O3 ns  | C -O2 ns  | Unit/-O3  | Unit/-O2  | Unit inst | -O3 inst  | -O2 inst  |\n");
+    printf("|---|---|---|---|---|---|---|---|---|\n");
+    for (size_t r = 0; r < DESK_ROWS; r++) {
+        double one[DESKS];
+        printf("| %-20s |", desk_rows[r].name);
+        for (size_t d = 0; d < DESKS; d++) {
+            one[d] = (desks[r][d][1].seconds - desks[r][d][0].seconds) / desk_rows[r].n * 1e9;
+            cell(one[d], 0);
+        }
+        cell(one[0] / one[1], 2);
+        cell(one[0] / one[2], 2);
+        for (size_t d = 0; d < DESKS; d++) cell((desk_counts[r][d][1] - desk_counts[r][d][0]) / desk_rows[r].n, 0);
+        printf("\n");
+    }
+}
+
+/* The routines that an input is for, by its name: texts, odd cards, whose folded form may be too long, and other cards. */
+static int is_for(enum routine routine, const char *name) {
+    if (strncmp(name, "escaped-", 8) == 0) return routine == UNESCAPE;
+    if (strncmp(name, "prose-", 6) == 0) return routine == ESCAPE;
+    return strncmp(name, "odd-", 4) == 0 ? routine <= READ : routine <= FOLD;
+}
+
+/* Adds the jobs of an input, which the unit has to accept, and answers how many they are. */
+static size_t add_jobs(struct job *all, const struct input *in) {
+    size_t n = 0;
+    for (int routine = 0; routine < ROUTINES; routine++) {
+        if (!is_for(routine, in->name)) continue;
+        compare(unit_jobs[routine], plain_jobs[routine], in, in->name);
+        if (unit_jobs[routine](in) >> 32) {
+            fprintf(stderr, "bench: %s refuses %s\n", routine_names[routine], in->name);
+            exit(1);
+        }
+        all[n++] = (struct job){.run = unit_jobs[routine], .what = in};
+    }
+    return n;
+}
+
+static const char *name_of(const struct job *job) {
+    int routine = 0;
+    while (unit_jobs[routine] != job->run) routine++;
+    return routine_names[routine];
+}
+
+static void print_costs(const char *folder, char **names, size_t count) {
+    struct input *files = aligned_alloc(_Alignof(struct input), count * sizeof *files);
+    struct job *all = calloc(count * ROUTINES, sizeof *all);
+    if (!files || !all) exit(2);
+    size_t n = 0;
+    for (size_t i = 0; i < count; i++) {
+        load(&files[i], folder, names[i], LIMIT);
+        n += add_jobs(all + n, &files[i]);
+    }
+    time_jobs(all, n, SECONDS);
+    for (size_t j = 0; j < n; j++) {
+        const struct input *in = all[j].what;
+        printf("%s %zu %s %.4f\n", in->name, in->length, name_of(&all[j]), all[j].seconds * 1e9 / in->length);
+    }
+    free(files);
+    free(all);
+}
+
 int main(int argc, char **argv) {
-    static const struct { int job; const char *name; } rows[] = {
-        {0, "book"}, {0, "small"}, {0, "long"}, {0, "damaged"}, {1, "book"}, {1, "small"}, {1, "long"}, {2, "plain"}, {2, "escaped"},
-    };
-    if (argc == 6) {
-        load(argv[1], argv[2]);
-        uint64_t sum = 0;
-        for (int i = 0; i < atoi(argv[5]); i++) sum += argv[4][0] == 'u' ? unit(atoi(argv[3])) : plain(atoi(argv[3]));
-        printf("%llu\n", (unsigned long long)sum);
+    if (argc > 3 && strcmp(argv[1], "costs") == 0) {
+        print_costs(argv[2], argv + 3, argc - 3);
         return 0;
     }
-    printf("%-9s %-8s %7s %9s %9s %7s\n", "routine", "input", "octets", "unit MB/s", "C MB/s", "ratio");
-    for (size_t r = 0; r < sizeof rows / sizeof rows[0]; r++) {
-        load(argv[1], rows[r].name);
-        if (unit(rows[r].job) != plain(rows[r].job)) {
-            fprintf(stderr, "bench: %s of %s: the answers differ\n", jobs[rows[r].job], rows[r].name);
-            return 1;
-        }
-        double best_unit = 1e9, best_plain = 1e9;
-        for (int i = 0; i < 600; i++) {
-            double u = timed(unit, rows[r].job), p = timed(plain, rows[r].job);
-            if (u < best_unit) best_unit = u;
-            if (p < best_plain) best_plain = p;
-        }
-        printf("%-9s %-8s %7zu %9.0f %9.0f %7.2f\n", jobs[rows[r].job], rows[r].name, length, length / best_unit / 1e6, length / best_plain / 1e6,
-               best_plain / best_unit);
+    if (argc < 3) return 2;
+    make_jobs(argv[2]);
+    if (strcmp(argv[1], "count") == 0) {
+        count_jobs();
+        return 0;
     }
+    read_counts(argc > 3 ? argv[3] : "");
+    print_rows();
+    print_desk();
     return 0;
 }

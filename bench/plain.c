@@ -4,7 +4,6 @@
 #include <strings.h>
 
 #define LIMIT 16384
-#define REFUSE(n, p) (((uint64_t)(n) << 32) + (uint64_t)(p))
 
 struct row {
     const char *name;

@@ -4,9 +4,18 @@
 #include <stddef.h>
 #include <stdint.h>
 
+#define REFUSE(n, p) (((uint64_t)(n) << 32) + (uint64_t)(p))
+
 uint64_t plain_judge(const uint8_t *in, size_t len);
 uint64_t plain_read(const uint8_t *in, size_t len, uint8_t *copy, size_t copy_room, uint32_t *rec, size_t rec_room);
 uint64_t plain_fold(const uint8_t *in, size_t len, uint8_t *out, size_t room);
 uint64_t plain_escape(const uint8_t *in, size_t len, uint8_t *out, size_t room);
 uint64_t plain_unescape(const uint8_t *in, size_t len, uint8_t *out, size_t room);
+
+/* The calls that a desk of 40 slots is timed on. */
+enum call { OPEN, ADD, RELEASE, HELD, JUDGE };
+
+/* The answer of the last of n calls to a fresh desk after some openings and additions, in turn over the tickets; desk.c, with gcc -O3 and with -O2. */
+uint64_t plain_desk_o3(uint8_t *pool, size_t size, const uint8_t *chunk, size_t len, uint32_t opens, size_t adds, uint32_t kind, size_t n);
+uint64_t plain_desk_o2(uint8_t *pool, size_t size, const uint8_t *chunk, size_t len, uint32_t opens, size_t adds, uint32_t kind, size_t n);
 #endif

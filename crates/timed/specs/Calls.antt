@@ -36,6 +36,6 @@ unfoldable pub run : List ℕ → ℕ → ℕ → ℕ → ℕ → Turned → Tur
 run q kind last t zero s = s
 run q kind last t (suc k) s = run q kind last (following t last) k (callStep (s .desk) (s .pool) q kind t)
 
--- uploads opened on a fresh desk, and then n calls of a kind
-unfoldable pub served : List ℕ → List ℕ → ℕ → ℕ → ℕ → Turned
-served p q opens kind n = run q kind opens 1 n (run q 0 opens 1 opens (turned (newStep 40) p))
+-- uploads opened on a fresh desk, additions to them, and then n calls of a kind
+unfoldable pub served : List ℕ → List ℕ → ℕ → ℕ → ℕ → ℕ → Turned
+served p q opens adds kind n = run q kind opens 1 n (run q 1 opens 1 adds (run q 0 opens 1 opens (turned (newStep 40) p)))

@@ -45,14 +45,22 @@ pub extern "C" fn timed_read(input: &[u8], copy: &mut [u8], records: &mut [u32])
     }
 }
 
-// The answer of the last of n calls of a kind to a desk of 40 slots on which so many uploads were opened.
+// The answer of the last of n calls of a kind to a desk of 40 slots, after so many openings and additions of the chunk.
 #[no_mangle]
-pub extern "C" fn timed_desk(pool: &mut [u8], chunk: &[u8], opens: u32, kind: u32, n: usize) -> u64
-    ensures { λ r. ⌜ r ≡ answerNumber (served (now (pool .entry)) (now (chunk .entry)) opens kind n .answer) ⌝ }
-    ensures { λ _. ⌜ now (pool .exit) ≡ served (now (pool .entry)) (now (chunk .entry)) opens kind n .pool ⌝ }
+pub extern "C" fn timed_desk(
+    pool: &mut [u8],
+    chunk: &[u8],
+    opens: u32,
+    adds: usize,
+    kind: u32,
+    n: usize,
+) -> u64
+    ensures { λ r. ⌜ r ≡ answerNumber (served (now (pool .entry)) (now (chunk .entry)) opens adds kind n .answer) ⌝ }
+    ensures { λ _. ⌜ now (pool .exit) ≡ served (now (pool .entry)) (now (chunk .entry)) opens adds kind n .pool ⌝ }
 {
     let fresh = Desk::new(40);
-    let ready = calls::run(fresh, pool, chunk, 0, opens, opens as usize);
+    let opened = calls::run(fresh, pool, chunk, 0, opens, opens as usize);
+    let ready = calls::run(opened, pool, chunk, 1, opens, adds);
     let done = calls::run(ready, pool, chunk, kind, opens, n);
     let a = done.answer;
     match a {

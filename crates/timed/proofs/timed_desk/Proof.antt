@@ -10,12 +10,12 @@ use borrow.Author.Needs.{needs}
 use Rattle.timed.proofs.timed_desk.Statement.{statement}
 use Rattle.timed.proofs.timed_desk.Tie as tie
 
--- a fresh desk, the openings, and the calls after them
-by-turns : (p q : List ℕ) (opens kind n : ℕ) {fresh : Turn} {ready done : Turned} → fresh ≡ newStep 40 → ready ≡ run q 0 opens 1 opens (turned fresh p)
-    → done ≡ run q kind opens 1 n ready → done ≡ served p q opens kind n
+-- a fresh desk, the openings, the additions, and the calls after them
+by-turns : (p q : List ℕ) (opens adds kind n : ℕ) {fresh : Turn} {opened ready done : Turned} → fresh ≡ newStep 40 → opened ≡ run q 0 opens 1 opens (turned fresh p)
+    → ready ≡ run q 1 opens 1 adds opened → done ≡ run q kind opens 1 n ready → done ≡ served p q opens adds kind n
 unfolding served
-by-turns p q opens kind n e f g =
-    g ∙ ap (run q kind opens 1 n) (f ∙ ap (λ (t : Turn). run q 0 opens 1 opens (turned t p)) e)
+by-turns p q opens adds kind n e f g h =
+    h ∙ ap (run q kind opens 1 n) (g ∙ ap (run q 1 opens 1 adds) (f ∙ ap (λ (t : Turn). run q 0 opens 1 opens (turned t p)) e))
 
 new-requires : tie.Need-new-requires
 new-requires c κs = search needs
@@ -25,6 +25,9 @@ run-requires c κs = search needs
 
 run-requires-2 : tie.Need-run-requires-2
 run-requires-2 c κs = search needs
+
+run-requires-3 : tie.Need-run-requires-3
+run-requires-3 c κs = search needs
 
 enum-known-a : tie.Need-enum-known-a
 enum-known-a c = search needs
@@ -41,7 +44,8 @@ same-length c = search needs
 returns : tie.Need-returns
 returns c =
     let b = c .before .before .before .before .before in
-    let e = by-turns _ _ _ _ _ (b .before .before .before .before .before .before .new .ensures) (b .before .before .before .before .run .ensures) (b .run2 .ensures) in
+    let r = b .before .before .before .before in
+    let e = by-turns _ _ _ _ _ _ (r .before .before .before .before .before .before .new .ensures) (r .before .before .before .before .run .ensures) (r .run2 .ensures) (b .run3 .ensures) in
     (ap answerNumber (sym (c .before .a .given .1)) ∙ ap (λ (s : Turned). answerNumber (s .answer)) e, ap (λ (s : Turned). s .pool) e)
 
 same-length-2 : tie.Need-same-length-2
@@ -50,7 +54,8 @@ same-length-2 c = search needs
 returns-2 : tie.Need-returns-2
 returns-2 c =
     let b = c .before .before .before .before .before .before in
-    let e = by-turns _ _ _ _ _ (b .before .before .before .before .before .before .new .ensures) (b .before .before .before .before .run .ensures) (b .run2 .ensures) in
+    let r = b .before .before .before .before in
+    let e = by-turns _ _ _ _ _ _ (r .before .before .before .before .before .before .new .ensures) (r .before .before .before .before .run .ensures) (r .run2 .ensures) (b .run3 .ensures) in
     (c .refusal .ensures ∙ ap answerNumber (sym (c .before .before .a2 .given .1)) ∙ ap (λ (s : Turned). answerNumber (s .answer)) e, ap (λ (s : Turned). s .pool) e)
 
 pub timed-desk-spec : {M : Type 1} → statement M
@@ -60,6 +65,7 @@ timed-desk-spec =
     new-requires
     run-requires
     run-requires-2
+    run-requires-3
     enum-known-a
     enum-known-a-2
     refusal-requires

@@ -1,0 +1,70 @@
+/* The routines as jobs. A refusal is answered by its number alone, since that is all that the unit's benchmark-only routines answer. */
+#include "jobs.h"
+#include "gerstebolk.h"
+#include <stdio.h>
+#include <stdlib.h>
+#include <string.h>
+
+extern uint64_t timed_escape(const uint8_t *text, size_t len, uint8_t *out, size_t room);
+extern uint64_t timed_read(const uint8_t *input, size_t len, uint8_t *copy, size_t copy_room, uint32_t *records, size_t record_room);
+extern uint64_t timed_desk(uint8_t *pool, size_t size, const uint8_t *chunk, size_t len, uint32_t opens, size_t adds, uint32_t kind, size_t n);
+
+static struct {
+    ALIGNED uint8_t octets[LIMIT];
+    uint32_t records[2 * LIMIT];
+    ALIGNED uint8_t pool[40 * LIMIT];
+} rooms, expected;
+
+static uint64_t told(uint64_t answer) { return answer >> 32 ? answer >> 32 << 32 : answer; }
+
+#define JOB(name, routine, ...)                                        \
+    static uint64_t name(const void *what) {                           \
+        const struct input *in = what;                                 \
+        return told(routine(in->octets, in->length, ##__VA_ARGS__));   \
+    }
+#define OUT rooms.octets, sizeof rooms.octets
+#define COPY OUT, rooms.records, sizeof rooms.records / sizeof rooms.records[0]
+
+JOB(unit_judge, judge)
+JOB(unit_read, timed_read, COPY)
+JOB(unit_fold, fold, OUT)
+JOB(unit_unescape, unescape, OUT)
+JOB(unit_escape, timed_escape, OUT)
+JOB(c_judge, plain_judge)
+JOB(c_read, plain_read, COPY)
+JOB(c_fold, plain_fold, OUT)
+JOB(c_unescape, plain_unescape, OUT)
+JOB(c_escape, plain_escape, OUT)
+
+static uint64_t copy_octets(const void *what) {
+    const struct input *in = what;
+    memcpy(rooms.octets, in->octets, in->length);
+    return rooms.octets[0];
+}
+
+const char *const routine_names[ROUTINES] = {"judge", "read", "fold", "unescape", "escape", "memcpy"};
+uint64_t (*const unit_jobs[ROUTINES])(const void *) = {unit_judge, unit_read, unit_fold, unit_unescape, unit_escape, copy_octets};
+uint64_t (*const plain_jobs[ROUTINES])(const void *) = {c_judge, c_read, c_fold, c_unescape, c_escape, NULL};
+
+#define DESK_JOB(name, desk)                                                                                                           \
+    static uint64_t name(const void *what) {                                                                                           \
+        const struct calls *c = what;                                                                                                  \
+        return told(desk(rooms.pool, sizeof rooms.pool, c->chunk->octets, c->chunk->length, c->opens, c->adds, c->kind, c->n));        \
+    }
+
+DESK_JOB(unit_desk, timed_desk)
+DESK_JOB(c_desk_o3, plain_desk_o3)
+DESK_JOB(c_desk_o2, plain_desk_o2)
+
+uint64_t (*const desk_jobs[DESKS])(const void *) = {unit_desk, c_desk_o3, c_desk_o2};
+
+void compare(uint64_t (*of_unit)(const void *), uint64_t (*of_plain)(const void *), const void *what, const char *name) {
+    memset(&rooms, 0, sizeof rooms);
+    uint64_t answer = of_unit(what);
+    expected = rooms;
+    memset(&rooms, 0, sizeof rooms);
+    if (of_plain(what) != answer || memcmp(&rooms, &expected, sizeof rooms) != 0) {
+        fprintf(stderr, "bench: %s: the unit and plain C differ\n", name);
+        exit(1);
+    }
+}

@@ -1,0 +1,33 @@
+/* The routines as jobs: the unit's, plain C's and EVCard's, on the same rooms. */
+#ifndef JOBS_H
+#define JOBS_H
+#include "plain.h"
+#include "timing.h"
+
+enum routine { JUDGE_INPUT, READ, FOLD, UNESCAPE, ESCAPE, MEMCPY, ROUTINES };
+
+extern const char *const routine_names[ROUTINES];
+/* The unit's routines, for MEMCPY the C library's. */
+extern uint64_t (*const unit_jobs[ROUTINES])(const void *input);
+/* Plain C's, none for MEMCPY. */
+extern uint64_t (*const plain_jobs[ROUTINES])(const void *input);
+
+/* Calls to a fresh desk of 40 slots: openings, additions of the chunk, and then n calls of a kind. */
+struct calls {
+    const struct input *chunk;
+    uint32_t opens;
+    size_t adds;
+    enum call kind;
+    size_t n;
+};
+
+/* The unit's desk, plain C's with gcc -O3, and with -O2. */
+#define DESKS 3
+extern uint64_t (*const desk_jobs[DESKS])(const void *calls);
+
+/* EVCard's reading of all cards of an input, where evcard.c is linked. */
+__attribute__((weak)) uint64_t evcard_read(const void *input);
+
+/* Ends the program where the unit and plain C differ in an answer or in what they write. */
+void compare(uint64_t (*of_unit)(const void *), uint64_t (*of_plain)(const void *), const void *what, const char *name);
+#endif
