@@ -56,7 +56,7 @@ pub fn table() -> [u8; 624]
     ROWS
 }
 
-// Where the next row, from the one whose length stands at `from`, has its length if that is n, or 636: one look a row.
+// The place of the length of the next row whose name has n octets, from the row whose length stands at `from` on; 636 for none.
 fn next_sized(rows: &[u8; 624], from: usize, n: u8) -> usize
     requires { ⌜ Lists (now rows) ⌝ }
     requires { ⌜ (from % 16 ≡ 12) × (from ≤ 636) ⌝ }
@@ -102,13 +102,13 @@ pub fn find_row(rows: &[u8; 624], name: &[u8]) -> usize
         return 0;
     }
     let n = name.len() as u8;
-    let mut at = next_sized(rows, 28, n);
-    while at < 624 {
-        let row = at / 16;
+    let mut place = next_sized(rows, 28, n);
+    while place < 624 {
+        let row = place / 16;
         if spells(rows, row, name) {
             return row;
         }
-        at = next_sized(rows, at + 16, n);
+        place = next_sized(rows, place + 16, n);
     }
     0
 }

@@ -11,10 +11,10 @@ use Rattle.properties.proofs.rows.find_row.Statement.{statement}
 use Rattle.properties.proofs.rows.find_row.Tie as tie
 
 abbrev Inv-loop : tie.InvT-loop
-Inv-loop rows name n at₀ at = (at % 16 ≡ 12) × (at ≤ 636) × (rowOf name ≡ searchFrom name (at / 16)) × (at < 624 → length (rowAt (at / 16) .name) ≡ length name)
+Inv-loop rows name n place₀ place = (place % 16 ≡ 12) × (place ≤ 636) × (rowOf name ≡ searchFrom name (place / 16)) × (place < 624 → length (rowAt (place / 16) .name) ≡ length name)
 
 abbrev μ-loop : tie.MeasureT-loop
-μ-loop rows name n at₀ at = 640 - at
+μ-loop rows name n place₀ place = 640 - place
 
 -- the search goes on at the next row of the name's length
 onward : (v : List ℕ) (a e : ℕ) → a ≤ e → e ≤ 39 → Skipped (length v) a e → searchFrom v a ≡ searchFrom v e
@@ -47,7 +47,7 @@ returns-2 : tie.Need-returns-2 Inv-loop μ-loop
 returns-2 c =
     let l = c .before .before .before in
     let v = l .before .before .before .before .args .name .now in
-    let row = l .loop .at / 16 in
+    let row = l .loop .place / 16 in
     let low : row < 39 = omega arith in
     (sym (l .loop .inv .2 ∙ search-found v row low (sym (c .before .spells .ensures) ∙ c .if2 .taken)), low)
 
@@ -66,17 +66,17 @@ loop-again c =
     let l = s .before .before in
     let v = l .before .before .before .before .args .name .now in
     let e = c .next-sized2 .ensures in
-    let at = l .loop .at in
+    let place = l .loop .place in
     let r = c .next-sized2 .result in
-    let low : at / 16 < 39 = omega arith in
-    let next : (at + 16) / 16 ≡ at / 16 + 1 = omega arith in
-    let first : at / 16 + 1 ≤ r / 16 = omega (arith, e .0) in
+    let low : place / 16 < 39 = omega arith in
+    let next : (place + 16) / 16 ≡ place / 16 + 1 = omega arith in
+    let first : place / 16 + 1 ≤ r / 16 = omega (arith, e .0) in
     let last : r / 16 ≤ 39 = omega (arith, e .0) in (
       e .0 .0,
       e .0 .2,
       l .loop .inv .2
-          ∙ search-next v (at / 16) low (sym (s .spells .ensures) ∙ c .before .if2 .left)
-          ∙ onward v (at / 16 + 1) (r / 16) first last (rw (sym next) (e .1 .0)),
+          ∙ search-next v (place / 16) low (sym (s .spells .ensures) ∙ c .before .if2 .left)
+          ∙ onward v (place / 16 + 1) (r / 16) first last (rw (sym next) (e .1 .0)),
       e .1 .1,
     )
 
@@ -84,7 +84,7 @@ returns-3 : tie.Need-returns-3 Inv-loop μ-loop
 returns-3 c =
     let l = c .before in
     let v = l .before .before .before .before .args .name .now in
-    let over : l .loop .at / 16 ≡ 39 = omega arith in
+    let over : l .loop .place / 16 ≡ 39 = omega arith in
     (sym (l .loop .inv .2 ∙ ap (searchFrom v) over ∙ search-none v), omega arith)
 
 pub find-row-spec : {M : Type 1} → statement M
