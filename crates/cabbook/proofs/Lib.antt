@@ -1,0 +1,2 @@
+-- The laws that the proofs of `cabbook` cite. Assumes nothing.
+pub mod PlaceLaws

@@ -1,0 +1,56 @@
+-- `cabbook::checking::all` meets its contract. Assumes nothing.
+use borrow.Author.Needs.{needs}
+use mathlib.Core.Logic.{⊎-elim}
+use Prim.Native.Nat.{_≤_, _-_}
+use native.Mathlib.Omega.{arith}
+use Rattle.cabbook.proofs.checking.all.Statement.{statement}
+use Rattle.cabbook.proofs.checking.all.Tie as tie
+
+abbrev Inv-loop : tie.InvT-loop
+Inv-loop count status₀ i₀ status i = status ≤ 2
+
+abbrev μ-loop : tie.MeasureT-loop
+μ-loop count status₀ i₀ status i = count - i
+
+slice-aggregate-wrong : tie.Need-slice-aggregate-wrong Inv-loop μ-loop
+slice-aggregate-wrong c = search needs
+
+wrong-requires : tie.Need-wrong-requires Inv-loop μ-loop
+wrong-requires c κs = search needs
+
+returns : tie.Need-returns Inv-loop μ-loop
+returns c = search needs
+
+loop-holds : tie.Need-loop-holds Inv-loop μ-loop
+loop-holds c = search needs
+
+file-requires : tie.Need-file-requires Inv-loop μ-loop
+file-requires c κs = search needs
+
+add-i : tie.Need-add-i Inv-loop μ-loop
+add-i c = search needs
+
+loop-less : tie.Need-loop-less Inv-loop μ-loop
+loop-less c = search needs
+
+loop-again : tie.Need-loop-again Inv-loop μ-loop
+loop-again c = ⊎-elim (λ w. omega arith) (λ w. omega arith) (c .if2 .came)
+
+returns-2 : tie.Need-returns-2 Inv-loop μ-loop
+returns-2 c = search needs
+
+pub all-spec : {M : Type 1} → statement M
+all-spec =
+    tie.close
+    (tie.spec
+    Inv-loop
+    μ-loop
+    slice-aggregate-wrong
+    wrong-requires
+    returns
+    loop-holds
+    file-requires
+    add-i
+    loop-less
+    loop-again
+    returns-2)

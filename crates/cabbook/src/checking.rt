@@ -1,0 +1,129 @@
+// `check`: a row a file, and under a refusal the logical line that it is about.
+ghost use lib.ListN.{length};
+ghost use Prim.Native.Nat.{_≤_};
+ghost use Rattle.cabbook.specs.Numbers.{Status};
+use crate::files;
+use crate::files::Input;
+use crate::places;
+use crate::usage;
+use libc::STDOUT_FILENO;
+use reader::Verdict;
+
+// At most so many octets of a line are shown.
+const SHOWN: usize = 120;
+
+// A line, cut after a character if it is long.
+fn shortened(line: &[u8]) {
+    if line.len() <= SHOWN {
+        crate::visible(STDOUT_FILENO, line);
+        return;
+    }
+    let end = places::character_start(line, SHOWN);
+    crate::visible(STDOUT_FILENO, &line[0..end]);
+    io::write_all(STDOUT_FILENO, b"...");
+}
+
+// A logical line without its folds, under a row.
+fn under(line: &[u8]) {
+    let mut text = [0u8; 16385];
+    if line.len() > 16385 {
+        return;
+    }
+    let n = lines::folds::unfold(line, &mut text);
+    if n > 16385 {
+        return;
+    }
+    io::write_all(STDOUT_FILENO, b"    ");
+    shortened(&text[0..n]);
+    io::write_all(STDOUT_FILENO, b"\n");
+}
+
+// Where the part of a line that is shown ends: past a lone CR or LF, else at the line's end.
+fn shown_end(s: &[u8], number: u32, place: usize, from: usize) -> usize
+    requires { ⌜ from ≤ length (now s) ⌝ }
+{
+    if number == 3 {
+        if place < s.len() {
+            return place + 1;
+        }
+    }
+    lines::folds::line_end(s, from)
+}
+
+// The logical line in which a refusal's place lies; nothing where the input is too long or empty.
+fn offending(s: &[u8], number: u32, place: usize) {
+    if number < 3 {
+        return;
+    }
+    let at = places::least(place, s.len());
+    let from = places::line_start(s, at);
+    let end = shown_end(s, number, at, from);
+    if from < end && end <= s.len() {
+        under(&s[from..end]);
+        return;
+    }
+    io::write_all(STDOUT_FILENO, b"    (the end of the file)\n");
+}
+
+// The row of a file with these octets.
+fn judged(path: &[u8], s: &[u8]) -> u8
+    ensures { λ r. ⌜ Status r ⌝ }
+{
+    let v = reader::judge(s);
+    match v {
+        Verdict::Accepted(cards, lines) => {
+            crate::visible(STDOUT_FILENO, path);
+            io::write_all(STDOUT_FILENO, b": ");
+            crate::counted(cards, b" card");
+            io::write_all(STDOUT_FILENO, b", ");
+            crate::counted(lines, b" line");
+            io::write_all(STDOUT_FILENO, b"\n");
+            0
+        }
+        Verdict::Refused(number, place) => {
+            crate::refused(STDOUT_FILENO, path, s, number, place);
+            offending(s, number, place);
+            1
+        }
+    }
+}
+
+// The row of the file that argument i names.
+fn file(i: usize) -> u8
+    ensures { λ r. ⌜ Status r ⌝ }
+{
+    let mut path = io::buffer();
+    let n = os::arg(i, &mut path);
+    if os::errno() != 0 {
+        os::fail(b"cabbook: a file's name");
+        return 2;
+    }
+    let mut octets = [0u8; 16385];
+    let got = files::read(&path[..n], &mut octets);
+    let Input::Octets(count) = got else {
+        return 2;
+    };
+    if count > 16385 {
+        return 2;
+    }
+    judged(&path[..n], &octets[0..count])
+}
+
+// The rows of all files that the arguments from the second on name.
+pub fn all(count: usize) -> u8
+    ensures { λ r. ⌜ Status r ⌝ }
+{
+    if count < 3 {
+        return usage::wrong(b"check needs a FILE");
+    }
+    let mut status: u8 = 0;
+    let mut i: usize = 2;
+    while i < count {
+        let one = file(i);
+        if status < one {
+            status = one;
+        }
+        i += 1;
+    }
+    status
+}

@@ -1,0 +1,65 @@
+// What to do: the help, and the few lines after a wrong use.
+ghost use Prim.Native.Nat.{_≤_};
+ghost use mathlib.Core.Path.{_≡_};
+use libc::STDERR_FILENO;
+use libc::STDOUT_FILENO;
+
+// The commands, a line each.
+fn commands(to: i32) {
+    io::write_all(
+        to,
+        b"  cabbook check FILE..             judge each file, a row a file\n",
+    );
+    io::write_all(
+        to,
+        b"  cabbook show FILE                the cards as a table\n",
+    );
+    io::write_all(
+        to,
+        b"  cabbook fold FILE                the cards with their lines folded\n",
+    );
+    io::write_all(
+        to,
+        b"  cabbook escape [FILE]            text with its escapes\n",
+    );
+    io::write_all(
+        to,
+        b"  cabbook unescape [FILE]          the text that escapes stand for\n",
+    );
+    io::write_all(
+        to,
+        b"  cabbook morning [--chunk N] FILE..  forty uploads at a time on one desk\n",
+    );
+    io::write_all(to, b"  cabbook help                     this\n");
+}
+
+// The help, on standard output.
+pub fn told() -> u8
+    ensures { λ r. ⌜ r ≡ 0 ⌝ }
+{
+    io::write_all(
+        STDOUT_FILENO,
+        b"cabbook reads and checks the phone books of cab telephones (vCard 4.0).\n\n",
+    );
+    commands(STDOUT_FILENO);
+    io::write_all(
+        STDOUT_FILENO,
+        b"\nFILE - is standard input. Exit status: 0 all accepted, 1 something refused,\n",
+    );
+    io::write_all(
+        STDOUT_FILENO,
+        b"2 wrong use or a file that can't be read.\n",
+    );
+    0
+}
+
+// What was wrong and what to do, on standard error.
+pub fn wrong(what: &[u8]) -> u8
+    ensures { λ r. ⌜ r ≡ 2 ⌝ }
+{
+    io::write_all(STDERR_FILENO, b"cabbook: ");
+    io::write_all(STDERR_FILENO, what);
+    io::write_all(STDERR_FILENO, b"; use it as\n");
+    commands(STDERR_FILENO);
+    2
+}
