@@ -44,6 +44,10 @@ abbrev pub fitting : ℕ → Fault → Step → Step
 fitting at Fits next = next
 fitting at (Breaks octet) next = Refused 7 (valuePlace at octet)
 
+abbrev pub broken : Fault → Bool
+broken Fits = false
+broken (Breaks octet) = true
+
 -- group: the group's length; params: how many parameters
 unfoldable pub judgeParts : Card → ℕ → ℕ → ℕ → ℕ → ℕ → List ℕ → Step
 judgeParts c at row group params kind value =

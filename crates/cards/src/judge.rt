@@ -1,14 +1,15 @@
 // The judgement of one logical line within its card: document 01's refusals 5 to 12 in their order.
 ghost use mathlib.Core.Path.{_≡_};
-ghost use mathlib.Core.Bool.{_||_, not};
+ghost use mathlib.Core.Bool.{false, _||_, not};
 ghost use Prim.Native.Nat.{_≤_, _<_};
 ghost use lib.Dec.{eqb};
 ghost use lib.ListN.{length, drop};
 ghost use Rattle.octets.specs.Classes.{Classes};
 ghost use Rattle.properties.specs.Rows.{Lists};
 ghost use Rattle.properties.specs.States.{Scanner};
-ghost use Rattle.cards.specs.State.{inOrder};
-ghost use Rattle.cards.specs.Judge.{framing, laden, entered, judgeParts, judgeLine};
+ghost use Rattle.properties.specs.Kinds.{valueScan};
+ghost use Rattle.cards.specs.State.{inOrder, onceBit, isSeen};
+ghost use Rattle.cards.specs.Judge.{framing, laden, broken, entered, judgeParts, judgeLine};
 use crate::parts::Parts;
 use crate::parts::Told;
 use crate::state::Card;
@@ -57,37 +58,55 @@ fn is_laden(x: Parts) -> bool
     x.params != 0
 }
 
+// Whether a value breaks its kind.
+fn breaks_kind(steps: &[u8; 1016], row: usize, kind: usize, value: &[u8]) -> bool
+    requires { ⌜ Scanner (now steps) ⌝ }
+    requires { ⌜ kind < 9 ⌝ }
+    ensures { λ r. ⌜ r ≡ broken (valueScan row kind (now (value .entry))) ⌝ }
+{
+    let f = properties::values::judge_value(steps, row, kind, value);
+    let Fault::Fits = f else {
+        return true;
+    };
+    false
+}
+
 // A line that fits: the end of a card, or one more line of it.
 fn enter(c: Card, at: usize, row: usize, value: &[u8]) -> Step
     requires { ⌜ (c .cards ≤ c .lines) × (c .lines < 65536) ⌝ }
+    requires { ⌜ isSeen (onceBit row) (c .seen) ≡ false ⌝ }
     ensures { λ r. ⌜ r ≡ entered c at row (now (value .entry)) ⌝ }
 {
     if row == 2 {
         return crate::state::close(c, at);
     }
     let group = properties::rows::is_group(value);
-    crate::state::note(c, at, row, group)
+    Step::Next(crate::state::note(c, row, group))
 }
 
-// The checks of a line whose parts are known: 9, 8, 7, and then those of the card.
+// The checks of a line whose parts are known: 9, 8, 7, 10, and at END those of the card.
 fn judge_parts(steps: &[u8; 1016], x: Parts, value: &[u8], at: usize, c: Card) -> Step
     requires { ⌜ Scanner (now steps) ⌝ }
     requires { ⌜ x .kind < 9 ⌝ }
     requires { ⌜ (c .cards ≤ c .lines) × (c .lines < 65536) ⌝ }
     ensures { λ r. ⌜ r ≡ judgeParts c at (x .row) (x .group) (x .params) (x .kind) (now (value .entry)) ⌝ }
 {
-    let placed = in_order(c.phase, x.row);
+    let misplaced = !in_order(c.phase, x.row);
     let laden = is_laden(x);
-    if !placed {
+    let broken = breaks_kind(steps, x.row, x.kind, value);
+    let again = crate::state::is_again(c.seen, x.row);
+    if misplaced {
         return Step::Refused(9, at);
     }
     if laden {
         return Step::Refused(8, at);
     }
-    let f = properties::values::judge_value(steps, x.row, x.kind, value);
-    let Fault::Fits = f else {
+    if broken {
         return Step::Refused(7, at);
-    };
+    }
+    if again {
+        return Step::Refused(10, at);
+    }
     enter(c, at, x.row, value)
 }
 

@@ -1,9 +1,9 @@
 // What is known of the card that is being read, and what a line or an END does to it.
 ghost use mathlib.Core.Path.{_≡_};
-ghost use mathlib.Core.Bool.{_||_, _&&_};
+ghost use mathlib.Core.Bool.{false, _||_, _&&_};
 ghost use lib.Dec.{eqb};
-ghost use Prim.Native.Nat.{_<_, _≤_};
-ghost use Rattle.cards.specs.State.{onceBit, phaseAfter, freshCard, closed, noted};
+ghost use Prim.Native.Nat.{ℕ, _<_, _≤_};
+ghost use Rattle.cards.specs.State.{onceBit, isSeen, phaseAfter, freshCard, closed, noted};
 
 pub struct Card {
     // 0 before BEGIN, 1 before VERSION, 2 after it.
@@ -66,6 +66,17 @@ fn once_bit(row: usize) -> u32
     }
 }
 
+// Whether a line of the row, a property that stands once in a card, is among those seen.
+pub fn is_again(seen: u32, row: usize) -> bool
+    ensures { λ r. ⌜ r ≡ isSeen (onceBit row) seen ⌝ }
+{
+    let b = once_bit(row);
+    if b == 0 {
+        return false;
+    }
+    seen / b % 2 == 1
+}
+
 // Whether the line is a KIND line with the value group.
 fn says_group(row: usize, group: bool) -> bool
     ensures { λ r. ⌜ r ≡ (eqb row 4 && group) ⌝ }
@@ -104,26 +115,20 @@ pub fn close(c: Card, at: usize) -> Step
     Step::Next(next)
 }
 
-// A line of the row, not END: 10, or the state after it. `group` says whether its value is group.
-pub fn note(c: Card, at: usize, row: usize, group: bool) -> Step
+// The state after a line of the row, not END, that may stand here. `group` says whether its value is group.
+pub fn note(c: Card, row: usize, group: bool) -> Card
     requires { ⌜ c .lines < 65536 ⌝ }
-    ensures { λ r. ⌜ r ≡ noted c at row group ⌝ }
+    requires { ⌜ isSeen (onceBit row) (c .seen) ≡ false ⌝ }
+    ensures { λ r. ⌜ ((at : ℕ) → Step.Next r ≡ noted c at row group) ⌝ }
 {
-    let b = once_bit(row);
-    let seen = c.seen;
-    if b != 0 {
-        if seen / b % 2 == 1 {
-            return Step::Refused(10, at);
-        }
-    }
     let grouped = says_group(row, group);
-    Step::Next(Card {
+    Card {
         phase: phase_after(row),
-        seen: seen | b,
+        seen: c.seen | once_bit(row),
         named: either(c.named, row == 6),
         member: either(c.member, row == 24),
         group: either(c.group, grouped),
         cards: c.cards,
         lines: c.lines + 1,
-    })
+    }
 }

@@ -20,7 +20,7 @@ note-requires c κs = search needs
 
 returns-2 : tie.Need-returns-2
 unfolding entered
-returns-2 c = simp (ne-eqb _ _ (c .before .before .if1 .left), ← c .before .is-group .ensures) (c .note .ensures)
+returns-2 c = simp (ne-eqb _ _ (c .before .before .if1 .left), ← c .before .is-group .ensures) (c .note .ensures (c .before .before .before .before .args .at))
 
 pub enter-spec : {M : Type 1} → statement M
 enter-spec = tie.close (tie.spec close-requires returns is-group-requires note-requires returns-2)
