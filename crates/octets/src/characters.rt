@@ -134,8 +134,8 @@ fn stride(t: &[u8; 256], s: &[u8], i: usize, lf: bool) -> usize
     unit_length(t, s, i, lf)
 }
 
-// The exact scan of first_bad, for a text that is not plain as a whole.
-pub fn first_unfit(t: &[u8; 256], s: &[u8], lf: bool) -> usize
+// The exact scan of first_bad.
+fn first_unfit(t: &[u8; 256], s: &[u8], lf: bool) -> usize
     requires { ⌜ Classes (now t) ⌝ }
     ensures { λ r. ⌜ r ≡ firstBad (allowed lf) (now (s .entry)) ⌝ }
 {

@@ -55,5 +55,5 @@ pub fn first_bad(s: &[u8], lf: bool) -> usize
         }
     }
     let t = crate::classes::table();
-    crate::characters::first_unfit(&t, s, lf)
+    crate::characters::first_bad(&t, s, lf)
 }

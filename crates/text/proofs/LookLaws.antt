@@ -1,6 +1,6 @@
 -- What is seen of a text is what is seen of its parts, and what it says of the text. Assumes nothing.
 use mathlib.Core.Path.{_≡_, refl, sym, ap, _∙_}
-use mathlib.Core.Bool.{Bool, true, false, not, _&&_, _||_, or-false, or-assoc}
+use mathlib.Core.Bool.{Bool, true, false, _||_, or-false, or-assoc}
 use mathlib.Core.List.{List, [], _∷_, _++_}
 use Prim.Native.Nat.{ℕ, zero, suc, _+_, _-_, _*_, _<_, _≤_}
 use native.Mathlib.Nat.{le-of-suc-le-suc}
@@ -102,19 +102,18 @@ module _ (x y : ℕ) where
         (joined s (take end s) (drop from s) (any-parts odd from end h s) (any-parts (held x y) from end h s))
 
 -- what the two bits say
-no-bits : (a b : Bool) → bit a 1 + bit b 2 ≡ 0 → (a ≡ false) × (b ≡ false)
-no-bits true b e = absurd (omega arith)
-no-bits false true e = absurd (omega arith)
-no-bits false false e = (refl, refl)
+no-low : (a b : Bool) → bit a 1 + bit b 2 ≡ 0 → a ≡ false
+no-low true b e = absurd (omega arith)
+no-low false b e = refl
 
-low-bit : (a b : Bool) → bit a 1 + bit b 2 ≡ 1 → b ≡ false
-low-bit a true e = absurd (omega arith)
-low-bit a false e = refl
+no-high : (a b : Bool) → bit a 1 + bit b 2 < 2 → b ≡ false
+no-high a true e = absurd (omega arith)
+no-high a false e = refl
 
-high-bit : (a b : Bool) → bit a 1 + bit b 2 ≡ 2 → a ≡ false
-high-bit true true e = absurd (omega arith)
-high-bit true false e = absurd (omega arith)
-high-bit false b e = refl
+only-high : (a b : Bool) → bit a 1 + bit b 2 ≡ 2 → a ≡ false
+only-high true true e = absurd (omega arith)
+only-high true false e = absurd (omega arith)
+only-high false b e = refl
 
 -- a text without odd octets
 plain : (s : List ℕ) → any odd s ≡ false → allPlain s ≡ true
@@ -158,19 +157,14 @@ bare (x ∷ xs) e =
     let r = bare xs (or-right (held 44 44 x) (any (held 44 44) xs) e) in
     (fault-past x xs (h .0) (h .1) (r .0), first-octet x xs (flat x xs (h .0)) ∙ ap (λ (l : List ℕ). x ∷ l) (r .1))
 
-module _ (s : List ℕ) (n : ℕ) where
-  module _ (x y : ℕ) (e : n ≡ seen x y s) where
-    pub seen-0 : n ≡ 0 → (any odd s ≡ false) × (any (held x y) s ≡ false)
-    unfolding seen
-    seen-0 z = no-bits (any odd s) (any (held x y) s) (sym e ∙ z)
+module _ (s : List ℕ) (n x y : ℕ) (e : n ≡ seen x y s) where
+  pub seen-plain : (n ≡ 0 → any odd s ≡ false) × (n ≡ 2 → any odd s ≡ false)
+  unfolding seen
+  seen-plain = (λ z. no-low (any odd s) (any (held x y) s) (sym e ∙ z), λ z. only-high (any odd s) (any (held x y) s) (sym e ∙ z))
 
-    pub seen-1 : n ≡ 1 → any (held x y) s ≡ false
-    unfolding seen
-    seen-1 z = low-bit (any odd s) (any (held x y) s) (sym e ∙ z)
-
-    pub seen-2 : n ≡ 2 → any odd s ≡ false
-    unfolding seen
-    seen-2 z = high-bit (any odd s) (any (held x y) s) (sym e ∙ z)
+  pub seen-low : n < 2 → any (held x y) s ≡ false
+  unfolding seen
+  seen-low h = no-high (any odd s) (any (held x y) s) (omega arith)
 
 pub good-plain : (lf : Bool) (s : List ℕ) → any odd s ≡ false → length s ≡ firstBad (allowed lf) s
 good-plain lf s e = sym (plain-all lf s (plain s e))

@@ -5,24 +5,39 @@ mod looks;
 mod unescaping;
 
 ghost use mathlib.Core.Path.{_≡_};
+ghost use mathlib.Core.Bool.{false};
 ghost use Prim.Native.Nat.{_≤_};
 ghost use lib.ListN.{length};
+ghost use Rattle.octets.specs.Characters.{odd, allowed, firstBad};
 ghost use Rattle.octets.specs.Room.{filled, fill, fillBounded};
 ghost use Rattle.text.specs.Escapes.{escaped, unescaped};
-ghost use Rattle.text.specs.Looks.{seen};
+ghost use Rattle.text.specs.Looks.{any};
 ghost use Rattle.text.specs.Outcomes.{faultless, escapeOutcome, unescapeOutcome};
 use octets::rooms::Written;
+
+// The first bad octet, or the length; a look that saw only plain octets has told that there is none.
+fn bad_octet(text: &[u8], look: u8, lf: bool) -> usize
+    requires { ⌜ (look ≡ 0 → any odd (now text) ≡ false) × (look ≡ 2 → any odd (now text) ≡ false) ⌝ }
+    ensures { λ r. ⌜ r ≡ firstBad (allowed lf) (now (text .entry)) ⌝ }
+{
+    if look == 0 {
+        return text.len();
+    }
+    if look == 2 {
+        return text.len();
+    }
+    octets::texts::first_bad(text, lf)
+}
 
 // Writes the text as it is, or refuses with 15.
 fn put(text: &[u8], out: &mut [u8]) -> Written
     ensures { λ r. ⌜ filled r (now (out .exit)) ≡ fill (now (text .entry)) (now (out .entry)) ⌝ }
 {
-    let n = text.len();
-    if out.len() < n {
-        return Written::Refused(15, n);
+    if out.len() < text.len() {
+        return Written::Refused(15, text.len());
     }
     octets::copying::copy_in(out, text);
-    Written::Wrote(n)
+    Written::Wrote(text.len())
 }
 
 // Escapes octet by octet, or refuses with 16 or 15.
@@ -42,22 +57,6 @@ fn escape_each(text: &[u8], out: &mut [u8]) -> Written
     Written::Wrote(n)
 }
 
-// Escapes a text that is not plain, by what a look saw.
-fn escape_odd(text: &[u8], out: &mut [u8], look: u8) -> Written
-    requires { ⌜ length (now text) ≤ 16384 ⌝ }
-    requires { ⌜ look ≡ seen 59 10 (now text) ⌝ }
-    ensures { λ r. ⌜ filled r (now (out .exit)) ≡ escapeOutcome (now (text .entry)) (now (out .entry)) ⌝ }
-{
-    let bad = octets::texts::first_bad(text, true);
-    if bad < text.len() {
-        return Written::Refused(31, bad);
-    }
-    if look == 1 {
-        return put(text, out);
-    }
-    escape_each(text, out)
-}
-
 // Writes the text with its escapes, or refuses with 1, 31, 16 or 15.
 pub fn escape(text: &[u8], out: &mut [u8]) -> Written
     ensures { λ r. ⌜ filled r (now (out .exit)) ≡ escapeOutcome (now (text .entry)) (now (out .entry)) ⌝ }
@@ -66,13 +65,14 @@ pub fn escape(text: &[u8], out: &mut [u8]) -> Written
         return Written::Refused(1, 16384);
     }
     let look = looks::look(text, 59, 10);
-    if look == 0 {
+    let bad = bad_octet(text, look, true);
+    if bad < text.len() {
+        return Written::Refused(31, bad);
+    }
+    if look < 2 {
         return put(text, out);
     }
-    if look == 2 {
-        return escape_each(text, out);
-    }
-    escape_odd(text, out, look)
+    escape_each(text, out)
 }
 
 // Unescapes octet by octet, or refuses with 30 or 15.
@@ -93,22 +93,6 @@ fn unescape_each(text: &[u8], out: &mut [u8]) -> Written
     Written::Wrote(kept)
 }
 
-// Unescapes a text that is not plain, by what a look saw.
-fn unescape_odd(text: &[u8], out: &mut [u8], look: u8) -> Written
-    requires { ⌜ length (now text) ≤ 16384 ⌝ }
-    requires { ⌜ look ≡ seen 44 44 (now text) ⌝ }
-    ensures { λ r. ⌜ filled r (now (out .exit)) ≡ unescapeOutcome (now (text .entry)) (now (out .entry)) ⌝ }
-{
-    let bad = octets::texts::first_bad(text, false);
-    if bad < text.len() {
-        return Written::Refused(31, bad);
-    }
-    if look == 1 {
-        return put(text, out);
-    }
-    unescape_each(text, out)
-}
-
 // Writes the text that a text with escapes stands for, or refuses with 1, 31, 30 or 15.
 pub fn unescape(text: &[u8], out: &mut [u8]) -> Written
     ensures { λ r. ⌜ filled r (now (out .exit)) ≡ unescapeOutcome (now (text .entry)) (now (out .entry)) ⌝ }
@@ -117,11 +101,12 @@ pub fn unescape(text: &[u8], out: &mut [u8]) -> Written
         return Written::Refused(1, 16384);
     }
     let look = looks::look(text, 44, 44);
-    if look == 0 {
+    let bad = bad_octet(text, look, false);
+    if bad < text.len() {
+        return Written::Refused(31, bad);
+    }
+    if look < 2 {
         return put(text, out);
     }
-    if look == 2 {
-        return unescape_each(text, out);
-    }
-    unescape_odd(text, out, look)
+    unescape_each(text, out)
 }

@@ -2,13 +2,12 @@
 use mathlib.Core.Path.{_∙_}
 use mathlib.Core.Bool.{false}
 use native.Mathlib.Omega.{arith}
-use lib.ListN.{length}
 use Rattle.octets.specs.Room.{fill}
 use Rattle.octets.specs.Characters.{allowed}
 use Rattle.text.specs.Escapes.{unescaped}
 use Rattle.text.specs.Outcomes.{faultless, unescapeOutcome}
-use Rattle.text.proofs.LookLaws.{seen-0, seen-2, good-plain}
-use Rattle.text.proofs.OutcomeLaws.{too-long, good, unescape-same}
+use Rattle.text.proofs.LookLaws.{seen-low, seen-plain}
+use Rattle.text.proofs.OutcomeLaws.{too-long, bad-octet, good, unescape-same}
 use borrow.Author.Needs.{needs}
 use Rattle.text.proofs.unescape.Statement.{statement}
 use Rattle.text.proofs.unescape.Tie as tie
@@ -23,22 +22,33 @@ returns c =
 look-requires : tie.Need-look-requires
 look-requires c κs = search needs
 
+bad-octet-requires : tie.Need-bad-octet-requires
+bad-octet-requires c κs = seen-plain (c .before .before .before .before .args .text .now) (c .look .result) 44 44 (c .look .ensures)
+
+returns-2 : tie.Need-returns-2
+unfolding unescapeOutcome
+returns-2 c =
+    let a = c .before .before .before .before .before .before .args in
+    let t = a .text .now in
+    let b = c .before .bad-octet in
+    bad-octet (allowed false) t (a .out .now) (faultless t (a .out .now) (fill (unescaped t) (a .out .now))) (omega arith) (b .result) (b .ensures) (c .if2 .taken)
+
 put-requires : tie.Need-put-requires
 put-requires c κs = search needs
 
 same-length : tie.Need-same-length
 same-length c = search needs
 
-returns-2 : tie.Need-returns-2
+returns-3 : tie.Need-returns-3
 unfolding unescapeOutcome
-returns-2 c =
-    let a = c .before .before .before .before .before .before .before .before .before .args in
+returns-3 c =
+    let a = c .before .before .before .before .before .before .before .before .before .before .before .args in
     let t = a .text .now in
-    let l = c .before .before .before .before .before .look in
-    let z = seen-0 t (l .result) 44 44 (l .ensures) (c .before .before .before .before .if2 .taken) in
+    let l = c .before .before .before .before .before .before .before .look in
+    let b = c .before .before .before .before .before .before .bad-octet in
     c .before .before .put .ensures
-    ∙ unescape-same t (a .out .now) (z .1)
-    ∙ good (allowed false) t (a .out .now) (faultless t (a .out .now) (fill (unescaped t) (a .out .now))) (omega arith) (length t) (good-plain false t (z .0)) (omega arith)
+    ∙ unescape-same t (a .out .now) (seen-low t (l .result) 44 44 (l .ensures) (c .before .before .before .before .if3 .taken))
+    ∙ good (allowed false) t (a .out .now) (faultless t (a .out .now) (fill (unescaped t) (a .out .now))) (omega arith) (b .result) (b .ensures) (omega arith)
 
 unescape-each-requires : tie.Need-unescape-each-requires
 unescape-each-requires c κs = search needs
@@ -46,23 +56,14 @@ unescape-each-requires c κs = search needs
 same-length-2 : tie.Need-same-length-2
 same-length-2 c = search needs
 
-returns-3 : tie.Need-returns-3
-unfolding unescapeOutcome
-returns-3 c =
-    let a = c .before .before .before .before .before .before .before .before .before .before .args in
-    let t = a .text .now in
-    let l = c .before .before .before .before .before .before .look in
-    c .before .before .unescape-each .ensures
-    ∙ good (allowed false) t (a .out .now) (faultless t (a .out .now) (fill (unescaped t) (a .out .now))) (omega arith) (length t) (good-plain false t (seen-2 t (l .result) 44 44 (l .ensures) (c .before .before .before .before .if3 .taken))) (omega arith)
-
-unescape-odd-requires : tie.Need-unescape-odd-requires
-unescape-odd-requires c κs = (omega arith, c .before .before .before .look .ensures)
-
-same-length-3 : tie.Need-same-length-3
-same-length-3 c = search needs
-
 returns-4 : tie.Need-returns-4
-returns-4 c = c .before .before .unescape-odd .ensures
+unfolding unescapeOutcome
+returns-4 c =
+    let a = c .before .before .before .before .before .before .before .before .before .before .before .args in
+    let t = a .text .now in
+    let b = c .before .before .before .before .before .before .bad-octet in
+    c .before .before .unescape-each .ensures
+    ∙ good (allowed false) t (a .out .now) (faultless t (a .out .now) (fill (unescaped t) (a .out .now))) (omega arith) (b .result) (b .ensures) (omega arith)
 
 pub unescape-spec : {M : Type 1} → statement M
 unescape-spec =
@@ -70,12 +71,11 @@ unescape-spec =
     (tie.spec
     returns
     look-requires
+    bad-octet-requires
+    returns-2
     put-requires
     same-length
-    returns-2
+    returns-3
     unescape-each-requires
     same-length-2
-    returns-3
-    unescape-odd-requires
-    same-length-3
     returns-4)
