@@ -17,11 +17,11 @@ static const struct row {
     const char *input;
     size_t most;
 } rows[] = {
-    {JUDGE_INPUT, "book", LIMIT},
-    {JUDGE_INPUT, "dense", LIMIT},
-    {JUDGE_INPUT, "small", LIMIT},
-    {JUDGE_INPUT, "long", LIMIT},
-    {JUDGE_INPUT, "damaged", LIMIT},
+    {JUDGE, "book", LIMIT},
+    {JUDGE, "dense", LIMIT},
+    {JUDGE, "small", LIMIT},
+    {JUDGE, "long", LIMIT},
+    {JUDGE, "damaged", LIMIT},
     {READ, "book", LIMIT},
     {READ, "dense", LIMIT},
     {READ, "small", LIMIT},
@@ -59,10 +59,10 @@ static const struct desk_row {
     {"add 400 octets", "book", 400, 40, 0, ADD, 1600},
     {"add a book", "book", LIMIT, 40, 0, ADD, 40},
     {"octets held", "book", 0, 40, 0, HELD, 1600},
-    {"judge a book", "book", LIMIT, 40, 40, JUDGE, 8},
-    {"judge small cards", "small", LIMIT, 40, 40, JUDGE, 8},
-    {"judge a long line", "long", LIMIT, 40, 40, JUDGE, 8},
-    {"judge a damaged book", "damaged", LIMIT, 40, 40, JUDGE, 8},
+    {"judge a book", "book", LIMIT, 40, 40, JUDGE_HELD, 8},
+    {"judge small cards", "small", LIMIT, 40, 40, JUDGE_HELD, 8},
+    {"judge a long line", "long", LIMIT, 40, 40, JUDGE_HELD, 8},
+    {"judge a damaged book", "damaged", LIMIT, 40, 40, JUDGE_HELD, 8},
     {"release", "book", LIMIT, 40, 40, RELEASE, 40},
 };
 #define DESK_ROWS LENGTH(desk_rows)
@@ -138,7 +138,7 @@ static double rate(const struct input *in, const struct job *job) { return job->
 
 static void print_rows(void) {
     time_jobs(jobs[0], 3 * ROWS, SECONDS);
-    printf("| Routine  | Input   | Octets | Unit MB/s | C MB/s    | Unit / C  | EVCard    | Unit i/o  | C i/o     |\n");
+    printf("| Routine  | Input   | Octets | Unit MB/s | C MB/s    | Unit / C  | EVCard    | Unit inst | C inst    |\n");
     printf("|---|---|---|---|---|---|---|---|---|\n");
     for (size_t r = 0; r < ROWS; r++) {
         const struct input *in = &inputs[r];
@@ -222,14 +222,18 @@ int main(int argc, char **argv) {
         print_costs(argv[2], argv + 3, argc - 3);
         return 0;
     }
-    if (argc < 3) return 2;
-    make_jobs(argv[2]);
-    if (strcmp(argv[1], "count") == 0) {
+    if (argc == 3 && strcmp(argv[1], "count") == 0) {
+        make_jobs(argv[2]);
         count_jobs();
         return 0;
     }
-    read_counts(argc > 3 ? argv[3] : "");
-    print_rows();
-    print_desk();
-    return 0;
+    if (argc == 4 && strcmp(argv[1], "tables") == 0) {
+        make_jobs(argv[2]);
+        read_counts(argv[3]);
+        print_rows();
+        print_desk();
+        return 0;
+    }
+    fprintf(stderr, "bench: see the head of bench.c\n");
+    return 2;
 }

@@ -101,7 +101,7 @@ static uint64_t run(struct desk *d, uint8_t *pool, size_t size, const uint8_t *c
         case ADD: answer = desk_add(d, pool, size, t, chunk, len); break;
         case RELEASE: answer = desk_release(d, pool, size, t); break;
         case HELD: answer = desk_held(d, size, t); break;
-        case JUDGE: answer = desk_judge(d, pool, size, t); break;
+        case JUDGE_HELD: answer = desk_judge(d, pool, size, t); break;
         }
         t = t < last ? t + 1 : 1;
     }

@@ -1,4 +1,4 @@
-/* The routines as jobs. A refusal is answered by its number alone, since that is all that the unit's benchmark-only routines answer. */
+/* The routines as jobs: the unit's, of which read, escape and the desk's calls are for the benchmark alone, and plain C's. */
 #include "jobs.h"
 #include "gerstebolk.h"
 #include <stdio.h>
@@ -15,46 +15,44 @@ static struct {
     ALIGNED uint8_t pool[40 * LIMIT];
 } rooms, expected;
 
-static uint64_t told(uint64_t answer) { return answer >> 32 ? answer >> 32 << 32 : answer; }
+/* A refusal without its place, as the unit's benchmark-only routines answer it. */
+static uint64_t number_of(uint64_t answer) { return answer >> 32 ? answer >> 32 << 32 : answer; }
 
-#define JOB(name, routine, ...)                                        \
-    static uint64_t name(const void *what) {                           \
-        const struct input *in = what;                                 \
-        return told(routine(in->octets, in->length, ##__VA_ARGS__));   \
+#define JOB(name, answer)                    \
+    static uint64_t name(const void *what) { \
+        const struct input *in = what;       \
+        return answer;                       \
     }
+#define IN in->octets, in->length
 #define OUT rooms.octets, sizeof rooms.octets
 #define COPY OUT, rooms.records, sizeof rooms.records / sizeof rooms.records[0]
 
-JOB(unit_judge, judge)
-JOB(unit_read, timed_read, COPY)
-JOB(unit_fold, fold, OUT)
-JOB(unit_unescape, unescape, OUT)
-JOB(unit_escape, timed_escape, OUT)
-JOB(c_judge, plain_judge)
-JOB(c_read, plain_read, COPY)
-JOB(c_fold, plain_fold, OUT)
-JOB(c_unescape, plain_unescape, OUT)
-JOB(c_escape, plain_escape, OUT)
-
-static uint64_t copy_octets(const void *what) {
-    const struct input *in = what;
-    memcpy(rooms.octets, in->octets, in->length);
-    return rooms.octets[0];
-}
+JOB(unit_judge, judge(IN))
+JOB(unit_read, timed_read(IN, COPY))
+JOB(unit_fold, fold(IN, OUT))
+JOB(unit_unescape, unescape(IN, OUT))
+JOB(unit_escape, timed_escape(IN, OUT))
+JOB(copy_octets, (uintptr_t)memcpy(rooms.octets, IN))
+JOB(c_judge, plain_judge(IN))
+JOB(c_read, number_of(plain_read(IN, COPY)))
+JOB(c_fold, plain_fold(IN, OUT))
+JOB(c_unescape, plain_unescape(IN, OUT))
+JOB(c_escape, number_of(plain_escape(IN, OUT)))
 
 const char *const routine_names[ROUTINES] = {"judge", "read", "fold", "unescape", "escape", "memcpy"};
 uint64_t (*const unit_jobs[ROUTINES])(const void *) = {unit_judge, unit_read, unit_fold, unit_unescape, unit_escape, copy_octets};
 uint64_t (*const plain_jobs[ROUTINES])(const void *) = {c_judge, c_read, c_fold, c_unescape, c_escape, NULL};
 
-#define DESK_JOB(name, desk)                                                                                                           \
-    static uint64_t name(const void *what) {                                                                                           \
-        const struct calls *c = what;                                                                                                  \
-        return told(desk(rooms.pool, sizeof rooms.pool, c->chunk->octets, c->chunk->length, c->opens, c->adds, c->kind, c->n));        \
+#define DESK_JOB(name, answer)               \
+    static uint64_t name(const void *what) { \
+        const struct calls *c = what;        \
+        return answer;                       \
     }
+#define CALLS rooms.pool, sizeof rooms.pool, c->chunk->octets, c->chunk->length, c->opens, c->adds, c->kind, c->n
 
-DESK_JOB(unit_desk, timed_desk)
-DESK_JOB(c_desk_o3, plain_desk_o3)
-DESK_JOB(c_desk_o2, plain_desk_o2)
+DESK_JOB(unit_desk, timed_desk(CALLS))
+DESK_JOB(c_desk_o3, number_of(plain_desk_o3(CALLS)))
+DESK_JOB(c_desk_o2, number_of(plain_desk_o2(CALLS)))
 
 uint64_t (*const desk_jobs[DESKS])(const void *) = {unit_desk, c_desk_o3, c_desk_o2};
 

@@ -13,7 +13,7 @@ uint64_t plain_escape(const uint8_t *in, size_t len, uint8_t *out, size_t room);
 uint64_t plain_unescape(const uint8_t *in, size_t len, uint8_t *out, size_t room);
 
 /* The calls that a desk of 40 slots is timed on. */
-enum call { OPEN, ADD, RELEASE, HELD, JUDGE };
+enum call { OPEN, ADD, RELEASE, HELD, JUDGE_HELD };
 
 /* The answer of the last of n calls to a fresh desk after some openings and additions, in turn over the tickets; desk.c, with gcc -O3 and with -O2. */
 uint64_t plain_desk_o3(uint8_t *pool, size_t size, const uint8_t *chunk, size_t len, uint32_t opens, size_t adds, uint32_t kind, size_t n);
