@@ -2,39 +2,44 @@
 use Prim.Native.Nat.{ℕ, _*_, _≤_}
 use mathlib.Core.Path.{_≡_, refl, sym, ap, _∙_}
 use mathlib.Core.Bool.{Bool, true, false}
-use mathlib.Core.List.{List, _∷_}
+use mathlib.Core.List.{List, [], _∷_, _++_}
 use mathlib.Core.Logic.{_↔_}
 use native.Mathlib.Omega.{arith}
 use lib.Dec.{ltb}
-use lib.ListN.{length, drop}
+use lib.ListN.{length, drop, length-append}
 use lib.Seq.{take-at, drop-at}
 use borrow.Author.Tests.{ltb-true, ltb-false, le-ltb}
-use Rattle.octets.specs.Room.{overlay, fill, fillBounded}
+use Rattle.octets.specs.Pick.{pick}
+use Rattle.octets.specs.Characters.{allowed, firstBad}
+use Rattle.octets.specs.Room.{Filled, filled, refuse, overlay, fill, fillBounded}
+use Rattle.octets.specs.declared.rooms.Written.the-variants.{Wrote}
 use Rattle.octet_laws.proofs.Utf8.{allowed-only}
-use Rattle.text.specs.Escapes.{escaped, firstFault}
-use Rattle.text.specs.Outcomes.{faultless, escapeOutcome, unescapeOutcome}
-use Rattle.text.specs.Stands.{Stands}
+use Rattle.text.specs.Escapes.{escaped, firstFault, unescaped}
+use Rattle.text.specs.Outcomes.{checked, faultless, escapeOutcome, unescapeOutcome}
+use Rattle.text.specs.Stands.{Stands, none, itself, escape}
 use Rattle.text_laws.proofs.StandsLaws.{stands-exactly}
 use Rattle.text_laws.proofs.BackLaws.{round-trip}
 use Rattle.lines.specs.Grammar.{Line, render}
 use Rattle.reader.specs.Outcome.{judgeOf, copyOf, recordsOf, Taken, took, readOutcome}
 use Rattle.reader.specs.declared.Verdict.{Verdict}
 use Rattle.reader.specs.declared.Verdict.the-variants.{Accepted, Refused}
+use Rattle.reader.proofs.AcceptLaws.{lines-few, lines-counted}
 use Rattle.reader.proofs.ReadLaws.{read-refused, numbers-counted, read-written, read-13, read-14}
 use Rattle.folder.specs.Pieces.{pieces, first, later, Clean}
+use Rattle.folder.specs.Outcome.{foldOutcome}
 use Rattle.fold_laws.specs.Cuttings.{Cutting}
 use Rattle.fold_laws.proofs.CutLaws.{cutting}
 use Rattle.fold_laws.proofs.Greedy.{only as no-other}
-use Rattle.fold_laws.proofs.WrittenLaws.{fold-written}
+use Rattle.fold_laws.proofs.WrittenLaws.{wrote as written, wrote-accepted, fold-written}
 use Rattle.fold_laws.proofs.Again.{read-again}
 use Rattle.firmware.specs.Word.{wordOutcome}
-use Rattle.grammar.specs.Cards.{Readable}
+use Rattle.grammar.specs.Cards.{Readable, CardLines, card, Cards, none as no-cards, more}
 use Rattle.grammar.specs.Inputs.{InputOf}
 use Rattle.grammar.proofs.Accepted.{accepted-law, one-reading}
 use Rattle.grammar.proofs.RecordLaws.{copy-law, records-law}
 use Rattle.demands.specs.Demand1.{folded, Fair}
 use Rattle.demands.specs.Demand2.{Roomy, ReadAs, wrote, Demand2}
-use Rattle.demands.proofs.Texts.{checked-fair, within-so}
+use Rattle.demands.proofs.Texts.{wrote-no, checked-fair, within-so, fault-le}
 use Rattle.demands.proofs.Cards.{accepted-no, fold-form}
 
 -- ---- read
@@ -116,6 +121,43 @@ unescapes t u out f s h =
     let w = stands-exactly t u .0 s in
     checked-fair false t out _ f ∙ rw (le-ltb (firstFault t) (length t) (omega (arith, w .0)), w .1) (fill-so u out h)
 
+-- ---- counts
+
+-- a card has lines
+cards-few : {k : ℕ} {xs : List Line} → Cards k xs → k ≤ length xs
+cards-few no-cards = omega arith
+cards-few (more (card {xs = zs} b v x e) c) = simp length-append (omega (arith, cards-few c))
+
+cards-low : (i : List ℕ) (k n : ℕ) → InputOf i k n → k ≤ 16384
+cards-low i k n h = omega (arith, cards-few (h .cards), h .count, lines-counted i k n (accepted-law i k n .1 h), lines-few i, h .short)
+
+fold-low : (i out after : List ℕ) (n : ℕ) → foldOutcome i out ≡ filled (Wrote n) after → n ≤ 16384
+unfolding foldOutcome
+fold-low i out after n e = wrote-accepted (judgeOf i) i out after n (sym e) (λ k m a f. written _ out after n f .bound)
+
+stands-low : {t u : List ℕ} → Stands t u → length u ≤ length t
+stands-low none = omega arith
+stands-low (itself a b s) = omega (arith, stands-low s)
+stands-low (escape e s) = omega (arith, stands-low s)
+
+-- what is written is left over from a refusal
+left : {A : Type 0} (out after : List ℕ) (b : Bool) (m q n : ℕ) (f : Filled) → pick b (refuse m q out) f ≡ filled (Wrote n) after
+    → (b ≡ false → f ≡ filled (Wrote n) after → A) → A
+left out after true m q n f e k = wrote-no n m q (sym (ap (λ (g : Filled). g .answer) e))
+left out after false m q n f e k = k refl e
+
+unescape-low : (t out after : List ℕ) (n : ℕ) → unescapeOutcome t out ≡ filled (Wrote n) after → n ≤ 16384
+unfolding unescapeOutcome checked faultless fill
+unescape-low t out after n e =
+    left out after (ltb 16384 (length t)) 1 16384 n _ e (λ a f.
+    left out after (ltb (firstBad (allowed false) t) (length t)) 31 (firstBad (allowed false) t) n _ f (λ b g.
+    left out after (ltb (firstFault t) (length t)) 30 (firstFault t) n _ g (λ c h.
+    left out after (ltb (length out) (length (unescaped t))) 15 (length (unescaped t)) n _ h (λ d k.
+    let z : firstFault t ≡ length t = omega (arith, ltb-false (firstFault t) (length t) c, fault-le t out) in
+    let w : Wrote (length (unescaped t)) ≡ Wrote n = ap (λ (x : Filled). x .answer) k in
+    let l : length (unescaped t) ≡ n = cc in
+    omega (arith, ltb-false 16384 (length t) a, stands-low (stands-exactly t (unescaped t) .1 (z, refl)))))))
+
 -- ---- the whole
 
 pub demand2 : Demand2
@@ -132,7 +174,7 @@ demand2 =
       escapes = escapes;
       unescapes = unescapes;
       back = λ t out after room n e r. round-trip t out after room n e r;
-      c-judge = λ i k n h. rw (accepted-law i k n .1 h);
-      c-fold = λ i out after n e. ap wordOutcome e;
-      c-unescape = λ t out after n e. ap wordOutcome e;
+      c-judge = λ i k n h. (rw (accepted-law i k n .1 h), cards-low i k n h);
+      c-fold = λ i out after n e. (ap wordOutcome e, fold-low i out after n e);
+      c-unescape = λ t out after n e. (ap wordOutcome e, unescape-low t out after n e);
     }

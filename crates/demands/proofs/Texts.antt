@@ -117,7 +117,7 @@ module _ (t out : List ℕ) where
 
   -- ---- unescape
 
-  fault-le : firstFault t ≤ length t
+  pub fault-le : firstFault t ≤ length t
   unfolding firstFault
   fault-le = scan-le textStep t 0
 

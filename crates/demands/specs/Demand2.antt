@@ -62,7 +62,7 @@ pub record Demand2 : Type 0 where
   -- text escaped, then unescaped, comes back the same
   pub back : (t out after room : List ℕ) (n : ℕ) → escapeOutcome t out ≡ filled (Wrote n) after → length t ≤ length room
       → unescapeOutcome (take n after) room ≡ wrote t room
-  -- the routines for C answer the count alone, and leave the room as the entry does
-  pub c-judge : (i : List ℕ) (k n : ℕ) → InputOf i k n → verdictWord (judgeOf i) ≡ k
-  pub c-fold : (i out after : List ℕ) (n : ℕ) → foldOutcome i out ≡ filled (Wrote n) after → wordOutcome (foldOutcome i out) ≡ worded n after
-  pub c-unescape : (t out after : List ℕ) (n : ℕ) → unescapeOutcome t out ≡ filled (Wrote n) after → wordOutcome (unescapeOutcome t out) ≡ worded n after
+  -- the routines for C answer the count alone, which is no refusal's word, and leave the room as the entry does
+  pub c-judge : (i : List ℕ) (k n : ℕ) → InputOf i k n → (verdictWord (judgeOf i) ≡ k) × (k ≤ 16384)
+  pub c-fold : (i out after : List ℕ) (n : ℕ) → foldOutcome i out ≡ filled (Wrote n) after → (wordOutcome (foldOutcome i out) ≡ worded n after) × (n ≤ 16384)
+  pub c-unescape : (t out after : List ℕ) (n : ℕ) → unescapeOutcome t out ≡ filled (Wrote n) after → (wordOutcome (unescapeOutcome t out) ≡ worded n after) × (n ≤ 16384)

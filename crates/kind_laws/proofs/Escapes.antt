@@ -3,14 +3,14 @@
 use mathlib.Core.Path.{_≡_, refl, sym, ap, subst, _∙_}
 use mathlib.Core.Bool.{Bool, true, false, not, _&&_}
 use mathlib.Core.List.{List, [], _∷_, _++_}
-use mathlib.Core.Logic.{_⊎_, inl, inr, ⊎-elim, _↔_}
+use mathlib.Core.Logic.{inl, inr, ⊎-elim, _↔_}
 use Prim.Native.Nat.{ℕ, zero, suc, _+_}
-use native.Mathlib.Nat.{zero-add, add-zero}
+use native.Mathlib.Nat.{zero-add}
 use native.Mathlib.Omega.{arith}
 use lib.Dec.{eqb}
 use borrow.Author.Tests.{eqb-true}
 use Rattle.properties.specs.Octets.{Octets, plain, inner, comma, semicolon, backslash, escapee, holds}
-use Rattle.properties.specs.Shapes.{Shape, one, _then_, _or_, many, joined, each, Is}
+use Rattle.properties.specs.Shapes.{one, _then_, _or_, joined, each, Is}
 use Rattle.properties.specs.Kinds.{textOf, split, text, texts, component, parts, components, shapeOf}
 use Rattle.properties.proofs.QuietLaws.{put, grow, cut, nothing, part-first, part-next, part-own, part-comma, semicolon-or}
 use Rattle.kind_laws.specs.Words.{Escaped, ends, bare, bare-comma, bare-semicolon, escape, Text, Texts, Semicolons, In}

@@ -1,19 +1,18 @@
 -- Each kind and the fixed values in plain words. Assumes nothing.
 use mathlib.Core.Path.{_≡_, refl, sym, ap, subst, _∙_}
-use mathlib.Core.Bool.{Bool, true, false, _&&_, false≢true}
+use mathlib.Core.Bool.{true, false, false≢true}
 use mathlib.Core.List.{List, [], _∷_, _++_}
-use mathlib.Core.Logic.{_⊎_, inl, inr, ⊎-elim, _↔_}
+use mathlib.Core.Logic.{_⊎_, inl, inr, _↔_}
 use Prim.Native.Nat.{ℕ}
-use native.Mathlib.Omega.{arith}
 use lib.Dec.{eqb}
 use borrow.Author.Tests.{eqb-true, ne-eqb}
 use Rattle.octets.specs.Cases.{lower, same}
 use Rattle.properties.specs.Ascii.{octets}
-use Rattle.properties.specs.Octets.{Octets, any, plain, scheme, graphic, digit, colon, semicolon, letter, sex, theV, theC, theA, theR, theD, four, point, nought, holds}
+use Rattle.properties.specs.Octets.{Octets, scheme, graphic, digit, colon, semicolon, letter, sex, theV, theC, theA, theR, theD, four, point, nought, holds}
 use Rattle.properties.specs.Shapes.{Shape, empty, one, _then_, _or_, many, joined, each, Is}
 use Rattle.properties.specs.Kinds.{text, uri, gender, pidmap, vcard, version, shapeOf, kindScan, valueScan, lineShape}
 use Rattle.properties.specs.Quiet.{allIn}
-use Rattle.properties.specs.declared.values.Fault.the-variants.{Fits, Breaks}
+use Rattle.properties.specs.declared.values.Fault.the-variants.{Fits}
 use Rattle.properties.proofs.Bools.{and-both}
 use Rattle.properties.proofs.QuietLaws.{run-many, itself, whole}
 use Rattle.kind_laws.specs.Words.{In, All, Text, Texts, Semicolons, Uri, Gender, Pidmap}

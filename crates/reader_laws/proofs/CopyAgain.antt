@@ -1,6 +1,6 @@
 -- The copy of an accepted input, read again: the same lines, verdict, copy and records. Assumes nothing.
 use mathlib.Core.Path.{_≡_, refl, sym, ap, _∙_}
-use mathlib.Core.Bool.{Bool, true, false, not, _&&_, _||_}
+use mathlib.Core.Bool.{Bool, true, false, _&&_, _||_}
 use mathlib.Core.List.{List, [], _∷_, _++_, map}
 use Prim.Native.Nat.{ℕ, suc, _+_, _-_, _<_, _≤_}
 use native.Mathlib.Nat.{zero-add}
@@ -13,6 +13,7 @@ use Rattle.octets.specs.Scan.{scan, gather}
 use Rattle.octets.specs.Characters.{allowed}
 use Rattle.octets.proofs.Chains.{NoEnd, none, more, no-end, good-chars}
 use Rattle.lines.specs.Folds.{foldAt, lineStep, lineLength, passed, kept, unfolded}
+use Rattle.lines.specs.Grammar.{Each}
 use Rattle.lines.specs.Logical.{rawLines}
 use Rattle.lines.proofs.FoldLaws.{unfold-shorter}
 use Rattle.lines.proofs.LineLaws.{lines-step, lines-end}
@@ -20,7 +21,7 @@ use Rattle.reader.specs.Lone.{loneStep, firstLone, endsCrLf}
 use Rattle.reader.specs.Outcome.{judgeOf, ended, logicalLines, copyOf, recordsOf}
 use Rattle.reader.specs.declared.Verdict.the-variants.{Accepted}
 use Rattle.reader.proofs.AcceptLaws.{accepting}
-use Rattle.reader_laws.specs.Lines.{Clean, All}
+use Rattle.reader_laws.specs.Lines.{Clean}
 use Rattle.reader_laws.proofs.SameLines.{lines-clean, same-lines, same-copy, same-records}
 
 clash : {A : Type 0} → true ≡ false → A
@@ -200,13 +201,13 @@ unled : (l t : List ℕ) → Clean l → (eqb (getD (l ++ t) 0 0) 32 || eqb (get
 unled [] t c = absurd (c .some refl)
 unled (x ∷ xs) t c = rw (ne-eqb x 32 (c .unspaced), ne-eqb x 9 (c .untabbed))
 
-lines-unled : (ls : List (List ℕ)) → All Clean ls → (eqb (getD (ended ls) 0 0) 32 || eqb (getD (ended ls) 0 0) 9) ≡ false
-unfolding ended All
+lines-unled : (ls : List (List ℕ)) → Each Clean ls → (eqb (getD (ended ls) 0 0) 32 || eqb (getD (ended ls) 0 0) 9) ≡ false
+unfolding ended Each
 lines-unled [] c = refl
 lines-unled (l ∷ ls) c = unled l (13 ∷ 10 ∷ ended ls) (c .0)
 
-lines-again : (ls : List (List ℕ)) → All Clean ls → rawLines (ended ls) ≡ ls
-unfolding ended All
+lines-again : (ls : List (List ℕ)) → Each Clean ls → rawLines (ended ls) ≡ ls
+unfolding ended Each
 lines-again [] c = lines-end [] 0 (omega arith)
 lines-again (l ∷ ls) c =
     let t : List ℕ = 13 ∷ 10 ∷ ended ls in
@@ -216,14 +217,14 @@ lines-again (l ∷ ls) c =
     ∙ ap (λ (r : List ℕ). l ∷ rawLines r) (drop-append-add l t 2)
     ∙ ap (λ (r : List (List ℕ)). l ∷ r) (lines-again ls (c .1))
 
-kept-again : (ls : List (List ℕ)) → All Clean ls → map unfolded ls ≡ ls
-unfolding All
+kept-again : (ls : List (List ℕ)) → Each Clean ls → map unfolded ls ≡ ls
+unfolding Each
 kept-again [] c = refl
 kept-again (l ∷ ls) c =
     ap (λ (r : List ℕ). r ∷ map unfolded ls) (kept-run (unended l (c .0))) ∙ ap (λ (r : List (List ℕ)). l ∷ r) (kept-again ls (c .1))
 
-unlone : (ls : List (List ℕ)) → All Clean ls → scan loneStep (ended ls) 0 ≡ length (ended ls)
-unfolding ended All scan loneStep
+unlone : (ls : List (List ℕ)) → Each Clean ls → scan loneStep (ended ls) 0 ≡ length (ended ls)
+unfolding ended Each scan loneStep
 unlone [] c = refl
 unlone (l ∷ ls) c =
     omega (arith, lone-run (unended l (c .0)) (13 ∷ 10 ∷ ended ls), unlone ls (c .1), length-append l (13 ∷ 10 ∷ ended ls))

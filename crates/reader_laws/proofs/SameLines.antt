@@ -9,6 +9,7 @@ use native.Mathlib.Omega.{arith}
 use lib.ListN.{length}
 use borrow.Author.Tests.{ne-eqb, eq-eqb, le-ltb}
 use Rattle.lines.specs.Folds.{unfolded}
+use Rattle.lines.specs.Grammar.{Each}
 use Rattle.lines.specs.Logical.{rawLines}
 use Rattle.cards.specs.State.{freshCard}
 use Rattle.cards.specs.Judge.{judgeLine}
@@ -20,7 +21,7 @@ use Rattle.reader.specs.Lone.{firstLone, endsCrLf}
 use Rattle.reader.specs.Outcome.{onward, judgeLines, verdictOf, judgeOf, logicalLines, copyOf, recordsOf}
 use Rattle.reader.specs.declared.Verdict.the-variants.{Accepted}
 use Rattle.reader.proofs.AcceptLaws.{onward-next, Accepting, accepting}
-use Rattle.reader_laws.specs.Lines.{Clean, All}
+use Rattle.reader_laws.specs.Lines.{Clean}
 use Rattle.reader_laws.proofs.Anywhere.{any-place}
 
 -- the converse of `accepting`: what it says is all that acceptance asks
@@ -48,15 +49,15 @@ judged-clean c c′ p l e =
     let w = line-clean c c′ p l e in
     record { whole = w .0; unspaced = w .1; untabbed = w .2; some = λ z. omega (arith, w .3) }
 
-clean-lines : (ls : List (List ℕ)) (p : ℕ) (c c′ : Card) → judgeLines ls p c ≡ Next c′ → All Clean (map unfolded ls)
-unfolding judgeLines All
+clean-lines : (ls : List (List ℕ)) (p : ℕ) (c c′ : Card) → judgeLines ls p c ≡ Next c′ → Each Clean (map unfolded ls)
+unfolding judgeLines Each
 clean-lines [] p c c′ e = tt
 clean-lines (l ∷ ls) p c c′ e =
     onward-next (judgeLine c p (unfolded l)) (judgeLines ls (p + length l + 2)) c′ e
     (λ d q r. (judged-clean c d p (unfolded l) q, clean-lines ls (p + length l + 2) d c′ r))
 
 -- each logical line of an accepted input is clean
-pub lines-clean : (i : List ℕ) (k n : ℕ) → judgeOf i ≡ Accepted k n → All Clean (logicalLines i)
+pub lines-clean : (i : List ℕ) (k n : ℕ) → judgeOf i ≡ Accepted k n → Each Clean (logicalLines i)
 unfolding logicalLines
 lines-clean i k n e =
     let a = accepting i k n e in

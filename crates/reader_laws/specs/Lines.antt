@@ -1,9 +1,8 @@
 -- What logical lines of an accepted input are. Assumes nothing.
 use Prim.Native.Nat.{ℕ}
-use Prim.{Unit}
 use mathlib.Core.Path.{_≡_}
 use mathlib.Core.Bool.{false}
-use mathlib.Core.List.{List, [], _∷_}
+use mathlib.Core.List.{List}
 use lib.ListN.{length, getD}
 use Rattle.octets.specs.Characters.{allowed, firstBad}
 
@@ -13,8 +12,3 @@ pub record Clean (l : List ℕ) : Type 0 where
   pub unspaced : getD l 0 0 ≡ 32 → ⊥
   pub untabbed : getD l 0 0 ≡ 9 → ⊥
   pub some : length l ≡ 0 → ⊥
-
--- each line is P
-unfoldable pub All : (List ℕ → Type 0) → List (List ℕ) → Type 0
-All P [] = Unit {0}
-All P (l ∷ ls) = P l × All P ls

@@ -9,13 +9,12 @@ use lib.Dec.{ltb, eqb}
 use lib.ListN.{length, getD}
 use borrow.Author.Tests.{ltb-true, ltb-false, eqb-true, ne-eqb, le-leb}
 use Rattle.octets.specs.Pick.{pick}
-use Rattle.octets.specs.Scan.{after, scan}
 use Rattle.octets.specs.Classes.{valued}
-use Rattle.octets.specs.Characters.{allowed, unit, firstBad}
+use Rattle.octets.specs.Characters.{charLength, allowed, firstBad}
 use Rattle.octets.proofs.Chars.{ascii}
+use Rattle.octets.proofs.Chains.{Chars, end, start, inner, char-same, tail-range, chars-fit, chars-tail, good-chars, chars-good}
 use Rattle.text.specs.Escapes.{special, marked, letter, inEscape, escaped}
 use Rattle.text.proofs.EscapeLaws.{clash}
-use Rattle.text_laws.proofs.WholeLaws.{Begun, unit-out, unit-in, rest-same, low-one, inner-high}
 
 -- an octet that is no ASCII is written as it is
 high-stays : (x : ℕ) → 0x80 ≤ x → inEscape x ≡ x ∷ []
@@ -41,14 +40,10 @@ kept (x ∷ xs) (suc m) h t =
     let e = high-next x xs (t 0 (omega arith)) in
     (rw e (omega (arith, r .0)), λ i k. ap (λ (w : List ℕ). getD w i 0) e ∙ shift x (escaped xs) xs m (r .1) i k)
 
--- an octet of ASCII that a text without 0A may have is one step
-octet-unit : (b : ℕ) (r : List ℕ) → b < 0x80 → valued b ≡ true → unit (allowed false) (b ∷ r) ≡ 1
-unfolding unit allowed
-octet-unit b r h v = simp v (ascii (b ∷ r) 0 (omega arith) h)
-
-octet-step : (b : ℕ) (r : List ℕ) → b < 0x80 → valued b ≡ true → firstBad (allowed false) (b ∷ r) ≡ suc (firstBad (allowed false) r)
-unfolding firstBad scan
-octet-step b r h v = ap (λ (k : ℕ). after k (scan (unit (allowed false)) r)) (octet-unit b r h v)
+-- an octet of ASCII that a text without 0A may have is a character by itself
+one : (b : ℕ) (r : List ℕ) → b < 0x80 → valued b ≡ true → Chars (allowed false) 0 r → Chars (allowed false) 0 (b ∷ r)
+unfolding allowed
+one b r h v c = let a : allowed false b ≡ true = simp v in start a (ascii (b ∷ r) 0 (omega arith) h) c
 
 backslash-fine : valued 92 ≡ true
 unfolding valued
@@ -84,69 +79,37 @@ unfolding allowed valued
 high-allowed x h = simp (le-leb 0x80 x h, or-true)
 
 -- the octet of ASCII at the start, written as it is or in an escape
-low-next : (x : ℕ) (xs : List ℕ) → x < 0x80 → allowed true x ≡ true → firstBad (allowed false) (escaped xs) ≡ length (escaped xs)
-    → firstBad (allowed false) (escaped (x ∷ xs)) ≡ length (escaped (x ∷ xs))
+low-next : (x : ℕ) (xs : List ℕ) → x < 0x80 → allowed true x ≡ true → Chars (allowed false) 0 (escaped xs) → Chars (allowed false) 0 (escaped (x ∷ xs))
 unfolding escaped inEscape
-low-next x xs h a f = by (marked x) refl
+low-next x xs h a c = by (marked x) refl
   where
-    by : (m : Bool) → marked x ≡ m
-        → firstBad (allowed false) (pick m (92 ∷ letter x ∷ []) (x ∷ []) ++ escaped xs) ≡ length (pick m (92 ∷ letter x ∷ []) (x ∷ []) ++ escaped xs)
+    by : (m : Bool) → marked x ≡ m → Chars (allowed false) 0 (pick m (92 ∷ letter x ∷ []) (x ∷ []) ++ escaped xs)
     by true m =
         let l = letter-fine x m in
-        octet-step 92 (letter x ∷ escaped xs) (omega arith) backslash-fine ∙ ap suc (octet-step (letter x) (escaped xs) (l .0) (l .1) ∙ ap suc f)
-    by false m = octet-step x (escaped xs) h (stays-valued x a m) ∙ ap suc f
+        one 92 (letter x ∷ escaped xs) (omega arith) backslash-fine (one (letter x) (escaped xs) (l .0) (l .1) c)
+    by false m = one x (escaped xs) h (stays-valued x a m) c
 
 -- a character that is no ASCII at the start
-high-next-unit : (x m : ℕ) (xs : List ℕ) → 0x80 ≤ x → Begun (allowed true) (suc m) (x ∷ xs) → unit (allowed false) (x ∷ escaped xs) ≡ suc m
-high-next-unit x m xs h u =
-    let k = kept xs m (le-of-suc-le-suc (u .fits)) (λ i l. inner-high (allowed true) m (x ∷ xs) u i l) in
-    unit-in (allowed false) (x ∷ escaped xs) m (record {
-      fine = high-allowed x h;
-      size = u .size;
-      fits = omega (arith, k .0);
-      good = rest-same (x ∷ escaped xs) (x ∷ xs) m (shift x (escaped xs) xs m (k .1)) ∙ u .good;
-    })
+high-char : (x m : ℕ) (xs : List ℕ) → 0x80 ≤ x → charLength (x ∷ xs) ≡ suc m → Chars (allowed true) m xs → Chars (allowed false) m (escaped xs)
+    → Chars (allowed false) 0 (escaped (x ∷ xs))
+high-char x m xs h e c d =
+    let k = kept xs m (chars-fit c) (λ i l. tail-range (getD xs i 0) (chars-tail c i l) .0) in
+    let f = char-same (x ∷ xs) (x ∷ escaped xs) m (λ i l. sym (shift x (escaped xs) xs m (k .1) i l)) e (omega (arith, k .0)) in
+    rw (high-next x xs h) (start (high-allowed x h) f d)
 
-after-suc : {A : Type 0} (n j : ℕ) (f : ℕ → ℕ) → after n f ≡ suc j → ((m : ℕ) → n ≡ suc m → f m ≡ j → A) → A
-after-suc zero j f e g = absurd (omega arith)
-after-suc (suc m) j f e g = g m refl (omega arith)
-
-nothing : (k : ℕ) → scan (unit (allowed false)) (escaped []) k ≡ length (escaped [])
-unfolding scan escaped
-nothing k = refl
-
--- the character at the start, once the rest is clean past it
-begin : (x m : ℕ) (xs : List ℕ) → Begun (allowed true) (suc m) (x ∷ xs) → scan (unit (allowed false)) (escaped xs) m ≡ length (escaped xs)
-    → scan (unit (allowed false)) (escaped (x ∷ xs)) 0 ≡ length (escaped (x ∷ xs))
-unfolding firstBad scan
-begin x m xs u f = by (ltb x 0x80) refl
+clean : {k : ℕ} {l : List ℕ} → Chars (allowed true) k l → Chars (allowed false) k (escaped l)
+unfolding escaped
+clean end = end
+clean (start {x} {m} {xs} a e c) = by (ltb x 0x80) refl (clean c)
   where
-    by : (t : Bool) → ltb x 0x80 ≡ t → scan (unit (allowed false)) (escaped (x ∷ xs)) 0 ≡ length (escaped (x ∷ xs))
-    by true h =
-        let z : m ≡ 0 = omega (arith, low-one x (ltb-true x 0x80 h), u .size) in
-        low-next x xs (ltb-true x 0x80 h) (u .fine) (ap (scan (unit (allowed false)) (escaped xs)) (sym z) ∙ f)
-    by false h =
-        let hi = ltb-false x 0x80 h in
-        ap (λ (w : List ℕ). scan (unit (allowed false)) w 0) (high-next x xs hi)
-        ∙ ap (λ (k : ℕ). after k (scan (unit (allowed false)) (escaped xs))) (high-next-unit x m xs hi u)
-        ∙ ap suc f
-        ∙ ap length (sym (high-next x xs hi))
-
--- past k octets of a character that was begun
-clean : (l : List ℕ) (k : ℕ) → k ≤ length l → ((i : ℕ) → i < k → 0x80 ≤ getD l i 0)
-    → scan (unit (allowed true)) l k ≡ length l → scan (unit (allowed false)) (escaped l) k ≡ length (escaped l)
-unfolding scan
-clean [] k h t e = nothing k
-clean (x ∷ xs) (suc k) h t e =
-    ap (λ (w : List ℕ). scan (unit (allowed false)) w (suc k)) (high-next x xs (t 0 (omega arith)))
-    ∙ ap suc (clean xs k (le-of-suc-le-suc h) (λ i p. t (suc i) (omega arith)) (omega arith))
-    ∙ ap length (sym (high-next x xs (t 0 (omega arith))))
-clean (x ∷ xs) zero h t e =
-    after-suc (unit (allowed true) (x ∷ xs)) (length xs) (scan (unit (allowed true)) xs) e
-    (λ m p q. begin x m xs (unit-out (allowed true) (x ∷ xs) m p)
-    (clean xs m (le-of-suc-le-suc (unit-out (allowed true) (x ∷ xs) m p .fits)) (λ i l. inner-high (allowed true) m (x ∷ xs) (unit-out (allowed true) (x ∷ xs) m p) i l) q))
+    by : (t : Bool) → ltb x 0x80 ≡ t → Chars (allowed false) m (escaped xs) → Chars (allowed false) 0 (escaped (x ∷ xs))
+    by true h d =
+        let l = ltb-true x 0x80 h in
+        let z : m ≡ 0 = omega (arith, e, ascii (x ∷ xs) 0 (omega arith) l) in
+        low-next x xs l a (rw z at d)
+    by false h d = high-char x m xs (ltb-false x 0x80 h) e c d
+clean (inner {x} {k} {xs} e c) = rw (high-next x xs (tail-range x e .0)) (inner e (clean c))
 
 -- a text that escape takes has an escaped form that unescape takes
 pub clean-escaped : (t : List ℕ) → firstBad (allowed true) t ≡ length t → firstBad (allowed false) (escaped t) ≡ length (escaped t)
-unfolding firstBad
-clean-escaped t e = clean t 0 (omega arith) (λ i h. absurd (not-suc-le-zero h)) e
+clean-escaped t e = chars-good (allowed false) (escaped t) (clean (good-chars (allowed true) t e))

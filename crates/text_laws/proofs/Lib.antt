@@ -1,4 +1,3 @@
 pub mod StandsLaws
-pub mod WholeLaws
 pub mod CleanLaws
 pub mod BackLaws
