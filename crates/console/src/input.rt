@@ -1,4 +1,5 @@
 // Standard input, read in large pieces to a buffer and taken line by line.
+use crate::parts;
 use libc::STDIN_FILENO;
 
 // The next line starts at from, and what was read ends at to; long tells that the line did not fit the buffer and lost octets.
@@ -9,7 +10,17 @@ pub struct Input {
     pub ended: bool,
 }
 
+// Where a line lies, without its LF, and where the next one starts; found tells that there is a line, and last that none comes after it.
+pub struct Line {
+    pub from: usize,
+    pub to: usize,
+    pub next: usize,
+    pub found: bool,
+    pub last: bool,
+}
+
 impl Input {
+    // Before the first line.
     pub fn new() -> Input {
         Input {
             from: 0,
@@ -20,7 +31,7 @@ impl Input {
     }
 
     // After a line: the next one starts at from.
-    pub fn past(self, from: usize) -> Input {
+    fn past(self, from: usize) -> Input {
         Input {
             from: from,
             to: self.to,
@@ -30,7 +41,7 @@ impl Input {
     }
 
     // Whether a line was begun.
-    pub fn is_within_line(self) -> bool {
+    fn is_within_line(self) -> bool {
         if self.long {
             return true;
         }
@@ -39,7 +50,7 @@ impl Input {
 }
 
 // The place past the first LF from a place on, or 0 where there is none.
-pub fn next_line(s: &[u8], from: usize) -> usize {
+fn next_line(s: &[u8], from: usize) -> usize {
     let mut i = from;
     while i < s.len() {
         if s[i] == 10 {
@@ -77,7 +88,7 @@ fn read_from(buffer: &mut [u8], from: usize) -> usize {
 }
 
 // With more of the input after what was not taken yet; where that fills the buffer, the line is too long and is dropped.
-pub fn refilled(buffer: &mut [u8], i: Input) -> Input {
+fn refilled(buffer: &mut [u8], i: Input) -> Input {
     let kept = moved_down(buffer, i.from, i.to);
     if kept >= buffer.len() {
         let end = read_from(buffer, 0);
@@ -95,4 +106,33 @@ pub fn refilled(buffer: &mut [u8], i: Input) -> Input {
         long: i.long,
         ended: to == kept,
     }
+}
+
+// The line that starts where the last one ended; at the end of the input one without LF too.
+pub fn line_of(buffer: &[u8], i: Input) -> Line {
+    let next = next_line(parts::part(buffer, 0, i.to), i.from);
+    if next > 0 {
+        return Line {
+            from: i.from,
+            to: next - 1,
+            next: next,
+            found: true,
+            last: false,
+        };
+    }
+    Line {
+        from: i.from,
+        to: i.to,
+        next: i.to,
+        found: i.ended && i.is_within_line(),
+        last: i.ended,
+    }
+}
+
+// After a line, or with more of the input where there was none.
+pub fn after(buffer: &mut [u8], i: Input, line: Line) -> Input {
+    if line.found {
+        return i.past(line.next);
+    }
+    refilled(buffer, i)
 }

@@ -1,7 +1,11 @@
 // Parts of slices that are taken where they lie in the slice, and are empty elsewhere.
+ghost use mathlib.Core.Path.{_≡_};
+ghost use Rattle.console.specs.Parts.{part};
 
 // The octets from a up to e, or none where there is no such part.
-pub fn part(s: &[u8], a: usize, e: usize) -> &[u8] {
+pub fn part(s: &[u8], a: usize, e: usize) -> &[u8]
+    ensures { λ r. ⌜ now r ≡ part (now (s .entry)) a e ⌝ }
+{
     if e > s.len() {
         return &s[..0];
     }
@@ -12,7 +16,9 @@ pub fn part(s: &[u8], a: usize, e: usize) -> &[u8] {
 }
 
 // The first n numbers, or none where there are fewer.
-pub fn numbers(s: &[u32], n: usize) -> &[u32] {
+pub fn numbers(s: &[u32], n: usize) -> &[u32]
+    ensures { λ r. ⌜ now r ≡ part (now (s .entry)) 0 n ⌝ }
+{
     if n > s.len() {
         return &s[..0];
     }

@@ -1,4 +1,7 @@
 // Room that is lent to an entry: of one value before the call, and looked at afterwards.
+ghost use mathlib.Core.Path.{_≡_};
+ghost use lib.ListN.{drop};
+ghost use Rattle.console.specs.Parts.{all};
 
 // What each octet of room is at first.
 pub const OCTET: u8 = 165;
@@ -16,7 +19,9 @@ pub fn fill(room: &mut [u8]) {
 }
 
 // Whether the octets from a place on are as they were set.
-pub fn is_kept(room: &[u8], from: usize) -> bool {
+pub fn is_kept(room: &[u8], from: usize) -> bool
+    ensures { λ r. ⌜ r ≡ all 165 (drop from (now (room .entry))) ⌝ }
+{
     let mut i = from;
     while i < room.len() {
         if room[i] != OCTET {
@@ -28,7 +33,9 @@ pub fn is_kept(room: &[u8], from: usize) -> bool {
 }
 
 // Whether the numbers from a place on are as they were set.
-pub fn are_kept(room: &[u32], from: usize) -> bool {
+pub fn are_kept(room: &[u32], from: usize) -> bool
+    ensures { λ r. ⌜ r ≡ all 2779096485 (drop from (now (room .entry))) ⌝ }
+{
     let mut i = from;
     while i < room.len() {
         if room[i] != NUMBER {

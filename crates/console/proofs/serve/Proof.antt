@@ -6,20 +6,29 @@ use Rattle.console.proofs.serve.Statement.{statement}
 use Rattle.console.proofs.serve.Tie as tie
 
 abbrev Inv-loop : tie.InvT-loop
-Inv-loop buffer₀ pool₀ out₀ s₀ turns₀ buffer pool out s turns =
+Inv-loop buffer₀ pool₀ out₀ i₀ c₀ turns₀ buffer pool out i c turns =
     (length buffer ≡ length buffer₀) × (length pool ≡ length pool₀) × (length out ≡ length out₀)
 
 abbrev μ-loop : tie.MeasureT-loop
-μ-loop buffer₀ pool₀ out₀ s₀ turns₀ buffer pool out s turns = turns
+μ-loop buffer₀ pool₀ out₀ i₀ c₀ turns₀ buffer pool out i c turns = turns
 
-start-requires : tie.Need-start-requires Inv-loop μ-loop
-start-requires c κs = tt
+new-requires : tie.Need-new-requires Inv-loop μ-loop
+new-requires c κs = tt
+
+new-requires-2 : tie.Need-new-requires-2 Inv-loop μ-loop
+new-requires-2 c κs = tt
 
 loop-holds : tie.Need-loop-holds Inv-loop μ-loop
 loop-holds c = (refl, refl, refl)
 
-turn-requires : tie.Need-turn-requires Inv-loop μ-loop
-turn-requires c κs = tt
+line-of-requires : tie.Need-line-of-requires Inv-loop μ-loop
+line-of-requires c κs = tt
+
+answered-requires : tie.Need-answered-requires Inv-loop μ-loop
+answered-requires c κs = tt
+
+sent-requires : tie.Need-sent-requires Inv-loop μ-loop
+sent-requires c κs = tt
 
 same-length : tie.Need-same-length Inv-loop μ-loop
 same-length c = omega arith
@@ -32,6 +41,9 @@ same-length-3 c = omega arith
 
 returns : tie.Need-returns Inv-loop μ-loop
 returns c = tt
+
+after-requires : tie.Need-after-requires Inv-loop μ-loop
+after-requires c κs = tt
 
 sub-turns : tie.Need-sub-turns Inv-loop μ-loop
 sub-turns c = omega arith
@@ -60,13 +72,17 @@ serve-spec =
     (tie.spec
     Inv-loop
     μ-loop
-    start-requires
+    new-requires
+    new-requires-2
     loop-holds
-    turn-requires
+    line-of-requires
+    answered-requires
+    sent-requires
     same-length
     same-length-2
     same-length-3
     returns
+    after-requires
     sub-turns
     loop-less
     loop-again

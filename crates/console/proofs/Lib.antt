@@ -1,0 +1,2 @@
+-- The laws that several proofs of the console cite.
+mod Kept
