@@ -1,8 +1,9 @@
 /* The benchmark's tables: the unit's routines and desk calls beside plain C, EVCard and memcpy; and what an input costs by its size and shape.
  *
- *   bench tables FOLDER COUNTS   the tables; the file COUNTS has callgrind's numbers, one a line, or is empty
- *   bench count FOLDER           the tables' jobs in the order of those numbers, for callgrind
- *   bench costs FOLDER NAME ..   for each input: its name, its octets, a routine, nanoseconds an octet
+ *   bench time FOLDER TIMES            times the tables' jobs; the file TIMES keeps the best time of each over several runs
+ *   bench count FOLDER                 the tables' jobs for callgrind, which counts their instructions
+ *   bench tables FOLDER TIMES COUNTS   the tables; the file COUNTS has callgrind's numbers, one a line, or is empty
+ *   bench costs FOLDER NAME ..         for each input: its name, its octets, a routine, nanoseconds an octet
  */
 #include "jobs.h"
 #include <stdio.h>
@@ -10,7 +11,7 @@
 #include <string.h>
 
 #define LENGTH(a) (sizeof(a) / sizeof(a)[0])
-#define SECONDS 15
+#define SECONDS 6 /* for the jobs of one table */
 
 static const struct row {
     enum routine routine;
@@ -73,6 +74,10 @@ static struct job jobs[ROWS][3];
 /* by whether the n calls are made: the difference is what they cost */
 static struct calls calls[DESK_ROWS][2];
 static struct job desks[DESK_ROWS][DESKS][2];
+/* the same one after the other */
+#define ROW_JOBS (3 * ROWS)
+#define DESK_JOBS (2 * DESKS * DESK_ROWS)
+static struct job *const row_jobs = &jobs[0][0], *const call_jobs = &desks[0][0][0];
 
 static void make_jobs(const char *folder) {
     for (size_t r = 0; r < ROWS; r++) {
@@ -108,20 +113,35 @@ static void count_jobs(void) {
 
 static double row_counts[ROWS][2], desk_counts[DESK_ROWS][DESKS][2];
 
-/* The next number of the file, or 0. */
-static double next_count(FILE *f) {
+/* The next number of the file, or 0 where there is none. */
+static double next_number(FILE *f) {
     double x;
     return f && fscanf(f, "%lf", &x) == 1 ? x : 0;
+}
+
+static void read_times(const char *path) {
+    FILE *f = fopen(path, "r");
+    for (size_t j = 0; j < ROW_JOBS; j++) row_jobs[j].seconds = next_number(f);
+    for (size_t j = 0; j < DESK_JOBS; j++) call_jobs[j].seconds = next_number(f);
+    if (f) fclose(f);
+}
+
+static void write_times(const char *path) {
+    FILE *f = fopen(path, "w");
+    if (!f) exit(2);
+    for (size_t j = 0; j < ROW_JOBS; j++) fprintf(f, "%.12g\n", row_jobs[j].seconds);
+    for (size_t j = 0; j < DESK_JOBS; j++) fprintf(f, "%.12g\n", call_jobs[j].seconds);
+    fclose(f);
 }
 
 static void read_counts(const char *path) {
     FILE *f = fopen(path, "r");
     for (size_t r = 0; r < ROWS; r++)
         for (size_t who = 0; who < 2; who++)
-            if (jobs[r][who].run) row_counts[r][who] = next_count(f);
+            if (jobs[r][who].run) row_counts[r][who] = next_number(f);
     for (size_t r = 0; r < DESK_ROWS; r++)
         for (size_t d = 0; d < DESKS; d++)
-            for (size_t made = 0; made < 2; made++) desk_counts[r][d][made] = next_count(f);
+            for (size_t made = 0; made < 2; made++) desk_counts[r][d][made] = next_number(f);
     if (f) fclose(f);
 }
 
@@ -137,7 +157,6 @@ static void cell(double x, int digits) {
 static double rate(const struct input *in, const struct job *job) { return job->run ? in->length / job->seconds / 1e6 : 0; }
 
 static void print_rows(void) {
-    time_jobs(jobs[0], 3 * ROWS, SECONDS);
     printf("| Routine  | Input   | Octets | Unit MB/s | C MB/s    | Unit / C  | EVCard    | Unit inst | C inst    |\n");
     printf("|---|---|---|---|---|---|---|---|---|\n");
     for (size_t r = 0; r < ROWS; r++) {
@@ -154,7 +173,6 @@ static void print_rows(void) {
 }
 
 static void print_desk(void) {
-    time_jobs(desks[0][0], 2 * DESKS * DESK_ROWS, SECONDS);
     printf("\n| Desk call            | Unit ns   | C -O3 ns  | C -O2 ns  | Unit/-O3  | Unit/-O2  | Unit inst | -O3 inst  | -O2 inst  |\n");
     printf("|---|---|---|---|---|---|---|---|---|\n");
     for (size_t r = 0; r < DESK_ROWS; r++) {
@@ -208,7 +226,7 @@ static void print_costs(const char *folder, char **names, size_t count) {
         load(&files[i], folder, names[i], LIMIT);
         n += add_jobs(all + n, &files[i]);
     }
-    time_jobs(all, n, SECONDS);
+    time_jobs(all, n, 2 * SECONDS);
     for (size_t j = 0; j < n; j++) {
         const struct input *in = all[j].what;
         printf("%s %zu %s %.4f\n", in->name, in->length, name_of(&all[j]), all[j].seconds * 1e9 / in->length);
@@ -227,9 +245,18 @@ int main(int argc, char **argv) {
         count_jobs();
         return 0;
     }
-    if (argc == 4 && strcmp(argv[1], "tables") == 0) {
+    if (argc == 4 && strcmp(argv[1], "time") == 0) {
         make_jobs(argv[2]);
-        read_counts(argv[3]);
+        read_times(argv[3]);
+        time_jobs(row_jobs, ROW_JOBS, SECONDS);
+        time_jobs(call_jobs, DESK_JOBS, SECONDS);
+        write_times(argv[3]);
+        return 0;
+    }
+    if (argc == 5 && strcmp(argv[1], "tables") == 0) {
+        make_jobs(argv[2]);
+        read_times(argv[3]);
+        read_counts(argv[4]);
         print_rows();
         print_desk();
         return 0;

@@ -42,13 +42,12 @@ void time_jobs(struct job *jobs, size_t count, double seconds) {
         if (!jobs[j].run) continue;
         jobs[j].calls = 1;
         while (time_calls(&jobs[j], jobs[j].calls) < ROUND / 2) jobs[j].calls *= 2;
-        jobs[j].seconds = 1e9;
     }
     for (double end = now() + seconds; now() < end;)
         for (size_t j = 0; j < count; j++) {
             if (!jobs[j].run) continue;
             double one = time_calls(&jobs[j], jobs[j].calls) / jobs[j].calls;
-            if (one < jobs[j].seconds) jobs[j].seconds = one;
+            if (jobs[j].seconds == 0 || one < jobs[j].seconds) jobs[j].seconds = one;
         }
 }
 

@@ -18,13 +18,13 @@ struct job {
     uint64_t (*run)(const void *what);
     const void *what;
     size_t calls;   /* in one round */
-    double seconds; /* the best time of one call */
+    double seconds; /* the best time of one call, 0 before the first */
 };
 
 /* The file of a folder, or its first octets where it has more. */
 void load(struct input *in, const char *folder, const char *name, size_t most);
 
-/* Round after round over all jobs for so many seconds; the best time of each counts. */
+/* Round after round over all jobs for so many seconds; a job keeps its best time, from before too. */
 void time_jobs(struct job *jobs, size_t count, double seconds);
 
 /* One job's calls, by themselves, for callgrind to count. */
