@@ -1,3 +1,4 @@
+-- The desk keeps to the ledger, upload by upload. Assumes nothing.
 pub mod Rows
 pub mod Patched
 pub mod Counts

@@ -1,3 +1,4 @@
+-- The plain ledger, uploads, and what demand 3 says. Assumes nothing.
 pub mod Ledger
 pub mod Uploads
 pub mod Desks

@@ -7,7 +7,7 @@ use native.Mathlib.Omega.{arith}
 use lib.ListN.{length}
 use Rattle.octets.specs.Characters.{charLength, allowed}
 use Rattle.octets.proofs.Chains.{Chars, end, start, inner, char-four, char-less, chars-fit}
-use Rattle.folder.specs.Pieces.{first, later, pieces, Clean, All}
+use Rattle.folder.specs.Pieces.{first, later, Clean, All}
 use Rattle.folder.proofs.PieceLaws.{Room, short, roomy, room, first-over, first-goes, later-over, later-goes, over-yes, over-no, over-tail, rejoin, first-fits}
 use Rattle.folder.proofs.Turns.{clean-chars, chars-clean}
 use Rattle.fold_laws.specs.Cuttings.{UpTo, Full, AllFull, Cutting}
@@ -98,11 +98,6 @@ full-later (start {x} {m} {xs} a e c) r h = go (room m r) (λ q f. full-later c 
         rw (later-over x xs r (over-yes x xs r m e p)) (full-more x 74 (first xs 73) (later xs 73) (full-first c 73 b) (omega arith), f 73 b)
     go (roomy p) f = rw (later-goes x xs r (over-no x xs r m e p)) (f (pred r) (omega arith))
 full-later (inner {x} {k} {xs} e c) r h = rw (later-goes x xs r (over-tail x xs r e)) (full-later c (pred r) (omega arith))
-
--- The pieces put together are the line.
-pub pieces-whole : (l : List ℕ) → flatten (pieces l) ≡ l
-unfolding pieces flatten
-pieces-whole l = rejoin l 75
 
 -- The pieces are a greedy cutting.
 pub cutting : (l : List ℕ) → Clean l → Cutting l (first l 75) (later l 75)

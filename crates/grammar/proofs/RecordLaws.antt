@@ -1,11 +1,10 @@
 -- The copy and the records of an accepted input say what its lines are. Assumes nothing.
 use mathlib.Core.Path.{_≡_, refl, sym, ap, subst, _∙_}
 use mathlib.Core.List.{List, [], _∷_, _++_, map, append-assoc}
-use Prim.Native.Nat.{ℕ, _+_, _-_, _*_, _≤_}
+use Prim.Native.Nat.{ℕ, _+_, _-_, _≤_}
 use native.Mathlib.Omega.{arith}
 use lib.ListN.{length, take, drop, length-append, length-drop}
-use lib.Seq.{length-take-le, take-all, take-at, take-append-le, drop-append-le, drop-append-add, drop-append-seam}
-use Rattle.octets.specs.Room.{overlay}
+use lib.Seq.{length-take-le, take-all, take-append-le, drop-append-le, drop-append-add, drop-append-seam}
 use Rattle.lines.specs.Parse.{got}
 use Rattle.lines.specs.Grammar.{Line, Each, WellFormed, front, render, nameEnd}
 use Rattle.lines.specs.Rule.{parseLine}
@@ -16,13 +15,11 @@ use Rattle.language.proofs.Law.{line-law, line-unique}
 use Rattle.language.proofs.PlacesLaw.{places-law}
 use Rattle.cards.specs.Parts.{told, toldOf, rowOfLine, kindOfLine}
 use Rattle.cards.proofs.CardLaws.{told-fits}
-use Rattle.reader.specs.Outcome.{ended, copyOf, recordBy, recordOf, recordsFrom, recordsOf, Taken, took, readOutcome}
-use Rattle.reader.specs.declared.Verdict.the-variants.{Accepted}
-use Rattle.reader.proofs.ReadLaws.{numbers-counted, read-written}
+use Rattle.reader.specs.Outcome.{ended, copyOf, recordBy, recordOf, recordsFrom, recordsOf}
 use Rattle.grammar.specs.Cards.{Readable}
 use Rattle.grammar.specs.Inputs.{InputOf}
 use Rattle.grammar.specs.Records.{Tells, Records, none, more}
-use Rattle.grammar.proofs.Accepted.{lines-law, accepted-law}
+use Rattle.grammar.proofs.Accepted.{lines-law}
 
 -- a line in a copy, after other octets and before others
 module _ (pre l rest : List ℕ) where
@@ -113,20 +110,3 @@ pub records-law : (i : List ℕ) (k n : ℕ) (h : InputOf i k n) (rest : List �
 unfolding recordsOf
 records-law i k n h rest =
     rw (lines-law i k n h) (records-from (h .lines) [] rest (copyOf i ++ rest) (h .readable) (ap (λ (c : List ℕ). c ++ rest) (copy-law i k n h)))
-
--- where both rooms suffice, the rooms hold that after reading
-pub read-law : (i copy records : List ℕ) (k n : ℕ) (h : InputOf i k n) → length (copyOf i) ≤ length copy → n * 8 ≤ length records
-    → (t : Taken) × (readOutcome i copy records ≡ t) × (t .answer ≡ Accepted k n)
-    × (take (length (copyOf i)) (t .copy) ≡ ended (map render (h .lines)))
-    × Records (t .copy) 0 (h .lines) (take (n * 8) (t .records))
-read-law i copy records k n h f g =
-    let e = accepted-law i k n .1 h in
-    let m = numbers-counted i copy records k n (length (copyOf i)) e refl in
-    let c = overlay (copyOf i) copy in
-    let r = overlay (recordsOf i) records in (
-      took (Accepted k n) c r,
-      sym (read-written i copy records k n (length (copyOf i)) e refl f g c r refl refl),
-      refl,
-      take-at (copyOf i) (drop (length (copyOf i)) copy) (length (copyOf i)) refl ∙ copy-law i k n h,
-      rw (take-at (recordsOf i) (drop (length (recordsOf i)) records) (n * 8) m) (records-law i k n h (drop (length (copyOf i)) copy)),
-    )

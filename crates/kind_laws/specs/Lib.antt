@@ -1,1 +1,2 @@
+-- The kinds of value in plain words. Assumes nothing.
 pub mod Words

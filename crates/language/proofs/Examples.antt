@@ -1,10 +1,10 @@
 -- Lines of each kind and each fault, and named parameters, computed. Assumes nothing.
 use mathlib.Core.Path.{_≡_, refl}
 use mathlib.Core.List.{List, [], _∷_, map}
-use Prim.Native.Nat.{ℕ, suc}
-use Prim.Native.String.{String, [] as blank, _∷_ as _and_}
-use Prim.Native.Char.{code}
+use Prim.Native.Nat.{suc}
+use Prim.Native.String.{String}
 use lib.ListN.{length}
+use Rattle.octets.specs.Ascii.{octets}
 use Rattle.octets.specs.Classes.{run, named, letter, digit, hyphen, bare, quoted, valued}
 use Rattle.octets.specs.Cases.{lower, same}
 use Rattle.lines.specs.Parse.{many}
@@ -16,10 +16,6 @@ use Rattle.lines.specs.declared.rule.Part.{Part}
 use Rattle.lines.specs.declared.rule.Part.the-variants.{Parsed, Fault}
 use Rattle.lines.specs.declared.rule.First.{First}
 use Rattle.lines.specs.declared.rule.First.the-variants.{Between, Nothing}
-
-unfoldable pub octets : String → List ℕ
-octets blank = []
-octets (c and s) = code c ∷ octets s
 
 pub record Example : Type 0 where
   pub line : String

@@ -1,3 +1,4 @@
+-- What the reading of a line accepts, finds and refuses. Assumes nothing.
 pub mod Pieces
 pub mod Sound
 pub mod Complete

@@ -18,7 +18,7 @@ use Rattle.octets.proofs.Chars.{ascii, char-at, unit-yes, unit-inside, 
 use Rattle.octets.specs.Characters.{lengthBy, second, tail, odd, allPlain, allowed, unit, firstBad, Strides, Easy, Reached}
 
 -- a mark is kept once it is set
-or-mark : (a : ℕ) (t : Bool) → eqb (bitOr a (bit t 1)) 0 ≡ (eqb a 0 && not t)
+pub or-mark : (a : ℕ) (t : Bool) → eqb (bitOr a (bit t 1)) 0 ≡ (eqb a 0 && not t)
 or-mark a true = ne-eqb (bitOr a 1) 0 (λ e. omega (arith, or-add-and a 1, and-le-l a 1)) ∙ sym (and-false (eqb a 0))
 or-mark a false = ap (λ (n : ℕ). eqb n 0) (or-zero-r a) ∙ sym (and-true (eqb a 0))
 

@@ -1,5 +1,6 @@
 -- The definitions that the contracts of `octets` cite. Assumes nothing.
 pub mod Pick
+pub mod Ascii
 pub mod Scan
 pub mod Room
 pub mod Classes
