@@ -56,7 +56,8 @@ pub fn table() -> [u8; 624]
     ROWS
 }
 
-// The place of the length of the next row whose name has n octets, from the row whose length stands at `from` on; 636 for none.
+// The place of the length of the next row whose name has n octets, from the row whose length stands at `from` on; 636 for none. Two rows
+// are looked at in each turn.
 fn next_sized(rows: &[u8; 624], from: usize, n: u8) -> usize
     requires { ⌜ Lists (now rows) ⌝ }
     requires { ⌜ (from % 16 ≡ 12) × (from ≤ 636) ⌝ }
@@ -65,13 +66,22 @@ fn next_sized(rows: &[u8; 624], from: usize, n: u8) -> usize
     ensures { λ r. ⌜ (r < 624 → length (rowAt (r / 16) .name) ≡ n) ⌝ }
 {
     let mut at = from;
-    while at < 624 {
+    while at < 608 {
         if rows[at] == n {
             return at;
         }
-        at += 16;
+        if rows[at + 16] == n {
+            return at + 16;
+        }
+        at += 32;
     }
-    at
+    if at >= 624 {
+        return at;
+    }
+    if rows[at] == n {
+        return at;
+    }
+    at + 16
 }
 
 // Whether the row's name, which is as long, is this one without case: a capital and an octet differ at most in the bit of 32.
