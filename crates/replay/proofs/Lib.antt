@@ -5,3 +5,4 @@ pub mod EveryList
 pub mod LogLaws
 pub mod RunLaws
 pub mod OutcomeLaws
+pub mod UnwrittenLaws
