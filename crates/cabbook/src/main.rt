@@ -1,5 +1,6 @@
 // cabbook: the workshop's command-line tool over the reader, the folder, text and the desk.
 mod checking;
+mod depot;
 mod files;
 mod options;
 mod places;
@@ -9,6 +10,7 @@ mod rows;
 mod table;
 mod uploads;
 mod usage;
+mod values;
 mod writing;
 
 ghost use Rattle.cabbook.specs.Numbers.{Status};

@@ -36,7 +36,7 @@ pub(crate) fn row(i: usize, width: usize, ticket: u32, octets: usize, v: Verdict
     print::number(octets, 6);
     verdict(v);
     if !same {
-        io::write_all(STDOUT_FILENO, b"; its octets are not its file's");
+        io::write_all(STDOUT_FILENO, b"; what it holds is not its file's");
     }
     io::write_all(STDOUT_FILENO, b"\n");
 }
@@ -60,12 +60,12 @@ fn status_of(refused: usize, unread: usize, differing: usize) -> u8
 // Whether the octets of all uploads are their files'.
 fn comparison(differing: usize) {
     if differing == 0 {
-        io::write_all(STDOUT_FILENO, b"; every upload's octets are its file's");
+        io::write_all(STDOUT_FILENO, b"; what each upload holds is its file's");
         return;
     }
     io::write_all(STDOUT_FILENO, b"; ");
     print::counted(differing, b" upload");
-    io::write_all(STDOUT_FILENO, b" with octets that are not its file's");
+    io::write_all(STDOUT_FILENO, b" with other octets than its file");
 }
 
 // A sum, as far as numbers go.

@@ -1,6 +1,9 @@
 // `morning`: many files as uploads on one desk, forty at a time, each opened with identifier 0.
 ghost use Prim.Native.Nat.{_<_};
 ghost use Rattle.cabbook.specs.Numbers.{Status};
+use crate::depot;
+use crate::depot::Morning;
+use crate::depot::Place;
 use crate::files;
 use crate::files::Input;
 use crate::options;
@@ -11,88 +14,6 @@ use desk::Answer;
 use desk::Desk;
 use libc::SEEK_SET;
 use reader::Verdict;
-
-// A place in the depot: the argument that names its file, 0 where there is none, the file's descriptor, and the upload's ticket.
-pub struct Place {
-    pub file: usize,
-    pub fd: i32,
-    pub ticket: u32,
-}
-
-// The desk and the places at it, the next argument and the last, how many places are in use, the chunks' size, and what was counted.
-pub struct Morning {
-    pub desk: Desk,
-    pub places: [Place; 40],
-    pub next: usize,
-    pub count: usize,
-    pub used: usize,
-    pub chunk: usize,
-    pub width: usize,
-    pub accepted: usize,
-    pub refused: usize,
-    pub unread: usize,
-    pub differing: usize,
-}
-
-// One more, as far as numbers go.
-fn more(n: usize) -> usize {
-    if n == usize::MAX {
-        return n;
-    }
-    n + 1
-}
-
-// A ticket from an answer.
-fn ticket_of(n: usize) -> u32 {
-    if n > 4294967295 {
-        return 0;
-    }
-    n as u32
-}
-
-fn nobody() -> Place {
-    Place {
-        file: 0,
-        fd: 0,
-        ticket: 0,
-    }
-}
-
-// Before the first upload.
-fn fresh(next: usize, count: usize, chunk: usize, width: usize) -> Morning {
-    let t = Desk::new(40);
-    let d = t.desk;
-    let none = nobody();
-    let places = [none; 40];
-    Morning {
-        desk: d,
-        places: places,
-        next: next,
-        count: count,
-        used: 0,
-        chunk: chunk,
-        width: width,
-        accepted: 0,
-        refused: 0,
-        unread: 0,
-        differing: 0,
-    }
-}
-
-// The place is free again: the upload is released and its file closed.
-fn left(mut m: Morning, k: usize, pool: &mut [u8]) -> Morning
-    requires { ⌜ k < 40 ⌝ }
-{
-    let p = m.places[k];
-    let d = m.desk;
-    let t = d.release(pool, p.ticket);
-    let next = t.desk;
-    m.desk = next;
-    libc::close(p.fd);
-    m.places[k] = nobody();
-    m.used = places::before(m.used);
-    m
-}
 
 // Whether the upload's octets are its file's: the whole file's, or those with which it starts.
 fn compared(d: Desk, p: Place, whole: bool, pool: &[u8]) -> bool {
@@ -112,22 +33,6 @@ fn compared(d: Desk, p: Place, whole: bool, pool: &[u8]) -> bool {
     check::same(held, places::part(&room, 0, held.len()))
 }
 
-// Counts a verdict.
-fn counted(mut m: Morning, v: Verdict, same: bool) -> Morning {
-    if !same {
-        m.differing = more(m.differing);
-    }
-    match v {
-        Verdict::Accepted(_, _) => {
-            m.accepted = more(m.accepted);
-        }
-        Verdict::Refused(_, _) => {
-            m.refused = more(m.refused);
-        }
-    }
-    m
-}
-
 // The upload ends with a verdict: its row, and the place is free again.
 fn ended(m: Morning, k: usize, v: Verdict, whole: bool, pool: &mut [u8]) -> Morning
     requires { ⌜ k < 40 ⌝ }
@@ -137,7 +42,7 @@ fn ended(m: Morning, k: usize, v: Verdict, whole: bool, pool: &mut [u8]) -> Morn
     let same = compared(d, p, whole, pool);
     let held = d.show(pool, p.ticket);
     rows::row(p.file, m.width, p.ticket, held.len(), v, same);
-    left(counted(m, v, same), k, pool)
+    depot::left(depot::counted(m, v, same), k, pool)
 }
 
 // The next file comes to a place, if there is one.
@@ -151,7 +56,7 @@ fn taken(mut m: Morning, k: usize, pool: &[u8]) -> Morning
     m.next = i + 1;
     let fd = files::open_argument(i);
     if fd < 0 {
-        m.unread = more(m.unread);
+        m.unread = depot::more(m.unread);
         return m;
     }
     let d = m.desk;
@@ -164,16 +69,16 @@ fn taken(mut m: Morning, k: usize, pool: &[u8]) -> Morning
             m.places[k] = Place {
                 file: i,
                 fd: fd,
-                ticket: ticket_of(ticket),
+                ticket: depot::ticket_of(ticket),
             };
-            m.used = more(m.used);
+            m.used = depot::more(m.used);
             m
         }
         Answer::Refused(number, place) => {
             let v = Verdict::Refused(number, place);
             rows::row(i, m.width, 0, 0, v, true);
             libc::close(fd);
-            counted(m, v, true)
+            depot::counted(m, v, true)
         }
     }
 }
@@ -210,8 +115,8 @@ fn fed(mut m: Morning, k: usize, pool: &mut [u8]) -> Morning
     let mut room = [0u8; 16384];
     let got = chunk_of(p, m.chunk, &mut room);
     let Input::Octets(n) = got else {
-        m.unread = more(m.unread);
-        return left(m, k, pool);
+        m.unread = depot::more(m.unread);
+        return depot::left(m, k, pool);
     };
     if n == 0 {
         let d = m.desk;
@@ -272,6 +177,6 @@ pub fn play(count: usize) -> u8
     let width = options::widest(o.first, count);
     rows::titles(width);
     let mut pool = [0u8; 655360];
-    let m = rounds(fresh(o.first, count, o.chunk, width), &mut pool);
+    let m = rounds(depot::fresh(o.first, count, o.chunk, width), &mut pool);
     rows::summary(m.accepted, m.refused, m.unread, m.differing)
 }

@@ -1,9 +1,9 @@
--- `cabbook::table::components` is safe and ends. Assumes nothing.
+-- `cabbook::values::components` is safe and ends. Assumes nothing.
 use borrow.Author.Needs.{needs}
 use Prim.Native.Nat.{_+_, _≤_, _-_}
 use lib.ListN.{length}
-use Rattle.cabbook.proofs.table.components.Statement.{statement}
-use Rattle.cabbook.proofs.table.components.Tie as tie
+use Rattle.cabbook.proofs.values.components.Statement.{statement}
+use Rattle.cabbook.proofs.values.components.Tie as tie
 
 abbrev Inv-loop : tie.InvT-loop
 Inv-loop s semicolons from₀ t5 t6 from = from ≤ length s + 1

@@ -1,9 +1,9 @@
--- `cabbook::table::paragraphs` is safe and ends. Assumes nothing.
+-- `cabbook::values::paragraphs` is safe and ends. Assumes nothing.
 use borrow.Author.Needs.{needs}
 use Prim.Native.Nat.{_+_, _≤_, _-_}
 use lib.ListN.{length}
-use Rattle.cabbook.proofs.table.paragraphs.Statement.{statement}
-use Rattle.cabbook.proofs.table.paragraphs.Tie as tie
+use Rattle.cabbook.proofs.values.paragraphs.Statement.{statement}
+use Rattle.cabbook.proofs.values.paragraphs.Tie as tie
 
 abbrev Inv-loop : tie.InvT-loop
 Inv-loop s from₀ t4 from = from ≤ length s + 1

@@ -1,9 +1,9 @@
--- `cabbook::table::next_bare` meets its contract. Assumes nothing.
+-- `cabbook::values::next_bare` meets its contract. Assumes nothing.
 use borrow.Author.Needs.{needs}
 use Prim.Native.Nat.{_≤_, _-_}
 use lib.ListN.{length}
-use Rattle.cabbook.proofs.table.next_bare.Statement.{statement}
-use Rattle.cabbook.proofs.table.next_bare.Tie as tie
+use Rattle.cabbook.proofs.values.next_bare.Statement.{statement}
+use Rattle.cabbook.proofs.values.next_bare.Tie as tie
 
 abbrev Inv-loop : tie.InvT-loop
 Inv-loop s from semicolons i₀ i = (from ≤ i) × (i ≤ length s)
