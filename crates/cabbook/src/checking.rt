@@ -2,10 +2,8 @@
 ghost use lib.ListN.{length};
 ghost use Prim.Native.Nat.{_≤_};
 ghost use Rattle.cabbook.specs.Numbers.{Status};
-use crate::files;
-use crate::files::Input;
 use crate::places;
-use crate::usage;
+use crate::print;
 use libc::STDOUT_FILENO;
 use reader::Verdict;
 
@@ -15,11 +13,11 @@ const SHOWN: usize = 120;
 // A line, cut after a character if it is long.
 fn shortened(line: &[u8]) {
     if line.len() <= SHOWN {
-        crate::visible(STDOUT_FILENO, line);
+        print::visible(STDOUT_FILENO, line);
         return;
     }
     let end = places::character_start(line, SHOWN);
-    crate::visible(STDOUT_FILENO, &line[0..end]);
+    print::visible(STDOUT_FILENO, &line[0..end]);
     io::write_all(STDOUT_FILENO, b"...");
 }
 
@@ -66,64 +64,24 @@ fn offending(s: &[u8], number: u32, place: usize) {
 }
 
 // The row of a file with these octets.
-fn judged(path: &[u8], s: &[u8]) -> u8
+pub fn judged(path: &[u8], s: &[u8]) -> u8
     ensures { λ r. ⌜ Status r ⌝ }
 {
     let v = reader::judge(s);
     match v {
         Verdict::Accepted(cards, lines) => {
-            crate::visible(STDOUT_FILENO, path);
+            print::visible(STDOUT_FILENO, path);
             io::write_all(STDOUT_FILENO, b": ");
-            crate::counted(cards, b" card");
+            print::counted(cards, b" card");
             io::write_all(STDOUT_FILENO, b", ");
-            crate::counted(lines, b" line");
+            print::counted(lines, b" line");
             io::write_all(STDOUT_FILENO, b"\n");
             0
         }
         Verdict::Refused(number, place) => {
-            crate::refused(STDOUT_FILENO, path, s, number, place);
+            print::refused(STDOUT_FILENO, path, s, number, place);
             offending(s, number, place);
             1
         }
     }
-}
-
-// The row of the file that argument i names.
-fn file(i: usize) -> u8
-    ensures { λ r. ⌜ Status r ⌝ }
-{
-    let mut path = io::buffer();
-    let n = os::arg(i, &mut path);
-    if os::errno() != 0 {
-        os::fail(b"cabbook: a file's name");
-        return 2;
-    }
-    let mut octets = [0u8; 16385];
-    let got = files::read(&path[..n], &mut octets);
-    let Input::Octets(count) = got else {
-        return 2;
-    };
-    if count > 16385 {
-        return 2;
-    }
-    judged(&path[..n], &octets[0..count])
-}
-
-// The rows of all files that the arguments from the second on name.
-pub fn all(count: usize) -> u8
-    ensures { λ r. ⌜ Status r ⌝ }
-{
-    if count < 3 {
-        return usage::wrong(b"check needs a FILE");
-    }
-    let mut status: u8 = 0;
-    let mut i: usize = 2;
-    while i < count {
-        let one = file(i);
-        if status < one {
-            status = one;
-        }
-        i += 1;
-    }
-    status
 }

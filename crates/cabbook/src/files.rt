@@ -25,7 +25,7 @@ fn complain(path: &[u8]) {
 }
 
 // Reads to the start of the room until that is full or the file ends.
-fn fetch(fd: i32, path: &[u8], room: &mut [u8]) -> Input
+pub fn fetch(fd: i32, path: &[u8], room: &mut [u8]) -> Input
     ensures { λ r. ⌜ within r (length (now (room .entry))) ⌝ }
 {
     let mut n: usize = 0;
@@ -57,4 +57,24 @@ pub fn read(path: &[u8], room: &mut [u8]) -> Input
     let got = fetch(fd, path, room);
     libc::close(fd);
     got
+}
+
+// Opens the file that argument i names, and answers its descriptor, or -1 after saying why it can't be read.
+pub(crate) fn open_argument(i: usize) -> i32 {
+    let mut path = io::buffer();
+    let n = os::arg(i, &mut path);
+    let fd = os::open_read(&path[..n]);
+    if fd < 0 {
+        complain(&path[..n]);
+    }
+    fd
+}
+
+// Reads from the file that argument i names and that is open.
+pub fn fetch_argument(i: usize, fd: i32, room: &mut [u8]) -> Input
+    ensures { λ r. ⌜ within r (length (now (room .entry))) ⌝ }
+{
+    let mut path = io::buffer();
+    let n = os::arg(i, &mut path);
+    fetch(fd, &path[..n], room)
 }

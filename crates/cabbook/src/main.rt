@@ -1,85 +1,126 @@
 // cabbook: the workshop's command-line tool over the reader, the folder, text and the desk.
-ghost use lib.ListN.{length};
-ghost use Prim.Native.Nat.{_≤_, _<_};
-ghost use Rattle.octets.specs.Classes.{Classes};
-
 mod checking;
+mod depot;
 mod files;
+mod options;
 mod places;
+mod print;
 mod refusals;
+mod rows;
+mod table;
+mod uploads;
 mod usage;
+mod values;
+mod writing;
 
-use libc::STDOUT_FILENO;
+ghost use Rattle.cabbook.specs.Numbers.{Status};
+use files::Input;
 use octets::cases::same_name;
+use writing::Form;
 
 // The descriptor to which the exit status goes, one digit, at the end.
 const STATUS: i32 = 3;
 
-// An octet as `\x` and two digits.
-fn hex(to: i32, octet: u8) {
-    io::write_all(to, b"\\x");
-    io::print_hex(to, octet as u64, 2);
+// What is done with the octets of a file.
+enum Command {
+    Check,
+    Show,
+    Write(Form),
 }
 
-// Writes the text up to an octet that is a control or starts no character, and that octet in digits; answers how many octets these are.
-fn run_of(to: i32, t: &[u8; 256], text: &[u8]) -> usize
-    requires { ⌜ Classes (now t) ⌝ }
-    requires { ⌜ 0 < length (now text) ⌝ }
-    ensures { λ r. ⌜ (0 < r) × (r ≤ length (now (text .entry))) ⌝ }
+// Does the command with a file's octets, and answers the exit status.
+fn done(command: Command, path: &[u8], s: &[u8]) -> u8
+    ensures { λ r. ⌜ Status r ⌝ }
 {
-    let n = octets::characters::first_bad(t, text, false);
-    if n >= text.len() {
-        io::write_all(to, text);
-        return text.len();
-    }
-    io::write_all(to, &text[0..n]);
-    hex(to, text[n]);
-    n + 1
-}
-
-// Text, with controls and octets of no character made visible.
-fn visible(to: i32, text: &[u8]) {
-    let t = octets::classes::table();
-    let mut i: usize = 0;
-    while i < text.len() {
-        i += run_of(to, &t, &text[i..]);
+    match command {
+        Command::Check => checking::judged(path, s),
+        Command::Show => table::shown(path, s),
+        Command::Write(form) => writing::delivered(form, path, s),
     }
 }
 
-// A count of things, on standard output.
-fn counted(n: usize, thing: &[u8]) {
-    io::print_decimal(STDOUT_FILENO, n as u64);
-    io::write_all(STDOUT_FILENO, thing);
-    if n != 1 {
-        io::write_all(STDOUT_FILENO, b"s");
-    }
+// Does the command with the file of that name.
+fn named(command: Command, path: &[u8]) -> u8
+    ensures { λ r. ⌜ Status r ⌝ }
+{
+    let mut octets = [0u8; 16385];
+    let got = files::read(path, &mut octets);
+    let Input::Octets(n) = got else {
+        return 2;
+    };
+    let count = places::least(n, 16385);
+    done(command, path, &octets[0..count])
 }
 
-// The line on a refusal of these octets.
-fn refused(to: i32, path: &[u8], s: &[u8], number: u32, place: usize) {
-    let at = places::least(place, s.len());
-    let line = places::line_number(&s[0..at]);
-    visible(to, path);
-    io::write_all(to, b": refused ");
-    io::print_decimal(to, number as u64);
-    io::write_all(to, b" at octet ");
-    io::print_decimal(to, place as u64);
-    io::write_all(to, b", line ");
-    io::print_decimal(to, line as u64);
-    io::write_all(to, b": ");
-    refusals::words(to, number);
-    io::write_all(to, b"\n");
+// Does the command with the file that argument i names.
+fn file(command: Command, i: usize) -> u8
+    ensures { λ r. ⌜ Status r ⌝ }
+{
+    let mut path = io::buffer();
+    let n = os::arg(i, &mut path);
+    if os::errno() != 0 {
+        os::fail(b"cabbook: a file's name");
+        return 2;
+    }
+    named(command, &path[..n])
+}
+
+// Judges the files that the arguments from the second on name.
+fn check_all(count: usize) -> u8
+    ensures { λ r. ⌜ Status r ⌝ }
+{
+    if count < 3 {
+        return usage::wrong(b"check needs a FILE");
+    }
+    let mut status: u8 = 0;
+    let mut i: usize = 2;
+    while i < count {
+        let one = file(Command::Check, i);
+        if status < one {
+            status = one;
+        }
+        i += 1;
+    }
+    status
+}
+
+// Does the command with the one file that is named.
+fn one(command: Command, count: usize) -> u8 {
+    if count == 3 {
+        return file(command, 2);
+    }
+    usage::wrong(b"this command takes one FILE")
+}
+
+// Does the command with the one file that is named, or with standard input.
+fn one_or_input(command: Command, count: usize) -> u8 {
+    if count == 2 {
+        return named(command, b"-");
+    }
+    one(command, count)
 }
 
 // Runs the command of that name, and answers the exit status.
 fn run(name: &[u8], count: usize) -> u8 {
     if same_name(name, b"check") {
-        return checking::all(count);
+        return check_all(count);
     }
-    if same_name(name, b"help") {
-        return usage::told();
+    if same_name(name, b"show") {
+        return one(Command::Show, count);
     }
-    if same_name(name, b"--help") {
+    if same_name(name, b"fold") {
+        return one(Command::Write(Form::Folded), count);
+    }
+    if same_name(name, b"escape") {
+        return one_or_input(Command::Write(Form::Escaped), count);
+    }
+    if same_name(name, b"unescape") {
+        return one_or_input(Command::Write(Form::Unescaped), count);
+    }
+    if same_name(name, b"morning") {
+        return uploads::play(count);
+    }
+    if same_name(name, b"help") || same_name(name, b"--help") {
         return usage::told();
     }
     usage::wrong(b"there is no such command")

@@ -1,6 +1,6 @@
 // Places in a text as a person counts them: lines, characters, and where a line or a character starts.
 ghost use mathlib.Core.Path.{_≡_};
-ghost use Prim.Native.Nat.{_+_, _≤_, _<_, min};
+ghost use Prim.Native.Nat.{_+_, _-_, _≤_, _<_, min};
 ghost use lib.ListN.{length};
 ghost use Rattle.cabbook.specs.Places.{count, isLf, isFirst, backTo, opens, starts};
 
@@ -9,6 +9,35 @@ pub fn least(a: usize, b: usize) -> usize
     ensures { λ r. ⌜ r ≡ min a b ⌝ }
 {
     if a < b { a } else { b }
+}
+
+// What a decimal digit stands for.
+pub fn digit(octet: u8) -> usize
+    requires { ⌜ (48 ≤ octet) × (octet ≤ 57) ⌝ }
+    ensures { λ r. ⌜ r ≡ octet - 48 ⌝ }
+{
+    (octet - 48) as usize
+}
+
+// The place before a place, or 0.
+pub fn before(place: usize) -> usize
+    ensures { λ r. ⌜ r ≡ place - 1 ⌝ }
+{
+    if place == 0 {
+        return 0;
+    }
+    place - 1
+}
+
+// The octets from a up to e, or none where there is no such part.
+pub(crate) fn part(s: &[u8], a: usize, e: usize) -> &[u8] {
+    if e > s.len() {
+        return &s[0..0];
+    }
+    if a > e {
+        return &s[0..0];
+    }
+    &s[a..e]
 }
 
 // The number of the line that is reached after these octets, as an editor counts: 1, and 1 more for each LF.

@@ -1,5 +1,4 @@
 // What to do: the help, and the few lines after a wrong use.
-ghost use Prim.Native.Nat.{_≤_};
 ghost use mathlib.Core.Path.{_≡_};
 use libc::STDERR_FILENO;
 use libc::STDOUT_FILENO;
@@ -8,29 +7,29 @@ use libc::STDOUT_FILENO;
 fn commands(to: i32) {
     io::write_all(
         to,
-        b"  cabbook check FILE..             judge each file, a row a file\n",
+        b"  cabbook check FILE..                judge each file, a row a file\n",
     );
     io::write_all(
         to,
-        b"  cabbook show FILE                the cards as a table\n",
+        b"  cabbook show FILE                   the cards as a table\n",
     );
     io::write_all(
         to,
-        b"  cabbook fold FILE                the cards with their lines folded\n",
+        b"  cabbook fold FILE                   the cards with their lines folded\n",
     );
     io::write_all(
         to,
-        b"  cabbook escape [FILE]            text with its escapes\n",
+        b"  cabbook escape [FILE]               text with its escapes\n",
     );
     io::write_all(
         to,
-        b"  cabbook unescape [FILE]          the text that escapes stand for\n",
+        b"  cabbook unescape [FILE]             the text that escapes stand for\n",
     );
     io::write_all(
         to,
         b"  cabbook morning [--chunk N] FILE..  forty uploads at a time on one desk\n",
     );
-    io::write_all(to, b"  cabbook help                     this\n");
+    io::write_all(to, b"  cabbook help                        this\n");
 }
 
 // The help, on standard output.

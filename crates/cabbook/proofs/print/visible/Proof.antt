@@ -1,11 +1,11 @@
--- `cabbook::visible` is safe and ends. Assumes nothing.
+-- `cabbook::print::visible` is safe and ends. Assumes nothing.
 use borrow.Author.Needs.{needs}
 use Prim.Native.Nat.{_≤_, _<_, _-_}
 use native.Mathlib.Omega.{arith}
 use lib.ListN.{length, drop, length-drop}
 use lib.Seq.{length-take-le}
-use Rattle.cabbook.proofs.visible.Statement.{statement}
-use Rattle.cabbook.proofs.visible.Tie as tie
+use Rattle.cabbook.proofs.print.visible.Statement.{statement}
+use Rattle.cabbook.proofs.print.visible.Tie as tie
 
 abbrev Inv-loop : tie.InvT-loop
 Inv-loop to text t i₀ i = i ≤ length text

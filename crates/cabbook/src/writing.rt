@@ -1,0 +1,52 @@
+// `fold`, `escape` and `unescape`: octets to standard output.
+ghost use Rattle.cabbook.specs.Numbers.{Status};
+use crate::places;
+use crate::print;
+use libc::STDERR_FILENO;
+use libc::STDOUT_FILENO;
+use octets::rooms::Written;
+
+// The form in which octets are written.
+pub enum Form {
+    Folded,
+    Escaped,
+    Unescaped,
+}
+
+fn written(form: Form, s: &[u8], room: &mut [u8]) -> Written {
+    match form {
+        Form::Folded => folder::fold(s, room),
+        Form::Escaped => text::escape(s, room),
+        Form::Unescaped => text::unescape(s, room),
+    }
+}
+
+// Writes octets to standard output, or says why that failed.
+fn sent(s: &[u8]) -> u8
+    ensures { λ r. ⌜ Status r ⌝ }
+{
+    let all = io::write_all(STDOUT_FILENO, s);
+    if !all {
+        os::fail(b"cabbook: standard output");
+        return 2;
+    }
+    0
+}
+
+// Writes octets in a form, or the line on a refusal.
+pub fn delivered(form: Form, path: &[u8], s: &[u8]) -> u8
+    ensures { λ r. ⌜ Status r ⌝ }
+{
+    let mut room = [0u8; 16384];
+    let w = written(form, s, &mut room);
+    match w {
+        Written::Wrote(n) => {
+            let count = places::least(n, 16384);
+            sent(&room[0..count])
+        }
+        Written::Refused(number, place) => {
+            print::refused(STDERR_FILENO, path, s, number, place);
+            1
+        }
+    }
+}
