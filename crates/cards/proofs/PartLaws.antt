@@ -27,7 +27,7 @@ use Rattle.language.proofs.PlacesLaw.{places-law}
 use Rattle.language.proofs.FirstLaw.{first-law}
 use Rattle.octets.specs.Pick.{pick}
 use Rattle.octets.specs.Cases.{same}
-use Rattle.properties.specs.Ascii.{octets}
+use Rattle.octets.specs.Ascii.{octets}
 use Rattle.properties.specs.Rows.{Row, rows, search, rowOf, kindAt, takesValue, kindNamed, lineKind, valueName}
 use Rattle.properties.proofs.RowLaws.{kind-low}
 use Rattle.cards.specs.Parts.{octetsOf, valueParam, rowOfLine, kindOfLine, faultOf, Accepted, firstValue, ofParse, told, toldOf}

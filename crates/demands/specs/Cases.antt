@@ -8,7 +8,7 @@ use Rattle.octets.specs.Room.{Filled, filled}
 use Rattle.octets.specs.declared.rooms.Written.the-variants.{Wrote, Refused as Unwritten}
 use Rattle.folder.specs.Outcome.{foldOutcome}
 use Rattle.text.specs.Outcomes.{unescapeOutcome}
-use Rattle.properties.specs.Ascii.{octets}
+use Rattle.octets.specs.Ascii.{octets}
 use Rattle.reader.specs.Outcome.{Taken, took, readOutcome}
 use Rattle.reader.specs.declared.Verdict.the-variants.{Accepted, Refused}
 use Rattle.desk.specs.Sound.{stateAt}

@@ -1,3 +1,4 @@
+-- The laws that the proofs of `desk` cite. Assumes nothing.
 pub mod Searches
 pub mod SoundLaws
 pub mod SlotLaws

@@ -1,3 +1,4 @@
+-- The definitions that the contracts of `desk` cite. Assumes nothing.
 pub mod Search
 pub mod Sound
 pub mod Steps

@@ -1,1 +1,2 @@
+-- The definitions that the contracts of `firmware` cite. Assumes nothing.
 pub mod Word

@@ -7,7 +7,7 @@ use lib.Dec.{eqb}
 use lib.Bits.{bitOr, or-shr, or-mod, or-zero-l}
 use Rattle.octets.specs.Pick.{pick}
 use Rattle.properties.specs.Rows.{rows, rowAt, single}
-use Rattle.properties.specs.Ascii.{octets}
+use Rattle.octets.specs.Ascii.{octets}
 use Rattle.properties.proofs.Upto.{upto, alike}
 use Rattle.cards.specs.State.{onceBit, isSeen}
 

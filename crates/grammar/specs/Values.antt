@@ -4,7 +4,7 @@ use mathlib.Core.Path.{_≡_}
 use mathlib.Core.Bool.{true}
 use mathlib.Core.List.{List}
 use Rattle.octets.specs.Cases.{same}
-use Rattle.properties.specs.Ascii.{octets}
+use Rattle.octets.specs.Ascii.{octets}
 use Rattle.kind_laws.specs.Words.{Text, Texts, Semicolons, Uri, Gender, Pidmap}
 
 -- "Kinds: 0 anything; 1 text; 2 texts split by bare commas; 3 URI; [..]"

@@ -7,7 +7,7 @@ use Prim.Native.Nat.{ℕ}
 use lib.Dec.{eqb}
 use borrow.Author.Tests.{eqb-true, ne-eqb}
 use Rattle.octets.specs.Cases.{lower, same}
-use Rattle.properties.specs.Ascii.{octets}
+use Rattle.octets.specs.Ascii.{octets}
 use Rattle.properties.specs.Octets.{Octets, scheme, graphic, digit, colon, semicolon, letter, sex, theV, theC, theA, theR, theD, four, point, nought, holds}
 use Rattle.properties.specs.Shapes.{Shape, empty, one, _then_, _or_, many, joined, each, Is}
 use Rattle.properties.specs.Kinds.{text, uri, gender, pidmap, vcard, version, shapeOf, kindScan, valueScan, lineShape}

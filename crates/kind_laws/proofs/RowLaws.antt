@@ -8,7 +8,7 @@ use native.Mathlib.Omega.{arith}
 use lib.Dec.{eqb}
 use borrow.Author.Tests.{eq-eqb, eqb-true}
 use Rattle.octets.specs.Cases.{lower, same}
-use Rattle.properties.specs.Ascii.{octets}
+use Rattle.octets.specs.Ascii.{octets}
 use Rattle.properties.specs.Rows.{rows, rowAt, rowOf}
 use Rattle.properties.proofs.Bools.{by, and-both}
 use Rattle.properties.proofs.Upto.{upto, alike}

@@ -1,3 +1,4 @@
+-- The laws that the proofs of `lines` cite. Assumes nothing.
 pub mod FoldLaws
 pub mod HopLaws
 pub mod QuickLaws

@@ -12,7 +12,7 @@ use lib.Seq.{getD-take, getD-drop}
 use borrow.Author.Tests.{eq-eqb, eqb-true, leb-true}
 use Rattle.octets.specs.Classes.{within}
 use Rattle.octets.specs.Cases.{lower}
-use Rattle.properties.specs.Ascii.{octets}
+use Rattle.octets.specs.Ascii.{octets}
 use Rattle.properties.specs.Quiet.{allIn}
 use Rattle.properties.specs.Rows.{rows, rowAt, Lists}
 use Rattle.properties.proofs.Bools.{and-both}

@@ -1,3 +1,4 @@
+-- The laws that the proofs of `properties` cite. Assumes nothing.
 pub mod Bools
 pub mod Upto
 pub mod ShapeLaws

@@ -13,7 +13,7 @@ use borrow.Author.Tests.{ltb-true}
 use Rattle.octets.specs.Pick.{pick}
 use Rattle.octets.specs.Cases.{same}
 use Rattle.octets.proofs.CaseLaws.{same-length}
-use Rattle.properties.specs.Ascii.{octets}
+use Rattle.octets.specs.Ascii.{octets}
 use Rattle.properties.specs.Rows.{Row, noRow, rows, search, rowOf, rowAt, Skipped, kindAt, single, takesValue, entries, entriesFrom, Lists}
 use Rattle.properties.proofs.Upto.{upto, alike}
 

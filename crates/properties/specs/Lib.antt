@@ -1,4 +1,4 @@
-pub mod Ascii
+-- The definitions that the contracts of `properties` cite. Assumes nothing.
 pub mod Octets
 pub mod Shapes
 pub mod Kinds

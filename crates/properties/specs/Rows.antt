@@ -10,7 +10,7 @@ use lib.ListN.{length, getD, take}
 use Rattle.octets.specs.Pick.{pick}
 use Rattle.octets.specs.Classes.{bit}
 use Rattle.octets.specs.Cases.{same}
-use Rattle.properties.specs.Ascii.{octets}
+use Rattle.octets.specs.Ascii.{octets}
 
 -- how often a property may stand in a card: once where document 01 marks it *1
 pub data Times : Type 0 where

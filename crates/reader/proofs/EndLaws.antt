@@ -1,17 +1,18 @@
 -- The laws of a lone CR or LF and of paired ones at a place of a list. Assumes nothing.
 use mathlib.Core.Path.{_≡_, refl, sym, ap, _∙_}
-use mathlib.Core.Bool.{Bool, true, false, not, _&&_, and-true, and-false, and-assoc}
+use mathlib.Core.Bool.{Bool, true, false, not, _&&_, and-assoc}
 use mathlib.Core.List.{List, [], _∷_}
 use Prim.Native.Nat.{ℕ, suc, _+_, _<_, _≤_}
 use native.Mathlib.Nat.{add-zero}
 use native.Mathlib.Numerals.{add-one}
 use native.Mathlib.Omega.{arith}
 use lib.Dec.{eqb}
-use lib.Bits.{bitOr, or-zero-r, or-add-and, and-le-l}
+use lib.Bits.{bitOr}
 use lib.ListN.{length, getD, drop, drop-of-length-le, List·getD-eq-default}
 use lib.Seq.{getD-drop, drop-cons}
 use borrow.Author.Tests.{eq-eqb, ne-eqb, eqb-true}
 use Rattle.octets.specs.Classes.{bit}
+use Rattle.octets.proofs.PlainLaws.{or-mark}
 use Rattle.octets.specs.Pick.{pick}
 use Rattle.octets.specs.Scan.{after, scan}
 use Rattle.reader.specs.Lone.{loneStep, firstLone, differ, pairedAfter, paired}
@@ -35,11 +36,6 @@ module _ (s : List ℕ) (i : ℕ) where
   -- a step stays within the list
   pub step-inside : (n : ℕ) → n ≡ loneStep (drop i s) → i < length s → i + n ≤ length s
   step-inside n e h = within (eqb (getD s i 0) 10) (eqb (getD s i 0) 13) (eqb (getD s (i + 1) 0) 10) n refl h (e ∙ step-eq)
-
--- a mark is kept once it is set
-or-mark : (a : ℕ) (t : Bool) → eqb (bitOr a (bit t 1)) 0 ≡ (eqb a 0 && not t)
-or-mark a true = ne-eqb (bitOr a 1) 0 (λ e. omega (arith, or-add-and a 1, and-le-l a 1)) ∙ sym (and-false (eqb a 0))
-or-mark a false = ap (λ (n : ℕ). eqb n 0) (or-zero-r a) ∙ sym (and-true (eqb a 0))
 
 pub pair-none : (s : List ℕ) → length s ≡ 0 → paired s ≡ true
 unfolding paired pairedAfter

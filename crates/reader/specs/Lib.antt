@@ -1,2 +1,3 @@
+-- The definitions that the contracts of `reader` cite. Assumes nothing.
 pub mod Lone
 pub mod Outcome

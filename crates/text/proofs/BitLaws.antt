@@ -1,18 +1,18 @@
 -- Tests joined as bits, marks that are kept once set, and counts. Assumes nothing.
 use mathlib.Core.Path.{_≡_, refl, sym, ap, _∙_}
-use mathlib.Core.Bool.{Bool, true, false, not, _&&_, _||_, and-true, and-false, and-assoc}
+use mathlib.Core.Bool.{Bool, true, false, not, _&&_, _||_, and-assoc}
 use mathlib.Core.List.{List}
 use Prim.Native.Nat.{ℕ, _+_, _<_, _≤_}
 use native.Mathlib.Nat.{add-zero}
 use native.Mathlib.Numerals.{add-one}
 use native.Mathlib.Omega.{arith}
 use lib.Dec.{eqb}
-use lib.Bits.{bitOr, bitAnd, or-zero-r, or-add-and, and-le-l}
+use lib.Bits.{bitOr, bitAnd}
 use lib.ListN.{length, getD, drop, drop-of-length-le}
 use lib.Seq.{drop-cons}
-use borrow.Author.Tests.{ne-eqb}
 use mir.Val.{boolByte}
 use Rattle.octets.specs.Classes.{bit}
+use Rattle.octets.proofs.PlainLaws.{or-mark}
 use Rattle.text.specs.Counts.{count}
 
 or-bytes : (x y : Bool) → bitOr (boolByte x) (boolByte y) ≡ boolByte (x || y)
@@ -52,10 +52,6 @@ pair-bits p a b c d =
     ∙ ap (λ (n : ℕ). bitOr (boolByte (p && not coded)) n) (and-bytes (not p) a)
     ∙ or-bytes (p && not coded) (not p && a)
     ∙ byte-bit ((p && not coded) || (not p && a))
-
-or-mark : (a : ℕ) (t : Bool) → eqb (bitOr a (bit t 1)) 0 ≡ (eqb a 0 && not t)
-or-mark a true = ne-eqb (bitOr a 1) 0 (λ e. omega (arith, or-add-and a 1, and-le-l a 1)) ∙ sym (and-false (eqb a 0))
-or-mark a false = ap (λ (n : ℕ). eqb n 0) (or-zero-r a) ∙ sym (and-true (eqb a 0))
 
 -- a mark is kept once it is set: a has the marks so far, t is the next one and r says that none follows
 pub mark-step : (a x : ℕ) (t r : Bool) → x ≡ bit t 1 → (eqb a 0 && (not t && r)) ≡ (eqb (bitOr a x) 0 && r)

@@ -1,3 +1,4 @@
+-- The laws that the proofs of `text` cite. Assumes nothing.
 pub mod BitLaws
 pub mod EscapeLaws
 pub mod LengthLaws

@@ -1,3 +1,4 @@
+-- The definitions that the contracts of `text` cite. Assumes nothing.
 pub mod Escapes
 pub mod Counts
 pub mod Pairs

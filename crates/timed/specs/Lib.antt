@@ -1,2 +1,3 @@
+-- The definitions that the contracts of `timed` cite. Assumes nothing.
 pub mod Answers
 pub mod Calls

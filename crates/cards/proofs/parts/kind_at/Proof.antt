@@ -2,7 +2,7 @@
 use borrow.Author.Tests.{not-true, not-false}
 use mathlib.Core.Path.{sym, _∙_}
 use Rattle.cards.proofs.PartLaws.{no-value, value-none, value-some, value-missing, Part, value-there}
-use Rattle.properties.specs.Ascii.{octets}
+use Rattle.octets.specs.Ascii.{octets}
 use Rattle.cards.specs.Parts.{firstValue}
 use borrow.Author.Needs.{needs}
 use Rattle.cards.proofs.parts.kind_at.Statement.{statement}

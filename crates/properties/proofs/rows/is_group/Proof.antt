@@ -1,6 +1,6 @@
 -- `properties::rows::is_group` meets its contract. Assumes nothing.
 use borrow.Author.Needs.{needs}
-use Rattle.properties.specs.Ascii.{octets}
+use Rattle.octets.specs.Ascii.{octets}
 use Rattle.properties.specs.Rows.{isGroup}
 use Rattle.properties.proofs.rows.is_group.Statement.{statement}
 use Rattle.properties.proofs.rows.is_group.Tie as tie

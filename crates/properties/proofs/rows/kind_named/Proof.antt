@@ -4,7 +4,7 @@ use mathlib.Core.Path.{_≡_, sym, _∙_}
 use mathlib.Core.Bool.{true, false}
 use native.Mathlib.Omega.{arith}
 use Rattle.octets.specs.Cases.{same}
-use Rattle.properties.specs.Ascii.{octets}
+use Rattle.octets.specs.Ascii.{octets}
 use Rattle.properties.specs.Rows.{kindNamed}
 use Rattle.properties.proofs.rows.kind_named.Statement.{statement}
 use Rattle.properties.proofs.rows.kind_named.Tie as tie

@@ -1,6 +1,6 @@
 -- `properties::rows::table` meets its contract. Assumes nothing.
 use mathlib.Core.Path.{refl}
-use Rattle.properties.specs.Ascii.{octets}
+use Rattle.octets.specs.Ascii.{octets}
 use Rattle.properties.specs.Rows.{rows, rowAt, kindAt, single, takesValue, entries, entriesFrom, Lists}
 use Rattle.properties.proofs.rows.table.Statement.{statement}
 use Rattle.properties.proofs.rows.table.Tie as tie
