@@ -6,7 +6,7 @@ use mathlib.Core.List.{List, [], _∷_}
 use lib.Dec.{eqb}
 use lib.ListN.{getD}
 use Rattle.octets.specs.Pick.{pick}
-use Rattle.octets.specs.Characters.{tail}
+use Rattle.characters.specs.Characters.{tail}
 
 -- how many of the octets pass a test
 unfoldable pub count : (ℕ → Bool) → List ℕ → ℕ

@@ -62,7 +62,7 @@ pub fn characters(s: &[u8]) -> usize
     let mut n: usize = 0;
     let mut i: usize = 0;
     while i < s.len() {
-        let tail = octets::characters::is_tail(s[i]);
+        let tail = characters::is_tail(s[i]);
         if !tail {
             n += 1;
         }
@@ -117,7 +117,7 @@ pub fn character_start(s: &[u8], place: usize) -> usize
 {
     let mut i = place;
     while i > 0 {
-        let tail = octets::characters::is_tail(s[i]);
+        let tail = characters::is_tail(s[i]);
         if !tail {
             return i;
         }

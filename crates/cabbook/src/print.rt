@@ -18,7 +18,7 @@ fn run_of(to: i32, t: &[u8; 256], text: &[u8]) -> usize
     requires { ⌜ 0 < length (now text) ⌝ }
     ensures { λ r. ⌜ (0 < r) × (r ≤ length (now (text .entry))) ⌝ }
 {
-    let n = octets::characters::first_bad(t, text, false);
+    let n = screening::units::first_bad(t, text, false);
     if n >= text.len() {
         io::write_all(to, text);
         return text.len();

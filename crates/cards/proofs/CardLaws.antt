@@ -8,8 +8,8 @@ use lib.Dec.{eqb, ltb}
 use lib.ListN.{length}
 use borrow.Author.Tests.{ltb-false, eqb-true}
 use Rattle.octets.specs.Pick.{pick}
-use Rattle.octets.specs.Characters.{allowed, firstBad}
-use Rattle.octets.proofs.Chars.{bad-le}
+use Rattle.characters.specs.Characters.{allowed, firstBad}
+use Rattle.characters.proofs.Chars.{bad-le}
 use Rattle.lines.specs.Parse.{Parse, got, bad, hd}
 use Rattle.lines.specs.Grammar.{Line, nameEnd}
 use Rattle.lines.specs.Rule.{parseLine}

@@ -9,7 +9,7 @@ use lib.ListN.{length, take, drop, length-drop}
 use lib.Seq.{take-all}
 use borrow.Author.Tests.{eqb-true, le-ltb}
 use Rattle.octets.specs.Pick.{pick}
-use Rattle.octets.specs.Characters.{allowed, firstBad}
+use Rattle.characters.specs.Characters.{allowed, firstBad}
 use Rattle.lines.specs.Parse.{Parse, got, bad}
 use Rattle.lines.specs.Grammar.{Line}
 use Rattle.lines.specs.Rule.{parseLine}

@@ -126,7 +126,7 @@ pub fn judge_line(
     requires { ⌜ (c .cards ≤ c .lines) × (c .lines < 65536) ⌝ }
     ensures { λ r. ⌜ r ≡ judgeLine c at (now (s .entry)) ⌝ }
 {
-    if octets::characters::first_bad(t, s, false) < s.len() {
+    if screening::units::first_bad(t, s, false) < s.len() {
         return Step::Refused(5, at);
     }
     let p = crate::parts::parts_of(t, rows, s);

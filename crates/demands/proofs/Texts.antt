@@ -8,10 +8,10 @@ use lib.Dec.{ltb}
 use lib.ListN.{length, take, drop, take-append-drop}
 use lib.Seq.{length-take-le}
 use borrow.Author.Tests.{ltb-true, ltb-false, lt-ltb, le-ltb}
-use Rattle.octets.specs.Characters.{allowed, firstBad}
+use Rattle.characters.specs.Characters.{allowed, firstBad}
 use Rattle.octets.specs.Room.{Filled, refuse, fill, fillBounded}
 use Rattle.octets.specs.declared.rooms.Written.the-variants.{Wrote, Refused}
-use Rattle.octets.proofs.Chars.{bad-le}
+use Rattle.characters.proofs.Chars.{bad-le}
 use Rattle.octets.proofs.Scans.{scan-le}
 use Rattle.octet_laws.proofs.Utf8.{bad-place, bad-nowhere}
 use Rattle.text.specs.Escapes.{escaped, textStep, firstFault, unescaped}

@@ -6,7 +6,7 @@ use mathlib.Core.Bool.{Bool, true, false}
 use mathlib.Core.List.{List, [], map}
 use mathlib.Core.Logic.{_⊎_}
 use lib.ListN.{length, take, drop}
-use Rattle.octets.specs.Characters.{allowed}
+use Rattle.characters.specs.Characters.{allowed}
 use Rattle.octets.specs.Room.{Filled, refuse}
 use Rattle.octet_laws.specs.Texts.{Text, Stops}
 use Rattle.text.specs.Escapes.{escaped}

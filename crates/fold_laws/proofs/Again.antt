@@ -8,7 +8,7 @@ use lib.ListN.{length, take, length-append}
 use Rattle.octets.specs.Scan.{scan}
 use Rattle.octets.specs.Room.{filled, fillBounded}
 use Rattle.octets.specs.declared.rooms.Written.the-variants.{Wrote}
-use Rattle.octets.proofs.Chains.{no-end}
+use Rattle.characters.proofs.Chains.{no-end}
 use Rattle.reader.specs.Lone.{loneStep, firstLone, endsCrLf}
 use Rattle.reader.specs.Outcome.{judgeOf, logicalLines, ended, copyOf, recordsOf, writeOutcome, outcomeBy, readOutcome}
 use Rattle.reader.specs.declared.Verdict.{Verdict}

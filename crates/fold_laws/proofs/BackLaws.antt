@@ -6,8 +6,8 @@ use Prim.Native.Nat.{ℕ, _+_}
 use native.Mathlib.Omega.{arith}
 use lib.ListN.{length, length-append}
 use Rattle.octets.specs.Scan.{scan, gather}
-use Rattle.octets.specs.Characters.{allowed}
-use Rattle.octets.proofs.Chains.{Chars, end, start, NoEnd, none, more, no-end, char-four}
+use Rattle.characters.specs.Characters.{allowed}
+use Rattle.characters.proofs.Chains.{Chars, end, start, NoEnd, none, more, no-end, char-four}
 use Rattle.lines.specs.Folds.{foldAt, lineStep, lineLength, passed, kept, unfolded}
 use Rattle.lines.specs.Logical.{rawLines}
 use Rattle.lines.proofs.FoldLaws.{not-cr}

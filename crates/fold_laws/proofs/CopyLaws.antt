@@ -8,7 +8,7 @@ use lib.ListN.{length, getD, drop, length-append}
 use lib.Seq.{take-append-seam, drop-append-add}
 use borrow.Author.Tests.{ne-eqb}
 use Rattle.octets.specs.Scan.{scan, after}
-use Rattle.octets.proofs.Chains.{NoEnd, none, more, no-end}
+use Rattle.characters.proofs.Chains.{NoEnd, none, more, no-end}
 use Rattle.lines.specs.Folds.{foldAt, lineStep, lineLength}
 use Rattle.lines.specs.Logical.{rawLines}
 use Rattle.lines.proofs.FoldLaws.{line-octet}

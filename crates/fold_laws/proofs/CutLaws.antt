@@ -5,8 +5,8 @@ use mathlib.Core.List.{List, [], _∷_, flatten}
 use Prim.Native.Nat.{ℕ, suc, pred, _≤_}
 use native.Mathlib.Omega.{arith}
 use lib.ListN.{length}
-use Rattle.octets.specs.Characters.{charLength, allowed}
-use Rattle.octets.proofs.Chains.{Chars, end, start, inner, char-four, char-less, chars-fit}
+use Rattle.characters.specs.Characters.{charLength, allowed}
+use Rattle.characters.proofs.Chains.{Chars, end, start, inner, char-four, char-less, chars-fit}
 use Rattle.folder.specs.Pieces.{first, later, Clean, All}
 use Rattle.folder.proofs.PieceLaws.{Room, short, roomy, room, first-over, first-goes, later-over, later-goes, over-yes, over-no, over-tail, rejoin, first-fits}
 use Rattle.folder.proofs.Turns.{clean-chars, chars-clean}

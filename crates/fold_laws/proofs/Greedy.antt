@@ -5,8 +5,8 @@ use mathlib.Core.List.{List, [], _∷_, _++_, flatten}
 use Prim.Native.Nat.{ℕ, pred, _<_, _≤_}
 use native.Mathlib.Omega.{arith}
 use lib.ListN.{length}
-use Rattle.octets.specs.Characters.{charLength, lengthBy}
-use Rattle.octets.proofs.Chains.{Chars, end, start, inner, char-more, char-inside, char-four}
+use Rattle.characters.specs.Characters.{charLength, lengthBy}
+use Rattle.characters.proofs.Chains.{Chars, end, start, inner, char-more, char-inside, char-four}
 use Rattle.folder.specs.Pieces.{first, later, pieces, All}
 use Rattle.folder.proofs.PieceLaws.{first-over, first-goes, later-over, later-goes, over-yes, over-no, over-tail}
 use Rattle.folder.proofs.Turns.{clean-chars}

@@ -7,9 +7,9 @@ use native.Mathlib.Omega.{arith}
 use lib.ListN.{length}
 use borrow.Author.Tests.{ne-eqb}
 use Rattle.octets.specs.Classes.{valued}
-use Rattle.octets.specs.Characters.{allowed}
-use Rattle.octets.proofs.Chars.{ascii}
-use Rattle.octets.proofs.Chains.{Chars, end, start, NoEnd, none, more, no-end}
+use Rattle.characters.specs.Characters.{allowed}
+use Rattle.characters.proofs.Chars.{ascii}
+use Rattle.characters.proofs.Chains.{Chars, end, start, NoEnd, none, more, no-end}
 use Rattle.folder.specs.Pieces.{first, later, pieces, joined, folded, foldedLines, Clean, All}
 use Rattle.reader.specs.Outcome.{ended}
 use Rattle.folder.proofs.PieceLaws.{first-fits}

@@ -3,7 +3,7 @@ use Prim.Native.Nat.{ℕ, _+_, _<_, _≤_}
 use mathlib.Core.Path.{_≡_}
 use mathlib.Core.List.{List, [], _∷_, flatten}
 use lib.ListN.{length}
-use Rattle.octets.specs.Characters.{charLength}
+use Rattle.characters.specs.Characters.{charLength}
 use Rattle.folder.specs.Pieces.{Clean, All}
 
 -- a line of at most n octets

@@ -8,8 +8,8 @@ use lib.Dec.{ltb}
 use lib.ListN.{length}
 use borrow.Author.Tests.{ltb-true, ltb-false, lt-ltb, le-ltb}
 use Rattle.octets.specs.Pick.{pick}
-use Rattle.octets.specs.Characters.{tail, charLength}
-use Rattle.octets.proofs.Chains.{Chars, end, start, inner, tail-none}
+use Rattle.characters.specs.Characters.{tail, charLength}
+use Rattle.characters.proofs.Chains.{Chars, end, start, inner, tail-none}
 use Rattle.folder.specs.Pieces.{over, first, later}
 
 -- one octet: the two cases

@@ -7,8 +7,8 @@ use Prim.Native.Nat.{ℕ, zero, suc, pred, _+_, _-_, _<_, _≤_}
 use native.Mathlib.Omega.{arith}
 use lib.ListN.{length, getD, take, drop, length-append, length-drop}
 use lib.Seq.{take-append-seam, drop-drop, getD-drop, length-take-le}
-use Rattle.octets.specs.Characters.{tail, allowed}
-use Rattle.octets.proofs.Chains.{Chars, end, start, inner, char-four, char-inside, good-chars, chars-good, chars-tail, chars-next, nope}
+use Rattle.characters.specs.Characters.{tail, allowed}
+use Rattle.characters.proofs.Chains.{Chars, end, start, inner, char-four, char-inside, good-chars, chars-good, chars-tail, chars-next, nope}
 use Rattle.folder.specs.Pieces.{first, later, cutFrom, joined, Clean}
 use Rattle.folder.proofs.PieceLaws.{Room, short, roomy, room, first-over, first-goes, later-over, later-goes, over-yes, over-no, over-tail, rejoin, first-fits}
 

@@ -7,7 +7,7 @@ use mathlib.Core.List.{List, [], _∷_, _++_}
 use lib.Dec.{ltb}
 use lib.ListN.{length}
 use Rattle.octets.specs.Pick.{pick}
-use Rattle.octets.specs.Characters.{charLength, allowed, firstBad}
+use Rattle.characters.specs.Characters.{charLength, allowed, firstBad}
 
 -- a character starts here that does not fit the r octets left in the physical line; inside a character none starts
 unfoldable pub over : List ℕ → ℕ → Bool

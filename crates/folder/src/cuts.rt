@@ -10,7 +10,7 @@ pub fn cut(s: &[u8], from: usize, room: usize) -> usize
     ensures { λ r. ⌜ r ≡ from + length (first (drop from (now (s .entry))) room) ⌝ }
 {
     let mut e = from + room;
-    while octets::characters::is_tail(s[e]) {
+    while characters::is_tail(s[e]) {
         e -= 1;
     }
     e

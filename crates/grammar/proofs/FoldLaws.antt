@@ -13,7 +13,7 @@ use lib.Seq.{take-append-seam, drop-append-add, drop-cons, split-at, getD-at, ge
 use borrow.Author.Tests.{eqb-true, eqb-false, ne-eqb, le-ltb, ltb-false, not-true}
 use Rattle.octets.specs.Scan.{scan, gather}
 use Rattle.octets.specs.Classes.{valued}
-use Rattle.octets.specs.Characters.{allowed}
+use Rattle.characters.specs.Characters.{allowed}
 use Rattle.octet_laws.specs.Texts.{Each as EachOctet}
 use Rattle.lines.specs.Parse.{hd}
 use Rattle.lines.specs.Folds.{foldAt, lineStep, lineLength, passed, kept, unfolded}

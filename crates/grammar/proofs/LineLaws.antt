@@ -9,7 +9,7 @@ use lib.Dec.{eqb, ltb}
 use lib.ListN.{length}
 use borrow.Author.Tests.{eqb-true, eqb-false, eq-eqb, ne-eqb}
 use Rattle.octets.specs.Pick.{pick}
-use Rattle.octets.specs.Characters.{allowed, firstBad}
+use Rattle.characters.specs.Characters.{allowed, firstBad}
 use Rattle.lines.specs.Parse.{Parse, got, bad}
 use Rattle.lines.specs.Grammar.{Line, front}
 use Rattle.lines.specs.Rule.{parseLine}

@@ -9,8 +9,8 @@ use native.Mathlib.Omega.{arith}
 use lib.Dec.{eqb, ltb}
 use lib.ListN.{length}
 use borrow.Author.Tests.{le-ltb, ltb-false, eqb-true, eqb-false}
-use Rattle.octets.specs.Characters.{allowed, firstBad}
-use Rattle.octets.proofs.Chars.{bad-le}
+use Rattle.characters.specs.Characters.{allowed, firstBad}
+use Rattle.characters.proofs.Chars.{bad-le}
 use Rattle.octet_laws.proofs.Utf8.{allowed-only}
 use Rattle.properties.specs.Kinds.{shapeOf, kindScan, valueScan}
 use Rattle.properties.specs.Shapes.{Is}

@@ -4,8 +4,8 @@ use mathlib.Core.Path.{_≡_}
 use mathlib.Core.Bool.{Bool, true, false, _&&_}
 use mathlib.Core.List.{List, [], _∷_, _++_}
 use lib.Dec.{eqb}
-use Rattle.octets.specs.Characters.{allowed}
-use Rattle.octets.specs.Rfc3629.{Characters}
+use Rattle.characters.specs.Characters.{allowed}
+use Rattle.characters.specs.Rfc3629.{Characters}
 use Rattle.octet_laws.specs.Texts.{Each as EachOctet}
 use Rattle.lines.specs.Grammar.{Line, Each, WellFormed, render}
 use Rattle.properties.specs.Rows.{single, isGroup}

@@ -9,8 +9,8 @@ use lib.ListN.{length, drop}
 use borrow.Author.Tests.{lt-ltb, le-ltb, le-leb, leb-true, ltb-true, ltb-false, eqb-true, eqb-false, eq-eqb, ne-eqb}
 use Rattle.octets.specs.Pick.{pick}
 use Rattle.octets.specs.Classes.{within}
-use Rattle.octets.specs.Characters.{lengthBy, second, tail, rest, charLength}
-use Rattle.octets.specs.Rfc3629.{In, Character, utf8-1, utf8-2, utf8-3-e0, utf8-3-low, utf8-3-ed, utf8-3-high, utf8-4-f0, utf8-4-mid, utf8-4-f4}
+use Rattle.characters.specs.Characters.{lengthBy, second, tail, rest, charLength}
+use Rattle.characters.specs.Rfc3629.{In, Character, utf8-1, utf8-2, utf8-3-e0, utf8-3-low, utf8-3-ed, utf8-3-high, utf8-4-f0, utf8-4-mid, utf8-4-f4}
 use Rattle.octet_laws.specs.Texts.{Begins, Each}
 
 and-both : (x y : Bool) → (x && y) ≡ true → (x ≡ true) × (y ≡ true)

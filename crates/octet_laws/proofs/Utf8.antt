@@ -10,9 +10,9 @@ use lib.ListN.{length, take, drop}
 use lib.Seq.{take-append-seam, take-length}
 use Rattle.octets.specs.Scan.{scan}
 use Rattle.octets.specs.Classes.{valued}
-use Rattle.octets.specs.Characters.{lengthBy, second, tail, rest, charLength, allowed, unit, firstBad}
-use Rattle.octets.specs.Rfc3629.{Characters}
-use Rattle.octets.proofs.Chars.{bad-le}
+use Rattle.characters.specs.Characters.{lengthBy, second, tail, rest, charLength, allowed, unit, firstBad}
+use Rattle.characters.specs.Rfc3629.{Characters}
+use Rattle.characters.proofs.Chars.{bad-le}
 use Rattle.octet_laws.specs.Texts.{Begins, Text, Stops, Each}
 use Rattle.octet_laws.proofs.Starts.{char-found, char-parts}
 use Rattle.octet_laws.proofs.Walks.{begins, stops-zero, bad-none, place-parts, past-prefix, each-any, text-of, text-characters, text-each, allowed-high}

@@ -10,9 +10,9 @@ use lib.ListN.{length, getD, take, drop, length-append, take-append-drop, List·
 use lib.Seq.{drop-append-seam, take-at, drop-at, length-take-le}
 use borrow.Author.Tests.{leb-true, le-leb}
 use Rattle.octets.specs.Classes.{valued}
-use Rattle.octets.specs.Characters.{charLength, allowed, unit, firstBad}
-use Rattle.octets.specs.Rfc3629.{Character, Characters}
-use Rattle.octets.proofs.Chars.{unit-fits, bad-stop, bad-step, bad-le}
+use Rattle.characters.specs.Characters.{charLength, allowed, unit, firstBad}
+use Rattle.characters.specs.Rfc3629.{Character, Characters}
+use Rattle.characters.proofs.Chars.{unit-fits, bad-stop, bad-step, bad-le}
 use Rattle.octet_laws.specs.Texts.{Begins, Text, none, more, Stops, Each}
 use Rattle.octet_laws.proofs.Starts.{pick-suc, char-found, char-length, char-parts}
 

@@ -4,7 +4,7 @@ use mathlib.Core.Path.{_≡_}
 use mathlib.Core.Bool.{Bool, true}
 use mathlib.Core.List.{List, [], _∷_, _++_}
 use lib.ListN.{getD}
-use Rattle.octets.specs.Rfc3629.{Character}
+use Rattle.characters.specs.Rfc3629.{Character}
 
 -- the character c stands at the start of l
 abbrev pub Begins : List ℕ → List ℕ → Type 0

@@ -2,10 +2,8 @@
 pub mod Table
 pub mod Runs
 pub mod Masks
+pub mod Marks
 pub mod Scans
-pub mod Chars
-pub mod Chains
-pub mod PlainLaws
 pub mod CaseLaws
 pub mod Copies
 pub mod RoomLaws

@@ -5,5 +5,3 @@ pub mod Scan
 pub mod Room
 pub mod Classes
 pub mod Cases
-pub mod Characters
-pub mod Rfc3629

@@ -12,7 +12,7 @@ use lib.ListN.{length, getD, drop, drop-of-length-le, List·getD-eq-default}
 use lib.Seq.{getD-drop, drop-cons}
 use borrow.Author.Tests.{eq-eqb, ne-eqb, eqb-true}
 use Rattle.octets.specs.Classes.{bit}
-use Rattle.octets.proofs.PlainLaws.{or-mark}
+use Rattle.octets.proofs.Marks.{mark-step}
 use Rattle.octets.specs.Pick.{pick}
 use Rattle.octets.specs.Scan.{after, scan}
 use Rattle.reader.specs.Lone.{loneStep, firstLone, differ, pairedAfter, paired}
@@ -63,11 +63,8 @@ module _ (s : List ℕ) (i : ℕ) where
       → (eqb a 0 && pairedAfter (eqb (getD s i 0) 13) (drop (i + 1) s))
       ≡ (eqb (bitOr a x) 0 && pairedAfter (eqb (getD s (i + 1) 0) 13) (drop (i + 1 + 1) s))
   pair-step h a x e =
-      let d = differ (eqb (getD s i 0) 13) (eqb (getD s (i + 1) 0) 10) in
-      let r = pairedAfter (eqb (getD s (i + 1) 0) 13) (drop (i + 1 + 1) s) in
       ap (λ (t : Bool). eqb a 0 && t) (pair-at h)
-      ∙ sym (and-assoc (eqb a 0) (not d) r)
-      ∙ ap (λ (t : Bool). t && r) (sym (or-mark a d) ∙ ap (λ (n : ℕ). eqb (bitOr a n) 0) (sym e))
+      ∙ mark-step a x (differ (eqb (getD s i 0) 13) (eqb (getD s (i + 1) 0) 10)) (pairedAfter (eqb (getD s (i + 1) 0) 13) (drop (i + 1 + 1) s)) e
 
   pub pair-end : length s ≤ i + 1 → (a : ℕ) (t : Bool) → eqb (getD s i 0) 13 ≡ t
       → (eqb a 0 && pairedAfter (eqb (getD s i 0) 13) (drop (i + 1) s)) ≡ (eqb a 0 && not t)

@@ -8,7 +8,7 @@ use lib.Dec.{eqb}
 use lib.ListN.{length}
 use borrow.Author.Tests.{le-ltb}
 use Rattle.octets.specs.Pick.{pick}
-use Rattle.octets.specs.Characters.{allowed, firstBad}
+use Rattle.characters.specs.Characters.{allowed, firstBad}
 use Rattle.properties.specs.Rows.{isGroup}
 use Rattle.cards.specs.State.{onceBit, isSeen, noted, closed}
 use Rattle.cards.specs.Parts.{rowOfLine}

@@ -10,8 +10,8 @@ use lib.ListN.{length, getD, take, drop, length-append}
 use lib.Seq.{take-append-seam, drop-append-add}
 use borrow.Author.Tests.{ne-eqb, eqb-true, eqb-false, le-ltb}
 use Rattle.octets.specs.Scan.{scan, gather}
-use Rattle.octets.specs.Characters.{allowed}
-use Rattle.octets.proofs.Chains.{NoEnd, none, more, no-end, good-chars}
+use Rattle.characters.specs.Characters.{allowed}
+use Rattle.characters.proofs.Chains.{NoEnd, none, more, no-end, good-chars}
 use Rattle.lines.specs.Folds.{foldAt, lineStep, lineLength, passed, kept, unfolded}
 use Rattle.lines.specs.Grammar.{Each}
 use Rattle.lines.specs.Logical.{rawLines}

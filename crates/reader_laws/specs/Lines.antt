@@ -4,7 +4,7 @@ use mathlib.Core.Path.{_≡_}
 use mathlib.Core.Bool.{false}
 use mathlib.Core.List.{List}
 use lib.ListN.{length, getD}
-use Rattle.octets.specs.Characters.{allowed, firstBad}
+use Rattle.characters.specs.Characters.{allowed, firstBad}
 
 -- characters only, with no control but tab; neither empty nor led by a space or tab
 pub record Clean (l : List ℕ) : Type 0 where

@@ -12,7 +12,6 @@ use lib.ListN.{length, getD, drop, drop-of-length-le}
 use lib.Seq.{drop-cons}
 use mir.Val.{boolByte}
 use Rattle.octets.specs.Classes.{bit}
-use Rattle.octets.proofs.PlainLaws.{or-mark}
 use Rattle.text.specs.Counts.{count}
 
 or-bytes : (x y : Bool) → bitOr (boolByte x) (boolByte y) ≡ boolByte (x || y)
@@ -52,11 +51,6 @@ pair-bits p a b c d =
     ∙ ap (λ (n : ℕ). bitOr (boolByte (p && not coded)) n) (and-bytes (not p) a)
     ∙ or-bytes (p && not coded) (not p && a)
     ∙ byte-bit ((p && not coded) || (not p && a))
-
--- a mark is kept once it is set: a has the marks so far, t is the next one and r says that none follows
-pub mark-step : (a x : ℕ) (t r : Bool) → x ≡ bit t 1 → (eqb a 0 && (not t && r)) ≡ (eqb (bitOr a x) 0 && r)
-mark-step a x t r e =
-    sym (and-assoc (eqb a 0) (not t) r) ∙ ap (λ (u : Bool). u && r) (sym (or-mark a t) ∙ ap (λ (n : ℕ). eqb (bitOr a n) 0) (sym e))
 
 pub bit-le : (t : Bool) → bit t 1 ≤ 1
 bit-le true = omega arith

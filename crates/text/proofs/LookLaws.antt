@@ -12,8 +12,9 @@ use lib.ListN.{length, getD, take, drop, length-drop}
 use lib.Seq.{take-suc, take-all}
 use Rattle.octets.specs.Classes.{bit}
 use Rattle.octets.specs.Scan.{scan, gather}
-use Rattle.octets.specs.Characters.{odd, allPlain, allowed, firstBad}
-use Rattle.octets.proofs.PlainLaws.{plain-all}
+use Rattle.characters.specs.Characters.{allowed, firstBad}
+use Rattle.screening.specs.Plain.{odd, allPlain}
+use Rattle.screening.proofs.PlainLaws.{plain-all}
 use Rattle.text.specs.Counts.{count}
 use Rattle.text.specs.Escapes.{backslash, special, marked, escaped, firstFault, unescaped}
 use Rattle.text.specs.Looks.{any, held, seen}

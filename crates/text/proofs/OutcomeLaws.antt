@@ -7,7 +7,7 @@ use native.Mathlib.Omega.{arith}
 use lib.ListN.{length}
 use borrow.Author.Tests.{lt-ltb, le-ltb}
 use Rattle.octets.specs.Room.{Filled, refuse, fill, fillBounded}
-use Rattle.octets.specs.Characters.{firstBad}
+use Rattle.characters.specs.Characters.{firstBad}
 use Rattle.text.specs.Escapes.{escaped, firstFault, unescaped}
 use Rattle.text.specs.Looks.{any, held}
 use Rattle.text.specs.Outcomes.{checked, faultless}

@@ -15,7 +15,7 @@ use Rattle.octets.specs.Scan.{after, scan, gather}
 use Rattle.text.specs.Escapes.{backslash, special, code, escapeAt, textStep, firstFault, unescaped}
 use Rattle.text.specs.Counts.{count}
 use Rattle.text.specs.Pairs.{unsettled, settled}
-use Rattle.text.proofs.BitLaws.{mark-step}
+use Rattle.octets.proofs.Marks.{mark-step}
 use Rattle.text.proofs.EscapeLaws.{clash}
 use Rattle.text.proofs.LengthLaws.{first-octet, first-escape}
 

@@ -5,7 +5,7 @@ use mathlib.Core.Bool.{Bool, false, _||_}
 use mathlib.Core.List.{List, [], _∷_}
 use lib.Dec.{eqb}
 use Rattle.octets.specs.Classes.{bit}
-use Rattle.octets.specs.Characters.{odd}
+use Rattle.screening.specs.Plain.{odd}
 use Rattle.text.specs.Escapes.{backslash}
 
 -- an octet of the list satisfies the test

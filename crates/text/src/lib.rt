@@ -8,7 +8,8 @@ ghost use mathlib.Core.Path.{_≡_};
 ghost use mathlib.Core.Bool.{false};
 ghost use Prim.Native.Nat.{_≤_};
 ghost use lib.ListN.{length};
-ghost use Rattle.octets.specs.Characters.{odd, allowed, firstBad};
+ghost use Rattle.characters.specs.Characters.{allowed, firstBad};
+ghost use Rattle.screening.specs.Plain.{odd};
 ghost use Rattle.octets.specs.Room.{filled, fill, fillBounded};
 ghost use Rattle.text.specs.Escapes.{escaped, unescaped};
 ghost use Rattle.text.specs.Looks.{any};
@@ -26,7 +27,7 @@ fn bad_octet(text: &[u8], look: u8, lf: bool) -> usize
     if look == 2 {
         return text.len();
     }
-    octets::texts::first_bad(text, lf)
+    screening::texts::first_bad(text, lf)
 }
 
 // Writes the text as it is, or refuses with 15.

@@ -17,7 +17,7 @@ pub fn held_bit(b: u8, x: u8, y: u8) -> u8
 fn look_octet(b: u8, x: u8, y: u8) -> u8
     ensures { λ r. ⌜ r ≡ seen x y (b ∷ []) ⌝ }
 {
-    octets::plain::odd_bit(b) + 2 * held_bit(b, x, y)
+    screening::plain::odd_bit(b) + 2 * held_bit(b, x, y)
 }
 
 // What is seen, octet by octet with no way out, so that it is compiled to vectors.

@@ -11,8 +11,8 @@ use borrow.Author.Tests.{eqb-true, ltb-false}
 use Rattle.octets.specs.Pick.{pick}
 use Rattle.octets.specs.Room.{Filled, filled, refuse, overlay, fill, fillBounded}
 use Rattle.octets.specs.declared.rooms.Written.the-variants.{Wrote, Refused}
-use Rattle.octets.specs.Characters.{allowed, firstBad}
-use Rattle.octets.proofs.Chars.{bad-le}
+use Rattle.characters.specs.Characters.{allowed, firstBad}
+use Rattle.characters.proofs.Chars.{bad-le}
 use Rattle.text.specs.Escapes.{special, marked, letter, inEscape, escaped, firstFault, unescaped}
 use Rattle.text.specs.Outcomes.{checked, faultless, escapeOutcome, unescapeOutcome}
 use Rattle.text.specs.Stands.{Escape, backslash, comma, semicolon, small-n, Stands, none, itself, escape}

@@ -10,9 +10,9 @@ use lib.ListN.{length, getD}
 use borrow.Author.Tests.{ltb-true, ltb-false, eqb-true, ne-eqb, le-leb}
 use Rattle.octets.specs.Pick.{pick}
 use Rattle.octets.specs.Classes.{valued}
-use Rattle.octets.specs.Characters.{charLength, allowed, firstBad}
-use Rattle.octets.proofs.Chars.{ascii}
-use Rattle.octets.proofs.Chains.{Chars, end, start, inner, char-same, tail-range, chars-fit, chars-tail, good-chars, chars-good}
+use Rattle.characters.specs.Characters.{charLength, allowed, firstBad}
+use Rattle.characters.proofs.Chars.{ascii}
+use Rattle.characters.proofs.Chains.{Chars, end, start, inner, char-same, tail-range, chars-fit, chars-tail, good-chars, chars-good}
 use Rattle.text.specs.Escapes.{special, marked, letter, inEscape, escaped}
 use Rattle.text.proofs.EscapeLaws.{clash}
 

@@ -3,7 +3,7 @@ use mathlib.Core.Path.{_∙_}
 use mathlib.Core.Bool.{true}
 use native.Mathlib.Omega.{arith}
 use Rattle.octets.specs.Room.{fillBounded}
-use Rattle.octets.specs.Characters.{allowed}
+use Rattle.characters.specs.Characters.{allowed}
 use Rattle.text.specs.Escapes.{escaped}
 use Rattle.text.specs.Outcomes.{escapeOutcome}
 use Rattle.text.proofs.LookLaws.{seen-low, seen-plain}

@@ -3,7 +3,7 @@ use mathlib.Core.Path.{_∙_}
 use mathlib.Core.Bool.{false}
 use native.Mathlib.Omega.{arith}
 use Rattle.octets.specs.Room.{fill}
-use Rattle.octets.specs.Characters.{allowed}
+use Rattle.characters.specs.Characters.{allowed}
 use Rattle.text.specs.Escapes.{unescaped}
 use Rattle.text.specs.Outcomes.{faultless, unescapeOutcome}
 use Rattle.text.proofs.LookLaws.{seen-low, seen-plain}

@@ -3,7 +3,7 @@ use borrow.Author.Tests.{lt-ltb}
 use mathlib.Core.Path.{_≡_, sym, ap, _∙_}
 use mathlib.Core.Bool.{false}
 use lib.ListN.{length, drop}
-use Rattle.octets.specs.Characters.{allowed, firstBad}
+use Rattle.characters.specs.Characters.{allowed, firstBad}
 use Rattle.cards.specs.Judge.{judgeLine}
 use Rattle.cards.proofs.PartLaws.{Read, read}
 use Rattle.cards.proofs.JudgeLaws.{refused, judged}

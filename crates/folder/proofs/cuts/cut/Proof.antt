@@ -5,7 +5,7 @@ use mathlib.Core.Bool.{true}
 use Prim.Native.Nat.{ℕ, _+_, _≤_, _<_}
 use native.Mathlib.Omega.{arith}
 use lib.ListN.{getD}
-use Rattle.octets.specs.Characters.{tail}
+use Rattle.characters.specs.Characters.{tail}
 use Rattle.folder.proofs.Turns.{inside, cut-place, one-more}
 use Rattle.folder.proofs.cuts.cut.Statement.{statement}
 use Rattle.folder.proofs.cuts.cut.Tie as tie

@@ -1,6 +1,6 @@
 -- `text::looks::look_octet` meets its contract. Assumes nothing.
 use native.Mathlib.Omega.{arith}
-use Rattle.octets.specs.Characters.{odd}
+use Rattle.screening.specs.Plain.{odd}
 use Rattle.text.specs.Looks.{held}
 use Rattle.text.proofs.BitLaws.{bit-le}
 use Rattle.text.proofs.LookLaws.{seen-one}
