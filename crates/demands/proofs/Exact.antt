@@ -14,9 +14,9 @@ use Rattle.characters.specs.Characters.{allowed, firstBad}
 use Rattle.octets.specs.Room.{Filled, filled, refuse, overlay, fill, fillBounded}
 use Rattle.octets.specs.declared.rooms.Written.the-variants.{Wrote}
 use Rattle.octet_laws.proofs.Utf8.{allowed-only}
-use Rattle.text.specs.Escapes.{escaped, firstFault, unescaped}
+use Rattle.escapes.specs.Escapes.{escaped, firstFault, unescaped}
 use Rattle.text.specs.Outcomes.{checked, faultless, escapeOutcome, unescapeOutcome}
-use Rattle.text.specs.Stands.{Stands, none, itself, escape}
+use Rattle.escapes.specs.Stands.{Stands, none, itself, escape}
 use Rattle.text_laws.proofs.StandsLaws.{stands-exactly}
 use Rattle.text_laws.proofs.BackLaws.{round-trip}
 use Rattle.lines.specs.Grammar.{Line, render}

@@ -9,9 +9,9 @@ use lib.ListN.{length, take, drop}
 use Rattle.characters.specs.Characters.{allowed}
 use Rattle.octets.specs.Room.{Filled, refuse}
 use Rattle.octet_laws.specs.Texts.{Text, Stops}
-use Rattle.text.specs.Escapes.{escaped}
+use Rattle.escapes.specs.Escapes.{escaped}
 use Rattle.text.specs.Outcomes.{escapeOutcome, unescapeOutcome}
-use Rattle.text.specs.Stands.{Stands, Faulty}
+use Rattle.escapes.specs.Stands.{Stands, Faulty}
 use Rattle.lines.specs.Grammar.{render}
 use Rattle.reader.specs.Outcome.{judgeOf, ended, Taken, took, readOutcome}
 use Rattle.reader.specs.declared.Verdict.{Verdict}

@@ -8,9 +8,9 @@ use mathlib.Core.Logic.{_↔_}
 use lib.ListN.{length, take, drop}
 use Rattle.octets.specs.Room.{Filled, filled, overlay}
 use Rattle.octets.specs.declared.rooms.Written.the-variants.{Wrote}
-use Rattle.text.specs.Escapes.{escaped}
+use Rattle.escapes.specs.Escapes.{escaped}
 use Rattle.text.specs.Outcomes.{escapeOutcome, unescapeOutcome}
-use Rattle.text.specs.Stands.{Stands}
+use Rattle.escapes.specs.Stands.{Stands}
 use Rattle.lines.specs.Grammar.{Line, render}
 use Rattle.reader.specs.Outcome.{judgeOf, logicalLines, Taken, readOutcome}
 use Rattle.reader.specs.declared.Verdict.the-variants.{Accepted}

@@ -1,8 +1,2 @@
--- The laws that the proofs of `text` cite. Assumes nothing.
-pub mod BitLaws
-pub mod EscapeLaws
-pub mod LengthLaws
-pub mod PairLaws
-pub mod PieceLaws
-pub mod LookLaws
+-- The laws that the proofs of `text` and of the crates above it cite. Assumes nothing.
 pub mod OutcomeLaws

@@ -8,11 +8,11 @@ use lib.ListN.{length}
 use borrow.Author.Tests.{lt-ltb, le-ltb}
 use Rattle.octets.specs.Room.{Filled, refuse, fill, fillBounded}
 use Rattle.characters.specs.Characters.{firstBad}
-use Rattle.text.specs.Escapes.{escaped, firstFault, unescaped}
-use Rattle.text.specs.Looks.{any, held}
+use Rattle.escapes.specs.Escapes.{escaped, firstFault, unescaped}
+use Rattle.escapes.specs.Looks.{any, held}
 use Rattle.text.specs.Outcomes.{checked, faultless}
 use Rattle.octets.proofs.RoomLaws.{within-bound}
-use Rattle.text.proofs.LookLaws.{same-unmarked, bare}
+use Rattle.escapes.proofs.LookLaws.{same-unmarked, bare}
 
 module _ (p : ℕ → Bool) (t room : List ℕ) (left : Filled) where
   pub too-long : 16384 < length t → refuse 1 16384 room ≡ checked p t room left

@@ -1,9 +1,4 @@
 // Text: escaping, and unescaping, which gives back what was escaped.
-mod counts;
-mod escaping;
-mod looks;
-mod unescaping;
-
 ghost use mathlib.Core.Path.{_≡_};
 ghost use mathlib.Core.Bool.{false};
 ghost use Prim.Native.Nat.{_≤_};
@@ -11,8 +6,8 @@ ghost use lib.ListN.{length};
 ghost use Rattle.characters.specs.Characters.{allowed, firstBad};
 ghost use Rattle.screening.specs.Plain.{odd};
 ghost use Rattle.octets.specs.Room.{filled, fill, fillBounded};
-ghost use Rattle.text.specs.Escapes.{escaped, unescaped};
-ghost use Rattle.text.specs.Looks.{any};
+ghost use Rattle.escapes.specs.Escapes.{escaped, unescaped};
+ghost use Rattle.escapes.specs.Looks.{any};
 ghost use Rattle.text.specs.Outcomes.{faultless, escapeOutcome, unescapeOutcome};
 use octets::rooms::Written;
 
@@ -46,15 +41,15 @@ fn escape_each(text: &[u8], out: &mut [u8]) -> Written
     requires { ⌜ length (now text) ≤ 16384 ⌝ }
     ensures { λ r. ⌜ filled r (now (out .exit)) ≡ fillBounded (escaped (now (text .entry))) (now (out .entry)) ⌝ }
 {
-    let n = text.len() + counts::marks(text);
+    let n = text.len() + escapes::counts::marks(text);
     if 16384 < n {
         return Written::Refused(16, 16384);
     }
     if out.len() < n {
         return Written::Refused(15, n);
     }
-    let t = escaping::letters();
-    escaping::write(&t, text, out);
+    let t = escapes::escaping::letters();
+    escapes::escaping::write(&t, text, out);
     Written::Wrote(n)
 }
 
@@ -65,7 +60,7 @@ pub fn escape(text: &[u8], out: &mut [u8]) -> Written
     if 16384 < text.len() {
         return Written::Refused(1, 16384);
     }
-    let look = looks::look(text, 59, 10);
+    let look = escapes::looks::look(text, 59, 10);
     let bad = bad_octet(text, look, true);
     if bad < text.len() {
         return Written::Refused(31, bad);
@@ -81,7 +76,7 @@ fn unescape_each(text: &[u8], out: &mut [u8]) -> Written
     requires { ⌜ length (now text) ≤ 16384 ⌝ }
     ensures { λ r. ⌜ filled r (now (out .exit)) ≡ faultless (now (text .entry)) (now (out .entry)) (fill (unescaped (now (text .entry))) (now (out .entry))) ⌝ }
 {
-    let m = unescaping::measure(text);
+    let m = escapes::unescaping::measure(text);
     let fault = m.fault;
     if fault < text.len() {
         return Written::Refused(30, fault);
@@ -90,7 +85,7 @@ fn unescape_each(text: &[u8], out: &mut [u8]) -> Written
     if out.len() < kept {
         return Written::Refused(15, kept);
     }
-    unescaping::write(text, out);
+    escapes::unescaping::write(text, out);
     Written::Wrote(kept)
 }
 
@@ -101,7 +96,7 @@ pub fn unescape(text: &[u8], out: &mut [u8]) -> Written
     if 16384 < text.len() {
         return Written::Refused(1, 16384);
     }
-    let look = looks::look(text, 44, 44);
+    let look = escapes::looks::look(text, 44, 44);
     let bad = bad_octet(text, look, false);
     if bad < text.len() {
         return Written::Refused(31, bad);

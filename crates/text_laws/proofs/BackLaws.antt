@@ -13,10 +13,10 @@ use Rattle.octets.specs.Room.{Filled, filled, refuse, overlay, fill, fillBounde
 use Rattle.octets.specs.declared.rooms.Written.the-variants.{Wrote, Refused}
 use Rattle.characters.specs.Characters.{allowed, firstBad}
 use Rattle.characters.proofs.Chars.{bad-le}
-use Rattle.text.specs.Escapes.{special, marked, letter, inEscape, escaped, firstFault, unescaped}
+use Rattle.escapes.specs.Escapes.{special, marked, letter, inEscape, escaped, firstFault, unescaped}
 use Rattle.text.specs.Outcomes.{checked, faultless, escapeOutcome, unescapeOutcome}
-use Rattle.text.specs.Stands.{Escape, backslash, comma, semicolon, small-n, Stands, none, itself, escape}
-use Rattle.text.proofs.EscapeLaws.{clash}
+use Rattle.escapes.specs.Stands.{Escape, backslash, comma, semicolon, small-n, Stands, none, itself, escape}
+use Rattle.escapes.proofs.EscapeLaws.{clash}
 use Rattle.text.proofs.OutcomeLaws.{good, no-fault}
 use Rattle.octets.proofs.RoomLaws.{fill-fits}
 use Rattle.text_laws.proofs.StandsLaws.{passes, gives}

@@ -13,8 +13,8 @@ use Rattle.octets.specs.Classes.{valued}
 use Rattle.characters.specs.Characters.{charLength, allowed, firstBad}
 use Rattle.characters.proofs.Chars.{ascii}
 use Rattle.characters.proofs.Chains.{Chars, end, start, inner, char-same, tail-range, chars-fit, chars-tail, good-chars, chars-good}
-use Rattle.text.specs.Escapes.{special, marked, letter, inEscape, escaped}
-use Rattle.text.proofs.EscapeLaws.{clash}
+use Rattle.escapes.specs.Escapes.{special, marked, letter, inEscape, escaped}
+use Rattle.escapes.proofs.EscapeLaws.{clash}
 
 -- an octet that is no ASCII is written as it is
 high-stays : (x : ℕ) → 0x80 ≤ x → inEscape x ≡ x ∷ []

@@ -11,10 +11,10 @@ use lib.ListN.{length, take, drop}
 use lib.Seq.{take-length}
 use borrow.Author.Tests.{eqb-true, eqb-false, ne-eqb}
 use Rattle.octets.specs.Scan.{scan, gather}
-use Rattle.text.specs.Escapes.{special, code, meant, escapeAt, textStep, firstFault, passed, standing, unescaped}
-use Rattle.text.specs.Stands.{Escape, backslash, comma, semicolon, small-n, capital-n, Stands, none, itself, escape, Faulty, bare-comma, last-backslash, bare-backslash}
-use Rattle.text.proofs.EscapeLaws.{clash}
-use Rattle.text.proofs.LengthLaws.{first-octet}
+use Rattle.escapes.specs.Escapes.{special, code, meant, escapeAt, textStep, firstFault, passed, standing, unescaped}
+use Rattle.escapes.specs.Stands.{Escape, backslash, comma, semicolon, small-n, capital-n, Stands, none, itself, escape, Faulty, bare-comma, last-backslash, bare-backslash}
+use Rattle.escapes.proofs.EscapeLaws.{clash}
+use Rattle.escapes.proofs.LengthLaws.{first-octet}
 
 -- an octet is the code of an escape where `code` says so
 escape-code : {y x : ℕ} → Escape y x → (code y ≡ true) × (meant y ≡ x)

@@ -4,9 +4,9 @@ use mathlib.Core.Bool.{true}
 use native.Mathlib.Omega.{arith}
 use Rattle.octets.specs.Room.{fillBounded}
 use Rattle.characters.specs.Characters.{allowed}
-use Rattle.text.specs.Escapes.{escaped}
+use Rattle.escapes.specs.Escapes.{escaped}
 use Rattle.text.specs.Outcomes.{escapeOutcome}
-use Rattle.text.proofs.LookLaws.{seen-low, seen-plain}
+use Rattle.escapes.proofs.LookLaws.{seen-low, seen-plain}
 use Rattle.text.proofs.OutcomeLaws.{too-long, bad-octet, good, escape-same}
 use borrow.Author.Needs.{needs}
 use Rattle.text.proofs.escape.Statement.{statement}

@@ -5,9 +5,9 @@ use Prim.Native.Nat.{ℕ, _+_}
 use native.Mathlib.Omega.{arith}
 use lib.ListN.{length, drop}
 use Rattle.octets.proofs.RoomLaws.{fill-short, fill-fits, over-bound, within-bound}
-use Rattle.text.specs.Escapes.{marked, escaped}
-use Rattle.text.specs.Counts.{count}
-use Rattle.text.proofs.LengthLaws.{escaped-length}
+use Rattle.escapes.specs.Escapes.{marked, escaped}
+use Rattle.escapes.specs.Counts.{count}
+use Rattle.escapes.proofs.LengthLaws.{escaped-length}
 use borrow.Author.Needs.{needs}
 use Rattle.text.proofs.escape_each.Statement.{statement}
 use Rattle.text.proofs.escape_each.Tie as tie

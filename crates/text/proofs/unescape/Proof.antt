@@ -4,9 +4,9 @@ use mathlib.Core.Bool.{false}
 use native.Mathlib.Omega.{arith}
 use Rattle.octets.specs.Room.{fill}
 use Rattle.characters.specs.Characters.{allowed}
-use Rattle.text.specs.Escapes.{unescaped}
+use Rattle.escapes.specs.Escapes.{unescaped}
 use Rattle.text.specs.Outcomes.{faultless, unescapeOutcome}
-use Rattle.text.proofs.LookLaws.{seen-low, seen-plain}
+use Rattle.escapes.proofs.LookLaws.{seen-low, seen-plain}
 use Rattle.text.proofs.OutcomeLaws.{too-long, bad-octet, good, unescape-same}
 use borrow.Author.Needs.{needs}
 use Rattle.text.proofs.unescape.Statement.{statement}

@@ -6,8 +6,8 @@ use native.Mathlib.Omega.{arith}
 use lib.ListN.{length, drop}
 use Rattle.octets.specs.Room.{fill}
 use Rattle.octets.proofs.RoomLaws.{fill-short, fill-fits}
-use Rattle.text.specs.Escapes.{unescaped}
-use Rattle.text.proofs.EscapeLaws.{fault-le}
+use Rattle.escapes.specs.Escapes.{unescaped}
+use Rattle.escapes.proofs.EscapeLaws.{fault-le}
 use Rattle.text.proofs.OutcomeLaws.{a-fault, no-fault}
 use borrow.Author.Needs.{needs}
 use Rattle.text.proofs.unescape_each.Statement.{statement}

@@ -1,0 +1,39 @@
+-- `text::escaping::letters` meets its contract. Assumes nothing.
+use mathlib.Core.Bool.{Bool}
+use mathlib.Core.List.{List}
+use Prim.Native.Nat.{ℕ}
+use lib.Dec.{eqb, eqb→eq}
+use lib.ListN.{getD, set, replicate}
+use Rattle.octets.specs.Pick.{pick}
+use Rattle.octets.proofs.Table.{at}
+use Rattle.escapes.specs.Escapes.{special, marked, letter, Letters}
+use borrow.Author.Needs.{needs}
+use Rattle.escapes.proofs.escaping.letters.Statement.{statement}
+use Rattle.escapes.proofs.escaping.letters.Tie as tie
+
+table : List ℕ
+table = set (set (set (set (replicate 256 0) 10 110) 44 44) 59 59) 92 92
+
+right : ℕ → ℕ → Bool
+right k x = eqb x (pick (marked k) (letter k) 0)
+
+array-write-t : tie.Need-array-write-t
+array-write-t c = search needs
+
+array-write-t-2 : tie.Need-array-write-t-2
+array-write-t-2 c = search needs
+
+array-write-t-3 : tie.Need-array-write-t-3
+array-write-t-3 c = search needs
+
+array-write-t-4 : tie.Need-array-write-t-4
+array-write-t-4 c = search needs
+
+returns : tie.Need-returns
+unfolding table right Letters marked special letter
+returns c k h =
+    eqb→eq (getD table k 0) (pick (marked k) (letter k) 0) (at right table tt k h)
+
+pub letters-spec : {M : Type 1} → statement M
+letters-spec =
+    tie.close (tie.spec array-write-t array-write-t-2 array-write-t-3 array-write-t-4 returns)
