@@ -13,9 +13,9 @@ use Rattle.characters.specs.Characters.{allowed, firstBad}
 use Rattle.lines.specs.Parse.{Parse, got, bad}
 use Rattle.lines.specs.Grammar.{Line}
 use Rattle.lines.specs.Rule.{parseLine}
-use Rattle.properties.specs.Kinds.{valueScan}
-use Rattle.properties.specs.declared.values.Fault.{Fault}
-use Rattle.properties.specs.declared.values.Fault.the-variants.{Fits, Breaks}
+use Rattle.values.specs.Kinds.{valueScan}
+use Rattle.values.specs.declared.Fault.{Fault}
+use Rattle.values.specs.declared.Fault.the-variants.{Fits, Breaks}
 use Rattle.cards.specs.Parts.{rowOfLine, kindOfLine, told, toldOf}
 use Rattle.cards.specs.State.{inOrder, onceBit, isSeen, noted}
 use Rattle.cards.specs.Judge.{laden, broken, entered, fitting, judgeParts, judgeParsed, judgeLine}

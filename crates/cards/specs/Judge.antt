@@ -10,9 +10,9 @@ use Rattle.lines.specs.Parse.{Parse, got, bad}
 use Rattle.lines.specs.Grammar.{Line}
 use Rattle.lines.specs.Rule.{parseLine}
 use Rattle.properties.specs.Rows.{isGroup}
-use Rattle.properties.specs.Kinds.{valueScan}
-use Rattle.properties.specs.declared.values.Fault.{Fault}
-use Rattle.properties.specs.declared.values.Fault.the-variants.{Fits, Breaks}
+use Rattle.values.specs.Kinds.{valueScan}
+use Rattle.values.specs.declared.Fault.{Fault}
+use Rattle.values.specs.declared.Fault.the-variants.{Fits, Breaks}
 use Rattle.cards.specs.State.{inOrder, noted, closed}
 use Rattle.cards.specs.Parts.{rowOfLine, kindOfLine}
 use Rattle.cards.specs.declared.state.Card.{Card}

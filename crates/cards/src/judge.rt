@@ -6,15 +6,15 @@ ghost use lib.Dec.{eqb};
 ghost use lib.ListN.{length, drop};
 ghost use Rattle.octets.specs.Classes.{Classes};
 ghost use Rattle.properties.specs.Rows.{Lists};
-ghost use Rattle.properties.specs.States.{Scanner};
-ghost use Rattle.properties.specs.Kinds.{valueScan};
+ghost use Rattle.values.specs.States.{Scanner};
+ghost use Rattle.values.specs.Kinds.{valueScan};
 ghost use Rattle.cards.specs.State.{inOrder, onceBit, isSeen};
 ghost use Rattle.cards.specs.Judge.{framing, laden, broken, entered, judgeParts, judgeLine};
 use crate::parts::Parts;
 use crate::parts::Told;
 use crate::state::Card;
 use crate::state::Step;
-use properties::values::Fault;
+use values::Fault;
 
 // Whether a line of the row may stand here.
 fn in_order(phase: u32, row: usize) -> bool
@@ -64,7 +64,7 @@ fn breaks_kind(steps: &[u8; 1016], row: usize, kind: usize, value: &[u8]) -> boo
     requires { ⌜ kind < 9 ⌝ }
     ensures { λ r. ⌜ r ≡ broken (valueScan row kind (now (value .entry))) ⌝ }
 {
-    let f = properties::values::judge_value(steps, row, kind, value);
+    let f = values::judge_value(steps, row, kind, value);
     let Fault::Fits = f else {
         return true;
     };
@@ -80,7 +80,7 @@ fn enter(c: Card, at: usize, row: usize, value: &[u8]) -> Step
     if row == 2 {
         return crate::state::close(c, at);
     }
-    let group = properties::rows::is_group(value);
+    let group = properties::is_group(value);
     Step::Next(crate::state::note(c, row, group))
 }
 

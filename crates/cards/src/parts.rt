@@ -54,15 +54,15 @@ fn kind_at(t: &[u8; 256], rows: &[u8; 624], s: &[u8], row: usize, name: usize) -
     requires { ⌜ Accepted (now s) name ⌝ }
     ensures { λ r. ⌜ r ≡ lineKind row (firstValue (now (s .entry))) ⌝ }
 {
-    let kind = properties::rows::kind_of(rows, row);
-    if !properties::rows::takes_value(rows, row) {
+    let kind = properties::kind_of(rows, row);
+    if !properties::takes_value(rows, row) {
         return kind;
     }
     let f = lines::rule::param_first(t, s, name, b"VALUE");
     let First::Between(a, e) = f else {
         return kind;
     };
-    properties::rows::kind_named(&s[a..e])
+    properties::kind_named(&s[a..e])
 }
 
 // The parts of a line, or the fault by which it breaks the line rule.
@@ -77,7 +77,7 @@ pub fn parts_of(t: &[u8; 256], rows: &[u8; 624], s: &[u8]) -> Told
         return Told::Fault(fault_of(p));
     };
     let start = name_start(group);
-    let row = properties::rows::find_row(rows, &s[start..name]);
+    let row = properties::find_row(rows, &s[start..name]);
     let kind = kind_at(t, rows, s, row, name);
     Told::Line(Parts {
         row,

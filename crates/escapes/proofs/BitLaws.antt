@@ -1,18 +1,12 @@
--- Tests joined as bits, marks that are kept once set, and counts. Assumes nothing.
+-- Tests joined as bits. Assumes nothing.
 use mathlib.Core.Path.{_≡_, refl, sym, ap, _∙_}
 use mathlib.Core.Bool.{Bool, true, false, not, _&&_, _||_}
-use mathlib.Core.List.{List}
-use Prim.Native.Nat.{ℕ, _+_, _<_, _≤_}
-use native.Mathlib.Nat.{add-zero}
-use native.Mathlib.Numerals.{add-one}
+use Prim.Native.Nat.{ℕ, _≤_}
 use native.Mathlib.Omega.{arith}
 use lib.Dec.{eqb}
 use lib.Bits.{bitOr, bitAnd}
-use lib.ListN.{length, getD, drop, drop-of-length-le}
-use lib.Seq.{drop-cons}
 use mir.Val.{boolByte}
 use Rattle.octets.specs.Classes.{bit}
-use Rattle.escapes.specs.Counts.{count}
 
 or-bytes : (x y : Bool) → bitOr (boolByte x) (boolByte y) ≡ boolByte (x || y)
 or-bytes true true = refl
@@ -55,12 +49,3 @@ pair-bits p a b c d =
 pub bit-le : (t : Bool) → bit t 1 ≤ 1
 bit-le true = omega arith
 bit-le false = omega arith
-
-module _ (p : ℕ → Bool) (s : List ℕ) (i : ℕ) where
-  pub count-step : i < length s → (n x : ℕ) → x ≡ bit (p (getD s i 0)) 1 → n + count p (drop i s) ≡ (n + x) + count p (drop (i + 1) s)
-  unfolding count
-  count-step h n x e = rw (add-one, drop-cons s i 0, e) (omega arith)
-
-  pub count-end : length s ≤ i → (n : ℕ) → n + count p (drop i s) ≡ n
-  unfolding count
-  count-end h n = rw (drop-of-length-le s h, add-zero)

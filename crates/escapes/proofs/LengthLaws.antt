@@ -9,7 +9,7 @@ use Rattle.octets.specs.Pick.{pick}
 use Rattle.octets.specs.Classes.{bit}
 use Rattle.octets.specs.Scan.{gather}
 use Rattle.escapes.specs.Escapes.{marked, letter, inEscape, escaped, escapeAt, passed, standing, unescaped}
-use Rattle.escapes.specs.Counts.{count}
+use Rattle.octets.specs.Counts.{count}
 
 in-length : (x : ℕ) → length (inEscape x) ≡ 1 + bit (marked x) 1
 unfolding inEscape

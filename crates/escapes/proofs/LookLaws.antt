@@ -15,9 +15,9 @@ use Rattle.octets.specs.Scan.{scan, gather}
 use Rattle.characters.specs.Characters.{allowed, firstBad}
 use Rattle.screening.specs.Plain.{odd, allPlain}
 use Rattle.screening.proofs.PlainLaws.{plain-all}
-use Rattle.escapes.specs.Counts.{count}
+use Rattle.octets.specs.Counts.{any, count}
 use Rattle.escapes.specs.Escapes.{backslash, special, marked, escaped, firstFault, unescaped}
-use Rattle.escapes.specs.Looks.{any, held, seen}
+use Rattle.escapes.specs.Looks.{held, seen}
 use Rattle.escapes.proofs.EscapeLaws.{clash}
 use Rattle.escapes.proofs.LengthLaws.{none-escaped, first-octet}
 use Rattle.escapes.proofs.PairLaws.{flat, fault-past}

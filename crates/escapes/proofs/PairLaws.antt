@@ -13,7 +13,7 @@ use borrow.Author.Tests.{not-true, not-false, eqb-true}
 use Rattle.octets.specs.Classes.{bit}
 use Rattle.octets.specs.Scan.{after, scan, gather}
 use Rattle.escapes.specs.Escapes.{backslash, special, code, escapeAt, textStep, firstFault, unescaped}
-use Rattle.escapes.specs.Counts.{count}
+use Rattle.octets.specs.Counts.{count}
 use Rattle.escapes.specs.Pairs.{unsettled, settled}
 use Rattle.octets.proofs.Marks.{mark-step}
 use Rattle.escapes.proofs.EscapeLaws.{clash}

@@ -1,6 +1,5 @@
 -- The definitions that the contracts of `escapes` cite. Assumes nothing.
 pub mod Escapes
-pub mod Counts
 pub mod Pairs
 pub mod Looks
 pub mod Stands

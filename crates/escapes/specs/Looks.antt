@@ -1,17 +1,13 @@
 -- One look at a text: whether an octet is not plain, and whether one is a backslash, a comma or one of two octets more.
 -- Assumes nothing.
 use Prim.Native.Nat.{ℕ, _+_}
-use mathlib.Core.Bool.{Bool, false, _||_}
-use mathlib.Core.List.{List, [], _∷_}
+use mathlib.Core.Bool.{Bool, _||_}
+use mathlib.Core.List.{List}
 use lib.Dec.{eqb}
 use Rattle.octets.specs.Classes.{bit}
+use Rattle.octets.specs.Counts.{any}
 use Rattle.screening.specs.Plain.{odd}
 use Rattle.escapes.specs.Escapes.{backslash}
-
--- an octet of the list satisfies the test
-unfoldable pub any : (ℕ → Bool) → List ℕ → Bool
-any p [] = false
-any p (x ∷ xs) = p x || any p xs
 
 -- backslash, comma or one of two octets more
 unfoldable pub held : ℕ → ℕ → ℕ → Bool

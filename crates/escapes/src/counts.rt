@@ -3,7 +3,7 @@ ghost use mathlib.Core.Path.{_≡_};
 ghost use Prim.Native.Nat.{_≤_};
 ghost use lib.ListN.{length};
 ghost use Rattle.escapes.specs.Escapes.{backslash, marked};
-ghost use Rattle.escapes.specs.Counts.{count};
+ghost use Rattle.octets.specs.Counts.{count};
 
 // How many octets escaping changes.
 pub fn marks(s: &[u8]) -> usize

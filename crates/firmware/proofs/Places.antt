@@ -16,9 +16,9 @@ use Rattle.lines.specs.Rule.{parseLine}
 use Rattle.lines.specs.Folds.{lineLength, unfolded}
 use Rattle.lines.specs.Logical.{linesBy, rawLines}
 use Rattle.properties.specs.Rows.{isGroup}
-use Rattle.properties.specs.Kinds.{valueScan}
-use Rattle.properties.specs.declared.values.Fault.{Fault}
-use Rattle.properties.specs.declared.values.Fault.the-variants.{Fits, Breaks}
+use Rattle.values.specs.Kinds.{valueScan}
+use Rattle.values.specs.declared.Fault.{Fault}
+use Rattle.values.specs.declared.Fault.the-variants.{Fits, Breaks}
 use Rattle.cards.specs.State.{freshCard, inOrder, onceBit, isSeen, noted, closed}
 use Rattle.cards.specs.Parts.{rowOfLine, kindOfLine}
 use Rattle.cards.specs.Judge.{laden, entered, fitting, judgeParts, judgeParsed, judgeLine}

@@ -8,7 +8,7 @@ use lib.Bits.{bitOr, or-shr, or-mod, or-zero-l}
 use Rattle.octets.specs.Pick.{pick}
 use Rattle.properties.specs.Rows.{rows, rowAt, single}
 use Rattle.octets.specs.Ascii.{octets}
-use Rattle.properties.proofs.Upto.{upto, alike}
+use Rattle.octets.proofs.Upto.{upto, alike}
 use Rattle.cards.specs.State.{onceBit, isSeen}
 
 small : (a b : ℕ) → a < 2 → b < 2 → eqb (bitOr a b) 1 ≡ (eqb a 1 || eqb b 1)

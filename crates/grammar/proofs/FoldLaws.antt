@@ -22,7 +22,7 @@ use Rattle.lines.specs.Grammar.{Line, Each, front, render}
 use Rattle.lines.proofs.LineLaws.{lines-step}
 use Rattle.language.proofs.Law.{line-law}
 use Rattle.language.proofs.PlacesLaw.{accepted-starts}
-use Rattle.properties.proofs.Bools.{by, and-both}
+use Rattle.octets.proofs.Bools.{by, and-both}
 use Rattle.reader.specs.Lone.{loneStep, firstLone, endsCrLf}
 use Rattle.reader.specs.Outcome.{ended}
 use Rattle.grammar.specs.Cards.{Readable}

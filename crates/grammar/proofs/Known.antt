@@ -10,7 +10,7 @@ use lib.Bits.{bitOr}
 use borrow.Author.Tests.{eqb-true, eqb-false, eq-eqb, ne-eqb, not-true}
 use Rattle.lines.specs.Grammar.{Line}
 use Rattle.properties.specs.Rows.{single, isGroup}
-use Rattle.properties.proofs.Bools.{by, and-both}
+use Rattle.octets.proofs.Bools.{by, and-both}
 use Rattle.cards.specs.State.{freshCard, inOrder, onceBit, isSeen, phaseAfter, noted, closed}
 use Rattle.cards.specs.Parts.{rowOfLine}
 use Rattle.cards.specs.declared.state.Card.{Card}

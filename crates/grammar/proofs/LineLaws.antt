@@ -15,10 +15,10 @@ use Rattle.lines.specs.Grammar.{Line, front}
 use Rattle.lines.specs.Rule.{parseLine}
 use Rattle.language.proofs.Law.{line-law, refused-law}
 use Rattle.properties.specs.Rows.{rows, rowAt, single, isGroup}
-use Rattle.properties.specs.Kinds.{valueScan}
-use Rattle.properties.specs.declared.values.Fault.{Fault}
-use Rattle.properties.specs.declared.values.Fault.the-variants.{Fits, Breaks}
-use Rattle.properties.proofs.Bools.{by}
+use Rattle.values.specs.Kinds.{valueScan}
+use Rattle.values.specs.declared.Fault.{Fault}
+use Rattle.values.specs.declared.Fault.the-variants.{Fits, Breaks}
+use Rattle.octets.proofs.Bools.{by}
 use Rattle.cards.specs.State.{inOrder, noted, closed}
 use Rattle.cards.specs.Parts.{rowOfLine, kindOfLine}
 use Rattle.cards.specs.Judge.{framing, laden, entered, fitting, judgeParts, judgeParsed, judgeLine}

@@ -14,7 +14,7 @@ use Rattle.octets.specs.Pick.{pick}
 use Rattle.lines.specs.Folds.{unfolded}
 use Rattle.lines.specs.Logical.{rawLines}
 use Rattle.lines.specs.Grammar.{Line}
-use Rattle.properties.proofs.Bools.{by}
+use Rattle.octets.proofs.Bools.{by}
 use Rattle.cards.specs.State.{freshCard}
 use Rattle.cards.specs.Judge.{judgeLine}
 use Rattle.cards.specs.declared.state.Card.{Card}

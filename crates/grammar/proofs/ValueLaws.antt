@@ -12,10 +12,10 @@ use borrow.Author.Tests.{le-ltb, ltb-false, eqb-true, eqb-false}
 use Rattle.characters.specs.Characters.{allowed, firstBad}
 use Rattle.characters.proofs.Chars.{bad-le}
 use Rattle.octet_laws.proofs.Utf8.{allowed-only}
-use Rattle.properties.specs.Kinds.{shapeOf, kindScan, valueScan}
-use Rattle.properties.specs.Shapes.{Is}
-use Rattle.properties.specs.declared.values.Fault.the-variants.{Fits}
-use Rattle.properties.proofs.Bools.{by}
+use Rattle.values.specs.Kinds.{shapeOf, kindScan, valueScan}
+use Rattle.values.specs.Shapes.{Is}
+use Rattle.values.specs.declared.Fault.the-variants.{Fits}
+use Rattle.octets.proofs.Bools.{by}
 use Rattle.kind_laws.proofs.KindLaws.{fits-kind}
 use Rattle.kind_laws.proofs.Plain.{kind-0, kind-1, kind-2, kind-3, kind-4, kind-5, kind-6, kind-7, kind-8, fixed-begin, fixed-end, fixed-version, by-kind}
 use Rattle.grammar.specs.Values.{OfKind, anything, text, texts, uri, five, seven, components, gender, pidmap, Fitting}

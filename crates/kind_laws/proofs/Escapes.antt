@@ -9,10 +9,10 @@ use native.Mathlib.Nat.{zero-add}
 use native.Mathlib.Omega.{arith}
 use lib.Dec.{eqb}
 use borrow.Author.Tests.{eqb-true}
-use Rattle.properties.specs.Octets.{Octets, plain, inner, comma, semicolon, backslash, escapee, holds}
-use Rattle.properties.specs.Shapes.{one, _then_, _or_, joined, each, Is}
-use Rattle.properties.specs.Kinds.{textOf, split, text, texts, component, parts, components, shapeOf}
-use Rattle.properties.proofs.QuietLaws.{put, grow, cut, nothing, part-first, part-next, part-own, part-comma, semicolon-or}
+use Rattle.values.specs.Octets.{Octets, plain, inner, comma, semicolon, backslash, escapee, holds}
+use Rattle.values.specs.Shapes.{one, _then_, _or_, joined, each, Is}
+use Rattle.values.specs.Kinds.{textOf, split, text, texts, component, parts, components, shapeOf}
+use Rattle.values.proofs.QuietLaws.{put, grow, cut, nothing, part-first, part-next, part-own, part-comma, semicolon-or}
 use Rattle.kind_laws.specs.Words.{Escaped, ends, bare, bare-comma, bare-semicolon, escape, Text, Texts, Semicolons, In}
 
 recount : {c s d t : ℕ} {v : List ℕ} → c ≡ d → s ≡ t → Escaped c s v → Escaped d t v

@@ -7,10 +7,10 @@ use mathlib.Core.Logic.{_↔_}
 use Prim.Native.Nat.{ℕ, _<_}
 use lib.Dec.{eqb}
 use Rattle.octets.specs.Pick.{pick}
-use Rattle.properties.specs.Shapes.{Shape, lost, Is}
-use Rattle.properties.specs.Kinds.{text, texts, uri, component, parts, components, gender, pidmap, vcard, version, shapeOf, lineShape, kindScan, valueScan}
-use Rattle.properties.specs.declared.values.Fault.the-variants.{Fits, Breaks}
-use Rattle.properties.proofs.Upto.{upto, alike}
+use Rattle.values.specs.Shapes.{Shape, lost, Is}
+use Rattle.values.specs.Kinds.{text, texts, uri, component, parts, components, gender, pidmap, vcard, version, shapeOf, lineShape, kindScan, valueScan}
+use Rattle.values.specs.declared.Fault.the-variants.{Fits, Breaks}
+use Rattle.octets.proofs.Upto.{upto, alike}
 use Rattle.kind_laws.proofs.Places.{Broken, fits, breaks}
 
 pub fits-kind : (k : ℕ) (v : List ℕ) → (kindScan k v ≡ Fits) ↔ Is (shapeOf k) v

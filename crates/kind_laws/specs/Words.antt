@@ -4,8 +4,8 @@ use mathlib.Core.Path.{_≡_}
 use mathlib.Core.Bool.{true}
 use mathlib.Core.List.{List, [], _∷_, _++_}
 use mathlib.Core.Logic.{_⊎_}
-use Rattle.properties.specs.Octets.{Octets, inner, escapee, backslash, comma, semicolon, colon, letter, scheme, graphic, digit, sex, holds}
-use Rattle.properties.specs.Quiet.{allIn}
+use Rattle.values.specs.Octets.{Octets, inner, escapee, backslash, comma, semicolon, colon, letter, scheme, graphic, digit, sex, holds}
+use Rattle.octets.specs.Counts.{allIn}
 
 abbrev pub In : Octets → ℕ → Type 0
 In p x = holds p x ≡ true

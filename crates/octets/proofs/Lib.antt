@@ -1,5 +1,6 @@
 -- The laws that the proofs of `octets` and of the crates above it cite. Assumes nothing.
-pub mod Table
+pub mod Bools
+pub mod Upto
 pub mod Runs
 pub mod Masks
 pub mod Marks
@@ -8,3 +9,4 @@ pub mod CaseLaws
 pub mod Copies
 pub mod RoomLaws
 pub mod Writes
+pub mod CountLaws

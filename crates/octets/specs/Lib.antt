@@ -5,3 +5,4 @@ pub mod Scan
 pub mod Room
 pub mod Classes
 pub mod Cases
+pub mod Counts

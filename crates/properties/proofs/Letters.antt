@@ -13,10 +13,10 @@ use borrow.Author.Tests.{eq-eqb, eqb-true, leb-true}
 use Rattle.octets.specs.Classes.{within}
 use Rattle.octets.specs.Cases.{lower}
 use Rattle.octets.specs.Ascii.{octets}
-use Rattle.properties.specs.Quiet.{allIn}
+use Rattle.octets.specs.Counts.{allIn}
 use Rattle.properties.specs.Rows.{rows, rowAt, Lists}
-use Rattle.properties.proofs.Bools.{and-both}
-use Rattle.properties.proofs.Upto.{upto, from, alike}
+use Rattle.octets.proofs.Bools.{and-both}
+use Rattle.octets.proofs.Upto.{upto, from, alike}
 use Rattle.properties.proofs.RowLaws.{listed}
 
 -- a test that all pass is passed by each

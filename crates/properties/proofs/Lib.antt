@@ -1,9 +1,3 @@
--- The laws that the proofs of `properties` cite. Assumes nothing.
-pub mod Bools
-pub mod Upto
-pub mod ShapeLaws
-pub mod StepLaws
-pub mod TableLaws
-pub mod QuietLaws
+-- The laws that the proofs of `properties` and of the crates above it cite. Assumes nothing.
 pub mod RowLaws
 pub mod Letters

@@ -15,7 +15,7 @@ use Rattle.octets.specs.Cases.{same}
 use Rattle.octets.proofs.CaseLaws.{same-length}
 use Rattle.octets.specs.Ascii.{octets}
 use Rattle.properties.specs.Rows.{Row, noRow, rows, search, rowOf, rowAt, Skipped, kindAt, single, takesValue, entries, entriesFrom, Lists}
-use Rattle.properties.proofs.Upto.{upto, alike}
+use Rattle.octets.proofs.Upto.{upto, alike}
 
 abbrev all : List Row
 all = noRow ∷ rows

@@ -48,8 +48,8 @@ pub fn judge(input: &[u8]) -> Verdict
         return Verdict::Refused(4, input.len());
     }
     let t = octets::classes::table();
-    let rows = properties::rows::table();
-    let steps = properties::values::table();
+    let rows = properties::table();
+    let steps = values::scanner::table();
     let last = walk::walk(&t, &rows, &steps, input);
     concluded(input.len(), last)
 }
@@ -72,7 +72,7 @@ pub fn read(input: &[u8], copy: &mut [u8], records: &mut [u32]) -> Verdict
         return Verdict::Refused(14, numbers);
     }
     let t = octets::classes::table();
-    let rows = properties::rows::table();
+    let rows = properties::table();
     writing::write_lines(&t, &rows, input, copy, records);
     Verdict::Accepted(cards, lines)
 }

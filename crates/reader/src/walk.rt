@@ -9,7 +9,7 @@ ghost use Rattle.octets.specs.Room.{overlay};
 ghost use Rattle.lines.specs.Folds.{notCr, lineLength, unfolded};
 ghost use Rattle.lines.specs.Logical.{rawLines};
 ghost use Rattle.properties.specs.Rows.{Lists};
-ghost use Rattle.properties.specs.States.{Scanner};
+ghost use Rattle.values.specs.States.{Scanner};
 ghost use Rattle.cards.specs.State.{freshCard};
 ghost use Rattle.cards.specs.Judge.{judgeLine};
 ghost use Rattle.reader.specs.Outcome.{judgeLines};

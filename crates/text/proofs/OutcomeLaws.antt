@@ -9,7 +9,8 @@ use borrow.Author.Tests.{lt-ltb, le-ltb}
 use Rattle.octets.specs.Room.{Filled, refuse, fill, fillBounded}
 use Rattle.characters.specs.Characters.{firstBad}
 use Rattle.escapes.specs.Escapes.{escaped, firstFault, unescaped}
-use Rattle.escapes.specs.Looks.{any, held}
+use Rattle.octets.specs.Counts.{any}
+use Rattle.escapes.specs.Looks.{held}
 use Rattle.text.specs.Outcomes.{checked, faultless}
 use Rattle.octets.proofs.RoomLaws.{within-bound}
 use Rattle.escapes.proofs.LookLaws.{same-unmarked, bare}

@@ -7,7 +7,7 @@ ghost use Rattle.characters.specs.Characters.{allowed, firstBad};
 ghost use Rattle.screening.specs.Plain.{odd};
 ghost use Rattle.octets.specs.Room.{filled, fill, fillBounded};
 ghost use Rattle.escapes.specs.Escapes.{escaped, unescaped};
-ghost use Rattle.escapes.specs.Looks.{any};
+ghost use Rattle.octets.specs.Counts.{any};
 ghost use Rattle.text.specs.Outcomes.{faultless, escapeOutcome, unescapeOutcome};
 use octets::rooms::Written;
 

@@ -6,7 +6,7 @@ use native.Mathlib.Omega.{arith}
 use lib.ListN.{length, drop}
 use Rattle.octets.proofs.RoomLaws.{fill-short, fill-fits, over-bound, within-bound}
 use Rattle.escapes.specs.Escapes.{marked, escaped}
-use Rattle.escapes.specs.Counts.{count}
+use Rattle.octets.specs.Counts.{count}
 use Rattle.escapes.proofs.LengthLaws.{escaped-length}
 use borrow.Author.Needs.{needs}
 use Rattle.text.proofs.escape_each.Statement.{statement}

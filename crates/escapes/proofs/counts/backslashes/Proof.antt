@@ -7,8 +7,9 @@ use native.Mathlib.Omega.{arith}
 use lib.ListN.{length, drop, getD}
 use mir.Val.{boolByte}
 use Rattle.escapes.specs.Escapes.{backslash}
-use Rattle.escapes.specs.Counts.{count}
-use Rattle.escapes.proofs.BitLaws.{byte-bit, bit-le, count-step, count-end}
+use Rattle.octets.specs.Counts.{count}
+use Rattle.octets.proofs.CountLaws.{count-step, count-end}
+use Rattle.escapes.proofs.BitLaws.{byte-bit, bit-le}
 use Rattle.escapes.proofs.counts.backslashes.Statement.{statement}
 use Rattle.escapes.proofs.counts.backslashes.Tie as tie
 

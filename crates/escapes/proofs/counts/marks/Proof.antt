@@ -9,8 +9,9 @@ use lib.ListN.{length, drop, getD}
 use Rattle.octets.specs.Classes.{bit}
 use Rattle.escapes.specs.Escapes.{marked}
 use Rattle.escapes.specs.Looks.{held}
-use Rattle.escapes.specs.Counts.{count}
-use Rattle.escapes.proofs.BitLaws.{bit-le, count-step, count-end}
+use Rattle.octets.specs.Counts.{count}
+use Rattle.octets.proofs.CountLaws.{count-step, count-end}
+use Rattle.escapes.proofs.BitLaws.{bit-le}
 use Rattle.escapes.proofs.LookLaws.{held-marked}
 use Rattle.escapes.proofs.counts.marks.Statement.{statement}
 use Rattle.escapes.proofs.counts.marks.Tie as tie

@@ -1,11 +1,10 @@
 -- `text::escaping::letters` meets its contract. Assumes nothing.
-use mathlib.Core.Bool.{Bool}
+use mathlib.Core.Path.{refl}
 use mathlib.Core.List.{List}
 use Prim.Native.Nat.{ℕ}
-use lib.Dec.{eqb, eqb→eq}
-use lib.ListN.{getD, set, replicate}
+use lib.ListN.{set, replicate}
 use Rattle.octets.specs.Pick.{pick}
-use Rattle.octets.proofs.Table.{at}
+use Rattle.octets.proofs.Upto.{upto, along, entries}
 use Rattle.escapes.specs.Escapes.{special, marked, letter, Letters}
 use borrow.Author.Needs.{needs}
 use Rattle.escapes.proofs.escaping.letters.Statement.{statement}
@@ -14,8 +13,8 @@ use Rattle.escapes.proofs.escaping.letters.Tie as tie
 table : List ℕ
 table = set (set (set (set (replicate 256 0) 10 110) 44 44) 59 59) 92 92
 
-right : ℕ → ℕ → Bool
-right k x = eqb x (pick (marked k) (letter k) 0)
+right : ℕ → ℕ
+right k = pick (marked k) (letter k) 0
 
 array-write-t : tie.Need-array-write-t
 array-write-t c = search needs
@@ -30,9 +29,8 @@ array-write-t-4 : tie.Need-array-write-t-4
 array-write-t-4 c = search needs
 
 returns : tie.Need-returns
-unfolding table right Letters marked special letter
-returns c k h =
-    eqb→eq (getD table k 0) (pick (marked k) (letter k) 0) (at right table tt k h)
+unfolding table right Letters marked special letter along upto
+returns c k h = entries (λ (x : ℕ). x) right table 256 refl k h
 
 pub letters-spec : {M : Type 1} → statement M
 letters-spec =

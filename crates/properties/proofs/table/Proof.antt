@@ -1,0 +1,13 @@
+-- `properties::rows::table` meets its contract. Assumes nothing.
+use mathlib.Core.Path.{refl}
+use Rattle.octets.specs.Ascii.{octets}
+use Rattle.properties.specs.Rows.{rows, rowAt, kindAt, single, takesValue, entries, entriesFrom, Lists}
+use Rattle.properties.proofs.table.Statement.{statement}
+use Rattle.properties.proofs.table.Tie as tie
+
+returns : tie.Need-returns
+unfolding Lists entriesFrom entries rowAt kindAt single takesValue rows octets
+returns c = refl
+
+pub table-spec : {M : Type 1} → statement M
+table-spec = tie.close (tie.spec returns)

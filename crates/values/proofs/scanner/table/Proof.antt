@@ -1,0 +1,19 @@
+-- `properties::values::table` meets its contract: the table agrees with the shapes, by computed tests. Assumes nothing.
+use mathlib.Core.Path.{refl}
+use Rattle.octets.specs.Classes.{letter, digit}
+use Rattle.octets.specs.Cases.{lower}
+use Rattle.values.specs.Octets.{holds}
+use Rattle.values.specs.Shapes.{mayEnd, chain, isNever, fork, after}
+use Rattle.values.specs.Kinds.{text, texts, uri, component, parts, components, gender, pidmap, vcard, version}
+use Rattle.values.specs.States.{states, stateShape, speaker}
+use Rattle.octets.proofs.Upto.{upto, along}
+use Rattle.values.proofs.TableLaws.{marks, scanner}
+use Rattle.values.proofs.scanner.table.Statement.{statement}
+use Rattle.values.proofs.scanner.table.Tie as tie
+
+returns : tie.Need-returns
+unfolding upto along marks speaker holds letter digit lower stateShape states after chain fork isNever mayEnd text texts uri component parts components gender pidmap vcard version
+returns c = scanner _ refl refl refl refl
+
+pub table-spec : {M : Type 1} → statement M
+table-spec = tie.close (tie.spec returns)
