@@ -16,15 +16,15 @@ use Rattle.lines.specs.Rule.{parseLine}
 use Rattle.values.specs.Kinds.{valueScan}
 use Rattle.values.specs.declared.Fault.{Fault}
 use Rattle.values.specs.declared.Fault.the-variants.{Fits, Breaks}
-use Rattle.cards.specs.Parts.{rowOfLine, kindOfLine, told, toldOf}
+use Rattle.content.specs.Parts.{rowOfLine, kindOfLine, told, toldOf}
 use Rattle.cards.specs.State.{inOrder, onceBit, isSeen, noted}
 use Rattle.cards.specs.Judge.{laden, broken, entered, fitting, judgeParts, judgeParsed, judgeLine}
-use Rattle.cards.specs.declared.parts.Parts.{Parts}
-use Rattle.cards.specs.declared.parts.Told.the-variants.{Line as line, Fault as fault}
+use Rattle.content.specs.declared.Parts.{Parts}
+use Rattle.content.specs.declared.Told.the-variants.{Line as line, Fault as fault}
 use Rattle.cards.specs.declared.state.Card.{Card}
 use Rattle.cards.specs.declared.state.Step.{Step}
 use Rattle.cards.specs.declared.state.Step.the-variants.{Next, Refused}
-use Rattle.cards.proofs.PartLaws.{Read}
+use Rattle.content.proofs.PartLaws.{Read}
 
 module _ (c : Card) (at row : ℕ) (v : List ℕ) where
   -- END has no flag, so a line that comes again is none

@@ -1,4 +1,3 @@
 -- The laws that the proofs of `cards` cite. Assumes nothing.
-pub mod PartLaws
 pub mod JudgeLaws
 pub mod CardLaws

@@ -1,4 +1,3 @@
 -- The definitions that the contracts of `cards` cite. Assumes nothing.
 pub mod State
-pub mod Parts
 pub mod Judge

@@ -10,10 +10,10 @@ ghost use Rattle.values.specs.States.{Scanner};
 ghost use Rattle.values.specs.Kinds.{valueScan};
 ghost use Rattle.cards.specs.State.{inOrder, onceBit, isSeen};
 ghost use Rattle.cards.specs.Judge.{framing, laden, broken, entered, judgeParts, judgeLine};
-use crate::parts::Parts;
-use crate::parts::Told;
 use crate::state::Card;
 use crate::state::Step;
+use content::Parts;
+use content::Told;
 use values::Fault;
 
 // Whether a line of the row may stand here.
@@ -129,7 +129,7 @@ pub fn judge_line(
     if screening::units::first_bad(t, s, false) < s.len() {
         return Step::Refused(5, at);
     }
-    let p = crate::parts::parts_of(t, rows, s);
+    let p = content::parts_of(t, rows, s);
     let Told::Line(x) = p else {
         return Step::Refused(6, at);
     };

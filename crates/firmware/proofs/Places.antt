@@ -20,7 +20,7 @@ use Rattle.values.specs.Kinds.{valueScan}
 use Rattle.values.specs.declared.Fault.{Fault}
 use Rattle.values.specs.declared.Fault.the-variants.{Fits, Breaks}
 use Rattle.cards.specs.State.{freshCard, inOrder, onceBit, isSeen, noted, closed}
-use Rattle.cards.specs.Parts.{rowOfLine, kindOfLine}
+use Rattle.content.specs.Parts.{rowOfLine, kindOfLine}
 use Rattle.cards.specs.Judge.{laden, entered, fitting, judgeParts, judgeParsed, judgeLine}
 use Rattle.cards.specs.declared.state.Card.{Card}
 use Rattle.cards.specs.declared.state.Step.{Step}

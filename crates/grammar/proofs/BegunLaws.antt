@@ -10,7 +10,7 @@ use borrow.Author.Tests.{eqb-true, ne-eqb}
 use Rattle.lines.specs.Grammar.{Line, Each}
 use Rattle.properties.specs.Rows.{single}
 use Rattle.octets.proofs.Bools.{by}
-use Rattle.cards.specs.Parts.{rowOfLine, kindOfLine}
+use Rattle.content.specs.Parts.{rowOfLine, kindOfLine}
 use Rattle.grammar.specs.Values.{Fitting}
 use Rattle.grammar.specs.Cards.{Begins, Versions, Ends, Inside, counts, count, ofRow, linesOf, saysGroup, groupLines, Inner, CardLines, card}
 use Rattle.grammar.specs.Refusals.{Begun, nothing, first, within, InPlace, Framing, Unladen}

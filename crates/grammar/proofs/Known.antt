@@ -12,10 +12,10 @@ use Rattle.lines.specs.Grammar.{Line}
 use Rattle.properties.specs.Rows.{single, isGroup}
 use Rattle.octets.proofs.Bools.{by, and-both}
 use Rattle.cards.specs.State.{freshCard, inOrder, onceBit, isSeen, phaseAfter, noted, closed}
-use Rattle.cards.specs.Parts.{rowOfLine}
+use Rattle.content.specs.Parts.{rowOfLine}
 use Rattle.cards.specs.declared.state.Card.{Card}
 use Rattle.cards.specs.declared.state.Step.the-variants.{Next, Refused}
-use Rattle.cards.proofs.PartLaws.{row-of-line}
+use Rattle.content.proofs.PartLaws.{row-of-line}
 use Rattle.grammar.specs.Cards.{counts, count, ofRow, linesOf, saysGroup, groupLines}
 use Rattle.grammar.specs.Refusals.{InPlace}
 use Rattle.grammar.proofs.Flags.{none-seen, seen-after}

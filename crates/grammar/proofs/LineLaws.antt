@@ -20,7 +20,7 @@ use Rattle.values.specs.declared.Fault.{Fault}
 use Rattle.values.specs.declared.Fault.the-variants.{Fits, Breaks}
 use Rattle.octets.proofs.Bools.{by}
 use Rattle.cards.specs.State.{inOrder, noted, closed}
-use Rattle.cards.specs.Parts.{rowOfLine, kindOfLine}
+use Rattle.content.specs.Parts.{rowOfLine, kindOfLine}
 use Rattle.cards.specs.Judge.{framing, laden, entered, fitting, judgeParts, judgeParsed, judgeLine}
 use Rattle.cards.specs.declared.state.Card.{Card}
 use Rattle.cards.specs.declared.state.Step.{Step}

@@ -13,7 +13,7 @@ use Rattle.lines.proofs.Inside.{InLine, in-line}
 use Rattle.language.specs.Placed.{Placed}
 use Rattle.language.proofs.Law.{line-law, line-unique}
 use Rattle.language.proofs.PlacesLaw.{places-law}
-use Rattle.cards.specs.Parts.{told, toldOf, rowOfLine, kindOfLine}
+use Rattle.content.specs.Parts.{told, toldOf, rowOfLine, kindOfLine}
 use Rattle.cards.proofs.CardLaws.{told-fits}
 use Rattle.reader.specs.Outcome.{ended, copyOf, recordBy, recordOf, recordsFrom, recordsOf}
 use Rattle.grammar.specs.Cards.{Readable}

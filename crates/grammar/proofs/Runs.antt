@@ -10,7 +10,7 @@ use borrow.Author.Tests.{eq-eqb}
 use Rattle.lines.specs.Folds.{unfolded}
 use Rattle.lines.specs.Grammar.{Line, Each, render}
 use Rattle.properties.specs.Rows.{single}
-use Rattle.cards.specs.Parts.{rowOfLine}
+use Rattle.content.specs.Parts.{rowOfLine}
 use Rattle.cards.specs.Judge.{judgeLine}
 use Rattle.cards.specs.declared.state.Card.{Card}
 use Rattle.cards.specs.declared.state.Step.{Step}

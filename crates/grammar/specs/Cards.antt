@@ -9,7 +9,7 @@ use Rattle.characters.specs.Rfc3629.{Characters}
 use Rattle.octet_laws.specs.Texts.{Each as EachOctet}
 use Rattle.lines.specs.Grammar.{Line, Each, WellFormed, render}
 use Rattle.properties.specs.Rows.{single, isGroup}
-use Rattle.cards.specs.Parts.{rowOfLine, kindOfLine}
+use Rattle.content.specs.Parts.{rowOfLine, kindOfLine}
 use Rattle.grammar.specs.Values.{OfKind, Vcard, Four}
 
 -- no octet 00-08, 0A-1F or 7F, and RFC 3629 UTF-8

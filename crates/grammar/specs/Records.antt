@@ -5,7 +5,7 @@ use mathlib.Core.List.{List, [], _∷_, _++_}
 use lib.ListN.{length, take, drop}
 use Rattle.lines.specs.Grammar.{Line, front, render}
 use Rattle.lines.specs.Places.{nameStart}
-use Rattle.cards.specs.Parts.{rowOfLine, kindOfLine}
+use Rattle.content.specs.Parts.{rowOfLine, kindOfLine}
 
 -- n octets of the copy from a on
 abbrev pub part : List ℕ → ℕ → ℕ → List ℕ

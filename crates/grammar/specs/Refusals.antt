@@ -9,7 +9,7 @@ use Rattle.lines.specs.Folds.{unfolded}
 use Rattle.lines.specs.Logical.{rawLines}
 use Rattle.lines.specs.Grammar.{Line, Each, WellFormed, render}
 use Rattle.properties.specs.Rows.{single}
-use Rattle.cards.specs.Parts.{rowOfLine, kindOfLine}
+use Rattle.content.specs.Parts.{rowOfLine, kindOfLine}
 use Rattle.reader.specs.Lone.{firstLone}
 use Rattle.reader.specs.Outcome.{ended}
 use Rattle.grammar.specs.Values.{Fitting}

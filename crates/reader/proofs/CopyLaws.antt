@@ -10,9 +10,9 @@ use borrow.Rule.Slice.PartMut.{putMid}
 use Rattle.lines.specs.Folds.{lineLength, unfolded}
 use Rattle.lines.specs.Logical.{rawLines}
 use Rattle.lines.proofs.FoldLaws.{unfold-shorter}
-use Rattle.cards.specs.Parts.{toldOf}
-use Rattle.cards.specs.declared.parts.Told.{Told}
-use Rattle.cards.specs.declared.parts.Told.the-variants.{Line, Fault}
+use Rattle.content.specs.Parts.{toldOf}
+use Rattle.content.specs.declared.Told.{Told}
+use Rattle.content.specs.declared.Told.the-variants.{Line, Fault}
 use Rattle.reader.specs.Outcome.{ended, recordBy, recordOf, recordsFrom}
 use Rattle.reader.proofs.WalkLaws.{lines-turn, part-length}
 

@@ -9,13 +9,13 @@ use Rattle.lines.specs.Folds.{unfolded}
 use Rattle.lines.specs.Logical.{rawLines}
 use Rattle.cards.specs.State.{freshCard}
 use Rattle.lines.specs.Places.{nameStart}
-use Rattle.cards.specs.Parts.{toldOf}
+use Rattle.content.specs.Parts.{toldOf}
 use Rattle.cards.specs.Judge.{judgeLine}
 use Rattle.cards.specs.declared.state.Card.{Card}
 use Rattle.cards.specs.declared.state.Step.{Step}
 use Rattle.cards.specs.declared.state.Step.the-variants.{Next, Refused as Halted}
-use Rattle.cards.specs.declared.parts.Told.{Told}
-use Rattle.cards.specs.declared.parts.Told.the-variants.{Line, Fault}
+use Rattle.content.specs.declared.Told.{Told}
+use Rattle.content.specs.declared.Told.the-variants.{Line, Fault}
 use Rattle.reader.specs.Lone.{firstLone, endsCrLf}
 use Rattle.reader.specs.declared.writing.Record.{Record}
 use Rattle.reader.specs.declared.Verdict.{Verdict}

@@ -10,7 +10,7 @@ ghost use Rattle.lines.specs.Folds.{unfolded};
 ghost use Rattle.properties.specs.Rows.{Lists};
 ghost use Rattle.reader.specs.Outcome.{copyOf, numbers, recordOf, recordsOf};
 use crate::walk::line_at;
-use cards::parts::Told;
+use content::Told;
 
 // One record: eight numbers.
 pub struct Record {
@@ -31,7 +31,7 @@ fn record_of(t: &[u8; 256], rows: &[u8; 624], l: &[u8], w: usize) -> Record
     requires { ⌜ w + length (now l) ≤ 16384 ⌝ }
     ensures { λ r. ⌜ numbers r ≡ recordOf w (now (l .entry)) ⌝ }
 {
-    let told = cards::parts::parts_of(t, rows, l);
+    let told = content::parts_of(t, rows, l);
     let Told::Line(x) = told else {
         return Record {
             number: 0,
@@ -44,7 +44,7 @@ fn record_of(t: &[u8; 256], rows: &[u8; 624], l: &[u8], w: usize) -> Record
             kind: 0,
         };
     };
-    let from = cards::parts::name_start(x.group);
+    let from = content::name_start(x.group);
     Record {
         number: x.row as u32,
         start: w as u32,

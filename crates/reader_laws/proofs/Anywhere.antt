@@ -11,7 +11,7 @@ use Rattle.octets.specs.Pick.{pick}
 use Rattle.characters.specs.Characters.{allowed, firstBad}
 use Rattle.properties.specs.Rows.{isGroup}
 use Rattle.cards.specs.State.{onceBit, isSeen, noted, closed}
-use Rattle.cards.specs.Parts.{rowOfLine}
+use Rattle.content.specs.Parts.{rowOfLine}
 use Rattle.cards.specs.Judge.{entered, judgeParts, judgeLine}
 use Rattle.cards.specs.declared.state.Card.{Card}
 use Rattle.cards.specs.declared.state.Step.the-variants.{Next}

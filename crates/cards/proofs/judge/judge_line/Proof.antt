@@ -5,7 +5,7 @@ use mathlib.Core.Bool.{false}
 use lib.ListN.{length, drop}
 use Rattle.characters.specs.Characters.{allowed, firstBad}
 use Rattle.cards.specs.Judge.{judgeLine}
-use Rattle.cards.proofs.PartLaws.{Read, read}
+use Rattle.content.proofs.PartLaws.{Read, read}
 use Rattle.cards.proofs.JudgeLaws.{refused, judged}
 use borrow.Author.Needs.{needs}
 use Rattle.cards.proofs.judge.judge_line.Statement.{statement}

@@ -1,8 +1,8 @@
 -- `cards::parts::fault_of` meets its contract. Assumes nothing.
-use Rattle.cards.proofs.PartLaws.{no-fault}
+use Rattle.content.proofs.PartLaws.{no-fault}
 use borrow.Author.Needs.{needs}
-use Rattle.cards.proofs.parts.fault_of.Statement.{statement}
-use Rattle.cards.proofs.parts.fault_of.Tie as tie
+use Rattle.content.proofs.fault_of.Statement.{statement}
+use Rattle.content.proofs.fault_of.Tie as tie
 
 enum-known-p : tie.Need-enum-known-p
 enum-known-p c = search needs

@@ -1,12 +1,12 @@
 -- `cards::parts::kind_at` meets its contract. Assumes nothing.
 use borrow.Author.Tests.{not-true, not-false}
 use mathlib.Core.Path.{sym, _∙_}
-use Rattle.cards.proofs.PartLaws.{no-value, value-none, value-some, value-missing, Part, value-there}
+use Rattle.content.proofs.PartLaws.{no-value, value-none, value-some, value-missing, Part, value-there}
 use Rattle.octets.specs.Ascii.{octets}
-use Rattle.cards.specs.Parts.{firstValue}
+use Rattle.content.specs.Parts.{firstValue}
 use borrow.Author.Needs.{needs}
-use Rattle.cards.proofs.parts.kind_at.Statement.{statement}
-use Rattle.cards.proofs.parts.kind_at.Tie as tie
+use Rattle.content.proofs.kind_at.Statement.{statement}
+use Rattle.content.proofs.kind_at.Tie as tie
 
 kind-of-requires : tie.Need-kind-of-requires
 kind-of-requires c κs = search needs

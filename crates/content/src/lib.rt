@@ -5,7 +5,7 @@ ghost use lib.ListN.{length};
 ghost use Rattle.octets.specs.Classes.{Classes};
 ghost use Rattle.properties.specs.Rows.{Lists, lineKind};
 ghost use Rattle.lines.specs.Places.{nameStart};
-ghost use Rattle.cards.specs.Parts.{faultOf, Accepted, firstValue, toldOf};
+ghost use Rattle.content.specs.Parts.{faultOf, Accepted, firstValue, toldOf};
 use lines::rule::First;
 use lines::rule::Part;
 

@@ -1,16 +1,16 @@
 -- `cards::parts::parts_of` meets its contract. Assumes nothing.
-use Rattle.cards.proofs.PartLaws.{Known, known, accepted, told-fault, told-parts, group-low}
+use Rattle.content.proofs.PartLaws.{Known, known, accepted, told-fault, told-parts, group-low}
 use native.Mathlib.Omega.{arith}
 use Prim.Native.Nat.{ℕ, _-_}
 use mathlib.Core.List.{List}
 use lib.ListN.{take, drop}
 use Rattle.lines.specs.Places.{nameStart}
 use Rattle.properties.specs.Rows.{rowOf}
-use Rattle.cards.specs.Parts.{rowOfLine}
+use Rattle.content.specs.Parts.{rowOfLine}
 use mathlib.Core.Path.{_≡_, sym, ap, _∙_}
 use borrow.Author.Needs.{needs}
-use Rattle.cards.proofs.parts.parts_of.Statement.{statement}
-use Rattle.cards.proofs.parts.parts_of.Tie as tie
+use Rattle.content.proofs.parts_of.Statement.{statement}
+use Rattle.content.proofs.parts_of.Tie as tie
 
 read-line-requires : tie.Need-read-line-requires
 read-line-requires c κs = search needs

@@ -1,8 +1,8 @@
 -- `cards::parts::name_start` meets its contract. Assumes nothing.
 use borrow.Author.Tests.{eq-eqb, ne-eqb}
 use borrow.Author.Needs.{needs}
-use Rattle.cards.proofs.parts.name_start.Statement.{statement}
-use Rattle.cards.proofs.parts.name_start.Tie as tie
+use Rattle.content.proofs.name_start.Statement.{statement}
+use Rattle.content.proofs.name_start.Tie as tie
 
 returns : tie.Need-returns
 returns c = simp (eq-eqb _ _ (c .if1 .taken))

@@ -11,9 +11,9 @@ use Rattle.lines.specs.First.{firstNamed, valueOctets}
 use Rattle.lines.specs.declared.rule.Part.{Part}
 use Rattle.lines.specs.declared.rule.Part.the-variants.{Upto, Named, Listed, Parsed, Fault}
 use Rattle.properties.specs.Rows.{rowOf, lineKind, valueName}
-use Rattle.cards.specs.declared.parts.Parts.{Parts}
-use Rattle.cards.specs.declared.parts.Told.{Told}
-use Rattle.cards.specs.declared.parts.Told.the-variants.{Line as line, Fault as fault}
+use Rattle.content.specs.declared.Parts.{Parts}
+use Rattle.content.specs.declared.Told.{Told}
+use Rattle.content.specs.declared.Told.the-variants.{Line as line, Fault as fault}
 
 -- the first value of the first VALUE parameter, quotes taken off
 abbrev pub octetsOf : Option Value → Option (List ℕ)

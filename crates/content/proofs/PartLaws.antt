@@ -30,10 +30,10 @@ use Rattle.octets.specs.Cases.{same}
 use Rattle.octets.specs.Ascii.{octets}
 use Rattle.properties.specs.Rows.{Row, rows, search, rowOf, kindAt, takesValue, kindNamed, lineKind, valueName}
 use Rattle.properties.proofs.RowLaws.{kind-low}
-use Rattle.cards.specs.Parts.{octetsOf, valueParam, rowOfLine, kindOfLine, faultOf, Accepted, firstValue, ofParse, told, toldOf}
-use Rattle.cards.specs.declared.parts.Parts.{Parts}
-use Rattle.cards.specs.declared.parts.Told.{Told}
-use Rattle.cards.specs.declared.parts.Told.the-variants.{Line as line, Fault as fault}
+use Rattle.content.specs.Parts.{octetsOf, valueParam, rowOfLine, kindOfLine, faultOf, Accepted, firstValue, ofParse, told, toldOf}
+use Rattle.content.specs.declared.Parts.{Parts}
+use Rattle.content.specs.declared.Told.{Told}
+use Rattle.content.specs.declared.Told.the-variants.{Line as line, Fault as fault}
 
 -- a line that was read with these numbers
 pub record Known (l : List ℕ) (g n c v : ℕ) : Type 0 where
