@@ -1,4 +1,4 @@
--- `octets::characters::char_length` meets its contract. Assumes nothing.
+-- `characters::char_length` meets its contract. Assumes nothing.
 use borrow.Author.Needs.{needs}
 use mathlib.Core.Path.{_≡_, sym, _∙_}
 use mathlib.Core.Bool.{Bool, _&&_, _||_}

@@ -1,4 +1,4 @@
--- `octets::characters::in_range` meets its contract. Assumes nothing.
+-- `characters::in_range` meets its contract. Assumes nothing.
 use borrow.Author.Tests.{le-leb, lt-leb}
 use Rattle.characters.proofs.in_range.Statement.{statement}
 use Rattle.characters.proofs.in_range.Tie as tie

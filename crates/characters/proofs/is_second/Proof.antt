@@ -1,4 +1,4 @@
--- `octets::characters::is_second` meets its contract. Assumes nothing.
+-- `characters::is_second` meets its contract. Assumes nothing.
 use borrow.Author.Needs.{needs}
 use borrow.Author.Tests.{eq-eqb, ne-eqb}
 use Rattle.characters.specs.Characters.{second}

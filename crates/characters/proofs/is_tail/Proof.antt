@@ -1,4 +1,4 @@
--- `octets::characters::is_tail` meets its contract. Assumes nothing.
+-- `characters::is_tail` meets its contract. Assumes nothing.
 use borrow.Author.Needs.{needs}
 use Rattle.characters.specs.Characters.{tail}
 use Rattle.characters.proofs.is_tail.Statement.{statement}

@@ -1,4 +1,4 @@
--- `octets::characters::length_by` meets its contract. Assumes nothing.
+-- `characters::length_by` meets its contract. Assumes nothing.
 use borrow.Author.Tests.{lt-ltb, le-ltb}
 use Rattle.characters.specs.Characters.{lengthBy}
 use Rattle.characters.proofs.length_by.Statement.{statement}

@@ -1,4 +1,4 @@
--- `cards::parts::fault_of` meets its contract. Assumes nothing.
+-- `content::fault_of` meets its contract. Assumes nothing.
 use Rattle.content.proofs.PartLaws.{no-fault}
 use borrow.Author.Needs.{needs}
 use Rattle.content.proofs.fault_of.Statement.{statement}

@@ -1,4 +1,4 @@
--- `cards::parts::kind_at` meets its contract. Assumes nothing.
+-- `content::kind_at` meets its contract. Assumes nothing.
 use borrow.Author.Tests.{not-true, not-false}
 use mathlib.Core.Path.{sym, _∙_}
 use Rattle.content.proofs.PartLaws.{no-value, value-none, value-some, value-missing, Part, value-there}

@@ -1,4 +1,4 @@
--- `cards::parts::name_start` meets its contract. Assumes nothing.
+-- `content::name_start` meets its contract. Assumes nothing.
 use borrow.Author.Tests.{eq-eqb, ne-eqb}
 use borrow.Author.Needs.{needs}
 use Rattle.content.proofs.name_start.Statement.{statement}

@@ -1,4 +1,4 @@
--- `cards::parts::parts_of` meets its contract. Assumes nothing.
+-- `content::parts_of` meets its contract. Assumes nothing.
 use Rattle.content.proofs.PartLaws.{Known, known, accepted, told-fault, told-parts, group-low}
 use native.Mathlib.Omega.{arith}
 use Prim.Native.Nat.{ℕ, _-_}

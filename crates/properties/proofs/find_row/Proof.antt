@@ -1,4 +1,4 @@
--- `properties::rows::find_row` meets its contract. Assumes nothing.
+-- `properties::find_row` meets its contract. Assumes nothing.
 use borrow.Author.Needs.{needs}
 use mathlib.Core.Path.{_≡_, refl, sym, ap, _∙_}
 use mathlib.Core.List.{List}

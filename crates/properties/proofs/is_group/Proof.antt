@@ -1,4 +1,4 @@
--- `properties::rows::is_group` meets its contract. Assumes nothing.
+-- `properties::is_group` meets its contract. Assumes nothing.
 use borrow.Author.Needs.{needs}
 use Rattle.octets.specs.Ascii.{octets}
 use Rattle.properties.specs.Rows.{isGroup}

@@ -1,4 +1,4 @@
--- `properties::rows::kind_named` meets its contract. Assumes nothing.
+-- `properties::kind_named` meets its contract. Assumes nothing.
 use borrow.Author.Needs.{needs}
 use mathlib.Core.Path.{_≡_, sym, _∙_}
 use mathlib.Core.Bool.{true, false}

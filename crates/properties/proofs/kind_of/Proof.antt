@@ -1,4 +1,4 @@
--- `properties::rows::kind_of` meets its contract. Assumes nothing.
+-- `properties::kind_of` meets its contract. Assumes nothing.
 use borrow.Author.Needs.{needs}
 use mathlib.Core.Path.{_≡_, sym, subst, _∙_}
 use Prim.Native.Nat.{ℕ, _<_}

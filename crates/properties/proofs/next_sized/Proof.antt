@@ -1,4 +1,4 @@
--- `properties::rows::next_sized` meets its contract. Assumes nothing.
+-- `properties::next_sized` meets its contract. Assumes nothing.
 use borrow.Author.Needs.{needs}
 use borrow.Author.Count.{below-more}
 use mathlib.Core.Path.{_≡_, sym, ap, _∙_}

@@ -1,4 +1,4 @@
--- `properties::rows::once` meets its contract. Assumes nothing.
+-- `properties::once` meets its contract. Assumes nothing.
 use borrow.Author.Needs.{needs}
 use Rattle.properties.proofs.RowLaws.{listed}
 use Rattle.properties.proofs.once.Statement.{statement}

@@ -1,4 +1,4 @@
--- `properties::rows::spells` meets its contract. Assumes nothing.
+-- `properties::spells` meets its contract. Assumes nothing.
 use borrow.Author.Needs.{needs}
 use mathlib.Core.Path.{_≡_, refl, sym, ap, _∙_}
 use Prim.Native.Nat.{ℕ, _+_, _-_, _*_, _<_, _≤_}

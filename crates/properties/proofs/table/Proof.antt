@@ -1,4 +1,4 @@
--- `properties::rows::table` meets its contract. Assumes nothing.
+-- `properties::table` meets its contract. Assumes nothing.
 use mathlib.Core.Path.{refl}
 use Rattle.octets.specs.Ascii.{octets}
 use Rattle.properties.specs.Rows.{rows, rowAt, kindAt, single, takesValue, entries, entriesFrom, Lists}

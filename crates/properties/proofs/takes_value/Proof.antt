@@ -1,4 +1,4 @@
--- `properties::rows::takes_value` meets its contract. Assumes nothing.
+-- `properties::takes_value` meets its contract. Assumes nothing.
 use borrow.Author.Needs.{needs}
 use Rattle.properties.proofs.RowLaws.{listed}
 use Rattle.properties.proofs.takes_value.Statement.{statement}

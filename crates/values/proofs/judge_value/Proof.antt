@@ -1,4 +1,4 @@
--- `properties::values::judge_value` meets its contract. Assumes nothing.
+-- `values::judge_value` meets its contract. Assumes nothing.
 use borrow.Author.Needs.{needs}
 use mathlib.Core.Path.{_≡_, sym, ap, _∙_}
 use borrow.Author.Tests.{ne-eqb}

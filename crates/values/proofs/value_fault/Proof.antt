@@ -1,4 +1,4 @@
--- `properties::values::value_fault` meets its contract. Assumes nothing.
+-- `values::value_fault` meets its contract. Assumes nothing.
 use borrow.Author.Needs.{needs}
 use mathlib.Core.Path.{_≡_, sym, ap, _∙_}
 use Rattle.values.specs.Shapes.{Shape, faultFrom}

@@ -1,4 +1,4 @@
--- `text::looks::held_bit` meets its contract. Assumes nothing.
+-- `escapes::looks::held_bit` meets its contract. Assumes nothing.
 use lib.Dec.{eqb}
 use Rattle.escapes.specs.Looks.{held}
 use Rattle.escapes.proofs.BitLaws.{held-bits}

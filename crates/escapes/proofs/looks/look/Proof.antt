@@ -1,4 +1,4 @@
--- `text::looks::look` meets its contract. Assumes nothing.
+-- `escapes::looks::look` meets its contract. Assumes nothing.
 use native.Mathlib.Omega.{arith}
 use borrow.Author.Needs.{needs}
 use Rattle.escapes.proofs.looks.look.Statement.{statement}

@@ -1,4 +1,4 @@
--- `text::looks::look_octet` meets its contract. Assumes nothing.
+-- `escapes::looks::look_octet` meets its contract. Assumes nothing.
 use native.Mathlib.Omega.{arith}
 use Rattle.screening.specs.Plain.{odd}
 use Rattle.escapes.specs.Looks.{held}

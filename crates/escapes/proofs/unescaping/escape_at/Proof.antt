@@ -1,4 +1,4 @@
--- `text::unescaping::escape_at` meets its contract. Assumes nothing.
+-- `escapes::unescaping::escape_at` meets its contract. Assumes nothing.
 use mathlib.Core.Path.{sym, _∙_}
 use native.Mathlib.Omega.{arith}
 use lib.ListN.{getD}

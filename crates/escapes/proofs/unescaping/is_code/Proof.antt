@@ -1,4 +1,4 @@
--- `text::unescaping::is_code` meets its contract. Assumes nothing.
+-- `escapes::unescaping::is_code` meets its contract. Assumes nothing.
 use borrow.Author.Tests.{eq-eqb, ne-eqb}
 use Rattle.escapes.specs.Escapes.{special, code}
 use Rattle.escapes.proofs.unescaping.is_code.Statement.{statement}

@@ -1,4 +1,4 @@
--- `text::unescaping::meant_by` meets its contract. Assumes nothing.
+-- `escapes::unescaping::meant_by` meets its contract. Assumes nothing.
 use borrow.Author.Tests.{eq-eqb, ne-eqb}
 use Rattle.escapes.specs.Escapes.{meant}
 use Rattle.escapes.proofs.unescaping.meant_by.Statement.{statement}

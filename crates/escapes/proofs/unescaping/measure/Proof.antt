@@ -1,4 +1,4 @@
--- `text::unescaping::measure` meets its contract. Assumes nothing.
+-- `escapes::unescaping::measure` meets its contract. Assumes nothing.
 use mathlib.Core.Path.{sym, _∙_}
 use native.Mathlib.Omega.{arith}
 use Rattle.escapes.proofs.PairLaws.{settled-sound}

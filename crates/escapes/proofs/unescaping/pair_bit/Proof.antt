@@ -1,4 +1,4 @@
--- `text::unescaping::pair_bit` meets its contract. Assumes nothing.
+-- `escapes::unescaping::pair_bit` meets its contract. Assumes nothing.
 use lib.Dec.{eqb}
 use Rattle.escapes.specs.Pairs.{unsettled}
 use Rattle.escapes.proofs.BitLaws.{pair-bits}

@@ -1,4 +1,4 @@
--- `octets::plain::all_plain` meets its contract. Assumes nothing.
+-- `screening::plain::all_plain` meets its contract. Assumes nothing.
 use borrow.Author.Needs.{needs}
 use mathlib.Core.Path.{_≡_, refl, sym, _∙_}
 use mathlib.Core.Bool.{_&&_}

@@ -1,4 +1,4 @@
--- `octets::plain::odd_bit` meets its contract. Assumes nothing.
+-- `screening::plain::odd_bit` meets its contract. Assumes nothing.
 use borrow.Author.Needs.{needs}
 use mathlib.Core.Path.{_≡_, refl}
 use mathlib.Core.Bool.{Bool, true, false, not, _&&_, _||_}

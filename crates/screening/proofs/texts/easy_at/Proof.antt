@@ -1,4 +1,4 @@
--- `octets::texts::easy_at` meets its contract. Assumes nothing.
+-- `screening::texts::easy_at` meets its contract. Assumes nothing.
 use borrow.Author.Needs.{needs}
 use mathlib.Core.Path.{refl, sym}
 use mathlib.Core.List.{List}

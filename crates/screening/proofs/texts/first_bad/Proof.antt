@@ -1,4 +1,4 @@
--- `octets::texts::first_bad` meets its contract. Assumes nothing.
+-- `screening::texts::first_bad` meets its contract. Assumes nothing.
 use borrow.Author.Needs.{needs}
 use mathlib.Core.Path.{sym, _∙_}
 use native.Mathlib.Omega.{arith}

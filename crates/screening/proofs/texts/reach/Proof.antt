@@ -1,4 +1,4 @@
--- `octets::texts::reach` meets its contract. Assumes nothing.
+-- `screening::texts::reach` meets its contract. Assumes nothing.
 use borrow.Author.Needs.{needs}
 use mathlib.Core.Path.{sym}
 use Prim.Native.Nat.{_-_}

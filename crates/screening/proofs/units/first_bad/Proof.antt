@@ -1,4 +1,4 @@
--- `octets::characters::first_bad` meets its contract. Assumes nothing.
+-- `screening::units::first_bad` meets its contract. Assumes nothing.
 use borrow.Author.Needs.{needs}
 use mathlib.Core.Path.{sym, _∙_}
 use Rattle.screening.proofs.PlainLaws.{plain-all}

@@ -1,4 +1,4 @@
--- `octets::characters::stride` meets its contract. Assumes nothing.
+-- `screening::units::stride` meets its contract. Assumes nothing.
 use mathlib.Core.Path.{_≡_, sym, _∙_}
 use Prim.Native.Nat.{_+_, _-_}
 use native.Mathlib.Omega.{arith}

@@ -1,4 +1,4 @@
--- `octets::characters::unit_length` meets its contract. Assumes nothing.
+-- `screening::units::unit_length` meets its contract. Assumes nothing.
 use borrow.Author.Needs.{needs}
 use borrow.Author.Tests.{not-true, not-false}
 use mathlib.Core.Path.{_≡_, sym, ap, _∙_}

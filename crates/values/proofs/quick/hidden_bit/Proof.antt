@@ -1,4 +1,4 @@
--- `properties::values::hidden_bit` meets its contract. Assumes nothing.
+-- `values::quick::hidden_bit` meets its contract. Assumes nothing.
 use borrow.Author.Needs.{needs}
 use mathlib.Core.Path.{_≡_, sym, _∙_}
 use lib.Dec.{ltb}

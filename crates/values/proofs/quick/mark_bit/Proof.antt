@@ -1,4 +1,4 @@
--- `properties::values::mark_bit` meets its contract. Assumes nothing.
+-- `values::quick::mark_bit` meets its contract. Assumes nothing.
 use borrow.Author.Needs.{needs}
 use lib.Dec.{eqb}
 use Rattle.octets.proofs.Bools.{two-bits}

@@ -1,4 +1,4 @@
--- `properties::values::semicolons` meets its contract. Assumes nothing.
+-- `values::quick::semicolons` meets its contract. Assumes nothing.
 use borrow.Author.Needs.{needs}
 use mathlib.Core.Path.{_≡_, refl, sym, ap, _∙_}
 use mathlib.Core.Bool.{Bool, true, false}

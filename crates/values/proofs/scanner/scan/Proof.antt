@@ -1,4 +1,4 @@
--- `properties::values::scan` meets its contract. Assumes nothing.
+-- `values::scanner::scan` meets its contract. Assumes nothing.
 use borrow.Author.Needs.{needs}
 use mathlib.Core.Path.{_≡_, sym, ap, _∙_}
 use Prim.Native.Nat.{ℕ, _≤_, _<_, _+_, _-_}

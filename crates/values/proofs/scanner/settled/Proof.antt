@@ -1,4 +1,4 @@
--- `properties::values::settled` meets its contract. Assumes nothing.
+-- `values::scanner::settled` meets its contract. Assumes nothing.
 use borrow.Author.Needs.{needs}
 use mathlib.Core.Path.{_≡_, sym, ap, _∙_}
 use mathlib.Core.Bool.{false≢true}

@@ -1,4 +1,4 @@
--- `properties::values::start` meets its contract. Assumes nothing.
+-- `values::scanner::start` meets its contract. Assumes nothing.
 use mathlib.Core.Path.{_≡_, refl}
 use Prim.Native.Nat.{ℕ, suc, _<_, _≤_}
 use native.Mathlib.Omega.{arith}

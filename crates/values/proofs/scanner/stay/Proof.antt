@@ -1,4 +1,4 @@
--- `properties::values::stay` meets its contract. Assumes nothing.
+-- `values::scanner::stay` meets its contract. Assumes nothing.
 use borrow.Author.Needs.{needs}
 use mathlib.Core.Path.{_≡_, refl, sym, subst, _∙_}
 use Prim.Native.Nat.{ℕ, _<_, _≤_, _+_, _-_}

@@ -1,4 +1,4 @@
--- `properties::values::step` meets its contract. Assumes nothing.
+-- `values::scanner::step` meets its contract. Assumes nothing.
 use borrow.Author.Needs.{needs}
 use mathlib.Core.Path.{_≡_, sym, _∙_}
 use Prim.Native.Nat.{_<_, _+_, _*_}

@@ -1,4 +1,4 @@
--- `properties::values::table` meets its contract: the table agrees with the shapes, by computed tests. Assumes nothing.
+-- `values::scanner::table` meets its contract: the table agrees with the shapes, by computed tests. Assumes nothing.
 use mathlib.Core.Path.{refl}
 use Rattle.octets.specs.Classes.{letter, digit}
 use Rattle.octets.specs.Cases.{lower}
