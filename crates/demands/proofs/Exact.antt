@@ -16,7 +16,7 @@ use Rattle.octets.specs.declared.rooms.Written.the-variants.{Wrote}
 use Rattle.octet_laws.proofs.Utf8.{allowed-only}
 use Rattle.escapes.specs.Escapes.{escaped, firstFault, unescaped}
 use Rattle.text.specs.Outcomes.{checked, faultless, escapeOutcome, unescapeOutcome}
-use Rattle.escapes.specs.Stands.{Stands, none, itself, escape}
+use Rattle.text_laws.specs.Stands.{Stands, none, itself, escape}
 use Rattle.text_laws.proofs.StandsLaws.{stands-exactly}
 use Rattle.text_laws.proofs.BackLaws.{round-trip}
 use Rattle.lines.specs.Grammar.{Line, render}

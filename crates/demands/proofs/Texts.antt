@@ -16,7 +16,7 @@ use Rattle.octets.proofs.Scans.{scan-le}
 use Rattle.octet_laws.proofs.Utf8.{bad-place, bad-nowhere}
 use Rattle.escapes.specs.Escapes.{escaped, textStep, firstFault, unescaped}
 use Rattle.text.specs.Outcomes.{checked, faultless, escapeOutcome, unescapeOutcome}
-use Rattle.escapes.specs.Stands.{Stands, Faulty}
+use Rattle.text_laws.specs.Stands.{Stands, Faulty}
 use Rattle.text_laws.proofs.StandsLaws.{stands-exactly, fault-found, fault-first}
 use Rattle.demands.specs.Demand1.{Filling, BadAt, Fair, Unfair, long, octet, EscapeBy, no-text, escape-over, escape-room, UnescapeBy, no-kind-1, fault, text-room}
 use Rattle.demands.proofs.Refusing.{clash, Telling, first}

@@ -11,7 +11,7 @@ use Rattle.octets.specs.Room.{Filled, refuse}
 use Rattle.octet_laws.specs.Texts.{Text, Stops}
 use Rattle.escapes.specs.Escapes.{escaped}
 use Rattle.text.specs.Outcomes.{escapeOutcome, unescapeOutcome}
-use Rattle.escapes.specs.Stands.{Stands, Faulty}
+use Rattle.text_laws.specs.Stands.{Stands, Faulty}
 use Rattle.lines.specs.Grammar.{render}
 use Rattle.reader.specs.Outcome.{judgeOf, ended, Taken, took, readOutcome}
 use Rattle.reader.specs.declared.Verdict.{Verdict}

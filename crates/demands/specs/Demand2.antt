@@ -10,7 +10,7 @@ use Rattle.octets.specs.Room.{Filled, filled, overlay}
 use Rattle.octets.specs.declared.rooms.Written.the-variants.{Wrote}
 use Rattle.escapes.specs.Escapes.{escaped}
 use Rattle.text.specs.Outcomes.{escapeOutcome, unescapeOutcome}
-use Rattle.escapes.specs.Stands.{Stands}
+use Rattle.text_laws.specs.Stands.{Stands}
 use Rattle.lines.specs.Grammar.{Line, render}
 use Rattle.reader.specs.Outcome.{judgeOf, logicalLines, Taken, readOutcome}
 use Rattle.reader.specs.declared.Verdict.the-variants.{Accepted}

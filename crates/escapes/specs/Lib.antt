@@ -2,4 +2,3 @@
 pub mod Escapes
 pub mod Pairs
 pub mod Looks
-pub mod Stands

@@ -1,33 +1,45 @@
 -- Refusals 1, 31 and 30 before the outcome that is left, by what was found. Assumes nothing.
 use mathlib.Core.Path.{_≡_, refl, sym}
-use mathlib.Core.Bool.{Bool, false}
+use mathlib.Core.Bool.{Bool, true, false}
 use mathlib.Core.List.{List}
 use Prim.Native.Nat.{ℕ, _<_, _≤_}
 use native.Mathlib.Omega.{arith}
 use lib.ListN.{length}
-use borrow.Author.Tests.{lt-ltb, le-ltb}
+use lib.Dec.{ltb}
+use borrow.Author.Tests.{lt-ltb, le-ltb, ltb-false}
 use Rattle.octets.specs.Room.{Filled, refuse, fill, fillBounded}
-use Rattle.characters.specs.Characters.{firstBad}
+use Rattle.octets.specs.Pick.{pick}
+use Rattle.characters.specs.Characters.{allowed, firstBad}
 use Rattle.escapes.specs.Escapes.{escaped, firstFault, unescaped}
 use Rattle.octets.specs.Counts.{any}
-use Rattle.escapes.specs.Looks.{held}
+use Rattle.escapes.specs.Looks.{held, seen}
+use Rattle.text.specs.declared.Screened.the-variants.{Saw, Refused}
+use Rattle.text.specs.Screened.{screened}
 use Rattle.text.specs.Outcomes.{checked, faultless}
 use Rattle.octets.proofs.RoomLaws.{within-bound}
 use Rattle.escapes.proofs.LookLaws.{same-unmarked, bare}
 
-module _ (p : ℕ → Bool) (t room : List ℕ) (left : Filled) where
-  pub too-long : 16384 < length t → refuse 1 16384 room ≡ checked p t room left
-  unfolding checked
-  too-long h = simp (lt-ltb 16384 (length t) h)
+-- by what screening answers: its refusal, or the outcome that is left
+module _ (lf : Bool) (x y : ℕ) (t room : List ℕ) (left : Filled) where
+  pub refused-by : (n p : ℕ) → screened lf x y t ≡ Refused n p → refuse n p room ≡ checked (allowed lf) t room left
+  unfolding screened checked
+  refused-by n p e = by (ltb 16384 (length t)) (ltb (firstBad (allowed lf) t) (length t)) e
+    where
+      by : (a b : Bool) → pick a (Refused 1 16384) (pick b (Refused 31 (firstBad (allowed lf) t)) (Saw (seen x y t))) ≡ Refused n p
+          → refuse n p room ≡ pick a (refuse 1 16384 room) (pick b (refuse 31 (firstBad (allowed lf) t) room) left)
+      by true b e = cc
+      by false true e = cc
+      by false false e = cc
 
-  module _ (h : length t ≤ 16384) (b : ℕ) (e : b ≡ firstBad p t) where
-    pub bad-octet : b < length t → refuse 31 b room ≡ checked p t room left
-    unfolding checked
-    bad-octet l = simp (le-ltb 16384 (length t) h, sym e, lt-ltb b (length t) l)
-
-    pub good : length t ≤ b → left ≡ checked p t room left
-    unfolding checked
-    good l = simp (le-ltb 16384 (length t) h, sym e, le-ltb b (length t) l)
+  pub left-by : (l : ℕ) → screened lf x y t ≡ Saw l → (l ≡ seen x y t) × ((length t ≤ 16384) × (left ≡ checked (allowed lf) t room left))
+  unfolding screened checked
+  left-by l e = by (ltb 16384 (length t)) (ltb (firstBad (allowed lf) t) (length t)) refl e
+    where
+      by : (a b : Bool) → ltb 16384 (length t) ≡ a → pick a (Refused 1 16384) (pick b (Refused 31 (firstBad (allowed lf) t)) (Saw (seen x y t))) ≡ Saw l
+          → (l ≡ seen x y t) × ((length t ≤ 16384) × (left ≡ pick a (refuse 1 16384 room) (pick b (refuse 31 (firstBad (allowed lf) t) room) left)))
+      by true b h e = let z : _≡_ {A = ℕ} 0 1 = cc in absurd (omega arith)
+      by false true h e = let z : _≡_ {A = ℕ} 0 1 = cc in absurd (omega arith)
+      by false false h e = (cc, (ltb-false 16384 (length t) h, refl))
 
 module _ (t room : List ℕ) (left : Filled) (f : ℕ) (e : f ≡ firstFault t) where
   pub a-fault : f < length t → refuse 30 f room ≡ faultless t room left

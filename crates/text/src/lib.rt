@@ -8,6 +8,7 @@ ghost use Rattle.screening.specs.Plain.{odd};
 ghost use Rattle.octets.specs.Room.{filled, fill, fillBounded};
 ghost use Rattle.escapes.specs.Escapes.{escaped, unescaped};
 ghost use Rattle.octets.specs.Counts.{any};
+ghost use Rattle.text.specs.Screened.{screened};
 ghost use Rattle.text.specs.Outcomes.{faultless, escapeOutcome, unescapeOutcome};
 use octets::rooms::Written;
 
@@ -23,6 +24,27 @@ fn bad_octet(text: &[u8], look: u8, lf: bool) -> usize
         return text.len();
     }
     screening::texts::first_bad(text, lf)
+}
+
+// What screening a text answers: what the look at it saw, or a refusal's number and place.
+pub enum Screened {
+    Saw(u8),
+    Refused(u32, usize),
+}
+
+// 1 and 31 of a text, else what is seen in it: octets that are not plain, and a backslash, a comma, x or y.
+fn screen(text: &[u8], x: u8, y: u8, lf: bool) -> Screened
+    ensures { λ r. ⌜ r ≡ screened lf x y (now (text .entry)) ⌝ }
+{
+    if 16384 < text.len() {
+        return Screened::Refused(1, 16384);
+    }
+    let look = escapes::looks::look(text, x, y);
+    let bad = bad_octet(text, look, lf);
+    if bad < text.len() {
+        return Screened::Refused(31, bad);
+    }
+    Screened::Saw(look)
 }
 
 // Writes the text as it is, or refuses with 15.
@@ -57,18 +79,16 @@ fn escape_each(text: &[u8], out: &mut [u8]) -> Written
 pub fn escape(text: &[u8], out: &mut [u8]) -> Written
     ensures { λ r. ⌜ filled r (now (out .exit)) ≡ escapeOutcome (now (text .entry)) (now (out .entry)) ⌝ }
 {
-    if 16384 < text.len() {
-        return Written::Refused(1, 16384);
+    let s = screen(text, 59, 10, true);
+    match s {
+        Screened::Refused(n, p) => Written::Refused(n, p),
+        Screened::Saw(look) => {
+            if look < 2 {
+                return put(text, out);
+            }
+            escape_each(text, out)
+        }
     }
-    let look = escapes::looks::look(text, 59, 10);
-    let bad = bad_octet(text, look, true);
-    if bad < text.len() {
-        return Written::Refused(31, bad);
-    }
-    if look < 2 {
-        return put(text, out);
-    }
-    escape_each(text, out)
 }
 
 // Unescapes octet by octet, or refuses with 30 or 15.
@@ -93,16 +113,14 @@ fn unescape_each(text: &[u8], out: &mut [u8]) -> Written
 pub fn unescape(text: &[u8], out: &mut [u8]) -> Written
     ensures { λ r. ⌜ filled r (now (out .exit)) ≡ unescapeOutcome (now (text .entry)) (now (out .entry)) ⌝ }
 {
-    if 16384 < text.len() {
-        return Written::Refused(1, 16384);
+    let s = screen(text, 44, 44, false);
+    match s {
+        Screened::Refused(n, p) => Written::Refused(n, p),
+        Screened::Saw(look) => {
+            if look < 2 {
+                return put(text, out);
+            }
+            unescape_each(text, out)
+        }
     }
-    let look = escapes::looks::look(text, 44, 44);
-    let bad = bad_octet(text, look, false);
-    if bad < text.len() {
-        return Written::Refused(31, bad);
-    }
-    if look < 2 {
-        return put(text, out);
-    }
-    unescape_each(text, out)
 }

@@ -15,7 +15,7 @@ use Rattle.characters.specs.Characters.{allowed, firstBad}
 use Rattle.characters.proofs.Chars.{bad-le}
 use Rattle.escapes.specs.Escapes.{special, marked, letter, inEscape, escaped, firstFault, unescaped}
 use Rattle.text.specs.Outcomes.{checked, faultless, escapeOutcome, unescapeOutcome}
-use Rattle.escapes.specs.Stands.{Escape, backslash, comma, semicolon, small-n, Stands, none, itself, escape}
+use Rattle.text_laws.specs.Stands.{Escape, backslash, comma, semicolon, small-n, Stands, none, itself, escape}
 use Rattle.escapes.proofs.EscapeLaws.{clash}
 use Rattle.text.proofs.OutcomeLaws.{good, no-fault}
 use Rattle.octets.proofs.RoomLaws.{fill-fits}

@@ -12,7 +12,7 @@ use lib.Seq.{take-length}
 use borrow.Author.Tests.{eqb-true, eqb-false, ne-eqb}
 use Rattle.octets.specs.Scan.{scan, gather}
 use Rattle.escapes.specs.Escapes.{special, code, meant, escapeAt, textStep, firstFault, passed, standing, unescaped}
-use Rattle.escapes.specs.Stands.{Escape, backslash, comma, semicolon, small-n, capital-n, Stands, none, itself, escape, Faulty, bare-comma, last-backslash, bare-backslash}
+use Rattle.text_laws.specs.Stands.{Escape, backslash, comma, semicolon, small-n, capital-n, Stands, none, itself, escape, Faulty, bare-comma, last-backslash, bare-backslash}
 use Rattle.escapes.proofs.EscapeLaws.{clash}
 use Rattle.escapes.proofs.LengthLaws.{first-octet}
 

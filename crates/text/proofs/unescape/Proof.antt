@@ -1,37 +1,23 @@
 -- `text::unescape` meets its contract. Assumes nothing.
-use mathlib.Core.Path.{_∙_}
+use mathlib.Core.Path.{sym, _∙_}
 use mathlib.Core.Bool.{false}
-use native.Mathlib.Omega.{arith}
 use Rattle.octets.specs.Room.{fill}
-use Rattle.characters.specs.Characters.{allowed}
 use Rattle.escapes.specs.Escapes.{unescaped}
+use Rattle.escapes.proofs.LookLaws.{seen-low}
 use Rattle.text.specs.Outcomes.{faultless, unescapeOutcome}
-use Rattle.escapes.proofs.LookLaws.{seen-low, seen-plain}
-use Rattle.text.proofs.OutcomeLaws.{too-long, bad-octet, good, unescape-same}
+use Rattle.text.proofs.OutcomeLaws.{refused-by, left-by, unescape-same}
 use borrow.Author.Needs.{needs}
 use Rattle.text.proofs.unescape.Statement.{statement}
 use Rattle.text.proofs.unescape.Tie as tie
 
-returns : tie.Need-returns
-unfolding unescapeOutcome
-returns c =
-    let a = c .before .before .before .args in
-    let t = a .text .now in
-    too-long (allowed false) t (a .out .now) (faultless t (a .out .now) (fill (unescaped t) (a .out .now))) (c .if1 .taken)
+screen-requires : tie.Need-screen-requires
+screen-requires c κs = search needs
 
-look-requires : tie.Need-look-requires
-look-requires c κs = search needs
+enum-known-s : tie.Need-enum-known-s
+enum-known-s c = search needs
 
-bad-octet-requires : tie.Need-bad-octet-requires
-bad-octet-requires c κs = seen-plain (c .before .before .before .before .args .text .now) (c .look .result) 44 44 (c .look .ensures)
-
-returns-2 : tie.Need-returns-2
-unfolding unescapeOutcome
-returns-2 c =
-    let a = c .before .before .before .before .before .before .args in
-    let t = a .text .now in
-    let b = c .before .bad-octet in
-    bad-octet (allowed false) t (a .out .now) (faultless t (a .out .now) (fill (unescaped t) (a .out .now))) (omega arith) (b .result) (b .ensures) (c .if2 .taken)
+enum-known-s-2 : tie.Need-enum-known-s-2
+enum-known-s-2 c = search needs
 
 put-requires : tie.Need-put-requires
 put-requires c κs = search needs
@@ -39,43 +25,56 @@ put-requires c κs = search needs
 same-length : tie.Need-same-length
 same-length c = search needs
 
-returns-3 : tie.Need-returns-3
+returns : tie.Need-returns
 unfolding unescapeOutcome
-returns-3 c =
-    let a = c .before .before .before .before .before .before .before .before .before .before .before .args in
+returns c =
+    let m = c .before .before .before .before .before .before in
+    let a = m .before .before .before .before .before .args in
     let t = a .text .now in
-    let l = c .before .before .before .before .before .before .before .look in
-    let b = c .before .before .before .before .before .before .bad-octet in
+    let o = a .out .now in
+    let q = left-by false 44 44 t o (faultless t o (fill (unescaped t) o)) _ (sym (m .before .before .screen .ensures) ∙ m .s2 .given .1) in
     c .before .before .put .ensures
-    ∙ unescape-same t (a .out .now) (seen-low t (l .result) 44 44 (l .ensures) (c .before .before .before .before .if3 .taken))
-    ∙ good (allowed false) t (a .out .now) (faultless t (a .out .now) (fill (unescaped t) (a .out .now))) (omega arith) (b .result) (b .ensures) (omega arith)
+    ∙ unescape-same t o (seen-low t _ 44 44 (q .0) (c .before .before .before .before .if1 .taken))
+    ∙ q .1 .1
 
 unescape-each-requires : tie.Need-unescape-each-requires
-unescape-each-requires c κs = search needs
+unescape-each-requires c κs =
+    let m = c .before .before .before in
+    let a = m .before .before .before .before .before .args in
+    left-by false 44 44 (a .text .now) (a .out .now) (faultless (a .text .now) (a .out .now) (fill (unescaped (a .text .now)) (a .out .now))) _ (sym (m .before .before .screen .ensures) ∙ m .s2 .given .1) .1 .0
+
+returns-2 : tie.Need-returns-2
+unfolding unescapeOutcome
+returns-2 c =
+    let m = c .before in
+    let a = m .before .before .before .before .before .args in
+    let t = a .text .now in
+    let o = a .out .now in
+    refused-by false 44 44 t o (faultless t o (fill (unescaped t) o)) _ _ (sym (m .before .before .screen .ensures) ∙ m .s .given .1)
 
 same-length-2 : tie.Need-same-length-2
 same-length-2 c = search needs
 
-returns-4 : tie.Need-returns-4
+returns-3 : tie.Need-returns-3
 unfolding unescapeOutcome
-returns-4 c =
-    let a = c .before .before .before .before .before .before .before .before .before .before .before .args in
+returns-3 c =
+    let m = c .before .before .before .before .before .before in
+    let a = m .before .before .before .before .before .args in
     let t = a .text .now in
-    let b = c .before .before .before .before .before .before .bad-octet in
-    c .before .before .unescape-each .ensures
-    ∙ good (allowed false) t (a .out .now) (faultless t (a .out .now) (fill (unescaped t) (a .out .now))) (omega arith) (b .result) (b .ensures) (omega arith)
+    let o = a .out .now in
+    c .before .before .unescape-each .ensures ∙ left-by false 44 44 t o (faultless t o (fill (unescaped t) o)) _ (sym (m .before .before .screen .ensures) ∙ m .s2 .given .1) .1 .1
 
 pub unescape-spec : {M : Type 1} → statement M
 unescape-spec =
     tie.close
     (tie.spec
-    returns
-    look-requires
-    bad-octet-requires
-    returns-2
+    screen-requires
+    enum-known-s
+    enum-known-s-2
     put-requires
     same-length
-    returns-3
+    returns
     unescape-each-requires
+    returns-2
     same-length-2
-    returns-4)
+    returns-3)

@@ -1,0 +1,43 @@
+-- `text::screen` meets its contract. Assumes nothing.
+use mathlib.Core.Path.{sym}
+use lib.ListN.{length}
+use borrow.Author.Needs.{needs}
+use borrow.Author.Tests.{lt-ltb, le-ltb}
+use Rattle.escapes.proofs.LookLaws.{seen-plain}
+use Rattle.text.specs.Screened.{screened}
+use Rattle.text.proofs.screen.Statement.{statement}
+use Rattle.text.proofs.screen.Tie as tie
+
+returns : tie.Need-returns
+unfolding screened
+returns c = simp (lt-ltb 16384 (length (c .before .before .args .text .now)) (c .if1 .taken))
+
+look-requires : tie.Need-look-requires
+look-requires c κs = search needs
+
+bad-octet-requires : tie.Need-bad-octet-requires
+bad-octet-requires c κs =
+    let a = c .before .before .before .args in
+    seen-plain (a .text .now) (c .look .result) (a .x) (a .y) (c .look .ensures)
+
+returns-2 : tie.Need-returns-2
+unfolding screened
+returns-2 c =
+    let n = length (c .before .before .before .before .before .args .text .now) in
+    let b = c .before .bad-octet in
+    simp (le-ltb 16384 n (c .before .before .before .if1 .left), sym (b .ensures), lt-ltb (b .result) n (c .if2 .taken))
+
+returns-3 : tie.Need-returns-3
+unfolding screened
+returns-3 c =
+    let n = length (c .before .before .before .before .before .args .text .now) in
+    let b = c .before .bad-octet in
+    simp (
+      le-ltb 16384 n (c .before .before .before .if1 .left),
+      sym (b .ensures),
+      le-ltb (b .result) n (c .if2 .left),
+      sym (c .before .before .look .ensures),
+    )
+
+pub screen-spec : {M : Type 1} → statement M
+screen-spec = tie.close (tie.spec returns look-requires bad-octet-requires returns-2 returns-3)
