@@ -7,7 +7,7 @@ use native.Mathlib.Omega.{arith}
 use lib.Dec.{eqb, ltb}
 use lib.ListN.{length, take, drop}
 use lib.Seq.{take-at}
-use borrow.Author.Tests.{eqb-true, ltb-false}
+use borrow.Author.Tests.{eqb-true, ltb-false, le-ltb}
 use Rattle.octets.specs.Pick.{pick}
 use Rattle.octets.specs.Room.{Filled, filled, refuse, overlay, fill, fillBounded}
 use Rattle.octets.specs.declared.rooms.Written.the-variants.{Wrote, Refused}
@@ -17,7 +17,7 @@ use Rattle.escapes.specs.Escapes.{special, marked, letter, inEscape, escaped, f
 use Rattle.text.specs.Outcomes.{checked, faultless, escapeOutcome, unescapeOutcome}
 use Rattle.text_laws.specs.Stands.{Escape, backslash, comma, semicolon, small-n, Stands, none, itself, escape}
 use Rattle.escapes.proofs.EscapeLaws.{clash}
-use Rattle.text.proofs.OutcomeLaws.{good, no-fault}
+use Rattle.text.proofs.OutcomeLaws.{no-fault}
 use Rattle.octets.proofs.RoomLaws.{fill-fits}
 use Rattle.text_laws.proofs.StandsLaws.{passes, gives}
 use Rattle.text_laws.proofs.CleanLaws.{clean-escaped}
@@ -81,6 +81,11 @@ taken t room after m = by (ltb 16384 (length t)) (ltb (firstBad (allowed true) t
     by false false p false q false e =
         record { clean = omega (arith, ltb-false (firstBad (allowed true) t) (length t) p, bad-le (allowed true) t); bound = ltb-false 16384 (length (escaped t)) q; count = same-count (length (escaped t)) m (ap (λ (f : Filled). f .answer) e); wrote = sym (ap (λ (f : Filled). f .room) e) }
 
+-- a text that is not too long and has no bad octet passes both refusals
+good : (t room : List ℕ) (left : Filled) → length t ≤ 16384 → firstBad (allowed false) t ≡ length t → left ≡ checked (allowed false) t room left
+unfolding checked
+good t room left h e = simp (le-ltb 16384 (length t) h, e, le-ltb (length t) (length t) (omega arith))
+
 -- the escaped form of a text that escape takes gives the text back
 pub back : (t room : List ℕ) → firstBad (allowed true) t ≡ length t → length (escaped t) ≤ 16384 → length t ≤ length room
     → unescapeOutcome (escaped t) room ≡ filled (Wrote (length t)) (overlay t room)
@@ -90,7 +95,7 @@ back t room c h r =
     sym
     (fill-fits (unescaped (escaped t)) room (length t) (ap length (sym (gives s))) r (overlay t room) (ap (λ (w : List ℕ). w ++ drop (length t) room) (sym (gives s)))
     ∙ no-fault (escaped t) room (fill (unescaped (escaped t)) room) (firstFault (escaped t)) refl (omega (arith, passes s))
-    ∙ good (allowed false) (escaped t) room (faultless (escaped t) room (fill (unescaped (escaped t)) room)) h (firstBad (allowed false) (escaped t)) refl (omega (arith, clean-escaped t c)))
+    ∙ good (escaped t) room (faultless (escaped t) room (fill (unescaped (escaped t)) room)) h (clean-escaped t c))
 
 -- where escape wrote m octets, unescaping those m octets, into any room that takes the text, gives the text back octet for octet
 pub round-trip : (t out after room : List ℕ) (m : ℕ) → escapeOutcome t out ≡ filled (Wrote m) after → length t ≤ length room
