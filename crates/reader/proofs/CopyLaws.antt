@@ -7,14 +7,14 @@ use native.Mathlib.Omega.{arith}
 use lib.ListN.{length, take, drop, set, length-append, length-drop, drop-of-length-le}
 use lib.Seq.{take-all, take-at, drop-at, drop-drop, length-take-le, sets-eq}
 use borrow.Rule.Slice.PartMut.{putMid}
-use Rattle.lines.specs.Folds.{lineLength, unfolded}
-use Rattle.lines.specs.Logical.{rawLines}
-use Rattle.lines.proofs.FoldLaws.{unfold-shorter}
+use Rattle.folds.specs.Folds.{lineLength, unfolded}
+use Rattle.folds.specs.Logical.{rawLines}
+use Rattle.folds.proofs.FoldLaws.{unfold-shorter}
 use Rattle.cards.specs.Parts.{toldOf}
 use Rattle.cards.specs.declared.parts.Told.{Told}
 use Rattle.cards.specs.declared.parts.Told.the-variants.{Line, Fault}
 use Rattle.reader.specs.Outcome.{ended, recordBy, recordOf, recordsFrom}
-use Rattle.reader.proofs.WalkLaws.{lines-turn, part-length}
+use Rattle.folds.proofs.SpanLaws.{lines-turn, part-length}
 
 -- a tail that came back with u at its start
 pub placed : (xs : List ℕ) (w : ℕ) (u ys : List ℕ) (n : ℕ) → w ≤ length xs → ys ≡ u ++ drop n (take (length xs - w) (drop w xs))

@@ -6,7 +6,7 @@ use native.Mathlib.Omega.{arith}
 use lib.ListN.{length}
 use borrow.Author.Tests.{lt-ltb, le-ltb}
 use Rattle.octets.specs.Room.{overlay}
-use Rattle.lines.specs.Logical.{rawLines}
+use Rattle.folds.specs.Logical.{rawLines}
 use Rattle.reader.specs.Outcome.{judgeOf, logicalLines, copyOf, recordsOf, took, writeOutcome, outcomeBy, readOutcome}
 use Rattle.reader.specs.declared.Verdict.{Verdict}
 use Rattle.reader.specs.declared.Verdict.the-variants.{Accepted, Refused}

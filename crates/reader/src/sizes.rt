@@ -3,9 +3,9 @@ ghost use mathlib.Core.Path.{_≡_};
 ghost use mathlib.Core.Bool.{false};
 ghost use Prim.Native.Nat.{_≤_};
 ghost use lib.ListN.{length};
-ghost use Rattle.lines.specs.Folds.{unfolded};
+ghost use Rattle.folds.specs.Folds.{unfolded};
 ghost use Rattle.reader.specs.Outcome.{copyOf};
-use crate::walk::line_at;
+use folds::spans::line_at;
 
 // The length of s without its folds, octet by octet.
 fn unfolded_length(s: &[u8]) -> usize
@@ -14,7 +14,7 @@ fn unfolded_length(s: &[u8]) -> usize
     let mut n: usize = 0;
     let mut i: usize = 0;
     while i < s.len() {
-        let fold = lines::folds::fold_at(s, i);
+        let fold = folds::spans::fold_at(s, i);
         if fold {
             i += 3;
         } else {

@@ -6,11 +6,11 @@ ghost use Prim.Native.Nat.{_+_, _≤_};
 ghost use lib.ListN.{length, take, drop};
 ghost use Rattle.octets.specs.Classes.{Classes};
 ghost use Rattle.octets.specs.Room.{overlay};
-ghost use Rattle.lines.specs.Folds.{unfolded};
+ghost use Rattle.folds.specs.Folds.{unfolded};
 ghost use Rattle.properties.specs.Rows.{Lists};
 ghost use Rattle.reader.specs.Outcome.{copyOf, numbers, recordOf, recordsOf};
-use crate::walk::line_at;
 use cards::parts::Told;
+use folds::spans::line_at;
 
 // One record: eight numbers.
 pub struct Record {
@@ -82,7 +82,7 @@ fn put_text(s: &[u8], folded: bool, d: &mut [u8]) -> usize
         octets::copying::copy_in(d, s);
         return s.len();
     }
-    lines::folds::unfold(s, d)
+    folds::unfolding::unfold(s, d)
 }
 
 // Writes the line s without its folds, and CR LF, into the copy from w on, and answers where the line ends there.

@@ -12,12 +12,12 @@ use borrow.Author.Tests.{ne-eqb, eqb-true, eqb-false, le-ltb}
 use Rattle.octets.specs.Scan.{scan, gather}
 use Rattle.octets.specs.Characters.{allowed}
 use Rattle.octets.proofs.Chains.{NoEnd, none, more, no-end, good-chars}
-use Rattle.lines.specs.Folds.{foldAt, lineStep, lineLength, passed, kept, unfolded}
+use Rattle.folds.specs.Folds.{foldAt, lineStep, lineLength, passed, kept, unfolded}
 use Rattle.lines.specs.Grammar.{Each}
-use Rattle.lines.specs.Logical.{rawLines}
-use Rattle.lines.proofs.FoldLaws.{unfold-shorter}
-use Rattle.lines.proofs.LineLaws.{lines-step, lines-end}
-use Rattle.reader.specs.Lone.{loneStep, firstLone, endsCrLf}
+use Rattle.folds.specs.Logical.{rawLines}
+use Rattle.folds.proofs.FoldLaws.{unfold-shorter}
+use Rattle.folds.proofs.LineLaws.{lines-step, lines-end}
+use Rattle.folds.specs.Lone.{loneStep, firstLone, endsCrLf}
 use Rattle.reader.specs.Outcome.{judgeOf, ended, logicalLines, copyOf, recordsOf}
 use Rattle.reader.specs.declared.Verdict.the-variants.{Accepted}
 use Rattle.reader.proofs.AcceptLaws.{accepting}

@@ -8,16 +8,16 @@ use Prim.Native.Nat.{ℕ, _+_, _≤_}
 use native.Mathlib.Omega.{arith}
 use lib.ListN.{length}
 use borrow.Author.Tests.{ne-eqb, eq-eqb, le-ltb}
-use Rattle.lines.specs.Folds.{unfolded}
+use Rattle.folds.specs.Folds.{unfolded}
 use Rattle.lines.specs.Grammar.{Each}
-use Rattle.lines.specs.Logical.{rawLines}
+use Rattle.folds.specs.Logical.{rawLines}
 use Rattle.cards.specs.State.{freshCard}
 use Rattle.cards.specs.Judge.{judgeLine}
 use Rattle.cards.specs.declared.state.Card.{Card}
 use Rattle.cards.specs.declared.state.Step.{Step}
 use Rattle.cards.specs.declared.state.Step.the-variants.{Next}
 use Rattle.cards.proofs.CardLaws.{line-clean}
-use Rattle.reader.specs.Lone.{firstLone, endsCrLf}
+use Rattle.folds.specs.Lone.{firstLone, endsCrLf}
 use Rattle.reader.specs.Outcome.{onward, judgeLines, verdictOf, judgeOf, logicalLines, copyOf, recordsOf}
 use Rattle.reader.specs.declared.Verdict.the-variants.{Accepted}
 use Rattle.reader.proofs.AcceptLaws.{onward-next, Accepting, accepting}

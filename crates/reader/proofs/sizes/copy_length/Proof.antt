@@ -6,11 +6,11 @@ use Prim.Native.Nat.{ℕ, _+_, _-_, _≤_}
 use native.Mathlib.Nat.{zero-add, add-zero}
 use native.Mathlib.Omega.{arith}
 use lib.ListN.{length, drop}
-use Rattle.lines.specs.Folds.{unfolded}
-use Rattle.lines.specs.Logical.{rawLines}
-use Rattle.lines.proofs.LineLaws.{lines-end}
+use Rattle.folds.specs.Folds.{unfolded}
+use Rattle.folds.specs.Logical.{rawLines}
+use Rattle.folds.proofs.LineLaws.{lines-end}
 use Rattle.reader.specs.Outcome.{ended, logicalLines, copyOf}
-use Rattle.reader.proofs.WalkLaws.{whole}
+use Rattle.folds.proofs.SpanLaws.{whole}
 use Rattle.reader.proofs.CopyLaws.{line-short, copy-length-turn}
 use Rattle.reader.proofs.sizes.copy_length.Statement.{statement}
 use Rattle.reader.proofs.sizes.copy_length.Tie as tie

@@ -8,8 +8,8 @@ use native.Mathlib.Omega.{arith}
 use lib.ListN.{length, drop}
 use Rattle.octets.specs.Scan.{gather}
 use Rattle.octets.proofs.Scans.{gather-step, gather-end}
-use Rattle.lines.specs.Folds.{passed, kept, unfolded}
-use Rattle.lines.proofs.FoldLaws.{fold-inside, passed-fold, passed-octet, kept-fold, kept-octet}
+use Rattle.folds.specs.Folds.{passed, kept, unfolded}
+use Rattle.folds.proofs.FoldLaws.{fold-inside, passed-fold, passed-octet, kept-fold, kept-octet}
 use Rattle.reader.proofs.sizes.unfolded_length.Statement.{statement}
 use Rattle.reader.proofs.sizes.unfolded_length.Tie as tie
 

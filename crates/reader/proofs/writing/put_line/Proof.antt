@@ -5,7 +5,7 @@ use Prim.Native.Nat.{ℕ, _+_, _-_, _≤_}
 use native.Mathlib.Omega.{arith}
 use lib.ListN.{length, take, drop, set, length-set, length-take, length-drop}
 use borrow.Rule.Slice.PartMut.{putMid, same-len-mid}
-use Rattle.lines.specs.Folds.{unfolded}
+use Rattle.folds.specs.Folds.{unfolded}
 use Rattle.reader.proofs.CopyLaws.{placed, closed}
 use borrow.Author.Needs.{needs}
 use Rattle.reader.proofs.writing.put_line.Statement.{statement}

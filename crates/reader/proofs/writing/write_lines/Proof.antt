@@ -6,11 +6,11 @@ use Prim.Native.Nat.{ℕ, _+_, _-_, _≤_}
 use native.Mathlib.Omega.{arith}
 use lib.ListN.{length, take, drop, length-append}
 use Rattle.octets.proofs.Writes.{Written, start, room, put, finish}
-use Rattle.lines.specs.Folds.{unfolded}
-use Rattle.lines.specs.Logical.{rawLines}
-use Rattle.lines.proofs.LineLaws.{lines-end}
+use Rattle.folds.specs.Folds.{unfolded}
+use Rattle.folds.specs.Logical.{rawLines}
+use Rattle.folds.proofs.LineLaws.{lines-end}
 use Rattle.reader.specs.Outcome.{logicalLines, ended, copyOf, numbers, recordOf, recordsFrom, recordsOf}
-use Rattle.reader.proofs.WalkLaws.{whole}
+use Rattle.folds.proofs.SpanLaws.{whole}
 use Rattle.reader.proofs.CopyLaws.{line-short, copy-turn, copy-length-turn, record-length, records-turn, read-back}
 use Rattle.reader.proofs.writing.write_lines.Statement.{statement}
 use Rattle.reader.proofs.writing.write_lines.Tie as tie

@@ -1,0 +1,98 @@
+-- `folds::spans::line_end` meets its contract. Assumes nothing.
+use borrow.Author.Needs.{needs}
+use mathlib.Core.Path.{_≡_, refl, sym, _∙_}
+use Prim.Native.Nat.{_≤_, _<_, _+_, _-_}
+use native.Mathlib.Omega.{arith}
+use lib.ListN.{length, drop}
+use borrow.Author.Tests.{not-true, not-false}
+use Rattle.octets.specs.Scan.{scan}
+use Rattle.folds.specs.Folds.{lineStep, lineLength}
+use Rattle.octets.proofs.Scans.{scan-stop, scan-step, scan-end}
+use Rattle.folds.proofs.FoldLaws.{fold-inside, line-fold, line-stop, line-octet}
+use Rattle.folds.proofs.spans.line_end.Statement.{statement}
+use Rattle.folds.proofs.spans.line_end.Tie as tie
+
+abbrev Inv-loop : tie.InvT-loop
+Inv-loop s from at₀ at = (at ≤ length s) × (from + scan lineStep (drop from s) 0 ≡ at + scan lineStep (drop at s) 0)
+
+abbrev μ-loop : tie.MeasureT-loop
+μ-loop s from at₀ at = length s - at
+
+loop-holds : tie.Need-loop-holds Inv-loop μ-loop
+loop-holds c = search needs
+
+shared-slice-read-if1 : tie.Need-shared-slice-read-if1 Inv-loop μ-loop
+shared-slice-read-if1 c = search needs
+
+fold-at-requires : tie.Need-fold-at-requires Inv-loop μ-loop
+fold-at-requires c κs = search needs
+
+returns : tie.Need-returns Inv-loop μ-loop
+unfolding lineLength
+returns c =
+    let l = c .before .before .before .before .before in
+    let s = l .before .before .args .s .now in
+    let at = l .loop .at in
+    let e = sym (c .before .fold-at .ensures) ∙ not-true _ (c .if2 .taken) in
+    (sym (l .loop .inv .1 ∙ scan-stop lineStep s at (line-stop s at e (c .before .before .if1 .taken))), l .loop .inv .0)
+
+add-at : tie.Need-add-at Inv-loop μ-loop
+add-at c =
+    let l = c .before .before .before .before .before in
+    let s = l .before .before .args .s .now in
+    let at = l .loop .at in
+    omega (arith, fold-inside s at (sym (c .before .fold-at .ensures) ∙ not-false _ (c .if2 .left)))
+
+loop-less : tie.Need-loop-less Inv-loop μ-loop
+loop-less c =
+    let l = c .before .before .before .before .before in
+    let s = l .before .before .args .s .now in
+    let at = l .loop .at in
+    omega (arith, fold-inside s at (sym (c .before .fold-at .ensures) ∙ not-false _ (c .if2 .left)))
+
+loop-again : tie.Need-loop-again Inv-loop μ-loop
+loop-again c =
+    let l = c .before .before .before .before .before in
+    let s = l .before .before .args .s .now in
+    let at = l .loop .at in
+    let e = sym (c .before .fold-at .ensures) ∙ not-false _ (c .if2 .left) in
+    let h = fold-inside s at e in
+    (h, l .loop .inv .1 ∙ scan-step lineStep s at 3 (line-fold s at e) (omega arith) h)
+
+add-at-2 : tie.Need-add-at-2 Inv-loop μ-loop
+add-at-2 c = search needs
+
+loop-less-2 : tie.Need-loop-less-2 Inv-loop μ-loop
+loop-less-2 c = search needs
+
+loop-again-2 : tie.Need-loop-again-2 Inv-loop μ-loop
+loop-again-2 c =
+    let l = c .before .before .before in
+    let s = l .before .before .args .s .now in
+    let at = l .loop .at in
+    let h : at + 1 ≤ length s = omega arith in
+    (h, l .loop .inv .1 ∙ scan-step lineStep s at 1 (line-octet s at (c .if1 .left)) (omega arith) h)
+
+returns-2 : tie.Need-returns-2 Inv-loop μ-loop
+unfolding lineLength
+returns-2 c =
+    let l = c .before in
+    (sym (l .loop .inv .1 ∙ scan-end lineStep (l .before .before .args .s .now) (l .loop .at) (c .loop-test .left)), l .loop .inv .0)
+
+pub line-end-spec : {M : Type 1} → statement M
+line-end-spec =
+    tie.close
+    (tie.spec
+    Inv-loop
+    μ-loop
+    loop-holds
+    shared-slice-read-if1
+    fold-at-requires
+    returns
+    add-at
+    loop-less
+    loop-again
+    add-at-2
+    loop-less-2
+    loop-again-2
+    returns-2)
