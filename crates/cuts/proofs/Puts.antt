@@ -1,5 +1,4 @@
--- Octets stored behind a list that was written to the start of room, and a tail of room that came back with a list at its start.
--- Assumes nothing.
+-- Octets stored behind a list that was written to the start of room. Assumes nothing.
 use mathlib.Core.Path.{_≡_, refl, sym, ap, _∙_}
 use mathlib.Core.List.{List, [], _∷_, _++_, append-nil, append-assoc}
 use Prim.Native.Nat.{ℕ, _+_, _-_, _≤_}
@@ -32,17 +31,3 @@ pub fold-mark : (d u : List ℕ) (n : ℕ) → n ≡ length u + 2 → length u +
 fold-mark d u n e fits =
     marked d (u ++ (13 ∷ 10 ∷ [])) (32 ∷ []) n (e ∙ sym (length-append u (13 ∷ 10 ∷ []))) (omega arith)
     ∙ ap (λ (r : List ℕ). overlay r d) (append-assoc u (13 ∷ 10 ∷ []) (32 ∷ []))
-
--- x was written next, to the start of the tail from w on
-module _ {whole rest d₀ d : List ℕ} {w : ℕ} (h : Written whole rest d₀ d w) where
-  pub put-part : (x rest′ part : List ℕ) → rest ≡ x ++ rest′ → w + length x ≤ length d → part ≡ overlay x (take (length d - w) (drop w d))
-      → Written whole rest′ d₀ (putMid w (length d - w) d part) (w + length x)
-  put-part x rest′ part e fits q =
-      let all : take (length d - w) (drop w d) ≡ drop w d = take-all (length d - w) (drop w d) (rw (length-drop w d) (omega arith)) in
-      let over : length (drop w d) ≤ length d - w = rw (length-drop w d) (omega arith) in
-      let none : drop (length d - w) (drop w d) ≡ [] = drop-of-length-le (drop w d) over in
-      put h x rest′ (putMid w (length d - w) d part) e fits
-      (ap (λ (r : List ℕ). take w d ++ (part ++ r)) none
-      ∙ ap (λ (r : List ℕ). take w d ++ r)
-      (append-nil part ∙ q ∙ ap (λ (r : List ℕ). overlay x r) all ∙ ap (λ (r : List ℕ). x ++ r) (drop-drop (length x) w d))
-      ∙ sym (append-assoc (take w d) x (drop (w + length x) d)))

@@ -12,11 +12,17 @@ use borrow.Author.Tests.{ltb-true, ltb-false, eq-eqb, ne-eqb}
 use Rattle.octets.specs.Pick.{pick}
 use Rattle.folds.specs.Folds.{foldAt, lineStep, passed, kept, unfolded}
 use Rattle.octets.specs.Scan.{gather}
+use Rattle.octets.proofs.Scans.{gather-step}
 
 module _ (s : List ℕ) (i : ℕ) where
   pub fold-eq : foldAt (drop i s) ≡ (eqb (getD s i 0) 13 && (eqb (getD s (i + 1) 0) 10 && (eqb (getD s (i + 2) 0) 32 || eqb (getD s (i + 2) 0) 9)))
   unfolding foldAt
   fold-eq = simp (getD-drop, add-zero)
+
+  -- by the three octets there
+  pub fold-three : foldAt (getD s i 0 ∷ getD s (i + 1) 0 ∷ getD s (i + 2) 0 ∷ []) ≡ foldAt (drop i s)
+  unfolding foldAt
+  fold-three = sym fold-eq
 
   pub fold-short : length s ≤ i + 2 → foldAt (drop i s) ≡ false
   fold-short h = fold-eq ∙ simp (List·getD-eq-default s 0 h, and-false)
@@ -46,21 +52,30 @@ module _ (s : List ℕ) (i : ℕ) where
   unfolding lineStep
   line-octet h = simp (not-cr h, getD-drop, add-zero, ne-eqb (getD s i 0) 13 h)
 
-  pub passed-fold : foldAt (drop i s) ≡ true → passed (drop i s) ≡ 3
+  passed-fold : foldAt (drop i s) ≡ true → passed (drop i s) ≡ 3
   unfolding passed
   passed-fold e = simp e
 
-  pub passed-octet : foldAt (drop i s) ≡ false → passed (drop i s) ≡ 1
+  passed-octet : foldAt (drop i s) ≡ false → passed (drop i s) ≡ 1
   unfolding passed
   passed-octet e = simp e
 
-  pub kept-fold : foldAt (drop i s) ≡ true → kept (drop i s) ≡ []
+  kept-fold : foldAt (drop i s) ≡ true → kept (drop i s) ≡ []
   unfolding kept
   kept-fold e = simp e
 
-  pub kept-octet : foldAt (drop i s) ≡ false → kept (drop i s) ≡ getD s i 0 ∷ []
+  kept-octet : foldAt (drop i s) ≡ false → kept (drop i s) ≡ getD s i 0 ∷ []
   unfolding kept
   kept-octet e = simp (e, getD-drop, add-zero)
+
+  -- a step of unfolding
+  pub fold-next : i < length s → foldAt (drop i s) ≡ true → gather passed kept (drop i s) 0 ≡ gather passed kept (drop (i + 3) s) 0
+  fold-next h e =
+      gather-step passed kept s i 3 h (passed-fold e) (omega arith) ∙ ap (λ (r : List ℕ). r ++ gather passed kept (drop (i + 3) s) 0) (kept-fold e)
+
+  pub octet-next : i < length s → foldAt (drop i s) ≡ false → gather passed kept (drop i s) 0 ≡ (getD s i 0 ∷ []) ++ gather passed kept (drop (i + 1) s) 0
+  octet-next h e =
+      gather-step passed kept s i 1 h (passed-octet e) (omega arith) ∙ ap (λ (r : List ℕ). r ++ gather passed kept (drop (i + 1) s) 0) (kept-octet e)
 
 kept-one : (t : Bool) (b : ℕ) → length (pick t [] (b ∷ [])) ≤ 1
 kept-one true b = omega arith

@@ -31,12 +31,14 @@ pub fn fold_at(s: &[u8], i: usize) -> bool
     s[i + 2] == 9
 }
 
-// The end of the logical line that starts at `from`: its last CR, or the end.
+// The end of the logical line that starts at `from`: its last CR, or the end. Four octets after a fold are passed one by one, and the
+// rest up to the next CR at once.
 pub fn line_end(s: &[u8], from: usize) -> usize
     requires { ⌜ from ≤ length (now s) ⌝ }
     ensures { λ r. ⌜ (r ≡ from + lineLength (drop from (now (s .entry)))) × (r ≤ length (now (s .entry))) ⌝ }
 {
     let mut at = from;
+    let mut met: usize = 0;
     while at < s.len() {
         if s[at] == 13 {
             let fold = fold_at(s, at);
@@ -44,8 +46,13 @@ pub fn line_end(s: &[u8], from: usize) -> usize
                 return at;
             }
             at += 3;
-        } else {
+            met = 0;
+        } else if met < 4 {
             at += 1;
+            met += 1;
+        } else {
+            at = crate::hops::next_cr(s, at + 1);
+            met = 0;
         }
     }
     at

@@ -1,137 +1,165 @@
 -- `folds::unfolding::unfold` meets its contract. Assumes nothing.
 use borrow.Author.Needs.{needs}
-use mathlib.Core.Path.{_≡_, refl, sym, ap, _∙_}
-use mathlib.Core.List.{List, [], _∷_, _++_, append-nil, append-assoc}
-use Prim.Native.Nat.{ℕ, suc, _≤_, _<_, _+_, _-_}
-use native.Mathlib.Numerals.{add-one}
+use mathlib.Core.Path.{_≡_, sym, ap, _∙_}
+use mathlib.Core.Bool.{false}
+use mathlib.Core.List.{List, [], _∷_, _++_}
+use Prim.Native.Nat.{ℕ, _≤_, _<_, _+_, _-_}
 use native.Mathlib.Omega.{arith}
-use lib.ListN.{length, take, drop, getD, set, length-set, length-append, take-append-drop}
-use lib.Seq.{take-suc-set, drop-set-lt, drop-drop, length-take-le}
+use lib.ListN.{length, take, drop, getD, length-append, length-take, length-drop}
+use lib.Seq.{length-take-le}
 use Rattle.octets.specs.Scan.{gather}
-use Rattle.folds.specs.Folds.{passed, kept, unfolded}
-use Rattle.octets.proofs.Scans.{gather-step, gather-end}
-use Rattle.folds.proofs.FoldLaws.{fold-inside, passed-fold, passed-octet, kept-fold, kept-octet}
+use Rattle.octets.proofs.Scans.{gather-end}
+use Rattle.octets.proofs.Writes.{Written, start, room, finish}
+use Rattle.folds.specs.Folds.{foldAt, passed, kept, unfolded}
+use Rattle.folds.proofs.FoldLaws.{fold-inside, fold-next, octet-next}
+use Rattle.folds.proofs.RunLaws.{flat-one, flat-join, flat-kept}
+use Rattle.folds.proofs.PutLaws.{put-octet, put-part}
 use Rattle.folds.proofs.unfolding.unfold.Statement.{statement}
 use Rattle.folds.proofs.unfolding.unfold.Tie as tie
 
 abbrev Inv-loop : tie.InvT-loop
-Inv-loop s d₀ i₀ j₀ d i j =
-    (i ≤ length s) × (j ≤ length d) × (length d ≡ length d₀) × (gather passed kept s 0 ≡ take j d ++ gather passed kept (drop i s) 0) × (drop j d ≡ drop j d₀)
+Inv-loop s d₀ i₀ j₀ met₀ d i j met = (i ≤ length s) × Written (gather passed kept s 0) (gather passed kept (drop i s) 0) d₀ d j
 
 abbrev μ-loop : tie.MeasureT-loop
-μ-loop s d₀ i₀ j₀ d i j = length s - i
+μ-loop s d₀ i₀ j₀ met₀ d i j met = length s - i
 
--- there is room for one octet more
-room : (d : List ℕ) (j b : ℕ) (w r : List ℕ) → j ≤ length d → length w ≤ length d → w ≡ take j d ++ ((b ∷ []) ++ r) → j < length d
-room d j b w r h f e =
-    let n : length w ≡ length (take j d) + suc (length r) = ap length e ∙ length-append (take j d) (b ∷ r) in
-    omega (arith, length-take-le j d h)
-
--- the octet at i is written next
-next : (c : tie.Else1 Inv-loop μ-loop)
-    → gather passed kept (c .before .before .before .before .before .before .args .s .now) 0
-    ≡ take (c .before .before .before .loop .j) (c .before .before .before .loop .d)
-    ++ ((getD (c .before .before .before .before .before .before .args .s .now) (c .before .before .before .loop .i) 0 ∷ [])
-    ++ gather passed kept (drop (c .before .before .before .loop .i + 1) (c .before .before .before .before .before .before .args .s .now)) 0)
-next c =
-    let l = c .before .before .before in
-    let s = l .before .before .before .args .s .now in
-    let i = l .loop .i in
-    let e = sym (c .before .fold-at .ensures) ∙ c .if1 .left in
-    l .loop .inv .3
-    ∙ ap (λ (r : List ℕ). take (l .loop .j) (l .loop .d) ++ r)
-    (gather-step passed kept s i 1 (c .before .before .loop-test .taken) (passed-octet s i e) (omega arith)
-    ∙ ap (λ (r : List ℕ). r ++ gather passed kept (drop (i + 1) s) 0) (kept-octet s i e))
-
-more-room : (c : tie.Else1 Inv-loop μ-loop) → c .before .before .before .loop .j < length (c .before .before .before .loop .d)
+-- there is room for what is left
+roomy : (l : tie.At-loop Inv-loop μ-loop)
+    → l .loop .j + length (gather passed kept (drop (l .loop .i) (l .before .before .before .args .s .now)) 0) ≤ length (l .loop .d)
 unfolding unfolded
-more-room c =
-    let l = c .before .before .before in
-    room (l .loop .d) (l .loop .j) _ _ _ (l .loop .inv .1) (rw (l .loop .inv .2) (l .before .before .before .pre)) (next c)
+roomy l = room (l .loop .inv .1) (l .before .before .before .pre)
 
--- one octet more is written
-put : (d : List ℕ) (j b : ℕ) (w r : List ℕ) → j < length d → w ≡ take j d ++ ((b ∷ []) ++ r) → w ≡ take (j + 1) (set d j b) ++ r
-put d j b w r h e = rw (add-one, take-suc-set d j b h, append-assoc) e
+-- an octet that starts no fold
+module _ (c : tie.Else1 Inv-loop μ-loop) where
+  abbrev S : List ℕ
+  S = c .before .before .before .before .before .before .args .s .now
 
-drop-put : (d d₀ : List ℕ) (j b : ℕ) → drop j d ≡ drop j d₀ → drop (j + 1) (set d j b) ≡ drop (j + 1) d₀
-drop-put d d₀ j b e =
-    drop-set-lt (j + 1) d j b (omega arith) ∙ sym (drop-drop 1 j d) ∙ ap (drop 1) e ∙ drop-drop 1 j d₀
+  abbrev I : ℕ
+  I = c .before .before .before .loop .i
+
+  flat : foldAt (drop I S) ≡ false
+  flat = sym (c .before .fold-at .ensures) ∙ c .if1 .left
+
+  next : gather passed kept (drop I S) 0 ≡ (getD S I 0 ∷ []) ++ gather passed kept (drop (I + 1) S) 0
+  next = octet-next S I (c .before .before .loop-test .taken) flat
+
+  fits : c .before .before .before .loop .j < length (c .before .before .before .loop .d)
+  fits = omega (arith, roomy (c .before .before .before), ap length next)
+
+-- the octets up to the next fold
+module _ (c : tie.After-hop Inv-loop μ-loop) where
+  abbrev X : List ℕ
+  X = take (c .hop .result - I (c .before .before)) (drop (I (c .before .before)) (S (c .before .before)))
+
+  run : gather passed kept (drop (I (c .before .before)) (S (c .before .before))) 0 ≡ X ++ gather passed kept (drop (c .hop .result) (S (c .before .before))) 0
+  run =
+      let a = c .before .before in
+      let e = c .hop .ensures in
+      flat-kept (S a) (I a) (c .hop .result) (omega (arith, e .0)) (e .1) (flat-join (S a) (I a) (I a + 1) (c .hop .result) (flat-one (S a) (I a) (flat a)) (e .2))
+
+  run-length : length X ≡ c .hop .result - I (c .before .before)
+  run-length =
+      length-take-le (c .hop .result - I (c .before .before)) (drop (I (c .before .before)) (S (c .before .before)))
+      (rw (length-drop (I (c .before .before)) (S (c .before .before))) (omega (arith, c .hop .ensures .1)))
+
+  run-fits : c .before .before .before .before .before .loop .j + length X ≤ length (c .before .before .before .before .before .loop .d)
+  run-fits =
+      omega (
+        arith,
+        roomy (c .before .before .before .before .before),
+        ap length run ∙ length-append X (gather passed kept (drop (c .hop .result) (S (c .before .before))) 0),
+      )
 
 loop-holds : tie.Need-loop-holds Inv-loop μ-loop
-loop-holds c = (search needs, search needs, refl, refl, refl)
+loop-holds c = (search needs, start _ _)
 
 fold-at-requires : tie.Need-fold-at-requires Inv-loop μ-loop
 fold-at-requires c κs = search needs
 
 add-i : tie.Need-add-i Inv-loop μ-loop
-add-i c =
-    let l = c .before .before .before in
-    let s = l .before .before .before .args .s .now in
-    let i = l .loop .i in
-    let e = sym (c .before .fold-at .ensures) ∙ c .if1 .taken in
-    omega (arith, fold-inside s i e)
+add-i c = omega (arith, fold-inside (c .before .before .before .before .before .before .args .s .now) (c .before .before .before .loop .i) (sym (c .before .fold-at .ensures) ∙ c .if1 .taken))
 
 loop-less : tie.Need-loop-less Inv-loop μ-loop
-loop-less c =
-    let l = c .before .before .before in
-    let s = l .before .before .before .args .s .now in
-    let i = l .loop .i in
-    let e = sym (c .before .fold-at .ensures) ∙ c .if1 .taken in
-    omega (arith, fold-inside s i e)
+loop-less c = omega (arith, fold-inside (c .before .before .before .before .before .before .args .s .now) (c .before .before .before .loop .i) (sym (c .before .fold-at .ensures) ∙ c .if1 .taken))
 
 loop-again : tie.Need-loop-again Inv-loop μ-loop
 loop-again c =
-    let l = c .before .before .before in
-    let s = l .before .before .before .args .s .now in
-    let i = l .loop .i in
+    let s = c .before .before .before .before .before .before .args .s .now in
+    let l = c .before .before .before .loop in
     let e = sym (c .before .fold-at .ensures) ∙ c .if1 .taken in
-    let step = gather-step passed kept s i 3 (c .before .before .loop-test .taken) (passed-fold s i e) (omega arith) in
-    (fold-inside s i e, omega arith, l .loop .inv .2, l .loop .inv .3 ∙ ap (λ (r : List ℕ). take (l .loop .j) (l .loop .d) ++ r) (step ∙ ap (λ (r : List ℕ). r ++ gather passed kept (drop (i + 3) s) 0) (kept-fold s i e)), l .loop .inv .4)
+    (fold-inside s (l .i) e, rw (fold-next s (l .i) (c .before .before .loop-test .taken) e) at (l .inv .1))
 
 shared-slice-read-d : tie.Need-shared-slice-read-d Inv-loop μ-loop
 shared-slice-read-d c = search needs
 
 slice-write-d : tie.Need-slice-write-d Inv-loop μ-loop
-slice-write-d c = more-room (c .before)
+slice-write-d c = fits (c .before .before)
 
 add-j : tie.Need-add-j Inv-loop μ-loop
-add-j c = omega (arith, more-room (c .before))
+add-j c = omega (arith, fits (c .before .before))
 
 add-i-2 : tie.Need-add-i-2 Inv-loop μ-loop
 add-i-2 c = search needs
+
+add-met : tie.Need-add-met Inv-loop μ-loop
+add-met c = search needs
 
 loop-less-2 : tie.Need-loop-less-2 Inv-loop μ-loop
 loop-less-2 c = search needs
 
 loop-again-2 : tie.Need-loop-again-2 Inv-loop μ-loop
-loop-again-2 c =
-    let l = c .before .before .before .before in
-    let s = l .before .before .before .args .s .now in
-    let d = l .loop .d in
-    let d₀ = l .before .before .before .args .d .now in
-    let i = l .loop .i in
-    let j = l .loop .j in
-    let room = more-room (c .before) in (
-      omega arith,
-      rw (length-set d j (getD s i 0)) (omega arith),
-      length-set d j (getD s i 0) ∙ l .loop .inv .2,
-      put d j (getD s i 0) (gather passed kept s 0) (gather passed kept (drop (i + 1) s) 0) room (next (c .before)),
-      drop-put d d₀ j (getD s i 0) (l .loop .inv .4),
-    )
+loop-again-2 c = (omega arith, put-octet (c .before .before .before .before .before .loop .inv .1) _ _ (next (c .before .before)) (fits (c .before .before)))
+
+add-hop : tie.Need-add-hop Inv-loop μ-loop
+add-hop c = search needs
+
+hop-requires : tie.Need-hop-requires Inv-loop μ-loop
+hop-requires c κs = search needs
+
+sub-copy-in : tie.Need-sub-copy-in Inv-loop μ-loop
+sub-copy-in c = omega (arith, run-fits c)
+
+part-copy-in-start : tie.Need-part-copy-in-start Inv-loop μ-loop
+part-copy-in-start c = omega (arith, run-fits c)
+
+part-copy-in-end : tie.Need-part-copy-in-end Inv-loop μ-loop
+part-copy-in-end c = omega (arith, run-fits c)
+
+sub-copy-in-2 : tie.Need-sub-copy-in-2 Inv-loop μ-loop
+sub-copy-in-2 c = omega (arith, c .before .hop .ensures .0)
+
+part-copy-in-start-2 : tie.Need-part-copy-in-start-2 Inv-loop μ-loop
+part-copy-in-start-2 c = omega (arith, c .before .hop .ensures .0, c .before .hop .ensures .1)
+
+part-copy-in-end-2 : tie.Need-part-copy-in-end-2 Inv-loop μ-loop
+part-copy-in-end-2 c = omega (arith, c .before .hop .ensures .0, c .before .hop .ensures .1)
+
+copy-in-requires : tie.Need-copy-in-requires Inv-loop μ-loop
+copy-in-requires c κs = rw (run-length (c .before .before)) (simp (length-take, length-drop) (omega (arith, run-fits (c .before .before), run-length (c .before .before))))
+
+sub-j : tie.Need-sub-j Inv-loop μ-loop
+sub-j c = omega (arith, c .before .before .before .before .before .hop .ensures .0)
+
+add-j-2 : tie.Need-add-j-2 Inv-loop μ-loop
+add-j-2 c = omega (arith, run-fits (c .before .before .before .before .before), run-length (c .before .before .before .before .before))
+
+loop-less-3 : tie.Need-loop-less-3 Inv-loop μ-loop
+loop-less-3 c = omega (arith, c .before .before .before .before .before .hop .ensures .0, c .before .before .before .before .before .hop .ensures .1)
+
+loop-again-3 : tie.Need-loop-again-3 Inv-loop μ-loop
+loop-again-3 c =
+    let t = c .before .before .before .before .before in
+    (c .before .before .before .before .before .hop .ensures .1, rw (run-length t) at (put-part (c .before .before .before .before .before .before .before .before .before .before .loop .inv .1) (X t) _ _ (run t) (run-fits t) (c .before .before .copy-in .ensures)))
 
 same-length : tie.Need-same-length Inv-loop μ-loop
-same-length c = c .before .loop .inv .2
+same-length c = c .before .loop .inv .1 .same
 
 returns : tie.Need-returns Inv-loop μ-loop
 unfolding unfolded
 returns c =
-    let l = c .before in
-    let s = l .before .before .before .args .s .now in
-    let d = l .loop .d in
-    let j = l .loop .j in
-    let whole : gather passed kept s 0 ≡ take j d = l .loop .inv .3 ∙ ap (λ (r : List ℕ). take j d ++ r) (gather-end passed kept s (l .loop .i) (c .loop-test .left)) ∙ append-nil (take j d) in
-    let fits : j ≤ length d = omega arith in
-    (sym (ap length whole ∙ length-take-le j d fits), sym (ap (λ (r : List ℕ). r ++ drop j (l .before .before .before .args .d .now)) whole ∙ ap (λ (r : List ℕ). take j d ++ r) (sym (l .loop .inv .4)) ∙ take-append-drop j d))
+    let l = c .before .loop in
+    let none = gather-end passed kept (c .before .before .before .before .args .s .now) (l .i) (c .loop-test .left) in
+    finish (rw none at (l .inv .1))
 
 pub unfold-spec : {M : Type 1} → statement M
 unfold-spec =
@@ -148,7 +176,21 @@ unfold-spec =
     slice-write-d
     add-j
     add-i-2
+    add-met
     loop-less-2
     loop-again-2
+    add-hop
+    hop-requires
+    sub-copy-in
+    part-copy-in-start
+    part-copy-in-end
+    sub-copy-in-2
+    part-copy-in-start-2
+    part-copy-in-end-2
+    copy-in-requires
+    sub-j
+    add-j-2
+    loop-less-3
+    loop-again-3
     same-length
     returns)
