@@ -3,7 +3,6 @@ ghost use mathlib.Core.Path.{_≡_};
 ghost use Rattle.reader.specs.Outcome.{verdictOf, judgeOf, took, readOutcome};
 use cards::state::Step;
 
-mod sizes;
 pub mod walk;
 mod writing;
 
@@ -62,7 +61,7 @@ pub fn read(input: &[u8], copy: &mut [u8], records: &mut [u32]) -> Verdict
     let Verdict::Accepted(cards, lines) = v else {
         return v;
     };
-    let octets = sizes::copy_length(input);
+    let octets = folds::unfolding::unfolded_length(input);
     if copy.len() < octets {
         return Verdict::Refused(13, octets);
     }

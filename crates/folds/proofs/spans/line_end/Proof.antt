@@ -27,12 +27,15 @@ abbrev μ-loop : tie.MeasureT-loop
 -- src/spans.rt:42:5
 loop-holds : tie.Need-loop-holds Inv-loop μ-loop
 loop-holds c = search needs
+
 -- src/spans.rt:43:12
 shared-slice-read-if1 : tie.Need-shared-slice-read-if1 Inv-loop μ-loop
 shared-slice-read-if1 c = search needs
+
 -- src/spans.rt:44:17
 fold-at-requires : tie.Need-fold-at-requires Inv-loop μ-loop
 fold-at-requires c κs = search needs
+
 -- src/spans.rt:46:17
 returns : tie.Need-returns Inv-loop μ-loop
 unfolding lineLength
@@ -64,12 +67,15 @@ loop-again c =
 -- src/spans.rt:51:13
 add-at-2 : tie.Need-add-at-2 Inv-loop μ-loop
 add-at-2 c = search needs
+
 -- src/spans.rt:52:13
 add-met : tie.Need-add-met Inv-loop μ-loop
 add-met c = search needs
+
 -- src/spans.rt:42:5
 loop-less-2 : tie.Need-loop-less-2 Inv-loop μ-loop
 loop-less-2 c = search needs
+
 -- src/spans.rt:42:5
 loop-again-2 : tie.Need-loop-again-2 Inv-loop μ-loop
 loop-again-2 c =
@@ -81,9 +87,11 @@ loop-again-2 c =
 -- src/spans.rt:54:42
 add-next-cr : tie.Need-add-next-cr Inv-loop μ-loop
 add-next-cr c = search needs
+
 -- src/spans.rt:54:13
 next-cr-requires : tie.Need-next-cr-requires Inv-loop μ-loop
 next-cr-requires c κs = search needs
+
 -- src/spans.rt:42:5
 loop-less-3 : tie.Need-loop-less-3 Inv-loop μ-loop
 loop-less-3 c =

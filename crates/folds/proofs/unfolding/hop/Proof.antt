@@ -27,12 +27,15 @@ loop-holds c =
 -- src/unfolding.rt:56:17
 sub-loop : tie.Need-sub-loop Inv-loop μ-loop
 sub-loop c = search needs
+
 -- src/unfolding.rt:57:12
 near-requires : tie.Need-near-requires Inv-loop μ-loop
 near-requires c κs = search needs
+
 -- src/unfolding.rt:58:13
 next-cr-requires : tie.Need-next-cr-requires Inv-loop μ-loop
 next-cr-requires c κs = search needs
+
 -- src/unfolding.rt:58:13
 returns : tie.Need-returns Inv-loop μ-loop
 returns c =
@@ -44,9 +47,11 @@ returns c =
 -- src/unfolding.rt:60:9
 add-i : tie.Need-add-i Inv-loop μ-loop
 add-i c = search needs
+
 -- src/unfolding.rt:56:5
 loop-less : tie.Need-loop-less Inv-loop μ-loop
 loop-less c = search needs
+
 -- src/unfolding.rt:56:5
 loop-again : tie.Need-loop-again Inv-loop μ-loop
 loop-again c =

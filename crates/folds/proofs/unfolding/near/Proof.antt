@@ -32,44 +32,55 @@ loop-holds c =
 -- src/unfolding.rt:44:32
 add-fold-bit : tie.Need-add-fold-bit Inv-loop μ-loop
 add-fold-bit c = search needs
+
 -- src/unfolding.rt:44:30
 shared-slice-read-fold-bit : tie.Need-shared-slice-read-fold-bit Inv-loop μ-loop
 shared-slice-read-fold-bit c = search needs
+
 -- src/unfolding.rt:44:42
 add-fold-bit-2 : tie.Need-add-fold-bit-2 Inv-loop μ-loop
 add-fold-bit-2 c = search needs
+
 -- src/unfolding.rt:44:42
 add-fold-bit-3 : tie.Need-add-fold-bit-3 Inv-loop μ-loop
 add-fold-bit-3 c = search needs
+
 -- src/unfolding.rt:44:40
 shared-slice-read-fold-bit-2 : tie.Need-shared-slice-read-fold-bit-2 Inv-loop μ-loop
 shared-slice-read-fold-bit-2 c = search needs
+
 -- src/unfolding.rt:44:56
 add-fold-bit-4 : tie.Need-add-fold-bit-4 Inv-loop μ-loop
 add-fold-bit-4 c = search needs
+
 -- src/unfolding.rt:44:56
 add-fold-bit-5 : tie.Need-add-fold-bit-5 Inv-loop μ-loop
 add-fold-bit-5 c = search needs
+
 -- src/unfolding.rt:44:54
 shared-slice-read-fold-bit-3 : tie.Need-shared-slice-read-fold-bit-3 Inv-loop μ-loop
 shared-slice-read-fold-bit-3 c = search needs
+
 -- src/unfolding.rt:44:21
 fold-bit-requires : tie.Need-fold-bit-requires Inv-loop μ-loop
 fold-bit-requires c κs = search needs
+
 -- src/unfolding.rt:45:9
 add-k : tie.Need-add-k Inv-loop μ-loop
 add-k c = search needs
+
 -- src/unfolding.rt:43:5
 loop-less : tie.Need-loop-less Inv-loop μ-loop
 loop-less c = search needs
+
 -- src/unfolding.rt:43:5
 loop-again : tie.Need-loop-again Inv-loop μ-loop
 loop-again c =
     let a = c .before .before .before .before .before .before .before .args in
     let l = c .before .before .before .before .before .loop in (
-    omega arith,
-    λ z. below-more (λ (m : ℕ). foldAt (drop (a .i + m) (a .s .now)) ≡ false) (l .k) (l .inv .1 (or-left (l .hit) _ z))
-    (sym (fold-three (a .s .now) (a .i + l .k)) ∙ bit-no _ (sym (c .fold-bit .ensures) ∙ or-right (l .hit) _ z)),
+      omega arith,
+      λ z. below-more (λ (m : ℕ). foldAt (drop (a .i + m) (a .s .now)) ≡ false) (l .k) (l .inv .1 (or-left (l .hit) _ z))
+          (sym (fold-three (a .s .now) (a .i + l .k)) ∙ bit-no _ (sym (c .fold-bit .ensures) ∙ or-right (l .hit) _ z)),
     )
 
 -- src/unfolding.rt:37:1

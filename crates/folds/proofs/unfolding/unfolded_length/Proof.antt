@@ -62,6 +62,7 @@ returns c =
 -- src/unfolding.rt:26:16
 sub-last : tie.Need-sub-last Inv-loop μ-loop
 sub-last c = search needs
+
 -- src/unfolding.rt:29:5
 loop-holds : tie.Need-loop-holds Inv-loop μ-loop
 loop-holds c =
@@ -70,21 +71,27 @@ loop-holds c =
 -- src/unfolding.rt:30:27
 shared-slice-read-fold-bit : tie.Need-shared-slice-read-fold-bit Inv-loop μ-loop
 shared-slice-read-fold-bit c = search needs
+
 -- src/unfolding.rt:30:35
 add-fold-bit : tie.Need-add-fold-bit Inv-loop μ-loop
 add-fold-bit c = search needs
+
 -- src/unfolding.rt:30:33
 shared-slice-read-fold-bit-2 : tie.Need-shared-slice-read-fold-bit-2 Inv-loop μ-loop
 shared-slice-read-fold-bit-2 c = search needs
+
 -- src/unfolding.rt:30:45
 add-fold-bit-2 : tie.Need-add-fold-bit-2 Inv-loop μ-loop
 add-fold-bit-2 c = search needs
+
 -- src/unfolding.rt:30:43
 shared-slice-read-fold-bit-3 : tie.Need-shared-slice-read-fold-bit-3 Inv-loop μ-loop
 shared-slice-read-fold-bit-3 c = search needs
+
 -- src/unfolding.rt:30:18
 fold-bit-requires : tie.Need-fold-bit-requires Inv-loop μ-loop
 fold-bit-requires c κs = search needs
+
 -- src/unfolding.rt:30:18
 cast-folds : tie.Need-cast-folds Inv-loop μ-loop
 cast-folds c =
@@ -98,9 +105,11 @@ add-folds c =
 -- src/unfolding.rt:31:9
 add-i : tie.Need-add-i Inv-loop μ-loop
 add-i c = search needs
+
 -- src/unfolding.rt:29:5
 loop-less : tie.Need-loop-less Inv-loop μ-loop
 loop-less c = search needs
+
 -- src/unfolding.rt:29:5
 loop-again : tie.Need-loop-again Inv-loop μ-loop
 loop-again c =
