@@ -72,10 +72,16 @@ pub fn unfold(s: &[u8], d: &mut [u8]) -> usize
     let mut j: usize = 0;
     let mut met: usize = 0;
     while i < s.len() {
-        let fold = fold_at(s, i);
-        if fold {
-            i += 3;
-            met = 0;
+        if s[i] == 13 {
+            let fold = fold_at(s, i);
+            if fold {
+                i += 3;
+                met = 0;
+            } else {
+                d[j] = 13;
+                j += 1;
+                i += 1;
+            }
         } else if met < 4 {
             d[j] = s[i];
             j += 1;

@@ -11,7 +11,7 @@ use Rattle.octets.specs.Scan.{gather}
 use Rattle.octets.proofs.Scans.{gather-end}
 use Rattle.octets.proofs.Writes.{Written, start, room, finish}
 use Rattle.folds.specs.Folds.{foldAt, passed, kept, unfolded}
-use Rattle.folds.proofs.FoldLaws.{fold-inside, fold-next, octet-next}
+use Rattle.folds.proofs.FoldLaws.{not-cr, fold-inside, fold-next, octet-next}
 use Rattle.folds.proofs.RunLaws.{flat-one, flat-join, flat-kept}
 use Rattle.folds.proofs.PutLaws.{put-octet, put-part}
 use Rattle.folds.proofs.unfolding.unfold.Statement.{statement}
@@ -23,92 +23,118 @@ Inv-loop s d₀ i₀ j₀ met₀ d i j met = (i ≤ length s) × Written (gather
 abbrev μ-loop : tie.MeasureT-loop
 μ-loop s d₀ i₀ j₀ met₀ d i j met = length s - i
 
--- there is room for what is left
-roomy : (l : tie.At-loop Inv-loop μ-loop)
-    → l .loop .j + length (gather passed kept (drop (l .loop .i) (l .before .before .before .args .s .now)) 0) ≤ length (l .loop .d)
-unfolding unfolded
-roomy l = room (l .loop .inv .1) (l .before .before .before .pre)
-
--- an octet that starts no fold
-module _ (c : tie.Else1 Inv-loop μ-loop) where
+module _ (l : tie.At-loop Inv-loop μ-loop) where
   abbrev S : List ℕ
-  S = c .before .before .before .before .before .before .args .s .now
+  S = l .before .before .before .args .s .now
 
   abbrev I : ℕ
-  I = c .before .before .before .loop .i
+  I = l .loop .i
 
-  flat : foldAt (drop I S) ≡ false
-  flat = sym (c .before .fold-at .ensures) ∙ c .if1 .left
+  -- there is room for what is left
+  roomy : l .loop .j + length (gather passed kept (drop I S) 0) ≤ length (l .loop .d)
+  unfolding unfolded
+  roomy = room (l .loop .inv .1) (l .before .before .before .pre)
 
-  next : gather passed kept (drop I S) 0 ≡ (getD S I 0 ∷ []) ++ gather passed kept (drop (I + 1) S) 0
-  next = octet-next S I (c .before .before .loop-test .taken) flat
+  -- an octet that starts no fold is written next
+  module _ (lt : I < length S) (flat : foldAt (drop I S) ≡ false) where
+    next : gather passed kept (drop I S) 0 ≡ (getD S I 0 ∷ []) ++ gather passed kept (drop (I + 1) S) 0
+    next = octet-next S I lt flat
 
-  fits : c .before .before .before .loop .j < length (c .before .before .before .loop .d)
-  fits = omega (arith, roomy (c .before .before .before), ap length next)
+    fits : l .loop .j < length (l .loop .d)
+    fits = omega (arith, roomy, ap length next)
+
+-- a CR that starts no fold
+module _ (c : tie.Else2 Inv-loop μ-loop) where
+  abbrev L : tie.At-loop Inv-loop μ-loop
+  L = c .before .before .before .before .before
+
+  lone : foldAt (drop (I L) (S L)) ≡ false
+  lone = sym (c .before .fold-at .ensures) ∙ c .if2 .left
 
 -- the octets up to the next fold
 module _ (c : tie.After-hop Inv-loop μ-loop) where
+  abbrev H : tie.At-loop Inv-loop μ-loop
+  H = c .before .before .before .before .before
+
   abbrev X : List ℕ
-  X = take (c .hop .result - I (c .before .before)) (drop (I (c .before .before)) (S (c .before .before)))
+  X = take (c .hop .result - I H) (drop (I H) (S H))
 
-  run : gather passed kept (drop (I (c .before .before)) (S (c .before .before))) 0 ≡ X ++ gather passed kept (drop (c .hop .result) (S (c .before .before))) 0
+  run : gather passed kept (drop (I H) (S H)) 0 ≡ X ++ gather passed kept (drop (c .hop .result) (S H)) 0
   run =
-      let a = c .before .before in
       let e = c .hop .ensures in
-      flat-kept (S a) (I a) (c .hop .result) (omega (arith, e .0)) (e .1) (flat-join (S a) (I a) (I a + 1) (c .hop .result) (flat-one (S a) (I a) (flat a)) (e .2))
+      let flat = flat-one (S H) (I H) (not-cr (S H) (I H) (c .before .before .if1 .left)) in
+      flat-kept (S H) (I H) (c .hop .result) (omega (arith, e .0)) (e .1) (flat-join (S H) (I H) (I H + 1) (c .hop .result) flat (e .2))
 
-  run-length : length X ≡ c .hop .result - I (c .before .before)
+  run-length : length X ≡ c .hop .result - I H
   run-length =
-      length-take-le (c .hop .result - I (c .before .before)) (drop (I (c .before .before)) (S (c .before .before)))
-      (rw (length-drop (I (c .before .before)) (S (c .before .before))) (omega (arith, c .hop .ensures .1)))
+      length-take-le (c .hop .result - I H) (drop (I H) (S H)) (rw (length-drop (I H) (S H)) (omega (arith, c .hop .ensures .1)))
 
-  run-fits : c .before .before .before .before .before .loop .j + length X ≤ length (c .before .before .before .before .before .loop .d)
-  run-fits =
-      omega (
-        arith,
-        roomy (c .before .before .before .before .before),
-        ap length run ∙ length-append X (gather passed kept (drop (c .hop .result) (S (c .before .before))) 0),
-      )
+  run-fits : H .loop .j + length X ≤ length (H .loop .d)
+  run-fits = omega (arith, roomy H, ap length run ∙ length-append X (gather passed kept (drop (c .hop .result) (S H)) 0))
 
 loop-holds : tie.Need-loop-holds Inv-loop μ-loop
 loop-holds c = (search needs, start _ _)
+
+shared-slice-read-if1 : tie.Need-shared-slice-read-if1 Inv-loop μ-loop
+shared-slice-read-if1 c = search needs
 
 fold-at-requires : tie.Need-fold-at-requires Inv-loop μ-loop
 fold-at-requires c κs = search needs
 
 add-i : tie.Need-add-i Inv-loop μ-loop
-add-i c = omega (arith, fold-inside (c .before .before .before .before .before .before .args .s .now) (c .before .before .before .loop .i) (sym (c .before .fold-at .ensures) ∙ c .if1 .taken))
+add-i c = omega (arith, fold-inside (c .before .before .before .before .before .before .before .before .args .s .now) (c .before .before .before .before .before .loop .i) (sym (c .before .fold-at .ensures) ∙ c .if2 .taken))
 
 loop-less : tie.Need-loop-less Inv-loop μ-loop
-loop-less c = omega (arith, fold-inside (c .before .before .before .before .before .before .args .s .now) (c .before .before .before .loop .i) (sym (c .before .fold-at .ensures) ∙ c .if1 .taken))
+loop-less c = omega (arith, fold-inside (c .before .before .before .before .before .before .before .before .args .s .now) (c .before .before .before .before .before .loop .i) (sym (c .before .fold-at .ensures) ∙ c .if2 .taken))
 
 loop-again : tie.Need-loop-again Inv-loop μ-loop
 loop-again c =
-    let s = c .before .before .before .before .before .before .args .s .now in
-    let l = c .before .before .before .loop in
-    let e = sym (c .before .fold-at .ensures) ∙ c .if1 .taken in
-    (fold-inside s (l .i) e, rw (fold-next s (l .i) (c .before .before .loop-test .taken) e) at (l .inv .1))
-
-shared-slice-read-d : tie.Need-shared-slice-read-d Inv-loop μ-loop
-shared-slice-read-d c = search needs
+    let s = c .before .before .before .before .before .before .before .before .args .s .now in
+    let l = c .before .before .before .before .before .loop in
+    let e = sym (c .before .fold-at .ensures) ∙ c .if2 .taken in
+    (fold-inside s (l .i) e, rw (fold-next s (l .i) (c .before .before .before .before .loop-test .taken) e) at (l .inv .1))
 
 slice-write-d : tie.Need-slice-write-d Inv-loop μ-loop
-slice-write-d c = fits (c .before .before)
+slice-write-d c = fits (c .before .before .before .before .before) (c .before .before .before .before .loop-test .taken) (lone c)
 
 add-j : tie.Need-add-j Inv-loop μ-loop
-add-j c = omega (arith, fits (c .before .before))
+add-j c = omega (arith, fits (c .before .before .before .before .before) (c .before .before .before .before .loop-test .taken) (lone c))
 
 add-i-2 : tie.Need-add-i-2 Inv-loop μ-loop
 add-i-2 c = search needs
-
-add-met : tie.Need-add-met Inv-loop μ-loop
-add-met c = search needs
 
 loop-less-2 : tie.Need-loop-less-2 Inv-loop μ-loop
 loop-less-2 c = search needs
 
 loop-again-2 : tie.Need-loop-again-2 Inv-loop μ-loop
-loop-again-2 c = (omega arith, put-octet (c .before .before .before .before .before .loop .inv .1) _ _ (next (c .before .before)) (fits (c .before .before)))
+loop-again-2 c =
+    let h = c .before .before .before .before .loop-test .taken in
+    let e = next (c .before .before .before .before .before) h (lone c) ∙ ap (λ (b : ℕ). (b ∷ []) ++ gather passed kept (drop (I (c .before .before .before .before .before) + 1) (S (c .before .before .before .before .before))) 0) (c .before .before .if1 .taken) in
+    (omega arith, put-octet (c .before .before .before .before .before .loop .inv .1) 13 _ e (fits (c .before .before .before .before .before) h (lone c)))
+
+shared-slice-read-d : tie.Need-shared-slice-read-d Inv-loop μ-loop
+shared-slice-read-d c = search needs
+
+slice-write-d-2 : tie.Need-slice-write-d-2 Inv-loop μ-loop
+slice-write-d-2 c = fits (c .before .before .before .before .before) (c .before .before .before .before .loop-test .taken) (not-cr (c .before .before .before .before .before .before .before .before .args .s .now) (c .before .before .before .before .before .loop .i) (c .before .before .if1 .left))
+
+add-j-2 : tie.Need-add-j-2 Inv-loop μ-loop
+add-j-2 c = omega (arith, fits (c .before .before .before .before .before) (c .before .before .before .before .loop-test .taken) (not-cr (c .before .before .before .before .before .before .before .before .args .s .now) (c .before .before .before .before .before .loop .i) (c .before .before .if1 .left)))
+
+add-i-3 : tie.Need-add-i-3 Inv-loop μ-loop
+add-i-3 c = search needs
+
+add-met : tie.Need-add-met Inv-loop μ-loop
+add-met c = search needs
+
+loop-less-3 : tie.Need-loop-less-3 Inv-loop μ-loop
+loop-less-3 c = search needs
+
+loop-again-3 : tie.Need-loop-again-3 Inv-loop μ-loop
+loop-again-3 c =
+    let h = c .before .before .before .before .loop-test .taken in
+    let f = not-cr (c .before .before .before .before .before .before .before .before .args .s .now) (c .before .before .before .before .before .loop .i) (c .before .before .if1 .left) in
+    (omega arith, put-octet (c .before .before .before .before .before .loop .inv .1) _ _ (next (c .before .before .before .before .before) h f) (fits (c .before .before .before .before .before) h f))
 
 add-hop : tie.Need-add-hop Inv-loop μ-loop
 add-hop c = search needs
@@ -140,14 +166,14 @@ copy-in-requires c κs = rw (run-length (c .before .before)) (simp (length-take,
 sub-j : tie.Need-sub-j Inv-loop μ-loop
 sub-j c = omega (arith, c .before .before .before .before .before .hop .ensures .0)
 
-add-j-2 : tie.Need-add-j-2 Inv-loop μ-loop
-add-j-2 c = omega (arith, run-fits (c .before .before .before .before .before), run-length (c .before .before .before .before .before))
+add-j-3 : tie.Need-add-j-3 Inv-loop μ-loop
+add-j-3 c = omega (arith, run-fits (c .before .before .before .before .before), run-length (c .before .before .before .before .before))
 
-loop-less-3 : tie.Need-loop-less-3 Inv-loop μ-loop
-loop-less-3 c = omega (arith, c .before .before .before .before .before .hop .ensures .0, c .before .before .before .before .before .hop .ensures .1)
+loop-less-4 : tie.Need-loop-less-4 Inv-loop μ-loop
+loop-less-4 c = omega (arith, c .before .before .before .before .before .hop .ensures .0, c .before .before .before .before .before .hop .ensures .1)
 
-loop-again-3 : tie.Need-loop-again-3 Inv-loop μ-loop
-loop-again-3 c =
+loop-again-4 : tie.Need-loop-again-4 Inv-loop μ-loop
+loop-again-4 c =
     let t = c .before .before .before .before .before in
     (c .before .before .before .before .before .hop .ensures .1, rw (run-length t) at (put-part (c .before .before .before .before .before .before .before .before .before .before .loop .inv .1) (X t) _ _ (run t) (run-fits t) (c .before .before .copy-in .ensures)))
 
@@ -168,17 +194,23 @@ unfold-spec =
     Inv-loop
     μ-loop
     loop-holds
+    shared-slice-read-if1
     fold-at-requires
     add-i
     loop-less
     loop-again
-    shared-slice-read-d
     slice-write-d
     add-j
     add-i-2
-    add-met
     loop-less-2
     loop-again-2
+    shared-slice-read-d
+    slice-write-d-2
+    add-j-2
+    add-i-3
+    add-met
+    loop-less-3
+    loop-again-3
     add-hop
     hop-requires
     sub-copy-in
@@ -189,8 +221,8 @@ unfold-spec =
     part-copy-in-end-2
     copy-in-requires
     sub-j
-    add-j-2
-    loop-less-3
-    loop-again-3
+    add-j-3
+    loop-less-4
+    loop-again-4
     same-length
     returns)
