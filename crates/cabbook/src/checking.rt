@@ -27,7 +27,7 @@ fn under(line: &[u8]) {
     if line.len() > 16385 {
         return;
     }
-    let n = lines::folds::unfold(line, &mut text);
+    let n = folds::unfolding::unfold(line, &mut text);
     if n > 16385 {
         return;
     }
@@ -45,7 +45,7 @@ fn shown_end(s: &[u8], number: u32, place: usize, from: usize) -> usize
             return place + 1;
         }
     }
-    lines::folds::line_end(s, from)
+    folds::spans::line_end(s, from)
 }
 
 // The logical line in which a refusal's place lies; nothing where the input is too long or empty.

@@ -25,7 +25,7 @@ use Rattle.reader.specs.declared.Verdict.{Verdict}
 use Rattle.reader.specs.declared.Verdict.the-variants.{Accepted, Refused}
 use Rattle.reader.proofs.AcceptLaws.{lines-few, lines-counted}
 use Rattle.reader.proofs.ReadLaws.{read-refused, numbers-counted, read-written, read-13, read-14}
-use Rattle.folder.specs.Pieces.{pieces, first, later, Clean}
+use Rattle.cuts.specs.Pieces.{pieces, first, later, Clean}
 use Rattle.folder.specs.Outcome.{foldOutcome}
 use Rattle.fold_laws.specs.Cuttings.{Cutting}
 use Rattle.fold_laws.proofs.CutLaws.{cutting}

@@ -16,7 +16,7 @@ use Rattle.lines.specs.Grammar.{render}
 use Rattle.reader.specs.Outcome.{judgeOf, ended, Taken, took, readOutcome}
 use Rattle.reader.specs.declared.Verdict.{Verdict}
 use Rattle.reader.specs.declared.Verdict.the-variants.{Refused as Unread}
-use Rattle.folder.specs.Pieces.{foldedLines}
+use Rattle.cuts.specs.Pieces.{foldedLines}
 use Rattle.folder.specs.Outcome.{foldOutcome}
 use Rattle.desk.specs.Sound.{stateAt, Sound}
 use Rattle.desk.specs.Steps.{Turned, refuse as refuseNew, refused, freshDesk, newStep, openStep, addStep, releaseStep, octetsIn, showStep, heldStep, judgeStep}

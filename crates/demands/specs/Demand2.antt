@@ -14,7 +14,7 @@ use Rattle.text_laws.specs.Stands.{Stands}
 use Rattle.lines.specs.Grammar.{Line, render}
 use Rattle.reader.specs.Outcome.{judgeOf, logicalLines, Taken, readOutcome}
 use Rattle.reader.specs.declared.Verdict.the-variants.{Accepted}
-use Rattle.folder.specs.Pieces.{pieces}
+use Rattle.cuts.specs.Pieces.{pieces}
 use Rattle.folder.specs.Outcome.{foldOutcome}
 use Rattle.fold_laws.specs.Cuttings.{Cutting}
 use Rattle.fold_laws.specs.Written.{Folds}

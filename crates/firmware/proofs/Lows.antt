@@ -15,7 +15,7 @@ use Rattle.octets.specs.declared.rooms.Written.{Written}
 use Rattle.octets.specs.declared.rooms.Written.the-variants.{Wrote, Refused}
 use Rattle.escapes.specs.Escapes.{firstFault, passed, standing, unescaped}
 use Rattle.text.specs.Outcomes.{checked, faultless, unescapeOutcome}
-use Rattle.folder.specs.Pieces.{foldedLines}
+use Rattle.cuts.specs.Pieces.{foldedLines}
 use Rattle.folder.specs.Outcome.{foldBy, foldOutcome}
 use Rattle.reader.specs.Outcome.{judgeOf, logicalLines}
 use Rattle.reader.specs.declared.Verdict.{Verdict}

@@ -13,8 +13,8 @@ use Rattle.octets.specs.Scan.{scan}
 use Rattle.lines.specs.Parse.{Parse, got, bad}
 use Rattle.lines.specs.Grammar.{Line}
 use Rattle.lines.specs.Rule.{parseLine}
-use Rattle.lines.specs.Folds.{lineLength, unfolded}
-use Rattle.lines.specs.Logical.{linesBy, rawLines}
+use Rattle.folds.specs.Folds.{lineLength, unfolded}
+use Rattle.folds.specs.Logical.{linesBy, rawLines}
 use Rattle.properties.specs.Rows.{isGroup}
 use Rattle.values.specs.Kinds.{valueScan}
 use Rattle.values.specs.declared.Fault.{Fault}
@@ -25,7 +25,7 @@ use Rattle.cards.specs.Judge.{laden, entered, fitting, judgeParts, judgeParsed,
 use Rattle.cards.specs.declared.state.Card.{Card}
 use Rattle.cards.specs.declared.state.Step.{Step}
 use Rattle.cards.specs.declared.state.Step.the-variants.{Next, Refused as Halted}
-use Rattle.reader.specs.Lone.{firstLone, endsCrLf}
+use Rattle.folds.specs.Lone.{firstLone, endsCrLf}
 use Rattle.reader.specs.Outcome.{onward, judgeLines, verdictOf, judgeOf}
 use Rattle.reader.specs.declared.Verdict.{Verdict}
 use Rattle.reader.specs.declared.Verdict.the-variants.{Accepted, Refused}

@@ -9,16 +9,16 @@ use Rattle.octets.specs.Scan.{scan}
 use Rattle.octets.specs.Room.{filled, fillBounded}
 use Rattle.octets.specs.declared.rooms.Written.the-variants.{Wrote}
 use Rattle.characters.proofs.Chains.{no-end}
-use Rattle.reader.specs.Lone.{loneStep, firstLone, endsCrLf}
+use Rattle.folds.specs.Lone.{loneStep, firstLone, endsCrLf}
 use Rattle.reader.specs.Outcome.{judgeOf, logicalLines, ended, copyOf, recordsOf, writeOutcome, outcomeBy, readOutcome}
 use Rattle.reader.specs.declared.Verdict.{Verdict}
 use Rattle.reader.specs.declared.Verdict.the-variants.{Accepted}
 use Rattle.reader.proofs.AcceptLaws.{accepting}
 use Rattle.reader_laws.proofs.SameLines.{same-lines, same-copy, same-records}
 use Rattle.reader_laws.proofs.CopyAgain.{lone-run, ends-lines, lines-some}
-use Rattle.folder.specs.Pieces.{foldedLines, Clean, All}
+use Rattle.cuts.specs.Pieces.{foldedLines, Clean, All}
 use Rattle.folder.specs.Outcome.{foldBy, foldOutcome}
-use Rattle.folder.proofs.Turns.{clean-chars}
+use Rattle.cuts.proofs.Turns.{clean-chars}
 use Rattle.folder.proofs.Accepted.{accepted}
 use Rattle.fold_laws.proofs.PhysicalLaws.{physicalOf, lines-ended, clean-lines}
 use Rattle.fold_laws.proofs.WrittenLaws.{wrote, wrote-accepted, fold-written}

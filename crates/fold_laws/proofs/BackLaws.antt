@@ -8,15 +8,15 @@ use lib.ListN.{length, length-append}
 use Rattle.octets.specs.Scan.{scan, gather}
 use Rattle.characters.specs.Characters.{allowed}
 use Rattle.characters.proofs.Chains.{Chars, end, start, NoEnd, none, more, no-end, char-four}
-use Rattle.lines.specs.Folds.{foldAt, lineStep, lineLength, passed, kept, unfolded}
-use Rattle.lines.specs.Logical.{rawLines}
-use Rattle.lines.proofs.FoldLaws.{not-cr}
-use Rattle.lines.proofs.LineLaws.{lines-end}
-use Rattle.folder.specs.Pieces.{first, later, pieces, joined, folded, foldedLines, Clean, All}
+use Rattle.folds.specs.Folds.{foldAt, lineStep, lineLength, passed, kept, unfolded}
+use Rattle.folds.specs.Logical.{rawLines}
+use Rattle.folds.proofs.FoldLaws.{not-cr}
+use Rattle.folds.proofs.LineLaws.{lines-end}
+use Rattle.cuts.specs.Pieces.{first, later, pieces, joined, folded, foldedLines, Clean, All}
 use Rattle.reader.specs.Outcome.{ended}
 use Rattle.fold_laws.specs.Leads.{Unled}
-use Rattle.folder.proofs.PieceLaws.{rejoin, first-goes, over-no}
-use Rattle.folder.proofs.Turns.{clean-chars}
+use Rattle.cuts.proofs.PieceLaws.{rejoin, first-goes, over-no}
+use Rattle.cuts.proofs.Turns.{clean-chars}
 use Rattle.fold_laws.proofs.CopyLaws.{line-run, line-stop, first-line, unled-none, unled-line, copy-lines}
 use Rattle.fold_laws.proofs.CutLaws.{Pieces, nil, one, first-whole, later-good}
 

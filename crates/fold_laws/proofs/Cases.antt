@@ -4,7 +4,7 @@ use mathlib.Core.List.{List, [], _∷_, _++_, map}
 use Prim.Native.Nat.{ℕ}
 use lib.ListN.{length, replicate}
 use Rattle.characters.specs.Characters.{charLength, lengthBy, rest, second, tail}
-use Rattle.folder.specs.Pieces.{over, first, later, pieces, joined, folded}
+use Rattle.cuts.specs.Pieces.{over, first, later, pieces, joined, folded}
 
 abbrev ascii : ℕ → List ℕ
 ascii n = replicate n 97

@@ -9,12 +9,12 @@ use lib.Seq.{take-append-seam, drop-append-add}
 use borrow.Author.Tests.{ne-eqb}
 use Rattle.octets.specs.Scan.{scan, after}
 use Rattle.characters.proofs.Chains.{NoEnd, none, more, no-end}
-use Rattle.lines.specs.Folds.{foldAt, lineStep, lineLength}
-use Rattle.lines.specs.Logical.{rawLines}
-use Rattle.lines.proofs.FoldLaws.{line-octet}
-use Rattle.lines.proofs.LineLaws.{lines-step, lines-end}
-use Rattle.folder.specs.Pieces.{Clean, All}
-use Rattle.folder.proofs.Turns.{clean-chars}
+use Rattle.folds.specs.Folds.{foldAt, lineStep, lineLength}
+use Rattle.folds.specs.Logical.{rawLines}
+use Rattle.folds.proofs.FoldLaws.{line-octet}
+use Rattle.folds.proofs.LineLaws.{lines-step, lines-end}
+use Rattle.cuts.specs.Pieces.{Clean, All}
+use Rattle.cuts.proofs.Turns.{clean-chars}
 use Rattle.reader.specs.Outcome.{ended}
 use Rattle.fold_laws.specs.Leads.{Unled}
 

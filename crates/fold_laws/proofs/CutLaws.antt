@@ -7,9 +7,9 @@ use native.Mathlib.Omega.{arith}
 use lib.ListN.{length}
 use Rattle.characters.specs.Characters.{charLength, allowed}
 use Rattle.characters.proofs.Chains.{Chars, end, start, inner, char-four, char-less, chars-fit}
-use Rattle.folder.specs.Pieces.{first, later, Clean, All}
-use Rattle.folder.proofs.PieceLaws.{Room, short, roomy, room, first-over, first-goes, later-over, later-goes, over-yes, over-no, over-tail, rejoin, first-fits}
-use Rattle.folder.proofs.Turns.{clean-chars, chars-clean}
+use Rattle.cuts.specs.Pieces.{first, later, Clean, All}
+use Rattle.cuts.proofs.PieceLaws.{Room, short, roomy, room, first-over, first-goes, later-over, later-goes, over-yes, over-no, over-tail, rejoin, first-fits}
+use Rattle.cuts.proofs.Turns.{clean-chars, chars-clean}
 use Rattle.fold_laws.specs.Cuttings.{UpTo, Full, AllFull, Cutting}
 
 -- a character stays whole in its piece

@@ -7,9 +7,9 @@ use native.Mathlib.Omega.{arith}
 use lib.ListN.{length}
 use Rattle.characters.specs.Characters.{charLength, lengthBy}
 use Rattle.characters.proofs.Chains.{Chars, end, start, inner, char-more, char-inside, char-four}
-use Rattle.folder.specs.Pieces.{first, later, pieces, All}
-use Rattle.folder.proofs.PieceLaws.{first-over, first-goes, later-over, later-goes, over-yes, over-no, over-tail}
-use Rattle.folder.proofs.Turns.{clean-chars}
+use Rattle.cuts.specs.Pieces.{first, later, pieces, All}
+use Rattle.cuts.proofs.PieceLaws.{first-over, first-goes, later-over, later-goes, over-yes, over-no, over-tail}
+use Rattle.cuts.proofs.Turns.{clean-chars}
 use Rattle.fold_laws.specs.Cuttings.{Full, AllFull, Cutting}
 use Rattle.fold_laws.proofs.CutLaws.{Pieces, nil, one, to-pieces}
 

@@ -10,10 +10,10 @@ use Rattle.octets.specs.Classes.{valued}
 use Rattle.characters.specs.Characters.{allowed}
 use Rattle.characters.proofs.Chars.{ascii}
 use Rattle.characters.proofs.Chains.{Chars, end, start, NoEnd, none, more, no-end}
-use Rattle.folder.specs.Pieces.{first, later, pieces, joined, folded, foldedLines, Clean, All}
+use Rattle.cuts.specs.Pieces.{first, later, pieces, joined, folded, foldedLines, Clean, All}
 use Rattle.reader.specs.Outcome.{ended}
-use Rattle.folder.proofs.PieceLaws.{first-fits}
-use Rattle.folder.proofs.Turns.{clean-chars, chars-clean}
+use Rattle.cuts.proofs.PieceLaws.{first-fits}
+use Rattle.cuts.proofs.Turns.{clean-chars, chars-clean}
 use Rattle.fold_laws.specs.Cuttings.{UpTo}
 use Rattle.fold_laws.specs.Physical.{upto, behind, physical}
 use Rattle.fold_laws.proofs.CutLaws.{Pieces, nil, one, first-whole, later-good}

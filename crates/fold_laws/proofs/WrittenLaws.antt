@@ -18,7 +18,7 @@ use Rattle.cards.proofs.CardLaws.{line-clean}
 use Rattle.reader.specs.Outcome.{judgeOf, logicalLines}
 use Rattle.reader.specs.declared.Verdict.{Verdict}
 use Rattle.reader.specs.declared.Verdict.the-variants.{Accepted, Refused as Denied}
-use Rattle.folder.specs.Pieces.{foldedLines, Clean, All}
+use Rattle.cuts.specs.Pieces.{foldedLines, Clean, All}
 use Rattle.folder.specs.Outcome.{foldBy, foldOutcome}
 use Rattle.folder.proofs.Accepted.{all-lines, accepted}
 use Rattle.fold_laws.specs.Leads.{Unled}

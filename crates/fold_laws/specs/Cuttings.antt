@@ -4,7 +4,7 @@ use mathlib.Core.Path.{_≡_}
 use mathlib.Core.List.{List, [], _∷_, flatten}
 use lib.ListN.{length}
 use Rattle.characters.specs.Characters.{charLength}
-use Rattle.folder.specs.Pieces.{Clean, All}
+use Rattle.cuts.specs.Pieces.{Clean, All}
 
 -- a line of at most n octets
 abbrev pub UpTo : ℕ → List ℕ → Type 0

@@ -2,9 +2,9 @@
 use Prim.Native.Nat.{ℕ}
 use mathlib.Core.Path.{_≡_}
 use mathlib.Core.List.{List, map}
-use Rattle.lines.specs.Folds.{unfolded}
-use Rattle.lines.specs.Logical.{rawLines}
-use Rattle.folder.specs.Pieces.{foldedLines, Clean, All}
+use Rattle.folds.specs.Folds.{unfolded}
+use Rattle.folds.specs.Logical.{rawLines}
+use Rattle.cuts.specs.Pieces.{foldedLines, Clean, All}
 use Rattle.fold_laws.specs.Cuttings.{UpTo}
 use Rattle.fold_laws.specs.Physical.{physical}
 

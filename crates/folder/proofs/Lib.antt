@@ -1,6 +1,3 @@
 -- The laws that the proofs of `folder` and of the crates above it cite. Assumes nothing.
-pub mod PieceLaws
-pub mod Turns
-pub mod Puts
 pub mod TextLaws
 pub mod Accepted

@@ -4,11 +4,11 @@ use mathlib.Core.List.{List, [], _∷_, _++_, map}
 use Prim.Native.Nat.{ℕ, _+_, _-_, _<_, _≤_}
 use native.Mathlib.Omega.{arith}
 use lib.ListN.{length, take, drop, length-append}
-use Rattle.lines.specs.Folds.{lineLength, unfolded}
-use Rattle.lines.proofs.LineLaws.{lines-end}
-use Rattle.reader.proofs.WalkLaws.{lines-turn}
+use Rattle.folds.specs.Folds.{lineLength, unfolded}
+use Rattle.folds.proofs.LineLaws.{lines-end}
+use Rattle.folds.proofs.SpanLaws.{lines-turn}
 use Rattle.reader.specs.Outcome.{logicalLines}
-use Rattle.folder.specs.Pieces.{folded, foldedLines, Clean, All}
+use Rattle.cuts.specs.Pieces.{folded, foldedLines, Clean, All}
 
 -- one turn: the line from `at` to e is the first of those that are left
 module _ (s : List ℕ) (at e : ℕ) (lt : at < length s) (he : e ≡ at + lineLength (drop at s)) (le : e ≤ length s) where

@@ -6,7 +6,7 @@ use Rattle.octets.specs.Room.{Filled, refuse, fillBounded}
 use Rattle.reader.specs.Outcome.{judgeOf, logicalLines}
 use Rattle.reader.specs.declared.Verdict.{Verdict}
 use Rattle.reader.specs.declared.Verdict.the-variants.{Accepted, Refused}
-use Rattle.folder.specs.Pieces.{foldedLines}
+use Rattle.cuts.specs.Pieces.{foldedLines}
 
 -- by the reader's verdict on the input i
 unfoldable pub foldBy : Verdict → List ℕ → List ℕ → Filled

@@ -1,12 +1,10 @@
-// The folder: where a logical line is cut, a line folded, and the lines of an input folded.
+// The folder: the logical lines of an input, folded.
 ghost use mathlib.Core.Path.{_≡_};
 ghost use Rattle.octets.specs.Room.{filled};
 ghost use Rattle.folder.specs.Outcome.{foldOutcome};
 use octets::rooms::Written;
 use reader::Verdict;
 
-mod cuts;
-mod folding;
 mod texts;
 
 // Folds an input: 1 to 12 as the reader does, then 16, 15, else the octets written; nothing is written on a refusal.

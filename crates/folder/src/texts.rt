@@ -5,9 +5,9 @@ ghost use Prim.Native.Nat.{_+_, _*_, _≤_};
 ghost use lib.ListN.{length};
 ghost use Rattle.octets.specs.Pick.{pick};
 ghost use Rattle.octets.specs.Room.{filled, fillBounded, overlay};
-ghost use Rattle.lines.specs.Folds.{unfolded};
+ghost use Rattle.folds.specs.Folds.{unfolded};
 ghost use Rattle.reader.specs.Outcome.{logicalLines};
-ghost use Rattle.folder.specs.Pieces.{folded, foldedLines, Clean, All};
+ghost use Rattle.cuts.specs.Pieces.{folded, foldedLines, Clean, All};
 
 // How many octets the logical line s has when it is folded anew: as it is where it has no fold, else unfolded into the scratch.
 fn line_length(s: &[u8], folds: bool, scratch: &mut [u8]) -> usize
@@ -17,10 +17,10 @@ fn line_length(s: &[u8], folds: bool, scratch: &mut [u8]) -> usize
     ensures { λ _. ⌜ now (scratch .exit) ≡ pick folds (overlay (unfolded (now (s .entry))) (now (scratch .entry))) (now (scratch .entry)) ⌝ }
 {
     if !folds {
-        return crate::cuts::measure(s);
+        return cuts::cutting::measure(s);
     }
-    let n = lines::folds::unfold(s, scratch);
-    crate::cuts::measure(&scratch[..n])
+    let n = folds::unfolding::unfold(s, scratch);
+    cuts::cutting::measure(&scratch[..n])
 }
 
 // Writes the logical line s folded anew to the start of d, and answers how many octets that are.
@@ -31,10 +31,10 @@ fn write_line(s: &[u8], folds: bool, scratch: &mut [u8], d: &mut [u8]) -> usize
     ensures { λ _. ⌜ now (scratch .exit) ≡ pick folds (overlay (unfolded (now (s .entry))) (now (scratch .entry))) (now (scratch .entry)) ⌝ }
 {
     if !folds {
-        return crate::folding::fold_line(s, d);
+        return cuts::folding::fold_line(s, d);
     }
-    let n = lines::folds::unfold(s, scratch);
-    crate::folding::fold_line(&scratch[..n], d)
+    let n = folds::unfolding::unfold(s, scratch);
+    cuts::folding::fold_line(&scratch[..n], d)
 }
 
 // How many octets the logical lines of a text have when they are folded.
@@ -46,7 +46,7 @@ pub fn text_length(s: &[u8]) -> usize
     let mut at: usize = 0;
     let mut n: usize = 0;
     while at < s.len() {
-        let span = reader::walk::line_at(s, at);
+        let span = folds::spans::line_at(s, at);
         let end = span.end;
         let folds = span.cr != end;
         n += line_length(&s[at..end], folds, &mut scratch);
@@ -64,7 +64,7 @@ pub fn write_text(s: &[u8], out: &mut [u8]) -> usize
     let mut at: usize = 0;
     let mut w: usize = 0;
     while at < s.len() {
-        let span = reader::walk::line_at(s, at);
+        let span = folds::spans::line_at(s, at);
         let end = span.end;
         let folds = span.cr != end;
         w += write_line(&s[at..end], folds, &mut scratch, &mut out[w..]);

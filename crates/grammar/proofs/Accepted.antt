@@ -6,15 +6,15 @@ use Prim.Native.Nat.{ℕ, zero, suc, _<_, _≤_}
 use native.Mathlib.Omega.{arith}
 use lib.ListN.{length, length-append}
 use borrow.Author.Tests.{le-ltb, eq-eqb, ne-eqb}
-use Rattle.lines.specs.Folds.{unfolded}
-use Rattle.lines.specs.Logical.{linesBy, rawLines}
+use Rattle.folds.specs.Folds.{unfolded}
+use Rattle.folds.specs.Logical.{linesBy, rawLines}
 use Rattle.lines.specs.Grammar.{Line, Each, render}
 use Rattle.language.proofs.Law.{line-unique}
 use Rattle.cards.specs.State.{freshCard}
 use Rattle.cards.specs.declared.state.Card.{Card}
 use Rattle.cards.specs.declared.state.Step.{Step}
 use Rattle.cards.specs.declared.state.Step.the-variants.{Next}
-use Rattle.reader.specs.Lone.{firstLone}
+use Rattle.folds.specs.Lone.{firstLone}
 use Rattle.reader.specs.Outcome.{judgeLines, verdictOf, judgeOf, logicalLines, ended}
 use Rattle.reader.specs.declared.Verdict.the-variants.{Accepted}
 use Rattle.reader.proofs.AcceptLaws.{accepting}

@@ -16,14 +16,14 @@ use Rattle.octets.specs.Classes.{valued}
 use Rattle.characters.specs.Characters.{allowed}
 use Rattle.octet_laws.specs.Texts.{Each as EachOctet}
 use Rattle.lines.specs.Parse.{hd}
-use Rattle.lines.specs.Folds.{foldAt, lineStep, lineLength, passed, kept, unfolded}
-use Rattle.lines.specs.Logical.{linesBy, rawLines}
+use Rattle.folds.specs.Folds.{foldAt, lineStep, lineLength, passed, kept, unfolded}
+use Rattle.folds.specs.Logical.{linesBy, rawLines}
 use Rattle.lines.specs.Grammar.{Line, Each, front, render}
-use Rattle.lines.proofs.LineLaws.{lines-step}
+use Rattle.folds.proofs.LineLaws.{lines-step}
 use Rattle.language.proofs.Law.{line-law}
 use Rattle.language.proofs.PlacesLaw.{accepted-starts}
 use Rattle.octets.proofs.Bools.{by, and-both}
-use Rattle.reader.specs.Lone.{loneStep, firstLone, endsCrLf}
+use Rattle.folds.specs.Lone.{loneStep, firstLone, endsCrLf}
 use Rattle.reader.specs.Outcome.{ended}
 use Rattle.grammar.specs.Cards.{Readable}
 use Rattle.grammar.specs.Inputs.{Blank, Folded, end, octet, fold, Written, none, more}

@@ -7,7 +7,7 @@ use native.Mathlib.Omega.{arith}
 use lib.ListN.{length, length-append}
 use lib.Seq.{append-snoc}
 use borrow.Author.Tests.{eq-eqb}
-use Rattle.lines.specs.Folds.{unfolded}
+use Rattle.folds.specs.Folds.{unfolded}
 use Rattle.lines.specs.Grammar.{Line, Each, render}
 use Rattle.properties.specs.Rows.{single}
 use Rattle.content.specs.Parts.{rowOfLine}

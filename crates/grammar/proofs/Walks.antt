@@ -6,7 +6,7 @@ use Prim.Native.Nat.{ℕ, suc, _+_}
 use native.Mathlib.Omega.{arith}
 use lib.ListN.{length, length-append}
 use lib.Seq.{append-snoc}
-use Rattle.lines.specs.Folds.{unfolded}
+use Rattle.folds.specs.Folds.{unfolded}
 use Rattle.lines.specs.Grammar.{Line, Each, render}
 use Rattle.cards.specs.State.{freshCard}
 use Rattle.cards.specs.declared.state.Card.{Card}

@@ -5,12 +5,12 @@ use mathlib.Core.Bool.{true}
 use mathlib.Core.List.{List, [], _∷_, _++_, map}
 use mathlib.Core.Logic.{_⊎_}
 use lib.ListN.{length}
-use Rattle.lines.specs.Folds.{unfolded}
-use Rattle.lines.specs.Logical.{rawLines}
+use Rattle.folds.specs.Folds.{unfolded}
+use Rattle.folds.specs.Logical.{rawLines}
 use Rattle.lines.specs.Grammar.{Line, Each, WellFormed, render}
 use Rattle.properties.specs.Rows.{single}
 use Rattle.content.specs.Parts.{rowOfLine, kindOfLine}
-use Rattle.reader.specs.Lone.{firstLone}
+use Rattle.folds.specs.Lone.{firstLone}
 use Rattle.reader.specs.Outcome.{ended}
 use Rattle.grammar.specs.Values.{Fitting}
 use Rattle.grammar.specs.Cards.{Clean, Readable, Bare, Begins, Versions, Inner, Cards, linesOf, groupLines}

@@ -1,8 +1,4 @@
 -- The laws that the proofs of `lines` cite. Assumes nothing.
-pub mod FoldLaws
-pub mod HopLaws
-pub mod QuickLaws
-pub mod LineLaws
 pub mod ParseLaws
 pub mod PartLaws
 pub mod Steps

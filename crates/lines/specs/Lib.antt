@@ -1,6 +1,4 @@
 -- The definitions that the contracts of `lines` cite. Assumes nothing.
-pub mod Folds
-pub mod Logical
 pub mod Parse
 pub mod Grammar
 pub mod Rule

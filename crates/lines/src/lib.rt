@@ -1,4 +1,2 @@
-// Logical lines: folds, unfolding, and the line rule.
-pub mod folds;
-pub mod hops;
+// Logical lines: the line rule.
 pub mod rule;

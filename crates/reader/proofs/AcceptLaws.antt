@@ -9,15 +9,15 @@ use lib.ListN.{length, drop}
 use borrow.Author.Tests.{ltb-false, eqb-true, eqb-false}
 use Rattle.octets.specs.Pick.{pick}
 use Rattle.octets.proofs.Scans.{scan-le}
-use Rattle.lines.specs.Folds.{lineLength, unfolded}
-use Rattle.lines.specs.Logical.{linesBy, rawLines}
+use Rattle.folds.specs.Folds.{lineLength, unfolded}
+use Rattle.folds.specs.Logical.{linesBy, rawLines}
 use Rattle.cards.specs.State.{freshCard}
 use Rattle.cards.specs.Judge.{judgeLine}
 use Rattle.cards.specs.declared.state.Card.{Card}
 use Rattle.cards.specs.declared.state.Step.{Step}
 use Rattle.cards.specs.declared.state.Step.the-variants.{Next, Refused as Halted}
 use Rattle.cards.proofs.CardLaws.{one-more}
-use Rattle.reader.specs.Lone.{loneStep, firstLone, endsCrLf}
+use Rattle.folds.specs.Lone.{loneStep, firstLone, endsCrLf}
 use Rattle.reader.specs.Outcome.{onward, judgeLines, verdictOf, judgeOf}
 use Rattle.reader.specs.declared.Verdict.the-variants.{Accepted, Refused}
 

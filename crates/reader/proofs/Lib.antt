@@ -1,6 +1,7 @@
 -- The laws that the proofs of `reader` cite. Assumes nothing.
-pub mod EndLaws
 pub mod WalkLaws
 pub mod AcceptLaws
-pub mod CopyLaws
+pub mod CopyUnfolds
+pub mod LinesAgain
+pub mod RecordLaws
 pub mod ReadLaws

@@ -1,17 +1,29 @@
 -- The outcomes of reading, by what was judged and measured. Assumes nothing.
 use mathlib.Core.Path.{_≡_, sym, ap, _∙_}
-use mathlib.Core.List.{List}
+use mathlib.Core.List.{List, map}
 use Prim.Native.Nat.{ℕ, _*_, _<_, _≤_}
 use native.Mathlib.Omega.{arith}
-use lib.ListN.{length}
+use lib.ListN.{length, length-map}
 use borrow.Author.Tests.{lt-ltb, le-ltb}
 use Rattle.octets.specs.Room.{overlay}
-use Rattle.lines.specs.Logical.{rawLines}
-use Rattle.reader.specs.Outcome.{judgeOf, logicalLines, copyOf, recordsOf, took, writeOutcome, outcomeBy, readOutcome}
+use Rattle.folds.specs.Folds.{unfolded}
+use Rattle.folds.specs.Logical.{rawLines}
+use Rattle.reader.specs.Outcome.{judgeOf, logicalLines, copyOf, recordsFrom, recordsOf, took, writeOutcome, outcomeBy, readOutcome}
 use Rattle.reader.specs.declared.Verdict.{Verdict}
 use Rattle.reader.specs.declared.Verdict.the-variants.{Accepted, Refused}
-use Rattle.reader.proofs.AcceptLaws.{lines-counted}
-use Rattle.reader.proofs.CopyLaws.{records-length}
+use Rattle.reader.proofs.AcceptLaws.{accepting, lines-counted}
+use Rattle.reader.proofs.CopyUnfolds.{copy-unfolds}
+use Rattle.reader.proofs.LinesAgain.{copy-lines}
+use Rattle.reader.proofs.RecordLaws.{records-length}
+
+module _ (i : List ℕ) (k n : ℕ) (e : judgeOf i ≡ Accepted k n) where
+  -- the copy is the input without its folds, and its lines are the logical lines
+  pub copied : unfolded i ≡ copyOf i
+  copied = let a = accepting i k n e in sym (copy-unfolds i (a .unlone) (a .ends))
+
+  pub recorded : recordsFrom 0 (rawLines (unfolded i)) ≡ recordsOf i
+  unfolding recordsOf
+  recorded = ap (λ (l : List ℕ). recordsFrom 0 (rawLines l)) copied ∙ ap (recordsFrom 0) (copy-lines i k n e)
 
 module _ (i copy records : List ℕ) where
   read-by : (v : Verdict) → judgeOf i ≡ v → readOutcome i copy records ≡ outcomeBy v i copy records
@@ -26,7 +38,7 @@ module _ (i copy records : List ℕ) where
   module _ (k n m : ℕ) (e : judgeOf i ≡ Accepted k n) (hm : m ≡ length (copyOf i)) where
     pub numbers-counted : length (recordsOf i) ≡ n * 8
     unfolding recordsOf logicalLines
-    numbers-counted = records-length 0 (rawLines i) ∙ ap (λ (x : ℕ). x * 8) (sym (lines-counted i k n e))
+    numbers-counted = records-length 0 (map unfolded (rawLines i)) ∙ ap (λ (x : ℕ). x * 8) (length-map (rawLines i) unfolded ∙ sym (lines-counted i k n e))
 
     by-size : readOutcome i copy records ≡ writeOutcome (Accepted k n) (copyOf i) (recordsOf i) copy records
     unfolding outcomeBy

@@ -1,3 +1,2 @@
 -- The definitions that the contracts of `reader` cite. Assumes nothing.
-pub mod Lone
 pub mod Outcome

@@ -5,8 +5,8 @@ use lib.Dec.{eqb, ltb}
 use lib.ListN.{length}
 use Rattle.octets.specs.Pick.{pick}
 use Rattle.octets.specs.Room.{overlay}
-use Rattle.lines.specs.Folds.{unfolded}
-use Rattle.lines.specs.Logical.{rawLines}
+use Rattle.folds.specs.Folds.{unfolded}
+use Rattle.folds.specs.Logical.{rawLines}
 use Rattle.cards.specs.State.{freshCard}
 use Rattle.lines.specs.Places.{nameStart}
 use Rattle.content.specs.Parts.{toldOf}
@@ -16,7 +16,7 @@ use Rattle.cards.specs.declared.state.Step.{Step}
 use Rattle.cards.specs.declared.state.Step.the-variants.{Next, Refused as Halted}
 use Rattle.content.specs.declared.Told.{Told}
 use Rattle.content.specs.declared.Told.the-variants.{Line, Fault}
-use Rattle.reader.specs.Lone.{firstLone, endsCrLf}
+use Rattle.folds.specs.Lone.{firstLone, endsCrLf}
 use Rattle.reader.specs.declared.writing.Record.{Record}
 use Rattle.reader.specs.declared.Verdict.{Verdict}
 use Rattle.reader.specs.declared.Verdict.the-variants.{Accepted, Refused}

@@ -3,8 +3,6 @@ ghost use mathlib.Core.Path.{_≡_};
 ghost use Rattle.reader.specs.Outcome.{verdictOf, judgeOf, took, readOutcome};
 use cards::state::Step;
 
-mod ends;
-mod sizes;
 pub mod walk;
 mod writing;
 
@@ -39,11 +37,11 @@ pub fn judge(input: &[u8]) -> Verdict
     if input.len() == 0 {
         return Verdict::Refused(2, 0);
     }
-    let lone = ends::first_lone(input);
+    let lone = folds::ends::first_lone(input);
     if lone < input.len() {
         return Verdict::Refused(3, lone);
     }
-    let ended = ends::ends_cr_lf(input);
+    let ended = folds::ends::ends_cr_lf(input);
     if !ended {
         return Verdict::Refused(4, input.len());
     }
@@ -63,7 +61,7 @@ pub fn read(input: &[u8], copy: &mut [u8], records: &mut [u32]) -> Verdict
     let Verdict::Accepted(cards, lines) = v else {
         return v;
     };
-    let octets = sizes::copy_length(input);
+    let octets = folds::unfolding::unfolded_length(input);
     if copy.len() < octets {
         return Verdict::Refused(13, octets);
     }

@@ -6,8 +6,8 @@ ghost use lib.ListN.{length, drop};
 ghost use Rattle.octets.specs.Classes.{Classes, run};
 ghost use Rattle.octets.specs.Pick.{pick};
 ghost use Rattle.octets.specs.Room.{overlay};
-ghost use Rattle.lines.specs.Folds.{notCr, lineLength, unfolded};
-ghost use Rattle.lines.specs.Logical.{rawLines};
+ghost use Rattle.folds.specs.Folds.{notCr, lineLength, unfolded};
+ghost use Rattle.folds.specs.Logical.{rawLines};
 ghost use Rattle.properties.specs.Rows.{Lists};
 ghost use Rattle.values.specs.States.{Scanner};
 ghost use Rattle.cards.specs.State.{freshCard};
@@ -15,24 +15,6 @@ ghost use Rattle.cards.specs.Judge.{judgeLine};
 ghost use Rattle.reader.specs.Outcome.{judgeLines};
 use cards::state::Card;
 use cards::state::Step;
-
-// A logical line: its first CR, and its end; they differ where it has a fold.
-pub struct Span {
-    pub cr: usize,
-    pub end: usize,
-}
-
-// The logical line that starts at `at`.
-pub fn line_at(s: &[u8], at: usize) -> Span
-    requires { ⌜ at ≤ length (now s) ⌝ }
-    ensures { λ r. ⌜ (r .cr ≡ at + run notCr (drop at (now (s .entry)))) × (r .end ≡ at + lineLength (drop at (now (s .entry)))) × (r .end ≤ length (now (s .entry))) ⌝ }
-{
-    let cr = lines::hops::next_cr(s, at);
-    Span {
-        cr: cr,
-        end: lines::folds::line_end(s, cr),
-    }
-}
 
 // Judges the logical line s, which starts at `at` in the input: as it is where it has no fold, else unfolded into the scratch.
 fn judge_span(
@@ -58,7 +40,7 @@ fn judge_span(
     if !folded {
         return cards::judge::judge_line(t, rows, steps, s, at, c);
     }
-    let n = lines::folds::unfold(s, scratch);
+    let n = folds::unfolding::unfold(s, scratch);
     cards::judge::judge_line(t, rows, steps, &scratch[..n], at, c)
 }
 
@@ -74,7 +56,7 @@ pub fn walk(t: &[u8; 256], rows: &[u8; 624], steps: &[u8; 1016], s: &[u8]) -> St
     let mut c = cards::state::fresh();
     let mut at: usize = 0;
     while at < s.len() {
-        let span = line_at(s, at);
+        let span = folds::spans::line_at(s, at);
         let end = span.end;
         let folded = span.cr != end;
         let j = judge_span(t, rows, steps, &s[at..end], folded, &mut scratch, at, c);

@@ -1,15 +1,14 @@
 // The second pass over an accepted input: its copy and its records.
 ghost use mathlib.Core.Path.{_≡_};
-ghost use mathlib.Core.Bool.{false};
-ghost use mathlib.Core.List.{[], _∷_, _++_};
+ghost use mathlib.Core.List.{_++_};
 ghost use Prim.Native.Nat.{_+_, _≤_};
 ghost use lib.ListN.{length, take, drop};
 ghost use Rattle.octets.specs.Classes.{Classes};
 ghost use Rattle.octets.specs.Room.{overlay};
-ghost use Rattle.lines.specs.Folds.{unfolded};
+ghost use Rattle.folds.specs.Folds.{unfolded};
+ghost use Rattle.folds.specs.Logical.{rawLines};
 ghost use Rattle.properties.specs.Rows.{Lists};
-ghost use Rattle.reader.specs.Outcome.{copyOf, numbers, recordOf, recordsOf};
-use crate::walk::line_at;
+ghost use Rattle.reader.specs.Outcome.{numbers, recordOf, recordsFrom};
 use content::Told;
 
 // One record: eight numbers.
@@ -72,53 +71,35 @@ fn put_record(out: &mut [u32], at: usize, r: Record)
     out[at + 7] = r.kind;
 }
 
-// Writes the line s without its folds to the start of d, and answers how many octets that are.
-fn put_text(s: &[u8], folded: bool, d: &mut [u8]) -> usize
-    requires { ⌜ length (unfolded (now s)) ≤ length (now d) ⌝ }
-    requires { ⌜ (folded ≡ false → unfolded (now s) ≡ now s) ⌝ }
-    ensures { λ r. ⌜ (r ≡ length (unfolded (now (s .entry)))) × (now (d .exit) ≡ unfolded (now (s .entry)) ++ drop r (now (d .entry))) ⌝ }
+// Writes the records of the lines of s, which has no folds, to the start of out.
+fn write_records(t: &[u8; 256], rows: &[u8; 624], s: &[u8], out: &mut [u32])
+    requires { ⌜ Classes (now t) ⌝ }
+    requires { ⌜ Lists (now rows) ⌝ }
+    requires { ⌜ length (now s) ≤ 16384 ⌝ }
+    requires { ⌜ length (recordsFrom 0 (rawLines (now s))) ≤ length (now out) ⌝ }
+    ensures { λ _. ⌜ now (out .exit) ≡ overlay (recordsFrom 0 (rawLines (now (s .entry)))) (now (out .entry)) ⌝ }
 {
-    if !folded {
-        octets::copying::copy_in(d, s);
-        return s.len();
+    let mut at: usize = 0;
+    let mut k: usize = 0;
+    while at < s.len() {
+        let span = folds::spans::line_at(s, at);
+        let end = span.end;
+        let r = record_of(t, rows, &s[at..end], at);
+        put_record(out, k, r);
+        k += 8;
+        at = end + 2;
     }
-    lines::folds::unfold(s, d)
 }
 
-// Writes the line s without its folds, and CR LF, into the copy from w on, and answers where the line ends there.
-fn put_line(s: &[u8], folded: bool, copy: &mut [u8], w: usize) -> usize
-    requires { ⌜ w + (length (unfolded (now s)) + 2) ≤ length (now copy) ⌝ }
-    requires { ⌜ (folded ≡ false → unfolded (now s) ≡ now s) ⌝ }
-    ensures { λ r. ⌜ (r ≡ w + length (unfolded (now (s .entry)))) × (now (copy .exit) ≡ take w (now (copy .entry)) ++ (unfolded (now (s .entry)) ++ (13 ∷ 10 ∷ [])) ++ drop (r + 2) (now (copy .entry))) ⌝ }
-{
-    let n = put_text(s, folded, &mut copy[w..]);
-    let e = w + n;
-    copy[e] = 13;
-    copy[e + 1] = 10;
-    e
-}
-
-// Writes the copy and the records of s to the start of their rooms, which are large enough.
+// Writes s without its folds to the start of copy, and the records of the lines there to the start of out.
 pub fn write_lines(t: &[u8; 256], rows: &[u8; 624], s: &[u8], copy: &mut [u8], out: &mut [u32])
     requires { ⌜ Classes (now t) ⌝ }
     requires { ⌜ Lists (now rows) ⌝ }
     requires { ⌜ length (now s) ≤ 16384 ⌝ }
-    requires { ⌜ (length (copyOf (now s)) ≤ length (now copy)) × (length (recordsOf (now s)) ≤ length (now out)) ⌝ }
-    ensures { λ _. ⌜ now (copy .exit) ≡ overlay (copyOf (now (s .entry))) (now (copy .entry)) ⌝ }
-    ensures { λ _. ⌜ now (out .exit) ≡ overlay (recordsOf (now (s .entry))) (now (out .entry)) ⌝ }
+    requires { ⌜ (length (unfolded (now s)) ≤ length (now copy)) × (length (recordsFrom 0 (rawLines (unfolded (now s)))) ≤ length (now out)) ⌝ }
+    ensures { λ _. ⌜ now (copy .exit) ≡ overlay (unfolded (now (s .entry))) (now (copy .entry)) ⌝ }
+    ensures { λ _. ⌜ now (out .exit) ≡ overlay (recordsFrom 0 (rawLines (unfolded (now (s .entry))))) (now (out .entry)) ⌝ }
 {
-    let mut at: usize = 0;
-    let mut w: usize = 0;
-    let mut k: usize = 0;
-    while at < s.len() {
-        let span = line_at(s, at);
-        let end = span.end;
-        let folded = span.cr != end;
-        let e = put_line(&s[at..end], folded, copy, w);
-        let r = record_of(t, rows, &copy[w..e], w);
-        put_record(out, k, r);
-        w = e + 2;
-        k += 8;
-        at = end + 2;
-    }
+    let n = folds::unfolding::unfold(s, copy);
+    write_records(t, rows, &copy[..n], out);
 }

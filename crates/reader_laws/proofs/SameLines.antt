@@ -1,6 +1,5 @@
--- An accepted input: its logical lines are clean, and acceptance goes by the logical lines alone, whatever their places.
+-- An accepted input: acceptance goes by the logical lines alone, whatever their places.
 -- Assumes nothing.
-use Prim.{tt}
 use mathlib.Core.Path.{_≡_, sym, ap, _∙_}
 use mathlib.Core.Bool.{true}
 use mathlib.Core.List.{List, [], _∷_, map}
@@ -8,20 +7,17 @@ use Prim.Native.Nat.{ℕ, _+_, _≤_}
 use native.Mathlib.Omega.{arith}
 use lib.ListN.{length}
 use borrow.Author.Tests.{ne-eqb, eq-eqb, le-ltb}
-use Rattle.lines.specs.Folds.{unfolded}
-use Rattle.lines.specs.Grammar.{Each}
-use Rattle.lines.specs.Logical.{rawLines}
+use Rattle.folds.specs.Folds.{unfolded}
+use Rattle.folds.specs.Logical.{rawLines}
 use Rattle.cards.specs.State.{freshCard}
 use Rattle.cards.specs.Judge.{judgeLine}
 use Rattle.cards.specs.declared.state.Card.{Card}
 use Rattle.cards.specs.declared.state.Step.{Step}
 use Rattle.cards.specs.declared.state.Step.the-variants.{Next}
-use Rattle.cards.proofs.CardLaws.{line-clean}
-use Rattle.reader.specs.Lone.{firstLone, endsCrLf}
+use Rattle.folds.specs.Lone.{firstLone, endsCrLf}
 use Rattle.reader.specs.Outcome.{onward, judgeLines, verdictOf, judgeOf, logicalLines, copyOf, recordsOf}
 use Rattle.reader.specs.declared.Verdict.the-variants.{Accepted}
 use Rattle.reader.proofs.AcceptLaws.{onward-next, Accepting, accepting}
-use Rattle.reader_laws.specs.Lines.{Clean}
 use Rattle.reader_laws.proofs.Anywhere.{any-place}
 
 -- the converse of `accepting`: what it says is all that acceptance asks
@@ -43,25 +39,6 @@ ends-some : (i : List ℕ) → endsCrLf i ≡ true → length i ≡ 0 → ⊥
 unfolding endsCrLf
 ends-some [] e h = let z : _≡_ {A = ℕ} 0 1 = cc in omega arith
 ends-some (x ∷ xs) e h = omega arith
-
-judged-clean : (c c′ : Card) (p : ℕ) (l : List ℕ) → judgeLine c p l ≡ Next c′ → Clean l
-judged-clean c c′ p l e =
-    let w = line-clean c c′ p l e in
-    record { whole = w .0; unspaced = w .1; untabbed = w .2; some = λ z. omega (arith, w .3) }
-
-clean-lines : (ls : List (List ℕ)) (p : ℕ) (c c′ : Card) → judgeLines ls p c ≡ Next c′ → Each Clean (map unfolded ls)
-unfolding judgeLines Each
-clean-lines [] p c c′ e = tt
-clean-lines (l ∷ ls) p c c′ e =
-    onward-next (judgeLine c p (unfolded l)) (judgeLines ls (p + length l + 2)) c′ e
-    (λ d q r. (judged-clean c d p (unfolded l) q, clean-lines ls (p + length l + 2) d c′ r))
-
--- each logical line of an accepted input is clean
-pub lines-clean : (i : List ℕ) (k n : ℕ) → judgeOf i ≡ Accepted k n → Each Clean (logicalLines i)
-unfolding logicalLines
-lines-clean i k n e =
-    let a = accepting i k n e in
-    clean-lines (rawLines i) 0 freshCard (a .last) (a .walked)
 
 same-judged : (ls ms : List (List ℕ)) (p q : ℕ) (c c′ : Card) → map unfolded ms ≡ map unfolded ls → judgeLines ls p c ≡ Next c′ → judgeLines ms q c ≡ Next c′
 unfolding judgeLines

@@ -1,3 +1,2 @@
 -- The declarative statements of the reader's laws. Assumes nothing.
 pub mod Lone
-pub mod Lines

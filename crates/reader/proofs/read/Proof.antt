@@ -1,11 +1,22 @@
 -- `reader::read` meets its contract. Assumes nothing.
-use mathlib.Core.Path.{sym, _∙_}
+use mathlib.Core.Path.{_≡_, sym, ap, _∙_}
+use mathlib.Core.List.{List}
+use Prim.Native.Nat.{ℕ}
 use native.Mathlib.Omega.{arith}
+use lib.ListN.{length}
+use Rattle.octets.specs.Room.{overlay}
+use Rattle.folds.specs.Folds.{unfolded}
+use Rattle.reader.specs.Outcome.{judgeOf, copyOf}
+use Rattle.reader.specs.declared.Verdict.the-variants.{Accepted}
 use Rattle.reader.proofs.AcceptLaws.{accepting, lines-counted, lines-few}
-use Rattle.reader.proofs.ReadLaws.{read-refused, numbers-counted, read-13, read-14, read-written}
+use Rattle.reader.proofs.ReadLaws.{copied, recorded, read-refused, numbers-counted, read-13, read-14, read-written}
 use borrow.Author.Needs.{needs}
 use Rattle.reader.proofs.read.Statement.{statement}
 use Rattle.reader.proofs.read.Tie as tie
+
+-- the copy's length is that of the input without its folds
+size : (i : List ℕ) (k n : ℕ) → judgeOf i ≡ Accepted k n → {m : ℕ} → m ≡ length (unfolded i) → m ≡ length (copyOf i)
+size i k n e h = h ∙ ap length (copied i k n e)
 
 judge-requires : tie.Need-judge-requires
 judge-requires c κs = search needs
@@ -18,28 +29,29 @@ enum-told c = search needs
 
 returns : tie.Need-returns
 returns c =
-    read-refused (c .before .before .before .before .before .before .args .input .now) (c .before .before .before .before .before .before .args .copy .now) (c .before .before .before .before .before .before .args .records .now) (c .before .before .judge .result) _ _ (c .before .before .judge .ensures) (c .enum-told .given .1)
+    let a = c .before .before .before .before .before .before .args in
+    read-refused (a .input .now) (a .copy .now) (a .records .now) (c .before .before .judge .result) _ _ (c .before .before .judge .ensures) (c .enum-told .given .1)
 
-copy-length-requires : tie.Need-copy-length-requires
-copy-length-requires c κs =
-    accepting (c .before .before .before .before .before .before .before .args .input .now) _ _ (sym (c .before .before .before .judge .ensures) ∙ c .before .v .given .1) .short
+unfolded-length-requires : tie.Need-unfolded-length-requires
+unfolded-length-requires c κs = accepting (c .before .before .before .before .before .before .before .args .input .now) _ _ (sym (c .before .before .before .judge .ensures) ∙ c .before .v .given .1) .short
 
 returns-2 : tie.Need-returns-2
 returns-2 c =
     let a = c .before .before .before .before .before .before .before .before .before .args in
-    read-13 (a .input .now) (a .copy .now) (a .records .now) _ _ _ (sym (c .before .before .before .before .before .judge .ensures) ∙ c .before .before .before .v .given .1) (c .before .copy-length .ensures) (c .if1 .taken)
+    let e = sym (c .before .before .before .before .before .judge .ensures) ∙ c .before .before .before .v .given .1 in
+    read-13 (a .input .now) (a .copy .now) (a .records .now) _ _ _ e (size (a .input .now) _ _ e (c .before .unfolded-length .ensures)) (c .if1 .taken)
 
 mul-numbers : tie.Need-mul-numbers
 mul-numbers c =
     let i = c .before .before .before .before .before .before .before .before .before .args .input .now in
     let e = sym (c .before .before .before .before .before .judge .ensures) ∙ c .before .before .before .v .given .1 in
-    let h = accepting i _ _ e .short in
-    omega (arith, h, lines-counted i _ _ e, lines-few i)
+    omega (arith, accepting i _ _ e .short, lines-counted i _ _ e, lines-few i)
 
 returns-3 : tie.Need-returns-3
 returns-3 c =
     let a = c .before .before .before .before .before .before .before .before .before .before .args in
-    read-14 (a .input .now) (a .copy .now) (a .records .now) _ _ _ (sym (c .before .before .before .before .before .before .judge .ensures) ∙ c .before .before .before .before .v .given .1) (c .before .before .copy-length .ensures) (c .before .if1 .left) (c .if2 .taken)
+    let e = sym (c .before .before .before .before .before .before .judge .ensures) ∙ c .before .before .before .before .v .given .1 in
+    read-14 (a .input .now) (a .copy .now) (a .records .now) _ _ _ e (size (a .input .now) _ _ e (c .before .before .unfolded-length .ensures)) (c .before .if1 .left) (c .if2 .taken)
 
 table-requires : tie.Need-table-requires
 table-requires c κs = search needs
@@ -50,19 +62,10 @@ table-requires-2 c κs = search needs
 write-lines-requires : tie.Need-write-lines-requires
 write-lines-requires c κs =
     let a = c .before .before .before .before .before .before .before .before .before .before .before .before .before .before .before .before .args in
-    let e = sym (c .before .before .before .before .before .before .before .before .before .before .before .before .judge .ensures) ∙ c .before .before .before .before .before .before .before .before .before .before .v .given .1 in (
-      c .before .before .before .before .before .table .ensures,
-      (
-        c .before .before .before .before .table2 .ensures,
-        (
-          accepting (a .input .now) _ _ e .short,
-          (
-            omega (arith, c .before .before .before .before .before .before .before .before .copy-length .ensures, c .before .before .before .before .before .before .before .if1 .left),
-            omega (arith, numbers-counted (a .input .now) (a .copy .now) (a .records .now) _ _ _ e (c .before .before .before .before .before .before .before .before .copy-length .ensures), c .before .before .before .before .before .before .if2 .left),
-          ),
-        ),
-      ),
-    )
+    let i = a .input .now in
+    let e = sym (c .before .before .before .before .before .before .before .before .before .before .before .before .judge .ensures) ∙ c .before .before .before .before .before .before .before .before .before .before .v .given .1 in
+    let r = numbers-counted i (a .copy .now) (a .records .now) _ _ _ e (size (a .input .now) _ _ e (c .before .before .before .before .before .before .before .before .unfolded-length .ensures)) in
+    (c .before .before .before .before .before .table .ensures, (c .before .before .before .before .table2 .ensures, (accepting i _ _ e .short, (omega (arith, c .before .before .before .before .before .before .before .before .unfolded-length .ensures, c .before .before .before .before .before .before .before .if1 .left), rw (recorded i _ _ e) (omega (arith, r, c .before .before .before .before .before .before .if2 .left))))))
 
 same-length : tie.Need-same-length
 same-length c = search needs
@@ -73,9 +76,11 @@ same-length-2 c = search needs
 returns-4 : tie.Need-returns-4
 returns-4 c =
     let a = c .before .before .before .before .before .before .before .before .before .before .before .before .before .before .before .before .before .before .before .before .before .args in
+    let i = a .input .now in
     let e = sym (c .before .before .before .before .before .before .before .before .before .before .before .before .before .before .before .before .before .judge .ensures) ∙ c .before .before .before .before .before .before .before .before .before .before .before .before .before .before .before .v .given .1 in
     let w = c .before .before .before .before .write-lines .ensures in
-    read-written (a .input .now) (a .copy .now) (a .records .now) _ _ _ e (c .before .before .before .before .before .before .before .before .before .before .before .before .before .copy-length .ensures) (c .before .before .before .before .before .before .before .before .before .before .before .before .if1 .left) (c .before .before .before .before .before .before .before .before .before .before .before .if2 .left) _ _ (w .0) (w .1)
+    read-written i (a .copy .now) (a .records .now) _ _ _ e (size (a .input .now) _ _ e (c .before .before .before .before .before .before .before .before .before .before .before .before .before .unfolded-length .ensures)) (c .before .before .before .before .before .before .before .before .before .before .before .before .if1 .left) (c .before .before .before .before .before .before .before .before .before .before .before .if2 .left) _ _
+    (w .0 ∙ ap (λ (l : List ℕ). overlay l (a .copy .now)) (copied i _ _ e)) (w .1 ∙ ap (λ (l : List ℕ). overlay l (a .records .now)) (recorded i _ _ e))
 
 pub read-spec : {M : Type 1} → statement M
 read-spec =
@@ -85,7 +90,7 @@ read-spec =
     enum-known-v
     enum-told
     returns
-    copy-length-requires
+    unfolded-length-requires
     returns-2
     mul-numbers
     returns-3

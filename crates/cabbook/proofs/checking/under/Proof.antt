@@ -2,7 +2,7 @@
 use borrow.Author.Needs.{needs}
 use native.Mathlib.Omega.{arith}
 use lib.ListN.{length-replicate}
-use Rattle.lines.proofs.FoldLaws.{unfold-shorter}
+use Rattle.folds.proofs.FoldLaws.{unfold-shorter}
 use Rattle.cabbook.proofs.checking.under.Statement.{statement}
 use Rattle.cabbook.proofs.checking.under.Tie as tie
 

@@ -4,10 +4,10 @@ use mathlib.Core.Path.{_≡_, ap}
 use Prim.Native.Nat.{_+_, _-_, _*_, _≤_}
 use native.Mathlib.Omega.{arith}
 use lib.ListN.{length, take, drop, length-replicate}
-use Rattle.lines.specs.Folds.{unfolded}
+use Rattle.folds.specs.Folds.{unfolded}
 use Rattle.reader.specs.Outcome.{logicalLines}
-use Rattle.reader.proofs.WalkLaws.{whole, part-length}
-use Rattle.folder.specs.Pieces.{foldedLines, Clean, All}
+use Rattle.folds.proofs.SpanLaws.{whole, part-length}
+use Rattle.cuts.specs.Pieces.{foldedLines, Clean, All}
 use Rattle.folder.proofs.TextLaws.{fold-length, clean-turn, none-left}
 use Rattle.folder.proofs.texts.text_length.Statement.{statement}
 use Rattle.folder.proofs.texts.text_length.Tie as tie

@@ -6,11 +6,11 @@ use Prim.Native.Nat.{ℕ, _+_, _-_, _≤_}
 use native.Mathlib.Omega.{arith}
 use lib.ListN.{length, take, drop, length-take, length-drop, length-replicate}
 use Rattle.octets.proofs.Writes.{Written, start, room, finish}
-use Rattle.lines.specs.Folds.{unfolded}
+use Rattle.folds.specs.Folds.{unfolded}
 use Rattle.reader.specs.Outcome.{logicalLines}
-use Rattle.reader.proofs.WalkLaws.{whole, part-length}
-use Rattle.folder.specs.Pieces.{folded, foldedLines, Clean, All}
-use Rattle.folder.proofs.Puts.{put-part}
+use Rattle.folds.proofs.SpanLaws.{whole, part-length}
+use Rattle.cuts.specs.Pieces.{folded, foldedLines, Clean, All}
+use Rattle.folds.proofs.PutLaws.{put-part}
 use Rattle.folder.proofs.TextLaws.{fold-turn, fold-length, clean-turn, none-left}
 use Rattle.folder.proofs.texts.write_text.Statement.{statement}
 use Rattle.folder.proofs.texts.write_text.Tie as tie

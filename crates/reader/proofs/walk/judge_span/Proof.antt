@@ -1,5 +1,5 @@
 -- `reader::walk::judge_span` meets its contract. Assumes nothing.
-use Rattle.lines.proofs.FoldLaws.{unfold-shorter}
+use Rattle.folds.proofs.FoldLaws.{unfold-shorter}
 -- `reader::walk::judge_span` meets its contract. Assumes nothing.
 use mathlib.Core.Bool.{Bool}
 use Rattle.octets.specs.Room.{overlay}
@@ -12,7 +12,7 @@ use lib.ListN.{take, drop, length-take}
 use lib.Seq.{take-at}
 use borrow.Author.Tests.{not-true, not-false}
 use Rattle.octets.specs.Pick.{pick}
-use Rattle.lines.specs.Folds.{unfolded}
+use Rattle.folds.specs.Folds.{unfolded}
 use Rattle.cards.specs.Judge.{judgeLine}
 use borrow.Author.Needs.{needs}
 use Rattle.reader.proofs.walk.judge_span.Statement.{statement}

@@ -5,15 +5,16 @@ use mathlib.Core.List.{List}
 use Prim.Native.Nat.{ℕ, _+_, _-_, _≤_}
 use native.Mathlib.Omega.{arith}
 use lib.ListN.{length, take, drop, length-replicate}
-use Rattle.lines.specs.Logical.{rawLines}
-use Rattle.lines.proofs.FoldLaws.{unfold-shorter}
-use Rattle.lines.proofs.LineLaws.{lines-end}
+use Rattle.folds.specs.Logical.{rawLines}
+use Rattle.folds.proofs.FoldLaws.{unfold-shorter}
+use Rattle.folds.proofs.LineLaws.{lines-end}
 use Rattle.cards.specs.State.{freshCard}
 use Rattle.cards.specs.declared.state.Card.{Card}
 use Rattle.cards.specs.declared.state.Step.{Step}
 use Rattle.cards.proofs.CardLaws.{one-more}
 use Rattle.reader.specs.Outcome.{onward, judgeLines}
-use Rattle.reader.proofs.WalkLaws.{whole, part-length, judged, handed}
+use Rattle.folds.proofs.SpanLaws.{whole, part-length}
+use Rattle.reader.proofs.WalkLaws.{judged, handed}
 use Rattle.reader.proofs.walk.walk.Statement.{statement}
 use Rattle.reader.proofs.walk.walk.Tie as tie
 

@@ -1,0 +1,81 @@
+use borrow.Author.Needs.{needs}
+use mathlib.Core.Path.{_≡_}
+use Prim.Native.Nat.{ℕ, _≤_, _<_, _+_, _-_}
+use native.Mathlib.Omega.{arith}
+use lib.ListN.{length, drop}
+use Rattle.folds.proofs.RunLaws.{Flat, flat-none, flat-join, flat-sixteen, flat-run}
+use Rattle.folds.proofs.unfolding.hop.Statement.{statement}
+use Rattle.folds.proofs.unfolding.hop.Tie as tie
+use Rattle.folds.proofs.unfolding.hop.Reads as reads
+use Rattle.folds.proofs.unfolding.hop.Lts as lts
+use Rattle.folds.proofs.hops.next_cr.Reads as next-cr-reads
+use Rattle.folds.proofs.unfolding.near.Reads as near-reads
+
+abbrev Inv-loop : tie.InvT-loop
+Inv-loop s from i₀ i =
+    (from ≤ i) × (i ≤ length s) × Flat s from i
+
+abbrev μ-loop : tie.MeasureT-loop
+μ-loop s from i₀ i =
+    length s - i
+
+-- src/unfolding.rt:56:5
+loop-holds : tie.Need-loop-holds Inv-loop μ-loop
+loop-holds c =
+    (search needs, search needs, flat-none (c .before .args .s .now) (c .before .args .from))
+
+-- src/unfolding.rt:56:17
+sub-loop : tie.Need-sub-loop Inv-loop μ-loop
+sub-loop c = search needs
+
+-- src/unfolding.rt:57:12
+near-requires : tie.Need-near-requires Inv-loop μ-loop
+near-requires c κs = search needs
+
+-- src/unfolding.rt:58:13
+next-cr-requires : tie.Need-next-cr-requires Inv-loop μ-loop
+next-cr-requires c κs = search needs
+
+-- src/unfolding.rt:58:13
+returns : tie.Need-returns Inv-loop μ-loop
+returns c =
+    let a = c .before .before .before .before .before .before .args in
+    let l = c .before .before .before .before .loop in
+    let v = c .next-cr in
+    (omega (arith, v .ensures .1), v .ensures .0, flat-join (a .s .now) (a .from) (l .i) (v .result) (l .inv .2) (flat-run (a .s .now) (l .i) (v .result) (v .ensures .1)))
+
+-- src/unfolding.rt:60:9
+add-i : tie.Need-add-i Inv-loop μ-loop
+add-i c = search needs
+
+-- src/unfolding.rt:56:5
+loop-less : tie.Need-loop-less Inv-loop μ-loop
+loop-less c = search needs
+
+-- src/unfolding.rt:56:5
+loop-again : tie.Need-loop-again Inv-loop μ-loop
+loop-again c =
+    let a = c .before .before .before .before .before .args in
+    let l = c .before .before .before .loop in
+    (omega arith, omega arith, flat-join (a .s .now) (a .from) (l .i) (l .i + 16) (l .inv .2) (flat-sixteen (a .s .now) (l .i) (c .before .near .ensures (c .if1 .left))))
+
+-- src/unfolding.rt:51:1
+returns-2 : tie.Need-returns-2 Inv-loop μ-loop
+returns-2 c =
+    c .before .loop .inv
+
+pub hop-spec : {M : Type 1} → statement M
+hop-spec =
+    tie.close
+    (tie.spec
+    Inv-loop
+    μ-loop
+    loop-holds
+    sub-loop
+    near-requires
+    next-cr-requires
+    returns
+    add-i
+    loop-less
+    loop-again
+    returns-2)

@@ -1,0 +1,86 @@
+-- The logical lines of an accepted input: characters only, neither empty nor led by a space or tab, so that they are found again in the
+-- copy as they are. Assumes nothing.
+use Prim.{tt}
+use mathlib.Core.Path.{_≡_, refl, sym, ap, _∙_}
+use mathlib.Core.Bool.{false, _||_}
+use mathlib.Core.List.{List, [], _∷_, _++_, map}
+use Prim.Native.Nat.{ℕ, _+_}
+use native.Mathlib.Nat.{zero-add}
+use native.Mathlib.Omega.{arith}
+use lib.Dec.{eqb}
+use lib.ListN.{length, getD, drop, length-append}
+use lib.Seq.{take-append-seam, drop-append-add}
+use borrow.Author.Tests.{ne-eqb}
+use Rattle.characters.specs.Characters.{allowed, firstBad}
+use Rattle.characters.proofs.Chains.{NoEnd, none, more, no-end, good-chars}
+use Rattle.folds.specs.Folds.{lineLength, unfolded}
+use Rattle.folds.specs.Logical.{rawLines}
+use Rattle.folds.proofs.LineLaws.{lines-end}
+use Rattle.lines.specs.Grammar.{Each}
+use Rattle.cards.specs.State.{freshCard}
+use Rattle.cards.specs.Judge.{judgeLine}
+use Rattle.cards.specs.declared.state.Card.{Card}
+use Rattle.cards.specs.declared.state.Step.the-variants.{Next}
+use Rattle.cards.proofs.CardLaws.{line-clean}
+use Rattle.reader.specs.Outcome.{judgeLines, judgeOf, ended, logicalLines, copyOf}
+use Rattle.reader.specs.declared.Verdict.the-variants.{Accepted}
+use Rattle.reader.proofs.AcceptLaws.{onward-next, accepting}
+use Rattle.reader.proofs.CopyUnfolds.{line-octet, raw, line-stop}
+
+-- characters only, with no control but tab; neither empty nor led by a space or tab
+pub record Clean (l : List ℕ) : Type 0 where
+  pub whole : firstBad (allowed false) l ≡ length l
+  pub unspaced : getD l 0 0 ≡ 32 → ⊥
+  pub untabbed : getD l 0 0 ≡ 9 → ⊥
+  pub some : length l ≡ 0 → ⊥
+
+judged-clean : (c c′ : Card) (p : ℕ) (l : List ℕ) → judgeLine c p l ≡ Next c′ → Clean l
+judged-clean c c′ p l e =
+    let w = line-clean c c′ p l e in
+    record { whole = w .0; unspaced = w .1; untabbed = w .2; some = λ z. omega (arith, w .3) }
+
+clean-lines : (ls : List (List ℕ)) (p : ℕ) (c c′ : Card) → judgeLines ls p c ≡ Next c′ → Each Clean (map unfolded ls)
+unfolding judgeLines Each
+clean-lines [] p c c′ e = tt
+clean-lines (l ∷ ls) p c c′ e =
+    onward-next (judgeLine c p (unfolded l)) (judgeLines ls (p + length l + 2)) c′ e
+    (λ d q r. (judged-clean c d p (unfolded l) q, clean-lines ls (p + length l + 2) d c′ r))
+
+-- each logical line of an accepted input is clean
+pub lines-clean : (i : List ℕ) (k n : ℕ) → judgeOf i ≡ Accepted k n → Each Clean (logicalLines i)
+unfolding logicalLines
+lines-clean i k n e =
+    let a = accepting i k n e in
+    clean-lines (rawLines i) 0 freshCard (a .last) (a .walked)
+
+line-run : {l : List ℕ} → NoEnd l → (t : List ℕ) → lineLength (l ++ t) ≡ length l + lineLength t
+line-run none t = sym (zero-add _)
+line-run (more {x} {xs} a b n) t = omega (arith, line-octet x (xs ++ t) a, line-run n t)
+
+pub unended : (l : List ℕ) → Clean l → NoEnd l
+unended l c = no-end (good-chars (allowed false) l (c .whole))
+
+unled : (l t : List ℕ) → Clean l → (eqb (getD (l ++ t) 0 0) 32 || eqb (getD (l ++ t) 0 0) 9) ≡ false
+unled [] t c = absurd (c .some refl)
+unled (x ∷ xs) t c = rw (ne-eqb x 32 (c .unspaced), ne-eqb x 9 (c .untabbed))
+
+lines-unled : (ls : List (List ℕ)) → Each Clean ls → (eqb (getD (ended ls) 0 0) 32 || eqb (getD (ended ls) 0 0) 9) ≡ false
+unfolding ended Each
+lines-unled [] c = refl
+lines-unled (l ∷ ls) c = unled l (13 ∷ 10 ∷ ended ls) (c .0)
+
+pub lines-again : (ls : List (List ℕ)) → Each Clean ls → rawLines (ended ls) ≡ ls
+unfolding ended Each
+lines-again [] c = lines-end [] 0 (omega arith)
+lines-again (l ∷ ls) c =
+    let t : List ℕ = 13 ∷ 10 ∷ ended ls in
+    let n : lineLength (l ++ t) ≡ length l = line-run (unended l (c .0)) t ∙ ap (λ (k : ℕ). length l + k) (line-stop (ended ls) (lines-unled ls (c .1))) ∙ omega arith in
+    raw (l ++ t) (length l) (omega (arith, length-append l t)) n
+    ∙ ap (λ (r : List ℕ). r ∷ rawLines (drop (length l + 2) (l ++ t))) (take-append-seam l t)
+    ∙ ap (λ (r : List ℕ). l ∷ rawLines r) (drop-append-add l t 2)
+    ∙ ap (λ (r : List (List ℕ)). l ∷ r) (lines-again ls (c .1))
+
+-- the copy's lines are the logical lines
+pub copy-lines : (i : List ℕ) (k n : ℕ) → judgeOf i ≡ Accepted k n → rawLines (copyOf i) ≡ logicalLines i
+unfolding copyOf
+copy-lines i k n e = lines-again (logicalLines i) (lines-clean i k n e)
