@@ -7,7 +7,7 @@ use lib.ListN.{length, take, drop, replicate, length-replicate, length-drop, dro
 use lib.Seq.{length-take-le, take-all}
 use borrow.Rule.Slice.PartMut.{putMid}
 use Rattle.octets.specs.Room.{overlay}
-use Rattle.desk.specs.Steps.{patch}
+use Rattle.pools.specs.Steps.{patch}
 
 pub part-size : (a h : ℕ) → a + h - a ≡ h
 part-size a h = omega arith

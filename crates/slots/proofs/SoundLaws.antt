@@ -6,14 +6,13 @@ use mathlib.Core.List.{List}
 use native.Mathlib.Omega.{arith}
 use lib.Dec.{ltb, eqb}
 use borrow.Author.Tests.{ltb-true, ltb-false, leb-true, eqb-true, eqb-false, lt-ltb, le-leb}
-use Rattle.desk.specs.Search.{allAt, among}
-use Rattle.desk.specs.Sound.{stateAt, Fit, Sound, ticketAt, fits, fitsAt, goodAt, bounds, sound}
-use Rattle.desk.proofs.Searches.{clash, pick-both, allAt-all, all-allAt, among-not, not-among}
-use Rattle.desk.specs.declared.entries.Session.{Session}
-use Rattle.desk.specs.declared.entries.State.{State}
-use Rattle.desk.specs.declared.entries.State.the-variants.{Free, Open}
-use Rattle.desk.specs.declared.entries.Entry.{Entry}
-use Rattle.desk.specs.declared.Desk.{Desk}
+use Rattle.slots.specs.Search.{allAt, among}
+use Rattle.slots.specs.Sound.{stateAt, Fit, Sound, ticketAt, fits, fitsAt, goodAt, bounds, sound}
+use Rattle.slots.proofs.Searches.{clash, pick-both, allAt-all, all-allAt, among-not, not-among}
+use Rattle.slots.specs.declared.entries.Session.{Session}
+use Rattle.slots.specs.declared.entries.State.{State}
+use Rattle.slots.specs.declared.entries.State.the-variants.{Free, Open}
+use Rattle.slots.specs.declared.entries.Entry.{Entry}
 
 -- ---- an entry
 
@@ -69,43 +68,43 @@ pub good : (es : List Entry) (slots next i : ℕ) → fitsAt es slots next i ≡
 unfolding goodAt
 good es slots next i e f = rw (e, f)
 
-module _ (d : Desk) where
-  parts : sound d ≡ true → (bounds (d .slots) (d .next) ≡ true) × (allAt (goodAt (d .entries) (d .slots) (d .next)) 0 40 ≡ true)
+module _ (es : List Entry) (slots next : ℕ) where
+  parts : sound es slots next ≡ true → (bounds slots next ≡ true) × (allAt (goodAt es slots next) 0 40 ≡ true)
   unfolding sound
-  parts e = pick-both (bounds (d .slots) (d .next)) (allAt (goodAt (d .entries) (d .slots) (d .next)) 0 40) e
+  parts e = pick-both (bounds slots next) (allAt (goodAt es slots next) 0 40) e
 
-  each-good : sound d ≡ true → (i : ℕ) → i < 40 → goodAt (d .entries) (d .slots) (d .next) i ≡ true
-  each-good e i h = allAt-all (goodAt (d .entries) (d .slots) (d .next)) 40 0 (parts e .1) i (omega arith) (omega arith)
+  each-good : sound es slots next ≡ true → (i : ℕ) → i < 40 → goodAt es slots next i ≡ true
+  each-good e i h = allAt-all (goodAt es slots next) 40 0 (parts e .1) i (omega arith) (omega arith)
 
-  each-fits : sound d ≡ true → (i : ℕ) → i < 40 → (x : State) → stateAt (d .entries) i ≡ x → fits (d .slots) (d .next) i x ≡ true
-  each-fits e i h x q = rw q at (good-fits (d .entries) (d .slots) (d .next) i (each-good e i h))
+  each-fits : sound es slots next ≡ true → (i : ℕ) → i < 40 → (x : State) → stateAt es i ≡ x → fits slots next i x ≡ true
+  each-fits e i h x q = rw q at (good-fits es slots next i (each-good e i h))
 
   -- no ticket is that of an entry before
-  no-repeat : sound d ≡ true → (i j : ℕ) → j < 40 → i < j → (s : Session) → stateAt (d .entries) j ≡ Open s → ticketAt (d .entries) i ≡ s .ticket → ⊥
+  no-repeat : sound es slots next ≡ true → (i j : ℕ) → j < 40 → i < j → (s : Session) → stateAt es j ≡ Open s → ticketAt es i ≡ s .ticket → ⊥
   no-repeat e i j h l s q r =
-      let f = fits-fit (d .slots) (d .next) j s (each-fits e j h (Open s) q) in
+      let f = fits-fit slots next j s (each-fits e j h (Open s) q) in
       let z : s .ticket ≡ 0 → ⊥ = λ x. (let k = f .low in omega arith) in
-      let a : among (ticketAt (d .entries)) (s .ticket) j ≡ false = rw q at (good-new (d .entries) (d .slots) (d .next) j (each-good e j h)) in
-      among-not (ticketAt (d .entries)) (s .ticket) j a z i l r
+      let a : among (ticketAt es) (s .ticket) j ≡ false = rw q at (good-new es slots next j (each-good e j h)) in
+      among-not (ticketAt es) (s .ticket) j a z i l r
 
   -- what the test tells
-  pub sound-is : sound d ≡ true → Sound d
+  pub sound-is : sound es slots next ≡ true → Sound es slots next
   sound-is e =
-      let b = bounds-are (d .slots) (d .next) (parts e .0) in
+      let b = bounds-are slots next (parts e .0) in
       record {
         some = b .0;
         most = b .1;
         first = b .2;
-        past = λ i h l. past i h l (stateAt (d .entries) i) refl;
-        each = λ i h s q. fits-fit (d .slots) (d .next) i s (each-fits e i h (Open s) q);
+        past = λ i h l. past i h l (stateAt es i) refl;
+        each = λ i h s q. fits-fit slots next i s (each-fits e i h (Open s) q);
         distinct = λ i j h l s u q r t. distinct i j h l s u q r t (eqb i j) refl (ltb i j) refl;
       }
     where
-      past : (i : ℕ) → d .slots ≤ i → i < 40 → (x : State) → stateAt (d .entries) i ≡ x → x ≡ Free
+      past : (i : ℕ) → slots ≤ i → i < 40 → (x : State) → stateAt es i ≡ x → x ≡ Free
       past i h l Free q = refl
-      past i h l (Open s) q = let w = fits-inside (d .slots) (d .next) i s (each-fits e i l (Open s) q) in absurd (omega arith)
+      past i h l (Open s) q = let w = fits-inside slots next i s (each-fits e i l (Open s) q) in absurd (omega arith)
 
-      distinct : (i j : ℕ) → i < 40 → j < 40 → (s u : Session) → stateAt (d .entries) i ≡ Open s → stateAt (d .entries) j ≡ Open u → s .ticket ≡ u .ticket
+      distinct : (i j : ℕ) → i < 40 → j < 40 → (s u : Session) → stateAt es i ≡ Open s → stateAt es j ≡ Open u → s .ticket ≡ u .ticket
           → (a : Bool) → eqb i j ≡ a → (b : Bool) → ltb i j ≡ b → i ≡ j
       distinct i j h l s u q r t true a b c = eqb-true i j a
       distinct i j h l s u q r t false a true c = absurd (no-repeat e i j l (ltb-true i j c) u r (rw q t))
@@ -115,26 +114,26 @@ module _ (d : Desk) where
           absurd (no-repeat e j i h (omega arith) s q (rw r (sym t)))
 
   -- and nothing less
-  pub is-sound : Sound d → sound d ≡ true
+  pub is-sound : Sound es slots next → sound es slots next ≡ true
   unfolding sound
   is-sound g =
-      rw (in-bounds (d .slots) (d .next) (g .some) (g .most) (g .first))
-      (all-allAt (goodAt (d .entries) (d .slots) (d .next)) 40 0
+      rw (in-bounds slots next (g .some) (g .most) (g .first))
+      (all-allAt (goodAt es slots next) 40 0
       (λ j h l.
-      good (d .entries) (d .slots) (d .next) j (fit j (omega arith) (stateAt (d .entries) j) refl)
-      (not-among (ticketAt (d .entries)) (ticketAt (d .entries) j) j
-      (λ n m k e. alone j m (omega arith) k (stateAt (d .entries) j) refl (stateAt (d .entries) m) refl n e))))
+      good es slots next j (fit j (omega arith) (stateAt es j) refl)
+      (not-among (ticketAt es) (ticketAt es j) j
+      (λ n m k e. alone j m (omega arith) k (stateAt es j) refl (stateAt es m) refl n e))))
     where
-      inside : (i : ℕ) → i < 40 → (s : Session) → stateAt (d .entries) i ≡ Open s → (b : Bool) → ltb i (d .slots) ≡ b → i < d .slots
-      inside i h s q true b = ltb-true i (d .slots) b
-      inside i h s q false b = let w : Free ≡ Open s = sym (g .past i (ltb-false i (d .slots) b) h) ∙ q in clash cc
+      inside : (i : ℕ) → i < 40 → (s : Session) → stateAt es i ≡ Open s → (b : Bool) → ltb i slots ≡ b → i < slots
+      inside i h s q true b = ltb-true i slots b
+      inside i h s q false b = let w : Free ≡ Open s = sym (g .past i (ltb-false i slots b) h) ∙ q in clash cc
 
-      fit : (j : ℕ) → j < 40 → (x : State) → stateAt (d .entries) j ≡ x → fitsAt (d .entries) (d .slots) (d .next) j ≡ true
+      fit : (j : ℕ) → j < 40 → (x : State) → stateAt es j ≡ x → fitsAt es slots next j ≡ true
       fit j h Free q = rw q
-      fit j h (Open s) q = rw q (fit-fits (d .slots) (d .next) j s (inside j h s q (ltb j (d .slots)) refl) (g .each j h s q))
+      fit j h (Open s) q = rw q (fit-fits slots next j s (inside j h s q (ltb j slots) refl) (g .each j h s q))
 
-      alone : (j m : ℕ) → j < 40 → m < j → (x : State) → stateAt (d .entries) j ≡ x → (y : State) → stateAt (d .entries) m ≡ y
-          → (ticketAt (d .entries) j ≡ 0 → ⊥) → ticketAt (d .entries) m ≡ ticketAt (d .entries) j → ⊥
+      alone : (j m : ℕ) → j < 40 → m < j → (x : State) → stateAt es j ≡ x → (y : State) → stateAt es m ≡ y
+          → (ticketAt es j ≡ 0 → ⊥) → ticketAt es m ≡ ticketAt es j → ⊥
       alone j m h l Free q y r n e = n (rw q)
       alone j m h l (Open s) q Free r n e = n (sym e ∙ rw r)
       alone j m h l (Open s) q (Open u) r n e =

@@ -1,4 +1,4 @@
--- A sound desk, in document 01's words and as a test. Assumes nothing.
+-- A sound desk by its entries, slot count and next ticket, in document 01's words and as a test. Assumes nothing.
 use Prim.Native.Nat.{ℕ, _<_, _≤_}
 use mathlib.Core.Path.{_≡_}
 use mathlib.Core.Bool.{Bool, true, false, not}
@@ -6,12 +6,11 @@ use mathlib.Core.List.{List}
 use lib.Dec.{ltb, leb}
 use lib.ListN.{getD}
 use Rattle.octets.specs.Pick.{pick}
-use Rattle.desk.specs.Search.{allAt, among}
-use Rattle.desk.specs.declared.entries.Session.{Session}
-use Rattle.desk.specs.declared.entries.State.{State}
-use Rattle.desk.specs.declared.entries.State.the-variants.{Free, Open}
-use Rattle.desk.specs.declared.entries.Entry.{Entry}
-use Rattle.desk.specs.declared.Desk.{Desk}
+use Rattle.slots.specs.Search.{allAt, among}
+use Rattle.slots.specs.declared.entries.Session.{Session}
+use Rattle.slots.specs.declared.entries.State.{State}
+use Rattle.slots.specs.declared.entries.State.the-variants.{Free, Open}
+use Rattle.slots.specs.declared.entries.Entry.{Entry}
 
 abbrev pub none : Entry
 none = record { state = Free }
@@ -28,13 +27,13 @@ pub record Fit (next : ℕ) (s : Session) : Type 0 where
 
 -- slot count in range; entries past it free; open tickets distinct, at least 1 and below the next ticket; octets held at most 16,384;
 -- next ticket at least 1
-pub record Sound (d : Desk) : Type 0 where
-  pub some : 1 ≤ d .slots
-  pub most : d .slots ≤ 40
-  pub first : 1 ≤ d .next
-  pub past : (i : ℕ) → d .slots ≤ i → i < 40 → stateAt (d .entries) i ≡ Free
-  pub each : (i : ℕ) → i < 40 → (s : Session) → stateAt (d .entries) i ≡ Open s → Fit (d .next) s
-  pub distinct : (i j : ℕ) → i < 40 → j < 40 → (s u : Session) → stateAt (d .entries) i ≡ Open s → stateAt (d .entries) j ≡ Open u → s .ticket ≡ u .ticket → i ≡ j
+pub record Sound (es : List Entry) (slots next : ℕ) : Type 0 where
+  pub some : 1 ≤ slots
+  pub most : slots ≤ 40
+  pub first : 1 ≤ next
+  pub past : (i : ℕ) → slots ≤ i → i < 40 → stateAt es i ≡ Free
+  pub each : (i : ℕ) → i < 40 → (s : Session) → stateAt es i ≡ Open s → Fit next s
+  pub distinct : (i j : ℕ) → i < 40 → j < 40 → (s u : Session) → stateAt es i ≡ Open s → stateAt es j ≡ Open u → s .ticket ≡ u .ticket → i ≡ j
 
 -- the ticket of an open entry, and 0 of a free one
 abbrev pub ticketOf : State → ℕ
@@ -58,5 +57,5 @@ goodAt es slots next i = pick (fitsAt es slots next i) (not (among (ticketAt es)
 unfoldable pub bounds : ℕ → ℕ → Bool
 bounds slots next = pick (leb 1 slots) (pick (leb slots 40) (leb 1 next) false) false
 
-unfoldable pub sound : Desk → Bool
-sound d = pick (bounds (d .slots) (d .next)) (allAt (goodAt (d .entries) (d .slots) (d .next)) 0 40) false
+unfoldable pub sound : List Entry → ℕ → ℕ → Bool
+sound es slots next = pick (bounds slots next) (allAt (goodAt es slots next) 0 40) false

@@ -1,8 +1,8 @@
--- `desk::in_bounds` meets its contract. Assumes nothing.
+-- `slots::in_bounds` meets its contract. Assumes nothing.
 use borrow.Author.Tests.{le-leb, lt-leb}
-use Rattle.desk.specs.Sound.{bounds}
-use Rattle.desk.proofs.in_bounds.Statement.{statement}
-use Rattle.desk.proofs.in_bounds.Tie as tie
+use Rattle.slots.specs.Sound.{bounds}
+use Rattle.slots.proofs.in_bounds.Statement.{statement}
+use Rattle.slots.proofs.in_bounds.Tie as tie
 
 returns : tie.Need-returns
 unfolding bounds

@@ -1,10 +1,10 @@
--- `desk::tickets::stands` meets its contract. Assumes nothing.
+-- `slots::tickets::stands` meets its contract. Assumes nothing.
 use mathlib.Core.Path.{sym, _∙_}
 use borrow.Author.Needs.{needs}
 use borrow.Author.Tests.{eq-eqb, ne-eqb}
-use Rattle.desk.specs.Search.{among}
-use Rattle.desk.proofs.tickets.stands.Statement.{statement}
-use Rattle.desk.proofs.tickets.stands.Tie as tie
+use Rattle.slots.specs.Search.{among}
+use Rattle.slots.proofs.tickets.stands.Statement.{statement}
+use Rattle.slots.proofs.tickets.stands.Tie as tie
 
 returns : tie.Need-returns
 unfolding among
