@@ -1,13 +1,13 @@
 -- What a slice holds when a part of it that was copied over or zeroed is back. Assumes nothing.
 use Prim.Native.Nat.{ℕ, _+_, _-_, _≤_}
-use mathlib.Core.Path.{_≡_}
+use mathlib.Core.Path.{_≡_, refl, sym, ap, _∙_}
 use mathlib.Core.List.{List, [], append-nil}
 use native.Mathlib.Omega.{arith}
 use lib.ListN.{length, take, drop, replicate, length-replicate, length-drop, drop-of-length-le}
 use lib.Seq.{length-take-le, take-all}
 use borrow.Rule.Slice.PartMut.{putMid}
 use Rattle.octets.specs.Room.{overlay}
-use Rattle.pools.specs.Steps.{patch}
+use Rattle.pools.specs.Pools.{patch, zeros}
 
 pub part-size : (a h : ℕ) → a + h - a ≡ h
 part-size a h = omega arith
@@ -22,11 +22,15 @@ put-copied p q e a h w =
     rw (z, y, append-nil)
 
 pub put-zeroed : (p e : List ℕ) (a n : ℕ) → a + n ≤ length p → e ≡ replicate (length (take (a + n - a) (drop a p))) 0
-    → putMid a (a + n - a) p e ≡ patch p a (replicate n 0)
+    → (z : List ℕ) → replicate n 0 ≡ z → putMid a (a + n - a) p e ≡ patch p a z
 unfolding patch
-put-zeroed p e a n h w =
+put-zeroed p e a n h w z v =
     let k : n ≤ length (drop a p) = rw length-drop (omega arith) in
     let x : length (take (a + n - a) (drop a p)) ≡ n = rw part-size (length-take-le n (drop a p) k) in
-    let z : e ≡ replicate n 0 = rw x at w in
-    let l : length {A = ℕ} (replicate n 0) ≡ n = length-replicate n 0 in
-    rw (z, part-size, l)
+    let y : e ≡ z = (rw x at w) ∙ v in
+    let l : length z ≡ n = sym (ap length v) ∙ length-replicate n 0 in
+    rw (y, part-size, l)
+
+pub zeros-are : replicate 16384 0 ≡ zeros
+unfolding zeros
+zeros-are = refl
