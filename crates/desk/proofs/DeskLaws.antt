@@ -10,7 +10,8 @@ use Rattle.octets.specs.Pick.{pick}
 use Rattle.slots.specs.Search.{firstAt}
 use Rattle.slots.specs.Slots.{freeAt, lookOf}
 use Rattle.slots.proofs.Searches.{unbarred}
-use Rattle.slots.proofs.SlotLaws.{Granted, granted, free-look}
+use Rattle.slots.proofs.SoundLaws.{sound-is as soundness, is-sound as tested}
+use Rattle.slots.proofs.SlotLaws.{Granted as GrantedIn, granted as grantedIn, free-look}
 use Rattle.slots.specs.declared.tickets.Place.{Place}
 use Rattle.slots.specs.declared.tickets.Place.the-variants.{At, Nowhere, Barred}
 use Rattle.slots.specs.declared.entries.Session.{Session}
@@ -18,9 +19,25 @@ use Rattle.slots.specs.declared.entries.State.the-variants.{Free, Open}
 use Rattle.slots.specs.declared.Slot.{Slot}
 use Rattle.slots.specs.declared.Slot.the-variants.{Held, No}
 use Rattle.pools.specs.Pools.{patch, zeros}
-use Rattle.desk.specs.Steps.{sound, slotOf, Turned, turned, refuse, refused, grant, openIn, openStep, grown, addIn, addStep, releaseIn, releaseStep}
+use Rattle.desk.specs.Steps.{Sound, sound, slotOf, Turned, turned, refuse, refused, grant, openIn, openStep, grown, addIn, addStep, releaseIn, releaseStep}
 use Rattle.desk.specs.declared.Desk.{Desk}
 use Rattle.desk.specs.declared.Turn.{Turn}
+
+-- ---- the laws of slots, for the entries, slot count and next ticket of a desk
+
+pub sound-is : (d : Desk) → sound d ≡ true → Sound d
+sound-is d e = soundness (d .entries) (d .slots) (d .next) e
+
+pub is-sound : (d : Desk) → Sound d → sound d ≡ true
+is-sound d s = tested (d .entries) (d .slots) (d .next) s
+
+abbrev pub Granted : Desk → ℕ → ℕ → ℕ → Session → Type 0
+Granted d size t i s = GrantedIn (d .entries) (d .slots) (d .next) size t i s
+
+pub granted : (d : Desk) (size t i : ℕ) (s : Session) → slotOf d size t ≡ Held i s → Granted d size t i s
+granted d size t i s e = grantedIn (d .entries) (d .slots) (d .next) size t i s e
+
+-- ---- an opening
 
 -- what an opening does after a look for 0
 abbrev openAfter : Desk → List ℕ → ℕ → Place → Turned
@@ -49,8 +66,8 @@ open-look d p m x e =
 -- ---- calls that name a ticket
 
 -- the slot that a call was told
-pub told : (d : Desk) (size t i : ℕ) (s : Session) (x : Slot) → x ≡ slotOf d size t → x ≡ Held i s → Granted (d .entries) (d .slots) (d .next) size t i s
-told d size t i s x e f = granted (d .entries) (d .slots) (d .next) size t i s (sym e ∙ f)
+pub told : (d : Desk) (size t i : ℕ) (s : Session) (x : Slot) → x ≡ slotOf d size t → x ≡ Held i s → Granted d size t i s
+told d size t i s x e f = granted d size t i s (sym e ∙ f)
 
 module _ (d : Desk) (p : List ℕ) (t : ℕ) (x : Slot) (e : x ≡ slotOf d (length p) t) where
   pub add-barred : (q : List ℕ) (n : ℕ) → x ≡ No n → (r : Turn) → r ≡ refuse d n 0 → turned r p ≡ addStep d p t q

@@ -34,3 +34,6 @@ put-zeroed p e a n h w z v =
 pub zeros-are : replicate 16384 0 ≡ zeros
 unfolding zeros
 zeros-are = refl
+
+pub zeros-length : length zeros ≡ 16384
+zeros-length = sym (ap length zeros-are) ∙ length-replicate {A = ℕ} 16384 0

@@ -9,7 +9,7 @@ use lib.Seq.{take-append-seam, drop-append-seam, drop-drop, sets, sets-eq}
 use Rattle.octets.specs.Room.{overlay}
 use Rattle.reader.specs.declared.Verdict.{Verdict}
 use Rattle.reader.specs.declared.Verdict.the-variants.{Accepted, Refused as Unread}
-use Rattle.desk.specs.Steps.{patch}
+use Rattle.pools.specs.Pools.{patch}
 use Rattle.desk.specs.declared.Answer.{Answer}
 use Rattle.desk.specs.declared.Answer.the-variants.{Done, Refused}
 use Rattle.apart.specs.Ledger.{refused, told, counts, part, verdict}

@@ -10,12 +10,12 @@ use borrow.Author.Tests.{eqb-true, leb-true, eq-eqb, ne-eqb}
 use Rattle.octets.specs.Pick.{pick}
 use Rattle.octets.specs.Room.{overlay}
 use Rattle.octets.specs.Scan.{scan}
-use Rattle.desk.specs.Sound.{bounds}
+use Rattle.slots.specs.Sound.{bounds}
 use Rattle.desk.specs.Steps.{refuse, freshDesk, newStep}
 use Rattle.desk.specs.declared.Desk.{Desk}
 use Rattle.desk.specs.declared.Answer.the-variants.{Done, Refused as No}
 use Rattle.desk.specs.declared.Turn.{Turn}
-use Rattle.desk.proofs.SoundLaws.{bounds-are}
+use Rattle.slots.proofs.SoundLaws.{bounds-are}
 use Rattle.apart.specs.Ledger.{Reply, ledgerStep, freshLedger, run, after}
 use Rattle.apart.specs.Desks.{World, deskStep}
 use Rattle.apart.specs.Demand.{Proper, world}

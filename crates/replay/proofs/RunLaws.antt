@@ -13,12 +13,13 @@ use Rattle.octets.specs.Pick.{pick}
 use Rattle.octets.specs.Scan.{scan}
 use Rattle.octets.proofs.Scans.{scan-stop, scan-step}
 use Rattle.octets.proofs.Writes.{Written, start, room, put, finish}
-use Rattle.desk.specs.Steps.{Turned, turned, patch, openStep, addStep, releaseStep, slotOf, showIn, showStep, heldStep, judgeStep}
-use Rattle.desk.proofs.SlotLaws.{granted}
-use Rattle.desk.proofs.Patches.{put-copied}
+use Rattle.pools.specs.Pools.{patch}
+use Rattle.desk.specs.Steps.{Turned, turned, openStep, addStep, releaseStep, slotOf, showIn, showStep, heldStep, judgeStep}
+use Rattle.desk.proofs.DeskLaws.{granted}
+use Rattle.pools.proofs.Patches.{put-copied}
 use Rattle.desk.specs.declared.Desk.{Desk}
-use Rattle.desk.specs.declared.Slot.{Slot}
-use Rattle.desk.specs.declared.Slot.the-variants.{Held, No}
+use Rattle.slots.specs.declared.Slot.{Slot}
+use Rattle.slots.specs.declared.Slot.the-variants.{Held, No}
 use Rattle.desk.specs.declared.Turn.{Turn}
 use Rattle.apart.specs.Ledger.{adds, judges, shows, asks, releases, Call, opens, on, part, verdict, Out, run, after}
 use Rattle.apart.specs.Desks.{World, said, took, deedStep, deskStep}

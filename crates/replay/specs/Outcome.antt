@@ -6,7 +6,7 @@ use lib.Dec.{leb, eqb}
 use lib.ListN.{length}
 use Rattle.octets.specs.Pick.{pick}
 use Rattle.octets.specs.Room.{overlay}
-use Rattle.desk.specs.Sound.{bounds}
+use Rattle.slots.specs.Sound.{bounds}
 use Rattle.desk.specs.declared.Desk.{Desk}
 use Rattle.apart.specs.Ledger.{Call, ledgerStep, freshLedger, run}
 use Rattle.apart.specs.Desks.{World, deskStep}

@@ -10,7 +10,7 @@ use scripts::Counted;
 ghost use mathlib.Core.Path.{_≡_};
 ghost use Prim.Native.Nat.{_+_, _*_};
 ghost use lib.Dec.{leb};
-ghost use Rattle.desk.specs.Sound.{bounds};
+ghost use Rattle.slots.specs.Sound.{bounds};
 ghost use Rattle.desk.specs.Steps.{newStep};
 ghost use mathlib.Core.Bool.{true};
 ghost use Rattle.replay.specs.Scripts.{decode};

@@ -4,8 +4,8 @@ use mathlib.Core.Path.{ap, _∙_}
 use mathlib.Core.List.{List, _∷_}
 use native.Mathlib.Omega.{arith}
 use lib.ListN.{length, length-take, length-drop}
-use Rattle.desk.specs.Steps.{patch}
-use Rattle.desk.proofs.Patches.{put-copied}
+use Rattle.pools.specs.Pools.{patch}
+use Rattle.pools.proofs.Patches.{put-copied}
 use Rattle.replay.specs.Words.{wordOctets}
 use Rattle.replay.specs.Logs.{entry}
 use Rattle.replay.proofs.LogLaws.{one-length, part-length, put-behind}

@@ -4,7 +4,7 @@ use mathlib.Core.Path.{_≡_, ap, _∙_}
 use denote.Ref.{now}
 use native.Mathlib.Omega.{arith}
 use lib.ListN.{getD, take, drop}
-use Rattle.desk.proofs.Patches.{part-size}
+use Rattle.pools.proofs.Patches.{part-size}
 use Rattle.apart.specs.Ledger.{Out}
 use Rattle.apart.specs.Desks.{World, deedStep, deskStep}
 use Rattle.replay.specs.Words.{half}
