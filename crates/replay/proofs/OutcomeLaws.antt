@@ -20,13 +20,14 @@ use Rattle.apart.specs.Ledger.{Reply, ledgerStep, freshLedger, run, after}
 use Rattle.apart.specs.Desks.{World, deskStep}
 use Rattle.apart.specs.Demand.{Proper, world}
 use Rattle.apart.proofs.Claim.{demand3}
-use Rattle.replay.specs.Scripts.{width, callsIn, Decoded, calls, broken, decode}
-use Rattle.replay.specs.Counts.{shown, counted}
-use Rattle.replay.specs.Logs.{written, Put, roomFor}
+use Rattle.scripts.specs.Scripts.{width, callsIn, Decoded, calls, broken, decode}
+use Rattle.scripts.specs.Counts.{shown, counted}
+use Rattle.logs.specs.Logs.{written, Put, roomFor}
 use Rattle.replay.specs.Outcome.{replayed, played, replayOutcome, worldOf}
-use Rattle.replay.specs.declared.scripts.Counted.the-variants.{Calls, Broken}
+use Rattle.scripts.specs.declared.Counted.the-variants.{Calls, Broken}
 use Rattle.replay.specs.declared.Replayed.the-variants.{Ran, Refused}
-use Rattle.replay.proofs.RunLaws.{room-enough, room-is}
+use Rattle.logs.proofs.LogLaws.{room-is}
+use Rattle.replay.proofs.RunLaws.{room-enough}
 
 -- ---- what was counted
 

@@ -23,13 +23,12 @@ use Rattle.slots.specs.declared.Slot.the-variants.{Held, No}
 use Rattle.desk.specs.declared.Turn.{Turn}
 use Rattle.apart.specs.Ledger.{adds, judges, shows, asks, releases, Call, opens, on, part, verdict, Out, run, after}
 use Rattle.apart.specs.Desks.{World, said, took, deedStep, deskStep}
-use Rattle.replay.specs.Words.{half, word}
-use Rattle.replay.specs.Scripts.{width, lookOf, callOf, callsIn}
-use Rattle.replay.specs.Counts.{showing, shown}
-use Rattle.replay.specs.Logs.{entry, written, Put, callRoom, roomFor}
+use Rattle.scripts.specs.Words.{half, word}
+use Rattle.scripts.specs.Scripts.{width, lookOf, callOf, callsIn}
+use Rattle.logs.specs.Logs.{entry, written, Put, callRoom, roomFor}
 use Rattle.replay.specs.Outcome.{worldOf, Stepped}
-use Rattle.replay.proofs.ScriptLaws.{whole, calls-step, calls-end}
-use Rattle.replay.proofs.LogLaws.{part-length, said-room, verdict-room}
+use Rattle.scripts.proofs.ScriptLaws.{whole, calls-step, calls-end}
+use Rattle.logs.proofs.LogLaws.{part-length, said-room, verdict-room}
 
 -- ---- the call at the start of s, whose number is m
 
@@ -203,16 +202,3 @@ room-enough [] w = omega arith
 room-enough (c ∷ cs) w =
     rw (length-append (entry (deskStep w c .reply)) (written (run deskStep (deskStep w c .then) cs)))
     (omega (arith, reply-room w c, room-enough cs (deskStep w c .then)))
-
-call-room : (c : Call) → callRoom c ≡ 9 + 16380 * showing c
-call-room (opens m) = refl
-call-room (on t (adds q)) = refl
-call-room (on t judges) = refl
-call-room (on t shows) = refl
-call-room (on t asks) = refl
-call-room (on t releases) = refl
-
-pub room-is : (cs : List Call) → roomFor cs ≡ 9 * length cs + 16380 * shown cs
-unfolding roomFor shown
-room-is [] = omega arith
-room-is (c ∷ cs) = omega (arith, call-room c, room-is cs)

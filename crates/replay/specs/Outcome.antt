@@ -11,8 +11,8 @@ use Rattle.desk.specs.declared.Desk.{Desk}
 use Rattle.apart.specs.Ledger.{Call, ledgerStep, freshLedger, run}
 use Rattle.apart.specs.Desks.{World, deskStep}
 use Rattle.apart.specs.Demand.{world}
-use Rattle.replay.specs.Scripts.{Decoded, calls, broken, decode}
-use Rattle.replay.specs.Logs.{entry, written, Put, roomFor}
+use Rattle.scripts.specs.Scripts.{Decoded, calls, broken, decode}
+use Rattle.logs.specs.Logs.{entry, written, Put, roomFor}
 use Rattle.replay.specs.declared.Replayed.{Replayed}
 use Rattle.replay.specs.declared.Replayed.the-variants.{Ran, Refused}
 

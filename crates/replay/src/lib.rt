@@ -1,36 +1,20 @@
 // Replaying a record of calls: a script of them is run on a fresh desk, and the answers are written to a log.
-mod logs;
 mod runs;
-mod scripts;
-mod words;
 
 use desk::Answer;
 use desk::Desk;
 use scripts::Counted;
 ghost use mathlib.Core.Path.{_≡_};
-ghost use Prim.Native.Nat.{_+_, _*_};
-ghost use lib.Dec.{leb};
 ghost use Rattle.slots.specs.Sound.{bounds};
 ghost use Rattle.desk.specs.Steps.{newStep};
 ghost use mathlib.Core.Bool.{true};
-ghost use Rattle.replay.specs.Scripts.{decode};
+ghost use Rattle.scripts.specs.Scripts.{decode};
 ghost use Rattle.replay.specs.Outcome.{replayed, played, replayOutcome};
 
 // How many calls were run and how many octets of the log are written, or a refusal's number and place.
 pub enum Replayed {
     Ran(usize, usize),
     Refused(u32, usize),
-}
-
-// Whether a log has room: 9 octets for each call, and 16,380 more for a show.
-fn has_room(calls: usize, shows: usize, room: usize) -> bool
-    ensures { λ r. ⌜ r ≡ leb (9 * calls + 16380 * shows) room ⌝ }
-{
-    if room / 16380 < shows {
-        return false;
-    }
-    let left = room - 16380 * shows;
-    calls <= left / 9
 }
 
 // On a fresh desk.
@@ -47,7 +31,7 @@ fn play(slots: usize, desk: Desk, script: &[u8], pool: &mut [u8], log: &mut [u8]
                 return Replayed::Refused(91, size);
             }
             let room = log.len();
-            if !has_room(calls, shows, room) {
+            if !logs::has_room(calls, shows, room) {
                 return Replayed::Refused(92, room);
             }
             let wrote = runs::run_all(desk, script, pool, log);

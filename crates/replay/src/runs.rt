@@ -1,17 +1,15 @@
 // Calls run on a desk, each with its answer in the log.
-use crate::logs;
-use crate::scripts;
-use crate::words;
 use desk::Desk;
 use desk::Turn;
+use scripts::words;
 ghost use mathlib.Core.Path.{_≡_};
 ghost use Prim.Native.Nat.{_≤_};
 ghost use lib.ListN.{length};
 ghost use Rattle.octets.specs.Scan.{scan};
 ghost use Rattle.apart.specs.Ledger.{run, after};
 ghost use Rattle.apart.specs.Desks.{said, deedStep, deskStep};
-ghost use Rattle.replay.specs.Scripts.{width, lookOf, callOf, callsIn};
-ghost use Rattle.replay.specs.Logs.{entry, written, Put};
+ghost use Rattle.scripts.specs.Scripts.{width, lookOf, callOf, callsIn};
+ghost use Rattle.logs.specs.Logs.{entry, written, Put};
 ghost use Rattle.replay.specs.Outcome.{worldOf, Stepped};
 
 // The next desk, and how many octets of the log were written.

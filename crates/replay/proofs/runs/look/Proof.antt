@@ -3,7 +3,7 @@ use mathlib.Core.Path.{_≡_, sym, ap, _∙_}
 use denote.Ref.{now}
 use Rattle.apart.specs.Ledger.{part, verdict}
 use Rattle.apart.specs.Desks.{said, deedStep}
-use Rattle.replay.specs.Scripts.{lookOf}
+use Rattle.scripts.specs.Scripts.{lookOf}
 use Rattle.replay.specs.Outcome.{worldOf}
 use Rattle.replay.proofs.RunLaws.{look-judge, look-show, look-held}
 use borrow.Author.Needs.{needs}

@@ -5,10 +5,10 @@ use native.Mathlib.Omega.{arith}
 use lib.ListN.{length, drop, length-take, length-drop}
 use borrow.Rule.Slice.PartMut.{putMid}
 use Rattle.apart.specs.Desks.{deskStep}
-use Rattle.replay.specs.Scripts.{width, callOf}
-use Rattle.replay.specs.Logs.{entry}
+use Rattle.scripts.specs.Scripts.{width, callOf}
+use Rattle.logs.specs.Logs.{entry}
 use Rattle.replay.specs.Outcome.{worldOf}
-use Rattle.replay.proofs.ScriptLaws.{tail-is}
+use Rattle.scripts.proofs.ScriptLaws.{tail-is}
 use Rattle.replay.proofs.RunLaws.{Running, run-start, next-some, next-room, next, run-end}
 use Rattle.replay.proofs.runs.run_all.Statement.{statement}
 use Rattle.replay.proofs.runs.run_all.Tie as tie

@@ -7,10 +7,10 @@ use lib.ListN.{getD, take, drop}
 use Rattle.pools.proofs.Patches.{part-size}
 use Rattle.apart.specs.Ledger.{Out}
 use Rattle.apart.specs.Desks.{World, deedStep, deskStep}
-use Rattle.replay.specs.Words.{half}
-use Rattle.replay.specs.Scripts.{lookOf, callOf}
+use Rattle.scripts.specs.Words.{half}
+use Rattle.scripts.specs.Scripts.{lookOf, callOf}
 use Rattle.replay.specs.Outcome.{worldOf}
-use Rattle.replay.proofs.ScriptLaws.{asked-add, whole}
+use Rattle.scripts.proofs.ScriptLaws.{asked-add, whole}
 use Rattle.replay.proofs.RunLaws.{step-look, Acts, open-acts, add-acts, release-acts, acts-steps, look-steps}
 use borrow.Author.Needs.{needs}
 use Rattle.replay.proofs.runs.run_call.Statement.{statement}
