@@ -1,6 +1,6 @@
 -- A log: answers one after the other in octets. An answer is an octet that names it (0 refused, 1 told, 2 counts, 3 part) and a word
 -- for each of its numbers; of a part its length and then its octets. Assumes nothing.
-use Prim.Native.Nat.{ℕ, _+_, _<_}
+use Prim.Native.Nat.{ℕ, _+_}
 use mathlib.Core.Path.{_≡_}
 use mathlib.Core.List.{List, [], _∷_, _++_}
 use lib.ListN.{length}
@@ -17,17 +17,6 @@ entry (part o) = 3 ∷ wordOctets (length o) ++ o
 unfoldable pub written : List Reply → List ℕ
 written [] = []
 written (r ∷ rs) = entry r ++ written rs
-
--- each number of an answer has 32 bits
-abbrev pub Small : Reply → Type 0
-Small (refused n p) = (n < 4294967296) × (p < 4294967296)
-Small (told n) = n < 4294967296
-Small (counts k n) = (k < 4294967296) × (n < 4294967296)
-Small (part o) = length o < 4294967296
-
-unfoldable pub AllSmall : List Reply → Type 0
-AllSmall [] = Unit {0}
-AllSmall (r ∷ rs) = Small r × AllSmall rs
 
 -- x was written to the start of d, and n is how many octets that are
 pub record Put (x d d′ : List ℕ) (n : ℕ) : Type 0 where

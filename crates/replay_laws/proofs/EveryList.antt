@@ -12,10 +12,11 @@ use borrow.Author.Tests.{le-leb, eq-eqb}
 use Rattle.octets.specs.Scan.{scan}
 use Rattle.octets.proofs.Scans.{scan-step}
 use Rattle.apart.specs.Ledger.{adds, judges, shows, asks, releases, Call, opens, on}
 use Rattle.scripts.specs.Words.{half, word, halfOctets, wordOctets}
-use Rattle.scripts.specs.Scripts.{asked, width, callOf, callsIn, decode, encodeCall, encode, Octets, CallFits, Fit, Scripted}
+use Rattle.scripts.specs.Scripts.{asked, width, callOf, callsIn, decode}
 use Rattle.scripts.proofs.WordLaws.{half-value, word-value}
 use Rattle.scripts.proofs.ScriptLaws.{first}
+use Rattle.replay_laws.specs.Encoding.{encodeCall, encode, Octets, CallFits, Fit, Scripted}
 
 -- what stands at the start of a script
 record Starts (c : Call) (r : List ℕ) : Type 0 where
