@@ -23,7 +23,8 @@ use Rattle.apart.proofs.Claim.{demand3}
 use Rattle.scripts.specs.Scripts.{width, callsIn, Decoded, calls, broken, decode}
 use Rattle.scripts.specs.Counts.{shown, counted}
 use Rattle.logs.specs.Logs.{written, Put, roomFor}
-use Rattle.replay.specs.Outcome.{replayed, played, replayOutcome, worldOf}
+use Rattle.runs.specs.Stepped.{worldOf}
+use Rattle.replay.specs.Outcome.{replayed, played, replayOutcome}
 use Rattle.scripts.specs.declared.Counted.the-variants.{Calls, Broken}
 use Rattle.replay.specs.declared.Replayed.the-variants.{Ran, Refused}
 use Rattle.logs.proofs.LogLaws.{room-is}

@@ -1,4 +1,4 @@
--- `replay::runs::run_call` meets its contract. Assumes nothing.
+-- `runs::run_call` meets its contract. Assumes nothing.
 use Prim.Native.Nat.{ℕ, _+_, _-_}
 use mathlib.Core.Path.{_≡_, ap, _∙_}
 use denote.Ref.{now}
@@ -9,12 +9,12 @@ use Rattle.apart.specs.Ledger.{Out}
 use Rattle.apart.specs.Desks.{World, deedStep, deskStep}
 use Rattle.scripts.specs.Words.{half}
 use Rattle.scripts.specs.Scripts.{lookOf, callOf}
-use Rattle.replay.specs.Outcome.{worldOf}
+use Rattle.runs.specs.Stepped.{worldOf}
 use Rattle.scripts.proofs.ScriptLaws.{asked-add, whole}
-use Rattle.replay.proofs.RunLaws.{step-look, Acts, open-acts, add-acts, release-acts, acts-steps, look-steps}
+use Rattle.runs.proofs.CallLaws.{step-look, Acts, open-acts, add-acts, release-acts, acts-steps, look-steps}
 use borrow.Author.Needs.{needs}
-use Rattle.replay.proofs.runs.run_call.Statement.{statement}
-use Rattle.replay.proofs.runs.run_call.Tie as tie
+use Rattle.runs.proofs.run_call.Statement.{statement}
+use Rattle.runs.proofs.run_call.Tie as tie
 
 -- what each call does
 opened : (c : tie.After-open) → let a = c .before .before .before .before .before .before .before .before .args in Acts (worldOf (a .desk) (now (a .pool))) (callOf (a .s .now)) (c .«open» .result) (now (a .pool))

@@ -1,14 +1,14 @@
--- `replay::runs::look` meets its contract. Assumes nothing.
+-- `runs::look` meets its contract. Assumes nothing.
 use mathlib.Core.Path.{_≡_, sym, ap, _∙_}
 use denote.Ref.{now}
 use Rattle.apart.specs.Ledger.{part, verdict}
 use Rattle.apart.specs.Desks.{said, deedStep}
 use Rattle.scripts.specs.Scripts.{lookOf}
-use Rattle.replay.specs.Outcome.{worldOf}
-use Rattle.replay.proofs.RunLaws.{look-judge, look-show, look-held}
+use Rattle.runs.specs.Stepped.{worldOf}
+use Rattle.runs.proofs.CallLaws.{look-judge, look-show, look-held}
 use borrow.Author.Needs.{needs}
-use Rattle.replay.proofs.runs.look.Statement.{statement}
-use Rattle.replay.proofs.runs.look.Tie as tie
+use Rattle.runs.proofs.look.Statement.{statement}
+use Rattle.runs.proofs.look.Tie as tie
 
 -- the answer of each call
 judged : (c : tie.After-judge) → let a = c .before .before .before .before .before .args in

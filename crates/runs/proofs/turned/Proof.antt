@@ -1,7 +1,7 @@
--- `replay::runs::turned` meets its contract. Assumes nothing.
+-- `runs::turned` meets its contract. Assumes nothing.
 use borrow.Author.Needs.{needs}
-use Rattle.replay.proofs.runs.turned.Statement.{statement}
-use Rattle.replay.proofs.runs.turned.Tie as tie
+use Rattle.runs.proofs.turned.Statement.{statement}
+use Rattle.runs.proofs.turned.Tie as tie
 
 put-answer-requires : tie.Need-put-answer-requires
 put-answer-requires c κs = search needs

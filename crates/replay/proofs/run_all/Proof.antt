@@ -1,4 +1,4 @@
--- `replay::runs::run_all` meets its contract. Assumes nothing.
+-- `replay::run_all` meets its contract. Assumes nothing.
 use Prim.Native.Nat.{_+_, _-_, _≤_}
 use mathlib.Core.Path.{_≡_, ap, _∙_}
 use native.Mathlib.Omega.{arith}
@@ -7,11 +7,11 @@ use borrow.Rule.Slice.PartMut.{putMid}
 use Rattle.apart.specs.Desks.{deskStep}
 use Rattle.scripts.specs.Scripts.{width, callOf}
 use Rattle.logs.specs.Logs.{entry}
-use Rattle.replay.specs.Outcome.{worldOf}
+use Rattle.runs.specs.Stepped.{worldOf}
 use Rattle.scripts.proofs.ScriptLaws.{tail-is}
 use Rattle.replay.proofs.RunLaws.{Running, run-start, next-some, next-room, next, run-end}
-use Rattle.replay.proofs.runs.run_all.Statement.{statement}
-use Rattle.replay.proofs.runs.run_all.Tie as tie
+use Rattle.replay.proofs.run_all.Statement.{statement}
+use Rattle.replay.proofs.run_all.Tie as tie
 
 abbrev Inv-loop : tie.InvT-loop
 Inv-loop script pool₀ log₀ d₀ at₀ to₀ pool log d at to = Running (worldOf d₀ pool₀) script log₀ d pool log at to
