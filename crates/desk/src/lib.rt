@@ -159,7 +159,10 @@ impl Desk {
         let slot = self.at_ticket(pool.len(), t);
         match slot {
             Slot::No(r) => &pool[0..0],
-            Slot::Held(i, o) => pools::part(pool, i, o.held as usize),
+            Slot::Held(i, o) => {
+                let held = o.held as usize;
+                pools::part(pool, i, held)
+            }
         }
     }
 
@@ -181,7 +184,10 @@ impl Desk {
         let slot = self.at_ticket(pool.len(), t);
         match slot {
             Slot::No(r) => Verdict::Refused(r, 0),
-            Slot::Held(i, o) => reader::judge(pools::part(pool, i, o.held as usize)),
+            Slot::Held(i, o) => {
+                let held = o.held as usize;
+                reader::judge(pools::part(pool, i, held))
+            }
         }
     }
 }

@@ -19,8 +19,8 @@ enum-known-slot c = search needs
 enum-known-slot-2 : tie.Need-enum-known-slot-2
 enum-known-slot-2 c = search needs
 
-cast-part : tie.Need-cast-part
-cast-part c = search needs
+cast-held : tie.Need-cast-held
+cast-held c = search needs
 
 part-requires : tie.Need-part-requires
 part-requires c κs =
@@ -46,7 +46,7 @@ judge-spec =
     at-ticket-requires
     enum-known-slot
     enum-known-slot-2
-    cast-part
+    cast-held
     part-requires
     judge-requires
     returns

@@ -27,8 +27,8 @@ part-result-end c = search needs
 enum-known-slot-2 : tie.Need-enum-known-slot-2
 enum-known-slot-2 c = search needs
 
-cast-part : tie.Need-cast-part
-cast-part c = search needs
+cast-held : tie.Need-cast-held
+cast-held c = search needs
 
 part-requires : tie.Need-part-requires
 part-requires c κs =
@@ -55,7 +55,7 @@ show-spec =
     part-result-start
     part-result-end
     enum-known-slot-2
-    cast-part
+    cast-held
     part-requires
     returns
     returns-2)
