@@ -16,7 +16,6 @@ use Rattle.slots.specs.declared.tickets.Place.the-variants.{At, Nowhere, Barred
 use Rattle.slots.specs.declared.entries.Session.{Session}
 use Rattle.slots.specs.declared.entries.State.{State}
 use Rattle.slots.specs.declared.entries.State.the-variants.{Free, Open}
-use Rattle.slots.specs.declared.entries.Entry.{Entry}
 use Rattle.slots.specs.declared.Slot.{Slot}
 use Rattle.slots.specs.declared.Slot.the-variants.{Held, No}
 use Rattle.pools.specs.Pools.{patch, zeros, Part, partOf}

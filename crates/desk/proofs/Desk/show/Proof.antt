@@ -1,10 +1,10 @@
 -- `desk::Desk::show` meets its contract. Assumes nothing.
 use denote.Ref.{now}
-use mathlib.Core.Path.{refl, sym, ap, _∙_}
+use mathlib.Core.Path.{refl, sym, _∙_}
 use native.Mathlib.Omega.{arith}
 use lib.ListN.{length}
 use borrow.Author.Needs.{needs}
-use Rattle.desk.specs.Steps.{showIn, showStep}
+use Rattle.desk.specs.Steps.{showStep}
 use Rattle.desk.proofs.DeskLaws.{told}
 use Rattle.desk.proofs.Desk.show.Statement.{statement}
 use Rattle.desk.proofs.Desk.show.Tie as tie
