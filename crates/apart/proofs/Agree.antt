@@ -5,24 +5,27 @@ use mathlib.Core.Bool.{Bool, true, false, not}
 use mathlib.Core.List.{List, [], _∷_, _++_}
 use native.Mathlib.Omega.{arith}
 use lib.Dec.{ltb, eqb}
-use lib.ListN.{length, drop, set, replicate, length-set, length-drop, length-replicate, getD-replicate}
+use lib.ListN.{length, drop, set, replicate, length-set, length-drop, getD-replicate}
 use lib.Seq.{length-take-le}
 use borrow.Author.Tests.{ltb-false, eqb-true, eqb-false, eq-eqb, ne-eqb}
 use Rattle.octets.specs.Pick.{pick}
-use Rattle.desk.specs.Search.{firstAt}
-use Rattle.desk.specs.Sound.{none, stateAt, Fit}
-use Rattle.desk.specs.Steps.{refused as refusing, newStep, isFree, freeAt, slotOf, opened, openIn, openStep, patch, grown, withState, addIn, addStep, releaseStep, octetsIn, showStep, heldStep, judgeStep}
-use Rattle.desk.proofs.Searches.{clash, firstAt-is, firstAt-not, unbarred}
-use Rattle.desk.proofs.SoundLaws.{is-sound, in-bounds}
-use Rattle.desk.proofs.SlotLaws.{Granted}
-use Rattle.desk.specs.declared.tickets.Place.{Place}
-use Rattle.desk.specs.declared.tickets.Place.the-variants.{At, Nowhere, Barred}
-use Rattle.desk.specs.declared.entries.Session.{Session}
-use Rattle.desk.specs.declared.entries.Entry.{Entry}
-use Rattle.desk.specs.declared.entries.State.{State}
-use Rattle.desk.specs.declared.entries.State.the-variants.{Free, Open}
+use Rattle.slots.specs.Search.{firstAt}
+use Rattle.slots.specs.Sound.{none, stateAt, Fit}
+use Rattle.slots.specs.Slots.{isFree, freeAt}
+use Rattle.pools.specs.Pools.{patch, zeros}
+use Rattle.pools.proofs.Patches.{zeros-length}
+use Rattle.desk.specs.Steps.{refused as refusing, newStep, slotOf, opened, openIn, openStep, grown, withState, addIn, addStep, releaseStep, octetsIn, showStep, heldStep, judgeStep}
+use Rattle.slots.proofs.Searches.{clash, firstAt-is, firstAt-not, unbarred}
+use Rattle.slots.proofs.SoundLaws.{in-bounds}
+use Rattle.desk.proofs.DeskLaws.{is-sound, Granted}
+use Rattle.slots.specs.declared.tickets.Place.{Place}
+use Rattle.slots.specs.declared.tickets.Place.the-variants.{At, Nowhere, Barred}
+use Rattle.slots.specs.declared.entries.Session.{Session}
+use Rattle.slots.specs.declared.entries.Entry.{Entry}
+use Rattle.slots.specs.declared.entries.State.{State}
+use Rattle.slots.specs.declared.entries.State.the-variants.{Free, Open}
 use Rattle.desk.specs.declared.Desk.{Desk}
-use Rattle.desk.specs.declared.Slot.the-variants.{Held, No}
+use Rattle.slots.specs.declared.Slot.the-variants.{Held, No}
 use Rattle.apart.specs.Ledger.{Deed, adds, judges, shows, asks, releases, Call, opens, on, told, absent, present, answer, leaves, Row, Ledger, lookup, change, Out, opening, ledgerStep, freshLedger, run, after}
 use Rattle.apart.specs.Desks.{World, took, deedStep, deskStep}
 use Rattle.apart.proofs.Rows.{no, change-same, change-other, change-absent, change-back, below-change, length-put, length-close}
@@ -97,11 +100,11 @@ module _ (d : Desk) (p : List ℕ) (l : Ledger) (r : Stands d p l) (t i : ℕ) (
         falling = below-change (l .rows) (l .next) t (present (octetsIn p i s ++ q)) (r .falling);
       }
 
-  released : Stands (withState d i Free) (patch p (i * 16384) (replicate 16384 0)) (with l (change (l .rows) t absent))
+  released : Stands (withState d i Free) (patch p (i * 16384) zeros) (with l (change (l .rows) t absent))
   released =
       let b : length p ≡ d .slots * 16384 = g .sized in
       let c : i < d .slots = g .inside in
-      let z : length {A = ℕ} (replicate 16384 0) ≡ 16384 = length-replicate {A = ℕ} 16384 0 in
+      let z = zeros-length in
       let m = count-more (taken (set (d .entries) i (record { state = Free }))) (taken (d .entries)) (d .slots) i c
       (ap (λ (y : State). not (isFree y)) (same-at (d .entries) i Free in-list)) (ap (λ (y : State). not (isFree y)) (g .state))
       (λ j n. ap (λ (y : State). not (isFree y)) (other-at (d .entries) i j Free n)) in
@@ -109,11 +112,11 @@ module _ (d : Desk) (p : List ℕ) (l : Ledger) (r : Stands d p l) (t i : ℕ) (
       record {
         good = sound-set d (d .next) i Free (r .good) (omega arith) in-list c (λ u e. clash cc) (λ a u j e. clash cc);
         forty = simp length-set (r .forty);
-        sized = length-patch p (replicate 16384 0) (i * 16384) (omega arith) ∙ b;
+        sized = length-patch p zeros (i * 16384) (omega arith) ∙ b;
         slots = r .slots;
         next = r .next;
-        rows = backed-set (d .entries) p (patch p (i * 16384) (replicate 16384 0)) (l .rows) (change (l .rows) t absent) i t Free (r .rows) (g .short) in-list
-            apart was (λ u n. change-other (l .rows) t u absent n) (kept (replicate 16384 0) (i * 16384) (omega arith) (omega arith))
+        rows = backed-set (d .entries) p (patch p (i * 16384) zeros) (l .rows) (change (l .rows) t absent) i t Free (r .rows) (g .short) in-list
+            apart was (λ u n. change-other (l .rows) t u absent n) (kept zeros (i * 16384) (omega arith) (omega arith))
             (is-free (change-same (l .rows) (l .next) t absent (octetsIn p i s) (r .falling) lk));
         many = let n = r .many in omega arith;
         falling = below-change (l .rows) (l .next) t absent (r .falling);

@@ -6,13 +6,13 @@ use mathlib.Core.List.{List, [], _∷_}
 use lib.Dec.{ltb, eqb}
 use lib.ListN.{length}
 use Rattle.octets.specs.Pick.{pick}
-use Rattle.desk.specs.Search.{firstAt}
-use Rattle.desk.specs.Sound.{sound}
-use Rattle.desk.specs.Steps.{Turned, freeAt, openIn, openStep, slotOf, addIn, addStep, releaseIn, releaseStep}
-use Rattle.desk.specs.declared.tickets.Place.{Place}
-use Rattle.desk.specs.declared.tickets.Place.the-variants.{At, Nowhere, Barred}
-use Rattle.desk.specs.declared.Slot.{Slot}
-use Rattle.desk.specs.declared.Slot.the-variants.{Held, No}
+use Rattle.slots.specs.Search.{firstAt}
+use Rattle.slots.specs.Slots.{freeAt}
+use Rattle.desk.specs.Steps.{sound, Turned, openIn, openStep, slotOf, addIn, addStep, releaseIn, releaseStep}
+use Rattle.slots.specs.declared.tickets.Place.{Place}
+use Rattle.slots.specs.declared.tickets.Place.the-variants.{At, Nowhere, Barred}
+use Rattle.slots.specs.declared.Slot.{Slot}
+use Rattle.slots.specs.declared.Slot.the-variants.{Held, No}
 use Rattle.desk.specs.declared.Desk.{Desk}
 use Rattle.apart.specs.Ledger.{adds, judges, shows, asks, releases, Call, opens, on, Ledger, ledgerStep, freshLedger, after}
 use Rattle.apart.specs.Desks.{World, deskStep, fresh}

@@ -9,16 +9,17 @@ use lib.ListN.{length, take}
 use borrow.Author.Tests.{ltb-true, ltb-false, eqb-true, eqb-false, eq-eqb, ne-eqb}
 use Rattle.octets.specs.Pick.{pick}
 use Rattle.reader.specs.Outcome.{judgeOf}
-use Rattle.desk.specs.Search.{firstAt}
-use Rattle.desk.specs.Sound.{stateAt, Sound}
-use Rattle.desk.specs.Steps.{Turned, refused, isFree, freeAt, newStep, openIn, openStep, octetsIn, showStep, heldStep, judgeStep}
-use Rattle.desk.proofs.Searches.{clash, firstAt-is, firstAt-not, unbarred}
-use Rattle.desk.proofs.SoundLaws.{is-sound}
-use Rattle.desk.specs.declared.tickets.Place.{Place}
-use Rattle.desk.specs.declared.tickets.Place.the-variants.{At, Nowhere, Barred}
-use Rattle.desk.specs.declared.entries.Session.{Session}
-use Rattle.desk.specs.declared.entries.State.{State}
-use Rattle.desk.specs.declared.entries.State.the-variants.{Free, Open}
+use Rattle.slots.specs.Search.{firstAt}
+use Rattle.slots.specs.Sound.{stateAt}
+use Rattle.slots.specs.Slots.{isFree, freeAt}
+use Rattle.desk.specs.Steps.{Sound, Turned, refused, newStep, openIn, openStep, octetsIn, showStep, heldStep, judgeStep}
+use Rattle.slots.proofs.Searches.{clash, firstAt-is, firstAt-not, unbarred}
+use Rattle.desk.proofs.DeskLaws.{is-sound}
+use Rattle.slots.specs.declared.tickets.Place.{Place}
+use Rattle.slots.specs.declared.tickets.Place.the-variants.{At, Nowhere, Barred}
+use Rattle.slots.specs.declared.entries.Session.{Session}
+use Rattle.slots.specs.declared.entries.State.{State}
+use Rattle.slots.specs.declared.entries.State.the-variants.{Free, Open}
 use Rattle.desk.specs.declared.Desk.{Desk}
 use Rattle.desk.specs.declared.Answer.the-variants.{Done, Refused}
 use Rattle.apart.specs.Ledger.{Deed, releases, Call, opens, on, Reply, Found, absent, present, shut, answer, leaves, Ledger, lookup, ledgerStep, freshLedger, run, after}

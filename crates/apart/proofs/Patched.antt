@@ -9,7 +9,7 @@ use lib.ListN.{length, take, drop, length-append, length-drop, take-append-drop}
 use lib.Seq.{length-take-le, drop-drop, take-append-le, drop-append-le, take-append-add, drop-append-add, drop-at, take-add, take-append-seam}
 use borrow.Author.Tests.{ltb-true, ltb-false}
 use Rattle.octets.specs.Room.{overlay}
-use Rattle.desk.specs.Steps.{patch}
+use Rattle.pools.specs.Pools.{patch}
 
 prefix-part : (x y : List ℕ) (b h : ℕ) → b + h ≤ length x → take h (drop b (x ++ y)) ≡ take h (drop b x)
 prefix-part x y b h k =

@@ -8,20 +8,20 @@ use lib.Dec.{eqb}
 use lib.ListN.{length, set}
 use lib.Seq.{getD-set-same, getD-set-other}
 use borrow.Author.Tests.{eqb-true, eqb-false, eq-eqb}
-use Rattle.desk.specs.Search.{firstAt}
-use Rattle.desk.specs.Sound.{none, stateAt, Fit, Sound, sound}
-use Rattle.desk.specs.Steps.{isFree, openAt, slotOf, octetsIn}
-use Rattle.desk.proofs.Searches.{clash, firstAt-is, firstAt-not, unbarred}
-use Rattle.desk.proofs.SoundLaws.{is-sound}
-use Rattle.desk.proofs.SlotLaws.{Granted, granted}
-use Rattle.desk.specs.declared.tickets.Place.{Place}
-use Rattle.desk.specs.declared.tickets.Place.the-variants.{At, Nowhere, Barred}
-use Rattle.desk.specs.declared.entries.Session.{Session}
-use Rattle.desk.specs.declared.entries.Entry.{Entry}
-use Rattle.desk.specs.declared.entries.State.{State}
-use Rattle.desk.specs.declared.entries.State.the-variants.{Free, Open}
+use Rattle.slots.specs.Search.{firstAt}
+use Rattle.slots.specs.Sound.{none, stateAt, Fit}
+use Rattle.slots.specs.Slots.{isFree, openAt}
+use Rattle.desk.specs.Steps.{Sound, sound, slotOf, octetsIn}
+use Rattle.slots.proofs.Searches.{clash, firstAt-is, firstAt-not, unbarred}
+use Rattle.desk.proofs.DeskLaws.{is-sound, Granted, granted}
+use Rattle.slots.specs.declared.tickets.Place.{Place}
+use Rattle.slots.specs.declared.tickets.Place.the-variants.{At, Nowhere, Barred}
+use Rattle.slots.specs.declared.entries.Session.{Session}
+use Rattle.slots.specs.declared.entries.Entry.{Entry}
+use Rattle.slots.specs.declared.entries.State.{State}
+use Rattle.slots.specs.declared.entries.State.the-variants.{Free, Open}
 use Rattle.desk.specs.declared.Desk.{Desk}
-use Rattle.desk.specs.declared.Slot.the-variants.{Held, No}
+use Rattle.slots.specs.declared.Slot.the-variants.{Held, No}
 use Rattle.apart.specs.Ledger.{Found, absent, present, Row, Ledger, lookup}
 use Rattle.apart.proofs.Rows.{no, Below}
 use Rattle.apart.proofs.Counts.{count}
@@ -153,7 +153,7 @@ opened-there t Free es i q e = let z : false ≡ true = rw q at e in clash cc
 opened-there t (Open s) es i q e = (s, (q, eqb-true (s .ticket) t (rw q at e)))
 
 pub view : (d : Desk) (p : List ℕ) (l : Ledger) (t : ℕ) → Stands d p l → View d p l t
-unfolding slotOf
+unfolding Rattle.slots.specs.Slots.slotOf
 view d p l t r = go (firstAt (openAt (d .entries) t) 0 40) refl
   where
     so : sound d ≡ true

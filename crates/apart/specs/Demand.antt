@@ -4,10 +4,10 @@ use mathlib.Core.Path.{_≡_}
 use mathlib.Core.List.{List, [], _∷_, _++_, map}
 use lib.ListN.{length, take}
 use Rattle.reader.specs.Outcome.{judgeOf}
-use Rattle.desk.specs.Sound.{stateAt, Sound}
-use Rattle.desk.specs.Steps.{openStep, showStep, heldStep, judgeStep}
-use Rattle.desk.specs.declared.entries.Session.{Session}
-use Rattle.desk.specs.declared.entries.State.the-variants.{Free, Open}
+use Rattle.slots.specs.Sound.{stateAt}
+use Rattle.desk.specs.Steps.{Sound, openStep, showStep, heldStep, judgeStep}
+use Rattle.slots.specs.declared.entries.Session.{Session}
+use Rattle.slots.specs.declared.entries.State.the-variants.{Free, Open}
 use Rattle.desk.specs.declared.Desk.{Desk}
 use Rattle.desk.specs.declared.Answer.the-variants.{Done, Refused}
 use Rattle.apart.specs.Ledger.{Deed, Call, opens, on, Reply, told, present, Ledger, lookup, ledgerStep, freshLedger, run, after}

@@ -11,23 +11,25 @@ use borrow.Author.Tests.{ltb-true, ltb-false, lt-ltb, eqb-true, eqb-false, eq-eq
 use Rattle.octets.specs.Pick.{pick}
 use Rattle.reader.specs.declared.Verdict.{Verdict}
 use Rattle.reader.specs.declared.Verdict.the-variants.{Refused as Unread}
-use Rattle.desk.specs.Search.{firstAt}
-use Rattle.desk.specs.Sound.{stateAt, Sound, bounds, sound}
-use Rattle.desk.specs.Steps.{Turned, refuse, refused, freshDesk, newStep, isFree, openAt, freeAt, inPlace, slotOf, openIn, openStep, addIn, addStep, releaseIn, releaseStep, octetsIn, showStep, heldIn, heldStep, judgeIn, judgeStep}
-use Rattle.desk.specs.declared.tickets.Place.{Place}
-use Rattle.desk.specs.declared.tickets.Place.the-variants.{At, Nowhere, Barred}
-use Rattle.desk.specs.declared.entries.Session.{Session}
-use Rattle.desk.specs.declared.entries.State.{State}
-use Rattle.desk.specs.declared.entries.State.the-variants.{Free, Open}
-use Rattle.desk.specs.declared.Slot.{Slot}
-use Rattle.desk.specs.declared.Slot.the-variants.{Held, No}
+use Rattle.slots.specs.Search.{firstAt}
+use Rattle.slots.specs.Sound.{stateAt, bounds}
+use Rattle.slots.specs.Slots.{isFree, openAt, freeAt, inPlace}
+use Rattle.desk.specs.Steps.{Sound, sound, Turned, refuse, refused, freshDesk, newStep, slotOf, openIn, openStep, addIn, addStep, releaseIn, releaseStep, octetsIn, showStep, heldIn, heldStep, judgeIn, judgeStep}
+use Rattle.slots.specs.declared.tickets.Place.{Place}
+use Rattle.slots.specs.declared.tickets.Place.the-variants.{At, Nowhere, Barred}
+use Rattle.slots.specs.declared.entries.Session.{Session}
+use Rattle.slots.specs.declared.entries.State.{State}
+use Rattle.slots.specs.declared.entries.State.the-variants.{Free, Open}
+use Rattle.slots.specs.declared.Slot.{Slot}
+use Rattle.slots.specs.declared.Slot.the-variants.{Held, No}
 use Rattle.desk.specs.declared.Desk.{Desk}
 use Rattle.desk.specs.declared.Turn.{Turn}
 use Rattle.desk.specs.declared.Answer.{Answer}
 use Rattle.desk.specs.declared.Answer.the-variants.{Done, Refused}
-use Rattle.desk.proofs.Searches.{firstAt-is, firstAt-not, unbarred}
-use Rattle.desk.proofs.SoundLaws.{bounds-are, in-bounds, sound-is, is-sound}
-use Rattle.desk.proofs.SlotLaws.{granted, slot-inside}
+use Rattle.slots.proofs.Searches.{firstAt-is, firstAt-not, unbarred}
+use Rattle.slots.proofs.SoundLaws.{bounds-are, in-bounds}
+use Rattle.slots.proofs.SlotLaws.{slot-inside}
+use Rattle.desk.proofs.DeskLaws.{sound-is, is-sound, granted}
 use Rattle.apart.specs.Demand.{OpenOn}
 use Rattle.grammar.proofs.Refused.{refused-law}
 use Rattle.demands.specs.Demand1.{Exactly, Turning, Ready, unsound, other-size, TicketBy, unready, closed, Holds, NewBy, range, OpenBy, no-desk, used-up, full, AddBy, no-upload, too-much, JudgeBy, nothing, octets}
@@ -138,7 +140,7 @@ module _ (d : Desk) (p : List ℕ) where
     -- ---- 25, 24, 22
 
     slot-told : (n : ℕ) → slotOf d (length p) t ≡ No n → TicketBy d p t n 0
-    unfolding slotOf
+    unfolding Rattle.slots.specs.Slots.slotOf
     slot-told n e = go (sound d) refl (eqb (length p) (d .slots * 16384)) refl e
       where
         same : (m : ℕ) → No m ≡ No n → TicketBy d p t m 0 → TicketBy d p t n 0
@@ -165,7 +167,7 @@ module _ (d : Desk) (p : List ℕ) where
         go true a true q e = found (ready a q) (firstAt (openAt (d .entries) t) 0 40) refl e
 
     slot-so : (n q : ℕ) → TicketBy d p t n q → (slotOf d (length p) t ≡ No n) × (q ≡ 0)
-    unfolding slotOf
+    unfolding Rattle.slots.specs.Slots.slotOf
     slot-so n q (unready (unsound h)) = (rw (not-true (sound d) (λ e. h (sound-is d e))), refl)
     slot-so n q (unready (other-size s h)) = (rw (is-sound d s, ne-eqb (length p) (d .slots * 16384) h), refl)
     slot-so n q (closed r h) =
@@ -177,7 +179,7 @@ module _ (d : Desk) (p : List ℕ) where
         go (At i) q =
             let w = firstAt-is (openAt (d .entries) t) 40 0 i q in
             let s = session i (stateAt (d .entries) i) refl (w .0) in
-            absurd (h (i, (s .0, (slot-inside d (r .sound) i (omega arith) (s .0) (s .1 .0) (ltb i (d .slots)) refl, s .1 .0, s .1 .1))))
+            absurd (h (i, (s .0, (slot-inside (d .entries) (d .slots) (d .next) (r .sound) i (omega arith) (s .0) (s .1 .0) (ltb i (d .slots)) refl, s .1 .0, s .1 .1))))
 
     -- a session with the ticket is what is found
     pub held-by : (i : ℕ) (s : Session) → slotOf d (length p) t ≡ Held i s → Holds d p t i s

@@ -11,10 +11,10 @@ use Rattle.text.specs.Outcomes.{unescapeOutcome}
 use Rattle.octets.specs.Ascii.{octets}
 use Rattle.reader.specs.Outcome.{Taken, took, readOutcome}
 use Rattle.reader.specs.declared.Verdict.the-variants.{Accepted, Refused}
-use Rattle.desk.specs.Sound.{stateAt}
+use Rattle.slots.specs.Sound.{stateAt}
 use Rattle.desk.specs.Steps.{newStep}
-use Rattle.desk.specs.declared.entries.Session.{Session}
-use Rattle.desk.specs.declared.entries.State.the-variants.{Open}
+use Rattle.slots.specs.declared.entries.Session.{Session}
+use Rattle.slots.specs.declared.entries.State.the-variants.{Open}
 use Rattle.desk.specs.declared.Answer.the-variants.{Done}
 use Rattle.apart.specs.Ledger.{Call, opens, on, releases, told}
 use Rattle.apart.specs.Demand.{Proper, answers, world}

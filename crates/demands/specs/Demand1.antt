@@ -18,10 +18,10 @@ use Rattle.reader.specs.declared.Verdict.{Verdict}
 use Rattle.reader.specs.declared.Verdict.the-variants.{Refused as Unread}
 use Rattle.cuts.specs.Pieces.{foldedLines}
 use Rattle.folder.specs.Outcome.{foldOutcome}
-use Rattle.desk.specs.Sound.{stateAt, Sound}
-use Rattle.desk.specs.Steps.{Turned, refuse as refuseNew, refused, freshDesk, newStep, openStep, addStep, releaseStep, octetsIn, showStep, heldStep, judgeStep}
-use Rattle.desk.specs.declared.entries.Session.{Session}
-use Rattle.desk.specs.declared.entries.State.the-variants.{Free, Open}
+use Rattle.slots.specs.Sound.{stateAt}
+use Rattle.desk.specs.Steps.{Sound, Turned, refuse as refuseNew, refused, freshDesk, newStep, openStep, addStep, releaseStep, octetsIn, showStep, heldStep, judgeStep}
+use Rattle.slots.specs.declared.entries.Session.{Session}
+use Rattle.slots.specs.declared.entries.State.the-variants.{Free, Open}
 use Rattle.desk.specs.declared.Desk.{Desk}
 use Rattle.desk.specs.declared.Turn.{Turn}
 use Rattle.desk.specs.declared.Answer.{Answer}

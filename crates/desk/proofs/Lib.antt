@@ -1,5 +1,2 @@
--- The laws that the proofs of `desk` cite. Assumes nothing.
-pub mod Searches
-pub mod SoundLaws
-pub mod SlotLaws
-pub mod Patches
+-- The laws that the proofs of `desk` and the crates above cite. Assumes nothing.
+pub mod DeskLaws

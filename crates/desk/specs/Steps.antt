@@ -1,30 +1,46 @@
 -- What each call answers, the next desk and what the pool holds then, for every desk, pool and ticket. Assumes nothing.
 use Prim.Native.Nat.{ℕ, _+_, _*_}
-use mathlib.Core.Path.{_≡_}
-use mathlib.Core.Bool.{Bool, true, false}
-use mathlib.Core.List.{List, [], _++_}
-use denote.Ref.{RefT, ptr, now}
+use mathlib.Core.Bool.{Bool}
+use mathlib.Core.List.{List, []}
 use lib.Dec.{ltb, eqb}
-use lib.ListN.{length, take, drop, set, replicate}
+use lib.ListN.{length, set, replicate}
 use Rattle.octets.specs.Pick.{pick}
-use Rattle.octets.specs.Room.{overlay}
 use Rattle.reader.specs.Outcome.{judgeOf}
 use Rattle.reader.specs.declared.Verdict.{Verdict}
 use Rattle.reader.specs.declared.Verdict.the-variants.{Refused as Unread}
-use Rattle.desk.specs.Search.{firstAt, sameAs}
-use Rattle.desk.specs.Sound.{none, stateAt, ticketAt, bounds, sound}
-use Rattle.desk.specs.declared.tickets.Place.{Place}
-use Rattle.desk.specs.declared.tickets.Place.the-variants.{At, Nowhere, Barred}
-use Rattle.desk.specs.declared.entries.Session.{Session}
-use Rattle.desk.specs.declared.entries.State.{State}
-use Rattle.desk.specs.declared.entries.State.the-variants.{Free, Open}
-use Rattle.desk.specs.declared.entries.Entry.{Entry}
+use Rattle.slots.specs.Search.{firstAt}
+use Rattle.slots.specs.Sound.{none, bounds, Sound as SoundEntries, sound as soundEntries}
+use Rattle.slots.specs.Slots.{guarded as guardedEntries, freeAt, slotOf as slotIn}
+use Rattle.slots.specs.declared.tickets.Place.{Place}
+use Rattle.slots.specs.declared.tickets.Place.the-variants.{At, Nowhere, Barred}
+use Rattle.slots.specs.declared.entries.Session.{Session}
+use Rattle.slots.specs.declared.entries.State.{State}
+use Rattle.slots.specs.declared.entries.State.the-variants.{Free, Open}
+use Rattle.slots.specs.declared.Slot.{Slot}
+use Rattle.slots.specs.declared.Slot.the-variants.{Held, No}
+use Rattle.pools.specs.Pools.{patch, zeros, Part, partOf}
 use Rattle.desk.specs.declared.Desk.{Desk}
 use Rattle.desk.specs.declared.Answer.{Answer}
 use Rattle.desk.specs.declared.Answer.the-variants.{Done, Refused}
 use Rattle.desk.specs.declared.Turn.{Turn}
-use Rattle.desk.specs.declared.Slot.{Slot}
-use Rattle.desk.specs.declared.Slot.the-variants.{Held, No}
+
+-- ---- a sound desk, and the slot of a ticket
+
+abbrev pub Sound : Desk → Type 0
+Sound d = SoundEntries (d .entries) (d .slots) (d .next)
+
+abbrev pub sound : Desk → Bool
+sound d = soundEntries (d .entries) (d .slots) (d .next)
+
+-- 25 where the desk is not sound, then 24 where the pool has another size, else a
+abbrev pub guarded : {A : Type 0} → Desk → ℕ → (ℕ → A) → A → A
+guarded d size bar a = guardedEntries (d .entries) (d .slots) (d .next) size bar a
+
+-- 25, 24, 22, or the slot of a ticket with its session
+abbrev pub slotOf : Desk → ℕ → ℕ → Slot
+slotOf d size t = slotIn (d .entries) (d .slots) (d .next) size t
+
+-- ---- answers
 
 -- an answer, the next desk and what the pool holds then
 pub record Turned : Type 0 where
@@ -42,10 +58,6 @@ refuse d n at = record { answer = Refused n at; desk = d }
 abbrev pub refused : Desk → List ℕ → ℕ → ℕ → Turned
 refused d p at n = turned (refuse d n at) p
 
--- 25 where the desk is not sound, then 24 where the pool has another size, else a
-abbrev pub guarded : {A : Type 0} → Desk → ℕ → (ℕ → A) → A → A
-guarded d size bar a = pick (sound d) (pick (eqb size (d .slots * 16384)) a (bar 24)) (bar 25)
-
 -- ---- a new desk
 
 abbrev pub freshDesk : ℕ → Desk
@@ -54,43 +66,14 @@ freshDesk n = record { entries = replicate 40 none; slots = n; next = 1 }
 unfoldable pub newStep : ℕ → Turn
 newStep n = pick (bounds n 1) (record { answer = Done 0; desk = freshDesk n }) (refuse (freshDesk 0) 26 0)
 
--- ---- the slot of a ticket
-
-abbrev pub isFree : State → Bool
-isFree Free = true
-isFree (Open s) = false
-
-abbrev pub hasTicket : ℕ → State → Bool
-hasTicket t Free = false
-hasTicket t (Open s) = eqb (s .ticket) t
-
-abbrev pub freeAt : List Entry → ℕ → Bool
-freeAt es i = isFree (stateAt es i)
-
-abbrev pub openAt : List Entry → ℕ → ℕ → Bool
-openAt es t i = hasTicket t (stateAt es i)
-
-abbrev pub inState : ℕ → State → Slot
-inState i Free = No 22
-inState i (Open s) = Held i s
-
-abbrev pub inPlace : List Entry → Place → Slot
-inPlace es Nowhere = No 22
-inPlace es (At i) = inState i (stateAt es i)
-inPlace es (Barred n) = No n
-
--- 25, 24, or the first slot that has a ticket; a free one has 0
-unfoldable pub lookStep : Desk → ℕ → ℕ → Place
-lookStep d size t = guarded d size Barred (firstAt (sameAs (ticketAt (d .entries)) t) 0 (d .slots))
-
--- 25, 24, 22, or the slot of a ticket with its session
-unfoldable pub slotOf : Desk → ℕ → ℕ → Slot
-slotOf d size t = guarded d size No (inPlace (d .entries) (firstAt (openAt (d .entries) t) 0 40))
-
 -- ---- open
 
 abbrev pub withState : Desk → ℕ → State → Desk
 withState d i s = record { entries = set (d .entries) i (record { state = s }); slots = d .slots; next = d .next }
+
+-- the desk with entry i in a new state, and an answer
+abbrev pub grant : Desk → ℕ → State → ℕ → Turn
+grant d i s n = record { answer = Done n; desk = withState d i s }
 
 abbrev pub opened : Desk → ℕ → ℕ → Desk
 opened d m i =
@@ -108,10 +91,6 @@ openStep d p m =
 
 -- ---- add
 
--- p with q in the place of as many octets from a on
-unfoldable pub patch : List ℕ → ℕ → List ℕ → List ℕ
-patch p a q = take a p ++ overlay q (drop a p)
-
 abbrev pub grown : Session → ℕ → Session
 grown s n = record { ticket = s .ticket; tram = s .tram; held = s .held + n }
 
@@ -128,34 +107,23 @@ addStep d p t q = addIn d p q (slotOf d (length p) t)
 
 abbrev pub releaseIn : Desk → List ℕ → Slot → Turned
 releaseIn d p (No n) = refused d p 0 n
-releaseIn d p (Held i s) = record { answer = Done 0; desk = withState d i Free; pool = patch p (i * 16384) (replicate 16384 0) }
+releaseIn d p (Held i s) = record { answer = Done 0; desk = withState d i Free; pool = patch p (i * 16384) zeros }
 
 unfoldable pub releaseStep : Desk → List ℕ → ℕ → Turned
 releaseStep d p t = releaseIn d p (slotOf d (length p) t)
 
 -- ---- show, held and judge
 
--- a part of the pool: where it starts, and its octets
-pub record Part : Type 0 where
-  pub start : ℕ
-  pub octets : List ℕ
-
 -- the octets of a session in slot i
 abbrev pub octetsIn : List ℕ → ℕ → Session → List ℕ
-octetsIn p i s = take (s .held) (drop (i * 16384) p)
+octetsIn p i s = partOf p i (s .held) .octets
 
 abbrev pub showIn : List ℕ → Slot → Part
 showIn p (No n) = record { start = 0; octets = [] }
-showIn p (Held i s) = record { start = i * 16384; octets = octetsIn p i s }
+showIn p (Held i s) = partOf p i (s .held)
 
 unfoldable pub showStep : Desk → List ℕ → ℕ → Part
 showStep d p t = showIn p (slotOf d (length p) t)
-
--- r is that part of s itself: in the same block of memory, so far behind its start, with those octets
-pub record Lies (s r : RefT (List ℕ)) (part : Part) : Type 0 where
-  pub block : ptr r .0 ≡ ptr s .0
-  pub offset : ptr r .1 ≡ ptr s .1 + part .start
-  pub octets : now r ≡ part .octets
 
 abbrev pub heldIn : Slot → Answer
 heldIn (No n) = Refused n 0

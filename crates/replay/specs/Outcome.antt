@@ -1,18 +1,15 @@
 -- What a replay answers, and what the pool and the log hold then, for every slot count, script, pool and log. Assumes nothing.
 use Prim.Native.Nat.{ℕ, _*_}
-use mathlib.Core.Path.{_≡_}
 use mathlib.Core.List.{List}
 use lib.Dec.{leb, eqb}
 use lib.ListN.{length}
 use Rattle.octets.specs.Pick.{pick}
 use Rattle.octets.specs.Room.{overlay}
-use Rattle.desk.specs.Sound.{bounds}
-use Rattle.desk.specs.declared.Desk.{Desk}
+use Rattle.slots.specs.Sound.{bounds}
 use Rattle.apart.specs.Ledger.{Call, ledgerStep, freshLedger, run}
-use Rattle.apart.specs.Desks.{World, deskStep}
 use Rattle.apart.specs.Demand.{world}
-use Rattle.replay.specs.Scripts.{Decoded, calls, broken, decode}
-use Rattle.replay.specs.Logs.{entry, written, Put, roomFor}
+use Rattle.scripts.specs.Scripts.{Decoded, calls, broken, decode}
+use Rattle.logs.specs.Logs.{written, roomFor}
 use Rattle.replay.specs.declared.Replayed.{Replayed}
 use Rattle.replay.specs.declared.Replayed.the-variants.{Ran, Refused}
 
@@ -42,13 +39,3 @@ played n p l (calls cs) =
 -- 26 where there are no slots or over 40, then 90 at the first call that is unknown or cut off
 unfoldable pub replayOutcome : ℕ → List ℕ → List ℕ → List ℕ → Replay
 replayOutcome n s p l = pick (bounds n 1) (played n p l (decode s)) (replayed (Refused 26 0) p l)
-
--- ---- one call
-
-abbrev pub worldOf : Desk → List ℕ → World
-worldOf d p = record { desk = d; pool = p }
-
--- after a call c: the next desk d with the pool p, and the answer in the log
-pub record Stepped (w : World) (c : Call) (d : Desk) (p l l′ : List ℕ) (n : ℕ) : Type 0 where
-  pub world : worldOf d p ≡ deskStep w c .then
-  pub put : Put (entry (deskStep w c .reply)) l l′ n

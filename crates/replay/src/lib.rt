@@ -1,19 +1,19 @@
 // Replaying a record of calls: a script of them is run on a fresh desk, and the answers are written to a log.
-mod logs;
-mod runs;
-mod scripts;
-mod words;
-
 use desk::Answer;
 use desk::Desk;
 use scripts::Counted;
 ghost use mathlib.Core.Path.{_≡_};
-ghost use Prim.Native.Nat.{_+_, _*_};
-ghost use lib.Dec.{leb};
-ghost use Rattle.desk.specs.Sound.{bounds};
-ghost use Rattle.desk.specs.Steps.{newStep};
 ghost use mathlib.Core.Bool.{true};
-ghost use Rattle.replay.specs.Scripts.{decode};
+ghost use Prim.Native.Nat.{_≤_};
+ghost use lib.ListN.{length};
+ghost use Rattle.octets.specs.Scan.{scan};
+ghost use Rattle.slots.specs.Sound.{bounds};
+ghost use Rattle.desk.specs.Steps.{newStep};
+ghost use Rattle.apart.specs.Ledger.{run, after};
+ghost use Rattle.apart.specs.Desks.{deskStep};
+ghost use Rattle.scripts.specs.Scripts.{width, callsIn, decode};
+ghost use Rattle.logs.specs.Logs.{written, Put};
+ghost use Rattle.runs.specs.Stepped.{worldOf};
 ghost use Rattle.replay.specs.Outcome.{replayed, played, replayOutcome};
 
 // How many calls were run and how many octets of the log are written, or a refusal's number and place.
@@ -22,15 +22,25 @@ pub enum Replayed {
     Refused(u32, usize),
 }
 
-// Whether a log has room: 9 octets for each call, and 16,380 more for a show.
-fn has_room(calls: usize, shows: usize, room: usize) -> bool
-    ensures { λ r. ⌜ r ≡ leb (9 * calls + 16380 * shows) room ⌝ }
+// The calls of a script, and answers how many octets of the log were written.
+fn run_all(desk: Desk, script: &[u8], pool: &mut [u8], log: &mut [u8]) -> usize
+    requires { ⌜ scan width (now script) 0 ≡ length (now script) ⌝ }
+    requires { ⌜ length (written (run deskStep (worldOf desk (now pool)) (callsIn (now script) 0))) ≤ length (now log) ⌝ }
+    ensures { λ r. ⌜ now (pool .exit) ≡ after deskStep (worldOf desk (now (pool .entry))) (callsIn (now (script .entry)) 0) .pool ⌝ }
+    ensures { λ r. ⌜ Put (written (run deskStep (worldOf desk (now (pool .entry))) (callsIn (now (script .entry)) 0))) (now (log .entry)) (now (log .exit)) r ⌝ }
 {
-    if room / 16380 < shows {
-        return false;
+    let mut d = desk;
+    let mut at: usize = 0;
+    let mut to: usize = 0;
+    while at < script.len() {
+        let w = scripts::width(&script[at..]);
+        let r = runs::run_call(d, &script[at..], pool, &mut log[to..]);
+        let next = r.desk;
+        d = next;
+        to += r.wrote;
+        at += w;
     }
-    let left = room - 16380 * shows;
-    calls <= left / 9
+    to
 }
 
 // On a fresh desk.
@@ -47,10 +57,10 @@ fn play(slots: usize, desk: Desk, script: &[u8], pool: &mut [u8], log: &mut [u8]
                 return Replayed::Refused(91, size);
             }
             let room = log.len();
-            if !has_room(calls, shows, room) {
+            if !logs::has_room(calls, shows, room) {
                 return Replayed::Refused(92, room);
             }
-            let wrote = runs::run_all(desk, script, pool, log);
+            let wrote = run_all(desk, script, pool, log);
             Replayed::Ran(calls, wrote)
         }
     }

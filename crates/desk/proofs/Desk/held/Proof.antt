@@ -1,7 +1,7 @@
 -- `desk::Desk::held` meets its contract. Assumes nothing.
-use mathlib.Core.Path.{sym, _∙_}
+use mathlib.Core.Path.{sym, ap, _∙_}
 use borrow.Author.Needs.{needs}
-use Rattle.desk.specs.Steps.{heldStep}
+use Rattle.desk.specs.Steps.{heldIn, heldStep}
 use Rattle.desk.proofs.Desk.held.Statement.{statement}
 use Rattle.desk.proofs.Desk.held.Tie as tie
 
@@ -20,20 +20,14 @@ cast-t10 c = search needs
 returns : tie.Need-returns
 unfolding heldStep
 returns c =
-    simp (sym (c .before .before .before .at-ticket .ensures) ∙ c .before .slot .given .1)
+    ap heldIn (sym (c .before .slot .given .1) ∙ c .before .before .before .at-ticket .ensures)
 
 returns-2 : tie.Need-returns-2
 unfolding heldStep
 returns-2 c =
-    simp (sym (c .before .before .before .before .at-ticket .ensures) ∙ c .before .before .slot2 .given .1)
+    ap heldIn (sym (c .before .before .slot2 .given .1) ∙ c .before .before .before .before .at-ticket .ensures)
 
 pub held-spec : {M : Type 1} → statement M
 held-spec =
     tie.close
-    (tie.spec
-    at-ticket-requires
-    enum-known-slot
-    enum-known-slot-2
-    cast-t10
-    returns
-    returns-2)
+    (tie.spec at-ticket-requires enum-known-slot enum-known-slot-2 cast-t10 returns returns-2)

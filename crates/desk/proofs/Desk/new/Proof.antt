@@ -11,16 +11,11 @@ in-bounds-requires c κs = search needs
 
 returns : tie.Need-returns
 unfolding newStep
-returns c = simp (sym (c .before .in-bounds .ensures) ∙ not-true _ (c .if1 .taken))
+returns c = rw (sym (c .before .in-bounds .ensures) ∙ not-true _ (c .if1 .taken))
 
 returns-2 : tie.Need-returns-2
 unfolding newStep
-returns-2 c = simp (sym (c .before .in-bounds .ensures) ∙ not-false _ (c .if1 .left))
+returns-2 c = rw (sym (c .before .in-bounds .ensures) ∙ not-false _ (c .if1 .left))
 
 pub new-spec : {M : Type 1} → statement M
-new-spec =
-    tie.close
-    (tie.spec
-    in-bounds-requires
-    returns
-    returns-2)
+new-spec = tie.close (tie.spec in-bounds-requires returns returns-2)

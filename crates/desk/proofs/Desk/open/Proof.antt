@@ -1,13 +1,13 @@
 -- `desk::Desk::open` meets its contract. Assumes nothing.
 use denote.Ref.{now}
 use mathlib.Core.Path.{sym, ap, _∙_}
-use native.Mathlib.Omega.{arith}
 use lib.ListN.{length}
-use borrow.Author.Needs.{needs}
 use borrow.Author.Tests.{eq-eqb, ne-eqb}
+use borrow.Author.Needs.{needs}
+use Rattle.slots.proofs.SlotLaws.{look-place}
 use Rattle.desk.specs.Steps.{turned}
 use Rattle.desk.specs.declared.Turn.{Turn}
-use Rattle.desk.proofs.SlotLaws.{look-place, open-look}
+use Rattle.desk.proofs.DeskLaws.{open-look}
 use Rattle.desk.proofs.Desk.open.Statement.{statement}
 use Rattle.desk.proofs.Desk.open.Tie as tie
 
@@ -28,8 +28,8 @@ refused-requires-2 c κs = search needs
 
 returns : tie.Need-returns
 returns c =
-    let e = open-look (c .before .before .before .before .before .before .args .t1) (now (c .before .before .before .before .before .before .args .pool)) (c .before .before .before .before .before .before .args .tram) _ (sym (c .before .before .before .before .look .ensures) ∙ c .before .before .enum-told .given .1) in
-    ap (λ (r : Turn). turned r (now (c .before .before .before .before .before .before .args .pool))) (c .refused2 .ensures) ∙ (rw (eq-eqb _ _ (c .before .if1 .taken)) at e)
+    let e = open-look (c .before .before .before .before .before .before .before .args .self) (now (c .before .before .before .before .before .before .before .args .pool)) (c .before .before .before .before .before .before .before .args .tram) _ (sym (c .before .before .before .before .look .ensures) ∙ c .before .before .enum-told .given .1) in
+    ap (λ (r : Turn). turned r (now (c .before .before .before .before .before .before .before .args .pool))) (c .refused2 .ensures) ∙ (rw (eq-eqb _ _ (c .before .if1 .taken)) at e)
 
 refused-requires-3 : tie.Need-refused-requires-3
 refused-requires-3 c κs = search needs
@@ -42,37 +42,33 @@ refused-requires-4 c κs = search needs
 
 returns-2 : tie.Need-returns-2
 returns-2 c =
-    let e = open-look (c .before .before .before .before .before .before .before .args .t1) (now (c .before .before .before .before .before .before .before .args .pool)) (c .before .before .before .before .before .before .before .args .tram) _ (sym (c .before .before .before .before .before .look .ensures) ∙ c .before .before .before .p2 .given .1) in
-    ap (λ (r : Turn). turned r (now (c .before .before .before .before .before .before .before .args .pool))) (c .refused4 .ensures) ∙ (rw (eq-eqb _ _ (c .before .if2 .taken)) at e)
-
-mul-t21 : tie.Need-mul-t21
-mul-t21 c =
-    let h = look-place (c .before .before .before .before .before .before .args .t1) (length (now (c .before .before .before .before .before .before .args .pool))) 0 _ (sym (c .before .before .before .before .look .ensures) ∙ c .before .before .p2 .given .1) in omega arith
-
-element-set-from-self : tie.Need-element-set-from-self
-element-set-from-self c =
-    let h = look-place (c .before .before .before .before .before .before .args .t1) (length (now (c .before .before .before .before .before .before .args .pool))) 0 _ (sym (c .before .before .before .before .look .ensures) ∙ c .before .before .p2 .given .1) in omega arith
+    let e = open-look (c .before .before .before .before .before .before .before .before .args .self) (now (c .before .before .before .before .before .before .before .before .args .pool)) (c .before .before .before .before .before .before .before .before .args .tram) _ (sym (c .before .before .before .before .before .look .ensures) ∙ c .before .before .before .p2 .given .1) in
+    ap (λ (r : Turn). turned r (now (c .before .before .before .before .before .before .before .before .args .pool))) (c .refused4 .ensures) ∙ (rw (eq-eqb _ _ (c .before .if2 .taken)) at e)
 
 add-self : tie.Need-add-self
 add-self c = search needs
 
-cast-t21 : tie.Need-cast-t21
-cast-t21 c = search needs
+cast-granted : tie.Need-cast-granted
+cast-granted c = search needs
+
+granted-requires : tie.Need-granted-requires
+granted-requires c κs =
+    look-place (c .before .before .before .before .before .before .before .args .self .entries) (c .before .before .before .before .before .before .before .args .self .slots) (c .before .before .before .before .before .before .before .args .self .next) (length (now (c .before .before .before .before .before .before .before .args .pool))) 0 _ (sym (c .before .before .before .before .look .ensures) ∙ c .before .before .p2 .given .1)
 
 returns-3 : tie.Need-returns-3
 returns-3 c =
-    let e = open-look (c .before .before .before .before .before .before .args .t1) (now (c .before .before .before .before .before .before .args .pool)) (c .before .before .before .before .before .before .args .tram) _ (sym (c .before .before .before .before .look .ensures) ∙ c .before .before .p .given .1) in
-    ap (λ (r : Turn). turned r (now (c .before .before .before .before .before .before .args .pool))) (c .refused .ensures) ∙ e
+    let e = open-look (c .before .before .before .before .before .before .before .args .self) (now (c .before .before .before .before .before .before .before .args .pool)) (c .before .before .before .before .before .before .before .args .tram) _ (sym (c .before .before .before .before .look .ensures) ∙ c .before .before .p .given .1) in
+    ap (λ (r : Turn). turned r (now (c .before .before .before .before .before .before .before .args .pool))) (c .refused .ensures) ∙ e
 
 returns-4 : tie.Need-returns-4
 returns-4 c =
-    let e = open-look (c .before .before .before .before .before .before .args .t1) (now (c .before .before .before .before .before .before .args .pool)) (c .before .before .before .before .before .before .args .tram) _ (sym (c .before .before .before .before .look .ensures) ∙ c .before .before .enum-told .given .1) in
-    ap (λ (r : Turn). turned r (now (c .before .before .before .before .before .before .args .pool))) (c .refused3 .ensures) ∙ (rw (ne-eqb _ _ (c .before .if1 .left)) at e)
+    let e = open-look (c .before .before .before .before .before .before .before .args .self) (now (c .before .before .before .before .before .before .before .args .pool)) (c .before .before .before .before .before .before .before .args .tram) _ (sym (c .before .before .before .before .look .ensures) ∙ c .before .before .enum-told .given .1) in
+    ap (λ (r : Turn). turned r (now (c .before .before .before .before .before .before .before .args .pool))) (c .refused3 .ensures) ∙ (rw (ne-eqb _ _ (c .before .if1 .left)) at e)
 
 returns-5 : tie.Need-returns-5
 returns-5 c =
-    let e = open-look (c .before .before .before .before .before .before .args .t1) (now (c .before .before .before .before .before .before .args .pool)) (c .before .before .before .before .before .before .args .tram) _ (sym (c .before .before .before .before .look .ensures) ∙ c .before .before .p2 .given .1) in
-    rw (ne-eqb _ _ (c .if2 .left)) at e
+    let e = open-look (c .before .before .before .before .before .before .before .before .args .self) (now (c .before .before .before .before .before .before .before .before .args .pool)) (c .before .before .before .before .before .before .before .before .args .tram) _ (sym (c .before .before .before .before .before .look .ensures) ∙ c .before .before .before .p2 .given .1) in
+    ap (λ (r : Turn). turned r (now (c .before .before .before .before .before .before .before .before .args .pool))) (c .granted .ensures) ∙ (rw (ne-eqb _ _ (c .before .if2 .left)) at e)
 
 pub open-spec : {M : Type 1} → statement M
 open-spec =
@@ -88,10 +84,9 @@ open-spec =
     enum-known-p-2
     refused-requires-4
     returns-2
-    mul-t21
-    element-set-from-self
     add-self
-    cast-t21
+    cast-granted
+    granted-requires
     returns-3
     returns-4
     returns-5)

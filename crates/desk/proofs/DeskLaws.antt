@@ -1,0 +1,93 @@
+-- What a look along the tickets leads to: an opening, and an add or a release in the slot of a ticket. Assumes nothing.
+use Prim.Native.Nat.{ℕ, _+_, _*_, _<_, _≤_}
+use mathlib.Core.Path.{_≡_, refl, sym, ap, _∙_}
+use mathlib.Core.Bool.{Bool, true, false}
+use mathlib.Core.List.{List}
+use lib.Dec.{eqb}
+use lib.ListN.{length}
+use borrow.Author.Tests.{lt-ltb, le-ltb}
+use Rattle.octets.specs.Pick.{pick}
+use Rattle.slots.specs.Search.{firstAt}
+use Rattle.slots.specs.Slots.{freeAt, lookOf}
+use Rattle.slots.proofs.Searches.{unbarred}
+use Rattle.slots.proofs.SoundLaws.{sound-is as soundness, is-sound as tested}
+use Rattle.slots.proofs.SlotLaws.{Granted as GrantedIn, granted as grantedIn, free-look}
+use Rattle.slots.specs.declared.tickets.Place.{Place}
+use Rattle.slots.specs.declared.tickets.Place.the-variants.{At, Nowhere, Barred}
+use Rattle.slots.specs.declared.entries.Session.{Session}
+use Rattle.slots.specs.declared.entries.State.the-variants.{Free, Open}
+use Rattle.slots.specs.declared.Slot.{Slot}
+use Rattle.slots.specs.declared.Slot.the-variants.{Held, No}
+use Rattle.pools.specs.Pools.{patch, zeros}
+use Rattle.desk.specs.Steps.{Sound, sound, slotOf, Turned, turned, refuse, refused, grant, openIn, openStep, grown, addIn, addStep, releaseIn, releaseStep}
+use Rattle.desk.specs.declared.Desk.{Desk}
+use Rattle.desk.specs.declared.Turn.{Turn}
+
+-- ---- the laws of slots, for the entries, slot count and next ticket of a desk
+
+pub sound-is : (d : Desk) → sound d ≡ true → Sound d
+sound-is d e = soundness (d .entries) (d .slots) (d .next) e
+
+pub is-sound : (d : Desk) → Sound d → sound d ≡ true
+is-sound d s = tested (d .entries) (d .slots) (d .next) s
+
+abbrev pub Granted : Desk → ℕ → ℕ → ℕ → Session → Type 0
+Granted d size t i s = GrantedIn (d .entries) (d .slots) (d .next) size t i s
+
+pub granted : (d : Desk) (size t i : ℕ) (s : Session) → slotOf d size t ≡ Held i s → Granted d size t i s
+granted d size t i s e = grantedIn (d .entries) (d .slots) (d .next) size t i s e
+
+-- ---- an opening
+
+-- what an opening does after a look for 0
+abbrev openAfter : Desk → List ℕ → ℕ → Place → Turned
+openAfter d p m (Barred n) = refused d p 0 n
+openAfter d p m Nowhere = pick (eqb (d .next) 4294967295) (refused d p 0 21) (openIn d p m Nowhere)
+openAfter d p m (At i) = pick (eqb (d .next) 4294967295) (refused d p 0 21) (openIn d p m (At i))
+
+pub open-look : (d : Desk) (p : List ℕ) (m : ℕ) (x : Place) → lookOf (d .entries) (d .slots) (d .next) (length p) 0 ≡ x → openAfter d p m x ≡ openStep d p m
+unfolding openStep
+open-look d p m x e =
+    ap (openAfter d p m) (sym e ∙ free-look (d .entries) (d .slots) (d .next) (length p)) ∙ go (sound d) (eqb (length p) (d .slots * 16384))
+  where
+    place : (r : Place) → firstAt (freeAt (d .entries)) 0 (d .slots) ≡ r
+        → openAfter d p m r ≡ pick (eqb (d .next) 4294967295) (refused d p 0 21) (openIn d p m r)
+    place (At i) q = refl
+    place Nowhere q = refl
+    place (Barred n) q = unbarred (freeAt (d .entries)) (d .slots) 0 n q
+
+    go : (a b : Bool)
+        → openAfter d p m (pick a (pick b (firstAt (freeAt (d .entries)) 0 (d .slots)) (Barred 24)) (Barred 25))
+        ≡ pick {A = Turned} a (pick b (pick (eqb (d .next) 4294967295) (refused d p 0 21) (openIn d p m (firstAt (freeAt (d .entries)) 0 (d .slots)))) (refused d p 0 24)) (refused d p 0 25)
+    go true true = place (firstAt (freeAt (d .entries)) 0 (d .slots)) refl
+    go true false = refl
+    go false b = refl
+
+-- ---- calls that name a ticket
+
+-- the slot that a call was told
+pub told : (d : Desk) (size t i : ℕ) (s : Session) (x : Slot) → x ≡ slotOf d size t → x ≡ Held i s → Granted d size t i s
+told d size t i s x e f = granted d size t i s (sym e ∙ f)
+
+module _ (d : Desk) (p : List ℕ) (t : ℕ) (x : Slot) (e : x ≡ slotOf d (length p) t) where
+  pub add-barred : (q : List ℕ) (n : ℕ) → x ≡ No n → (r : Turn) → r ≡ refuse d n 0 → turned r p ≡ addStep d p t q
+  unfolding addStep
+  add-barred q n f r g = ap (λ (r : Turn). turned r p) g ∙ ap (addIn d p q) (sym f ∙ e)
+
+  pub add-full : (q : List ℕ) (i : ℕ) (s : Session) → x ≡ Held i s → 16384 < s .held + length q → (r : Turn) → r ≡ refuse d 23 (s .held) → turned r p ≡ addStep d p t q
+  unfolding addStep
+  add-full q i s f h r g = rw (g, ← e, f, lt-ltb 16384 (s .held + length q) h)
+
+  pub add-done : (q : List ℕ) (i : ℕ) (s : Session) → x ≡ Held i s → s .held + length q ≤ 16384 → (r : Turn)
+      → r ≡ grant d i (Open (grown s (length q))) (s .held + length q) → (p′ : List ℕ) → p′ ≡ patch p (i * 16384 + s .held) q → turned r p′ ≡ addStep d p t q
+  unfolding addStep
+  add-done q i s f h r g p′ k = rw (g, k, ← e, f, le-ltb 16384 (s .held + length q) h)
+
+  pub release-barred : (n : ℕ) → x ≡ No n → (r : Turn) → r ≡ refuse d n 0 → turned r p ≡ releaseStep d p t
+  unfolding releaseStep
+  release-barred n f r g = ap (λ (r : Turn). turned r p) g ∙ ap (releaseIn d p) (sym f ∙ e)
+
+  pub release-done : (i : ℕ) (s : Session) → x ≡ Held i s → (r : Turn) → r ≡ grant d i Free 0 → (p′ : List ℕ) → p′ ≡ patch p (i * 16384) zeros
+      → turned r p′ ≡ releaseStep d p t
+  unfolding releaseStep
+  release-done i s f r g p′ k = rw (g, k, ← e, f)

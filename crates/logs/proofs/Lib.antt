@@ -1,0 +1,2 @@
+-- The laws that the proofs of `logs` and the crates above cite. Assumes nothing.
+pub mod LogLaws

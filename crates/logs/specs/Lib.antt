@@ -1,0 +1,2 @@
+-- The definitions that the contracts of `logs` cite. Assumes nothing.
+pub mod Logs

@@ -1,0 +1,6 @@
+-- The laws of replays. Assumes nothing.
+pub mod EveryList
+pub mod UnwrittenLaws
+pub mod VerdictLaws
+pub mod SmallLaws
+pub mod TellLaws

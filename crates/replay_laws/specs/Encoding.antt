@@ -1,0 +1,50 @@
+-- Calls as a script, and which lists of calls have one. Assumes nothing.
+use Prim.Native.Nat.{ℕ, _<_, _≤_}
+use mathlib.Core.Path.{_≡_}
+use mathlib.Core.List.{List, [], _∷_, _++_}
+use lib.ListN.{length}
+use Rattle.apart.specs.Ledger.{Deed, adds, judges, shows, asks, releases, Call, opens, on}
+use Rattle.scripts.specs.Words.{halfOctets, wordOctets}
+use Rattle.scripts.specs.Scripts.{calls, decode}
+
+abbrev pub encodeDeed : ℕ → Deed → List ℕ
+encodeDeed t (adds q) = 2 ∷ wordOctets t ++ halfOctets (length q) ++ q
+encodeDeed t judges = 3 ∷ wordOctets t
+encodeDeed t shows = 4 ∷ wordOctets t
+encodeDeed t asks = 5 ∷ wordOctets t
+encodeDeed t releases = 6 ∷ wordOctets t
+
+abbrev pub encodeCall : Call → List ℕ
+encodeCall (opens m) = 1 ∷ wordOctets m
+encodeCall (on t x) = encodeDeed t x
+
+unfoldable pub encode : List Call → List ℕ
+encode [] = []
+encode (c ∷ cs) = encodeCall c ++ encode cs
+
+-- each is an octet
+unfoldable pub Octets : List ℕ → Type 0
+Octets [] = Unit {0}
+Octets (x ∷ xs) = (x < 256) × Octets xs
+
+-- chunks are of at most 65,535 octets, tickets and identifiers of 32 bits
+abbrev pub DeedFits : Deed → Type 0
+DeedFits (adds q) = (length q ≤ 65535) × Octets q
+DeedFits judges = Unit {0}
+DeedFits shows = Unit {0}
+DeedFits asks = Unit {0}
+DeedFits releases = Unit {0}
+
+abbrev pub CallFits : Call → Type 0
+CallFits (opens m) = m < 4294967296
+CallFits (on t x) = (t < 4294967296) × DeedFits x
+
+unfoldable pub Fit : List Call → Type 0
+Fit [] = Unit {0}
+Fit (c ∷ cs) = CallFits c × Fit cs
+
+-- every list of such calls is what some script decodes to
+pub record Scripted (cs : List Call) : Type 0 where
+  pub script : List ℕ
+  pub octets : Octets script
+  pub decodes : decode script ≡ calls cs

@@ -1,0 +1,3 @@
+-- What the laws of replays speak of. Assumes nothing.
+pub mod Encoding
+pub mod Tells

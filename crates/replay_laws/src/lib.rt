@@ -1,0 +1,1 @@
+// The laws of replays: every list of calls has a script, and a log tells the answers.

@@ -1,0 +1,2 @@
+-- The laws that the proofs of `runs` cite. Assumes nothing.
+pub mod CallLaws

@@ -1,0 +1,10 @@
+-- `scripts::words::number` meets its contract. Assumes nothing.
+use borrow.Author.Needs.{needs}
+use Rattle.scripts.proofs.words.number.Statement.{statement}
+use Rattle.scripts.proofs.words.number.Tie as tie
+
+returns : tie.Need-returns
+returns c = search needs
+
+pub number-spec : {M : Type 1} → statement M
+number-spec = tie.close (tie.spec returns)
