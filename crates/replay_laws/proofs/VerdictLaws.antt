@@ -5,8 +5,8 @@ use mathlib.Core.List.{List, [], _∷_}
 use native.Mathlib.Omega.{arith}
 use lib.ListN.{length}
 use Rattle.lines.specs.Grammar.{Line}
-use Rattle.lines.specs.Folds.{unfolded}
-use Rattle.lines.specs.Logical.{rawLines}
+use Rattle.folds.specs.Folds.{unfolded}
+use Rattle.folds.specs.Logical.{rawLines}
 use Rattle.cards.specs.State.{freshCard}
 use Rattle.cards.specs.Judge.{judgeLine}
 use Rattle.cards.proofs.CardLaws.{one-more}
