@@ -7,7 +7,7 @@ ghost use Rattle.octets.specs.Room.{overlay};
 ghost use Rattle.cuts.specs.Pieces.{folded, Clean};
 
 // Writes s and CR LF to the start of d, and answers how many octets that are.
-pub fn put_last(s: &[u8], d: &mut [u8]) -> usize
+fn put_last(s: &[u8], d: &mut [u8]) -> usize
     requires { ⌜ length (now s) + 2 ≤ length (now d) ⌝ }
     ensures { λ r. ⌜ (r ≡ length (now (s .entry)) + 2) × (now (d .exit) ≡ overlay (now (s .entry) ++ (13 ∷ 10 ∷ [])) (now (d .entry))) ⌝ }
 {
@@ -19,7 +19,7 @@ pub fn put_last(s: &[u8], d: &mut [u8]) -> usize
 }
 
 // Writes s and a fold to the start of d, and answers how many octets that are.
-pub fn put_cut(s: &[u8], d: &mut [u8]) -> usize
+fn put_cut(s: &[u8], d: &mut [u8]) -> usize
     requires { ⌜ length (now s) + 3 ≤ length (now d) ⌝ }
     ensures { λ r. ⌜ (r ≡ length (now (s .entry)) + 3) × (now (d .exit) ≡ overlay (now (s .entry) ++ (13 ∷ 10 ∷ 32 ∷ [])) (now (d .entry))) ⌝ }
 {

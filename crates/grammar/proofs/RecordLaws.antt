@@ -15,7 +15,8 @@ use Rattle.language.proofs.Law.{line-law, line-unique}
 use Rattle.language.proofs.PlacesLaw.{places-law}
 use Rattle.content.specs.Parts.{told, toldOf, rowOfLine, kindOfLine}
 use Rattle.cards.proofs.CardLaws.{told-fits}
-use Rattle.reader.specs.Outcome.{ended, copyOf, recordBy, recordOf, recordsFrom, recordsOf}
+use Rattle.records.specs.Records.{recordBy, recordOf, recordsFrom}
+use Rattle.reader.specs.Outcome.{ended, copyOf, recordsOf}
 use Rattle.grammar.specs.Cards.{Readable}
 use Rattle.grammar.specs.Inputs.{InputOf}
 use Rattle.grammar.specs.Records.{Tells, Records, none, more}

@@ -3,5 +3,4 @@ pub mod WalkLaws
 pub mod AcceptLaws
 pub mod CopyUnfolds
 pub mod LinesAgain
-pub mod RecordLaws
 pub mod ReadLaws

@@ -1,5 +1,5 @@
 -- What the reader answers and writes, by document 01: the numbers 1 to 14, the copy and the records. Assumes nothing.
-use Prim.Native.Nat.{ℕ, _+_, _-_}
+use Prim.Native.Nat.{ℕ, _+_}
 use mathlib.Core.List.{List, [], _∷_, _++_, map}
 use lib.Dec.{eqb, ltb}
 use lib.ListN.{length}
@@ -7,17 +7,13 @@ use Rattle.octets.specs.Pick.{pick}
 use Rattle.octets.specs.Room.{overlay}
 use Rattle.folds.specs.Folds.{unfolded}
 use Rattle.folds.specs.Logical.{rawLines}
+use Rattle.records.specs.Records.{recordsFrom}
 use Rattle.cards.specs.State.{freshCard}
-use Rattle.lines.specs.Places.{nameStart}
-use Rattle.content.specs.Parts.{toldOf}
 use Rattle.cards.specs.Judge.{judgeLine}
 use Rattle.cards.specs.declared.state.Card.{Card}
 use Rattle.cards.specs.declared.state.Step.{Step}
 use Rattle.cards.specs.declared.state.Step.the-variants.{Next, Refused as Halted}
-use Rattle.content.specs.declared.Told.{Told}
-use Rattle.content.specs.declared.Told.the-variants.{Line, Fault}
 use Rattle.folds.specs.Lone.{firstLone, endsCrLf}
-use Rattle.reader.specs.declared.writing.Record.{Record}
 use Rattle.reader.specs.declared.Verdict.{Verdict}
 use Rattle.reader.specs.declared.Verdict.the-variants.{Accepted, Refused}
 
@@ -55,24 +51,6 @@ ended (l ∷ ls) = l ++ (13 ∷ 10 ∷ ended ls)
 
 unfoldable pub copyOf : List ℕ → List ℕ
 copyOf i = ended (logicalLines i)
-
--- property number, line start in the copy, line length, group length, name length, parameter count, value start in the copy, kind;
--- w is the line's start in the copy; zeros for a line that has no parts, which no accepted line is
-unfoldable pub recordBy : ℕ → ℕ → Told → List ℕ
-recordBy w n (Line x) =
-    x .row ∷ w ∷ n ∷ x .group ∷ (x .name - nameStart (x .group)) ∷ x .params ∷ (w + x .value) ∷ x .kind ∷ []
-recordBy w n (Fault k) = 0 ∷ 0 ∷ 0 ∷ 0 ∷ 0 ∷ 0 ∷ 0 ∷ 0 ∷ []
-
--- the same as the code holds them
-abbrev pub numbers : Record → List ℕ
-numbers r = r .number ∷ r .start ∷ r .len ∷ r .group ∷ r .name ∷ r .params ∷ r .value ∷ r .kind ∷ []
-
-unfoldable pub recordOf : ℕ → List ℕ → List ℕ
-recordOf w l = recordBy w (length l) (toldOf l)
-
-unfoldable pub recordsFrom : ℕ → List (List ℕ) → List ℕ
-recordsFrom w [] = []
-recordsFrom w (l ∷ ls) = recordOf w l ++ recordsFrom (w + length l + 2) ls
 
 unfoldable pub recordsOf : List ℕ → List ℕ
 recordsOf i = recordsFrom 0 (logicalLines i)

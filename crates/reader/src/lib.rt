@@ -4,7 +4,6 @@ ghost use Rattle.reader.specs.Outcome.{verdictOf, judgeOf, took, readOut
 use cards::state::Step;
 
 pub mod walk;
-mod writing;
 
 // The counts of cards and lines, or a refusal's number and place.
 pub enum Verdict {
@@ -71,6 +70,6 @@ pub fn read(input: &[u8], copy: &mut [u8], records: &mut [u32]) -> Verdict
     }
     let t = octets::classes::table();
     let rows = properties::table();
-    writing::write_lines(&t, &rows, input, copy, records);
+    records::write_lines(&t, &rows, input, copy, records);
     Verdict::Accepted(cards, lines)
 }

@@ -10,7 +10,7 @@ use Rattle.folds.proofs.SpanLaws.{lines-turn, part-length}
 use Rattle.content.specs.Parts.{toldOf}
 use Rattle.content.specs.declared.Told.{Told}
 use Rattle.content.specs.declared.Told.the-variants.{Line, Fault}
-use Rattle.reader.specs.Outcome.{recordBy, recordOf, recordsFrom}
+use Rattle.records.specs.Records.{recordBy, recordOf, recordsFrom}
 
 by-length : (w n : ℕ) (x : Told) → length (recordBy w n x) ≡ 8
 unfolding recordBy

@@ -1,4 +1,4 @@
-// The second pass over an accepted input: its copy and its records.
+// The second pass over an accepted input: its copy, and a record of eight numbers for each line.
 ghost use mathlib.Core.Path.{_≡_};
 ghost use mathlib.Core.List.{_++_};
 ghost use Prim.Native.Nat.{_+_, _≤_};
@@ -8,7 +8,7 @@ ghost use Rattle.octets.specs.Room.{overlay};
 ghost use Rattle.folds.specs.Folds.{unfolded};
 ghost use Rattle.folds.specs.Logical.{rawLines};
 ghost use Rattle.properties.specs.Rows.{Lists};
-ghost use Rattle.reader.specs.Outcome.{numbers, recordOf, recordsFrom};
+ghost use Rattle.records.specs.Records.{numbers, recordOf, recordsFrom};
 use content::Told;
 
 // One record: eight numbers.

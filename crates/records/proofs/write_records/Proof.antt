@@ -1,4 +1,4 @@
--- `reader::writing::write_records` meets its contract. Assumes nothing.
+-- `records::write_records` meets its contract. Assumes nothing.
 use borrow.Author.Needs.{needs}
 use mathlib.Core.Path.{_≡_, sym, ap, _∙_}
 use mathlib.Core.List.{List, _++_}
@@ -9,10 +9,10 @@ use Rattle.octets.proofs.Writes.{Written, start, room, put, finish}
 use Rattle.folds.specs.Logical.{rawLines}
 use Rattle.folds.proofs.LineLaws.{lines-end}
 use Rattle.folds.proofs.SpanLaws.{part-length}
-use Rattle.reader.specs.Outcome.{numbers, recordOf, recordsFrom}
-use Rattle.reader.proofs.RecordLaws.{record-length, records-turn}
-use Rattle.reader.proofs.writing.write_records.Statement.{statement}
-use Rattle.reader.proofs.writing.write_records.Tie as tie
+use Rattle.records.specs.Records.{numbers, recordOf, recordsFrom}
+use Rattle.records.proofs.RecordLaws.{record-length, records-turn}
+use Rattle.records.proofs.write_records.Statement.{statement}
+use Rattle.records.proofs.write_records.Tie as tie
 
 abbrev Inv-loop : tie.InvT-loop
 Inv-loop t rows s out₀ at₀ k₀ out at k = Written (recordsFrom 0 (rawLines s)) (recordsFrom at (rawLines (drop at s))) out₀ out k

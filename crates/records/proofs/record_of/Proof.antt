@@ -1,4 +1,4 @@
--- `reader::writing::record_of` meets its contract. Assumes nothing.
+-- `records::record_of` meets its contract. Assumes nothing.
 use mathlib.Core.Path.{sym, ap, _∙_}
 use mathlib.Core.List.{[], _∷_}
 use Prim.Native.Nat.{ℕ, _+_, _-_, _≤_, _<_}
@@ -6,10 +6,10 @@ use native.Mathlib.Omega.{arith}
 use lib.ListN.{length}
 use Rattle.lines.specs.Places.{nameStart}
 use Rattle.cards.proofs.CardLaws.{told-fits, name-long}
-use Rattle.reader.specs.Outcome.{recordBy, recordOf}
+use Rattle.records.specs.Records.{recordBy, recordOf}
 use borrow.Author.Needs.{needs}
-use Rattle.reader.proofs.writing.record_of.Statement.{statement}
-use Rattle.reader.proofs.writing.record_of.Tie as tie
+use Rattle.records.proofs.record_of.Statement.{statement}
+use Rattle.records.proofs.record_of.Tie as tie
 
 -- the parts lie within the line
 within : (c : tie.After-told)

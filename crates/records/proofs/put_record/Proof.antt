@@ -1,4 +1,4 @@
--- `reader::writing::put_record` meets its contract. Assumes nothing.
+-- `records::put_record` meets its contract. Assumes nothing.
 use borrow.Author.Needs.{needs}
 use mathlib.Core.Path.{_≡_}
 use mathlib.Core.List.{List, [], _∷_, _++_}
@@ -6,8 +6,8 @@ use Prim.Native.Nat.{ℕ, suc, _+_, _≤_}
 use native.Mathlib.Omega.{arith}
 use lib.ListN.{length, take, drop, set, length-set}
 use lib.Seq.{sets-eq}
-use Rattle.reader.proofs.writing.put_record.Statement.{statement}
-use Rattle.reader.proofs.writing.put_record.Tie as tie
+use Rattle.records.proofs.put_record.Statement.{statement}
+use Rattle.records.proofs.put_record.Tie as tie
 
 -- eight stores in a row
 eight : (l : List ℕ) (i a b c d e f g h : ℕ) → i + 8 ≤ length l

@@ -1,4 +1,4 @@
--- `reader::writing::write_lines` meets its contract. Assumes nothing.
+-- `records::write_lines` meets its contract. Assumes nothing.
 use borrow.Author.Needs.{needs}
 use mathlib.Core.Path.{_≡_, sym, ap, _∙_}
 use mathlib.Core.List.{List, _++_}
@@ -10,9 +10,9 @@ use Rattle.octets.specs.Room.{overlay}
 use Rattle.folds.specs.Folds.{unfolded}
 use Rattle.folds.specs.Logical.{rawLines}
 use Rattle.folds.proofs.FoldLaws.{unfold-shorter}
-use Rattle.reader.specs.Outcome.{recordsFrom}
-use Rattle.reader.proofs.writing.write_lines.Statement.{statement}
-use Rattle.reader.proofs.writing.write_lines.Tie as tie
+use Rattle.records.specs.Records.{recordsFrom}
+use Rattle.records.proofs.write_lines.Statement.{statement}
+use Rattle.records.proofs.write_lines.Tie as tie
 
 unfold-requires : tie.Need-unfold-requires
 unfold-requires c κs = search needs
