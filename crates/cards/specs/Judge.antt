@@ -13,11 +13,11 @@ use Rattle.properties.specs.Rows.{isGroup}
 use Rattle.values.specs.Kinds.{valueScan}
 use Rattle.values.specs.declared.Fault.{Fault}
 use Rattle.values.specs.declared.Fault.the-variants.{Fits, Breaks}
-use Rattle.cards.specs.State.{inOrder, noted, closed}
+use Rattle.card_state.specs.State.{inOrder, noted, closed}
 use Rattle.content.specs.Parts.{rowOfLine, kindOfLine}
-use Rattle.cards.specs.declared.state.Card.{Card}
-use Rattle.cards.specs.declared.state.Step.{Step}
-use Rattle.cards.specs.declared.state.Step.the-variants.{Next, Refused}
+use Rattle.card_state.specs.declared.Card.{Card}
+use Rattle.card_state.specs.declared.Step.{Step}
+use Rattle.card_state.specs.declared.Step.the-variants.{Next, Refused}
 
 -- the number of a fault of the line rule: 6 for each
 abbrev pub lineRefusal : ℕ → ℕ

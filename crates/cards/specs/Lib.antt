@@ -1,3 +1,2 @@
 -- The definitions that the contracts of `cards` cite. Assumes nothing.
-pub mod State
 pub mod Judge

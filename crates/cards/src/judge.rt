@@ -8,10 +8,10 @@ ghost use Rattle.octets.specs.Classes.{Classes};
 ghost use Rattle.properties.specs.Rows.{Lists};
 ghost use Rattle.values.specs.States.{Scanner};
 ghost use Rattle.values.specs.Kinds.{valueScan};
-ghost use Rattle.cards.specs.State.{inOrder, onceBit, isSeen};
+ghost use Rattle.card_state.specs.State.{inOrder, onceBit, isSeen};
 ghost use Rattle.cards.specs.Judge.{framing, laden, broken, entered, judgeParts, judgeLine};
-use crate::state::Card;
-use crate::state::Step;
+use card_state::Card;
+use card_state::Step;
 use content::Parts;
 use content::Told;
 use values::Fault;
@@ -78,10 +78,10 @@ fn enter(c: Card, at: usize, row: usize, value: &[u8]) -> Step
     ensures { λ r. ⌜ r ≡ entered c at row (now (value .entry)) ⌝ }
 {
     if row == 2 {
-        return crate::state::close(c, at);
+        return card_state::close(c, at);
     }
     let group = properties::is_group(value);
-    Step::Next(crate::state::note(c, row, group))
+    Step::Next(card_state::note(c, row, group))
 }
 
 // The checks of a line whose parts are known: 9, 8, 7, 10, and at END those of the card.
@@ -94,7 +94,7 @@ fn judge_parts(steps: &[u8; 1016], x: Parts, value: &[u8], at: usize, c: Card) -
     let misplaced = !in_order(c.phase, x.row);
     let laden = is_laden(x);
     let broken = breaks_kind(steps, x.row, x.kind, value);
-    let again = crate::state::is_again(c.seen, x.row);
+    let again = card_state::is_again(c.seen, x.row);
     if misplaced {
         return Step::Refused(9, at);
     }

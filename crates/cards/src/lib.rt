@@ -1,3 +1,2 @@
-// Cards: the state within a card, and the judgement of one line.
+// Cards: the judgement of one logical line within its card.
 pub mod judge;
-pub mod state;

@@ -19,12 +19,12 @@ use Rattle.properties.specs.Rows.{isGroup}
 use Rattle.values.specs.Kinds.{valueScan}
 use Rattle.values.specs.declared.Fault.{Fault}
 use Rattle.values.specs.declared.Fault.the-variants.{Fits, Breaks}
-use Rattle.cards.specs.State.{freshCard, inOrder, onceBit, isSeen, noted, closed}
+use Rattle.card_state.specs.State.{freshCard, inOrder, onceBit, isSeen, noted, closed}
 use Rattle.content.specs.Parts.{rowOfLine, kindOfLine}
 use Rattle.cards.specs.Judge.{laden, entered, fitting, judgeParts, judgeParsed, judgeLine}
-use Rattle.cards.specs.declared.state.Card.{Card}
-use Rattle.cards.specs.declared.state.Step.{Step}
-use Rattle.cards.specs.declared.state.Step.the-variants.{Next, Refused as Halted}
+use Rattle.card_state.specs.declared.Card.{Card}
+use Rattle.card_state.specs.declared.Step.{Step}
+use Rattle.card_state.specs.declared.Step.the-variants.{Next, Refused as Halted}
 use Rattle.folds.specs.Lone.{firstLone, endsCrLf}
 use Rattle.reader.specs.Outcome.{onward, judgeLines, verdictOf, judgeOf}
 use Rattle.reader.specs.declared.Verdict.{Verdict}

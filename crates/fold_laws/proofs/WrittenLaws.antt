@@ -12,8 +12,8 @@ use Rattle.octets.specs.Pick.{pick}
 use Rattle.octets.specs.Room.{Filled, filled, refuse, overlay, fill, fillBounded}
 use Rattle.octets.specs.declared.rooms.Written.the-variants.{Wrote, Refused}
 use Rattle.cards.specs.Judge.{judgeLine}
-use Rattle.cards.specs.declared.state.Card.{Card}
-use Rattle.cards.specs.declared.state.Step.the-variants.{Next}
+use Rattle.card_state.specs.declared.Card.{Card}
+use Rattle.card_state.specs.declared.Step.the-variants.{Next}
 use Rattle.cards.proofs.CardLaws.{line-clean}
 use Rattle.reader.specs.Outcome.{judgeOf, logicalLines}
 use Rattle.reader.specs.declared.Verdict.{Verdict}

@@ -5,10 +5,10 @@ use Prim.Native.Nat.{ℕ, _+_, _≤_}
 use lib.ListN.{length}
 use Rattle.folds.specs.Folds.{unfolded}
 use Rattle.folds.specs.Logical.{rawLines}
-use Rattle.cards.specs.State.{freshCard}
+use Rattle.card_state.specs.State.{freshCard}
 use Rattle.cards.specs.Judge.{judgeLine}
-use Rattle.cards.specs.declared.state.Card.{Card}
-use Rattle.cards.specs.declared.state.Step.the-variants.{Next}
+use Rattle.card_state.specs.declared.Card.{Card}
+use Rattle.card_state.specs.declared.Step.the-variants.{Next}
 use Rattle.cards.proofs.CardLaws.{line-clean}
 use Rattle.reader.specs.Outcome.{judgeLines, judgeOf, logicalLines}
 use Rattle.reader.specs.declared.Verdict.the-variants.{Accepted}

@@ -10,10 +10,10 @@ use Rattle.folds.specs.Folds.{unfolded}
 use Rattle.folds.specs.Logical.{linesBy, rawLines}
 use Rattle.lines.specs.Grammar.{Line, Each, render}
 use Rattle.language.proofs.Law.{line-unique}
-use Rattle.cards.specs.State.{freshCard}
-use Rattle.cards.specs.declared.state.Card.{Card}
-use Rattle.cards.specs.declared.state.Step.{Step}
-use Rattle.cards.specs.declared.state.Step.the-variants.{Next}
+use Rattle.card_state.specs.State.{freshCard}
+use Rattle.card_state.specs.declared.Card.{Card}
+use Rattle.card_state.specs.declared.Step.{Step}
+use Rattle.card_state.specs.declared.Step.the-variants.{Next}
 use Rattle.folds.specs.Lone.{firstLone}
 use Rattle.reader.specs.Outcome.{judgeLines, verdictOf, judgeOf, logicalLines, ended}
 use Rattle.reader.specs.declared.Verdict.the-variants.{Accepted}

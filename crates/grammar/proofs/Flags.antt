@@ -9,7 +9,7 @@ use Rattle.octets.specs.Pick.{pick}
 use Rattle.properties.specs.Rows.{rows, rowAt, single}
 use Rattle.octets.specs.Ascii.{octets}
 use Rattle.octets.proofs.Upto.{upto, alike}
-use Rattle.cards.specs.State.{onceBit, isSeen}
+use Rattle.card_state.specs.State.{onceBit, isSeen}
 
 small : (a b : ℕ) → a < 2 → b < 2 → eqb (bitOr a b) 1 ≡ (eqb a 1 || eqb b 1)
 small zero b h g = ap (λ (n : ℕ). eqb n 1) (or-zero-l b)

@@ -11,10 +11,10 @@ use borrow.Author.Tests.{eqb-true, eqb-false, eq-eqb, ne-eqb, not-true}
 use Rattle.lines.specs.Grammar.{Line}
 use Rattle.properties.specs.Rows.{single, isGroup}
 use Rattle.octets.proofs.Bools.{by, and-both}
-use Rattle.cards.specs.State.{freshCard, inOrder, onceBit, isSeen, phaseAfter, noted, closed}
+use Rattle.card_state.specs.State.{freshCard, inOrder, onceBit, isSeen, phaseAfter, noted, closed}
 use Rattle.content.specs.Parts.{rowOfLine}
-use Rattle.cards.specs.declared.state.Card.{Card}
-use Rattle.cards.specs.declared.state.Step.the-variants.{Next, Refused}
+use Rattle.card_state.specs.declared.Card.{Card}
+use Rattle.card_state.specs.declared.Step.the-variants.{Next, Refused}
 use Rattle.content.proofs.PartLaws.{row-of-line}
 use Rattle.grammar.specs.Cards.{counts, count, ofRow, linesOf, saysGroup, groupLines}
 use Rattle.grammar.specs.Refusals.{InPlace}

@@ -19,12 +19,12 @@ use Rattle.values.specs.Kinds.{valueScan}
 use Rattle.values.specs.declared.Fault.{Fault}
 use Rattle.values.specs.declared.Fault.the-variants.{Fits, Breaks}
 use Rattle.octets.proofs.Bools.{by}
-use Rattle.cards.specs.State.{inOrder, noted, closed}
+use Rattle.card_state.specs.State.{inOrder, noted, closed}
 use Rattle.content.specs.Parts.{rowOfLine, kindOfLine}
 use Rattle.cards.specs.Judge.{framing, laden, entered, fitting, judgeParts, judgeParsed, judgeLine}
-use Rattle.cards.specs.declared.state.Card.{Card}
-use Rattle.cards.specs.declared.state.Step.{Step}
-use Rattle.cards.specs.declared.state.Step.the-variants.{Next, Refused}
+use Rattle.card_state.specs.declared.Card.{Card}
+use Rattle.card_state.specs.declared.Step.{Step}
+use Rattle.card_state.specs.declared.Step.the-variants.{Next, Refused}
 use Rattle.grammar.specs.Cards.{Clean, Bare, ofRow, linesOf, saysGroup, groupLines}
 use Rattle.grammar.specs.Refusals.{Reads, InPlace, Framing, Unladen, Sound, LineRefused, octet, rule, order, laden as heavy, value, second, nameless, no-group}
 use Rattle.grammar.proofs.ValueLaws.{value-fits, clean-law}

@@ -15,11 +15,11 @@ use Rattle.folds.specs.Folds.{unfolded}
 use Rattle.folds.specs.Logical.{rawLines}
 use Rattle.lines.specs.Grammar.{Line}
 use Rattle.octets.proofs.Bools.{by}
-use Rattle.cards.specs.State.{freshCard}
+use Rattle.card_state.specs.State.{freshCard}
 use Rattle.cards.specs.Judge.{judgeLine}
-use Rattle.cards.specs.declared.state.Card.{Card}
-use Rattle.cards.specs.declared.state.Step.{Step}
-use Rattle.cards.specs.declared.state.Step.the-variants.{Next, Refused as Halted}
+use Rattle.card_state.specs.declared.Card.{Card}
+use Rattle.card_state.specs.declared.Step.{Step}
+use Rattle.card_state.specs.declared.Step.the-variants.{Next, Refused as Halted}
 use Rattle.folds.specs.Lone.{loneStep, firstLone, endsCrLf}
 use Rattle.reader.specs.Outcome.{onward, judgeLines, verdictOf, judgeOf, ended}
 use Rattle.reader.specs.declared.Verdict.the-variants.{Accepted, Refused}

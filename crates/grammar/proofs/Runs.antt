@@ -12,9 +12,9 @@ use Rattle.lines.specs.Grammar.{Line, Each, render}
 use Rattle.properties.specs.Rows.{single}
 use Rattle.content.specs.Parts.{rowOfLine}
 use Rattle.cards.specs.Judge.{judgeLine}
-use Rattle.cards.specs.declared.state.Card.{Card}
-use Rattle.cards.specs.declared.state.Step.{Step}
-use Rattle.cards.specs.declared.state.Step.the-variants.{Next}
+use Rattle.card_state.specs.declared.Card.{Card}
+use Rattle.card_state.specs.declared.Step.{Step}
+use Rattle.card_state.specs.declared.Step.the-variants.{Next}
 use Rattle.reader.specs.Outcome.{onward, judgeLines}
 use Rattle.grammar.specs.Cards.{Readable, Begins, Versions, Inside, count, ofRow, linesOf, groupLines, Once, Inner, CardLines, card, Cards, none, more}
 use Rattle.grammar.specs.Refusals.{Begun, nothing, first, within, Sound}

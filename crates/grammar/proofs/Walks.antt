@@ -8,10 +8,10 @@ use lib.ListN.{length, length-append}
 use lib.Seq.{append-snoc}
 use Rattle.folds.specs.Folds.{unfolded}
 use Rattle.lines.specs.Grammar.{Line, Each, render}
-use Rattle.cards.specs.State.{freshCard}
-use Rattle.cards.specs.declared.state.Card.{Card}
-use Rattle.cards.specs.declared.state.Step.{Step}
-use Rattle.cards.specs.declared.state.Step.the-variants.{Next, Refused}
+use Rattle.card_state.specs.State.{freshCard}
+use Rattle.card_state.specs.declared.Card.{Card}
+use Rattle.card_state.specs.declared.Step.{Step}
+use Rattle.card_state.specs.declared.Step.the-variants.{Next, Refused}
 use Rattle.reader.specs.Outcome.{onward, judgeLines, ended}
 use Rattle.grammar.specs.Cards.{Readable, CardLines, Cards, none, more}
 use Rattle.grammar.specs.Refusals.{Begun, nothing, SoFar, Sound, LineRefused}

@@ -17,10 +17,10 @@ use Rattle.folds.specs.Folds.{lineLength, unfolded}
 use Rattle.folds.specs.Logical.{rawLines}
 use Rattle.folds.proofs.LineLaws.{lines-end}
 use Rattle.lines.specs.Grammar.{Each}
-use Rattle.cards.specs.State.{freshCard}
+use Rattle.card_state.specs.State.{freshCard}
 use Rattle.cards.specs.Judge.{judgeLine}
-use Rattle.cards.specs.declared.state.Card.{Card}
-use Rattle.cards.specs.declared.state.Step.the-variants.{Next}
+use Rattle.card_state.specs.declared.Card.{Card}
+use Rattle.card_state.specs.declared.Step.the-variants.{Next}
 use Rattle.cards.proofs.CardLaws.{line-clean}
 use Rattle.reader.specs.Outcome.{judgeLines, judgeOf, ended, logicalLines, copyOf}
 use Rattle.reader.specs.declared.Verdict.the-variants.{Accepted}

@@ -8,9 +8,9 @@ use Rattle.folds.specs.Folds.{lineLength, unfolded}
 use Rattle.folds.specs.Logical.{rawLines}
 use Rattle.folds.proofs.SpanLaws.{lines-turn, part-length}
 use Rattle.cards.specs.Judge.{judgeLine}
-use Rattle.cards.specs.declared.state.Card.{Card}
-use Rattle.cards.specs.declared.state.Step.{Step}
-use Rattle.cards.specs.declared.state.Step.the-variants.{Refused}
+use Rattle.card_state.specs.declared.Card.{Card}
+use Rattle.card_state.specs.declared.Step.{Step}
+use Rattle.card_state.specs.declared.Step.the-variants.{Refused}
 use Rattle.reader.specs.Outcome.{onward, judgeLines}
 
 -- the line from `at` to e is the first of those that are left; it was judged r

@@ -8,11 +8,11 @@ use Rattle.octets.specs.Room.{overlay}
 use Rattle.folds.specs.Folds.{unfolded}
 use Rattle.folds.specs.Logical.{rawLines}
 use Rattle.records.specs.Records.{recordsFrom}
-use Rattle.cards.specs.State.{freshCard}
+use Rattle.card_state.specs.State.{freshCard}
 use Rattle.cards.specs.Judge.{judgeLine}
-use Rattle.cards.specs.declared.state.Card.{Card}
-use Rattle.cards.specs.declared.state.Step.{Step}
-use Rattle.cards.specs.declared.state.Step.the-variants.{Next, Refused as Halted}
+use Rattle.card_state.specs.declared.Card.{Card}
+use Rattle.card_state.specs.declared.Step.{Step}
+use Rattle.card_state.specs.declared.Step.the-variants.{Next, Refused as Halted}
 use Rattle.folds.specs.Lone.{firstLone, endsCrLf}
 use Rattle.reader.specs.declared.Verdict.{Verdict}
 use Rattle.reader.specs.declared.Verdict.the-variants.{Accepted, Refused}

@@ -1,7 +1,7 @@
 // The reader: judges an input of cards, and writes its copy and its records.
 ghost use mathlib.Core.Path.{_≡_};
 ghost use Rattle.reader.specs.Outcome.{verdictOf, judgeOf, took, readOutcome};
-use cards::state::Step;
+use card_state::Step;
 
 pub mod walk;
 

@@ -10,11 +10,11 @@ ghost use Rattle.folds.specs.Folds.{notCr, lineLength, unfolded};
 ghost use Rattle.folds.specs.Logical.{rawLines};
 ghost use Rattle.properties.specs.Rows.{Lists};
 ghost use Rattle.values.specs.States.{Scanner};
-ghost use Rattle.cards.specs.State.{freshCard};
+ghost use Rattle.card_state.specs.State.{freshCard};
 ghost use Rattle.cards.specs.Judge.{judgeLine};
 ghost use Rattle.reader.specs.Outcome.{judgeLines};
-use cards::state::Card;
-use cards::state::Step;
+use card_state::Card;
+use card_state::Step;
 
 // Judges the logical line s, which starts at `at` in the input: as it is where it has no fold, else unfolded into the scratch.
 fn judge_span(
@@ -53,7 +53,7 @@ pub fn walk(t: &[u8; 256], rows: &[u8; 624], steps: &[u8; 1016], s: &[u8]) -> St
     ensures { λ r. ⌜ r ≡ judgeLines (rawLines (now (s .entry))) 0 freshCard ⌝ }
 {
     let mut scratch = [0u8; 16384];
-    let mut c = cards::state::fresh();
+    let mut c = card_state::fresh();
     let mut at: usize = 0;
     while at < s.len() {
         let span = folds::spans::line_at(s, at);

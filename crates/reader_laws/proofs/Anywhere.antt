@@ -10,11 +10,11 @@ use borrow.Author.Tests.{le-ltb}
 use Rattle.octets.specs.Pick.{pick}
 use Rattle.characters.specs.Characters.{allowed, firstBad}
 use Rattle.properties.specs.Rows.{isGroup}
-use Rattle.cards.specs.State.{onceBit, isSeen, noted, closed}
+use Rattle.card_state.specs.State.{onceBit, isSeen, noted, closed}
 use Rattle.content.specs.Parts.{rowOfLine}
 use Rattle.cards.specs.Judge.{entered, judgeParts, judgeLine}
-use Rattle.cards.specs.declared.state.Card.{Card}
-use Rattle.cards.specs.declared.state.Step.the-variants.{Next}
+use Rattle.card_state.specs.declared.Card.{Card}
+use Rattle.card_state.specs.declared.Step.the-variants.{Next}
 use Rattle.cards.proofs.CardLaws.{unless, only, passed}
 
 module _ (c c′ : Card) (p q : ℕ) where

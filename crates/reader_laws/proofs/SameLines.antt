@@ -9,11 +9,11 @@ use lib.ListN.{length}
 use borrow.Author.Tests.{ne-eqb, eq-eqb, le-ltb}
 use Rattle.folds.specs.Folds.{unfolded}
 use Rattle.folds.specs.Logical.{rawLines}
-use Rattle.cards.specs.State.{freshCard}
+use Rattle.card_state.specs.State.{freshCard}
 use Rattle.cards.specs.Judge.{judgeLine}
-use Rattle.cards.specs.declared.state.Card.{Card}
-use Rattle.cards.specs.declared.state.Step.{Step}
-use Rattle.cards.specs.declared.state.Step.the-variants.{Next}
+use Rattle.card_state.specs.declared.Card.{Card}
+use Rattle.card_state.specs.declared.Step.{Step}
+use Rattle.card_state.specs.declared.Step.the-variants.{Next}
 use Rattle.folds.specs.Lone.{firstLone, endsCrLf}
 use Rattle.reader.specs.Outcome.{onward, judgeLines, verdictOf, judgeOf, logicalLines, copyOf, recordsOf}
 use Rattle.reader.specs.declared.Verdict.the-variants.{Accepted}

@@ -7,11 +7,11 @@ use lib.ListN.{length}
 use Rattle.lines.specs.Grammar.{Line}
 use Rattle.folds.specs.Folds.{unfolded}
 use Rattle.folds.specs.Logical.{rawLines}
-use Rattle.cards.specs.State.{freshCard}
+use Rattle.card_state.specs.State.{freshCard}
 use Rattle.cards.specs.Judge.{judgeLine}
 use Rattle.cards.proofs.CardLaws.{one-more}
-use Rattle.cards.specs.declared.state.Card.{Card}
-use Rattle.cards.specs.declared.state.Step.the-variants.{Next}
+use Rattle.card_state.specs.declared.Card.{Card}
+use Rattle.card_state.specs.declared.Step.the-variants.{Next}
 use Rattle.reader.specs.Outcome.{judgeLines, judgeOf}
 use Rattle.reader.proofs.AcceptLaws.{onward-next, lines-few, accepting, lines-counted}
 use Rattle.reader.specs.declared.Verdict.{Verdict}

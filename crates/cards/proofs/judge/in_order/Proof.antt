@@ -1,6 +1,6 @@
 -- `cards::judge::in_order` meets its contract. Assumes nothing.
 use borrow.Author.Tests.{eq-eqb, ne-eqb}
-use Rattle.cards.specs.State.{inOrder}
+use Rattle.card_state.specs.State.{inOrder}
 use Rattle.cards.proofs.judge.in_order.Statement.{statement}
 use Rattle.cards.proofs.judge.in_order.Tie as tie
 

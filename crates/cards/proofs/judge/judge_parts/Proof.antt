@@ -3,7 +3,7 @@ use mathlib.Core.Path.{_≡_, sym, _∙_}
 use mathlib.Core.Bool.{not}
 use Rattle.octets.specs.Pick.{pick}
 use Rattle.cards.specs.Judge.{entered, judgeParts}
-use Rattle.cards.specs.declared.state.Step.the-variants.{Refused}
+use Rattle.card_state.specs.declared.Step.the-variants.{Refused}
 use borrow.Author.Needs.{needs}
 use Rattle.cards.proofs.JudgeLaws.{tests}
 use Rattle.cards.proofs.judge.judge_parts.Statement.{statement}

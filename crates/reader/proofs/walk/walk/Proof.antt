@@ -8,9 +8,9 @@ use lib.ListN.{length, take, drop, length-replicate}
 use Rattle.folds.specs.Logical.{rawLines}
 use Rattle.folds.proofs.FoldLaws.{unfold-shorter}
 use Rattle.folds.proofs.LineLaws.{lines-end}
-use Rattle.cards.specs.State.{freshCard}
-use Rattle.cards.specs.declared.state.Card.{Card}
-use Rattle.cards.specs.declared.state.Step.{Step}
+use Rattle.card_state.specs.State.{freshCard}
+use Rattle.card_state.specs.declared.Card.{Card}
+use Rattle.card_state.specs.declared.Step.{Step}
 use Rattle.cards.proofs.CardLaws.{one-more}
 use Rattle.reader.specs.Outcome.{onward, judgeLines}
 use Rattle.folds.proofs.SpanLaws.{whole, part-length}

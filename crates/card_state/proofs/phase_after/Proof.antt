@@ -1,8 +1,8 @@
--- `cards::state::phase_after` meets its contract. Assumes nothing.
+-- `card_state::phase_after` meets its contract. Assumes nothing.
 use borrow.Author.Tests.{eq-eqb, ne-eqb}
-use Rattle.cards.specs.State.{phaseAfter}
-use Rattle.cards.proofs.state.phase_after.Statement.{statement}
-use Rattle.cards.proofs.state.phase_after.Tie as tie
+use Rattle.card_state.specs.State.{phaseAfter}
+use Rattle.card_state.proofs.phase_after.Statement.{statement}
+use Rattle.card_state.proofs.phase_after.Tie as tie
 
 returns : tie.Need-returns
 unfolding phaseAfter

@@ -1,8 +1,8 @@
--- `cards::state::once_bit` meets its contract. Assumes nothing.
+-- `card_state::once_bit` meets its contract. Assumes nothing.
 use borrow.Author.Tests.{ne-eqb}
-use Rattle.cards.specs.State.{onceBit}
-use Rattle.cards.proofs.state.once_bit.Statement.{statement}
-use Rattle.cards.proofs.state.once_bit.Tie as tie
+use Rattle.card_state.specs.State.{onceBit}
+use Rattle.card_state.proofs.once_bit.Statement.{statement}
+use Rattle.card_state.proofs.once_bit.Tie as tie
 
 returns : tie.Need-returns
 unfolding onceBit

@@ -1,8 +1,8 @@
--- `cards::state::note` meets its contract. Assumes nothing.
-use Rattle.cards.specs.State.{noted}
+-- `card_state::note` meets its contract. Assumes nothing.
+use Rattle.card_state.specs.State.{noted}
 use borrow.Author.Needs.{needs}
-use Rattle.cards.proofs.state.note.Statement.{statement}
-use Rattle.cards.proofs.state.note.Tie as tie
+use Rattle.card_state.proofs.note.Statement.{statement}
+use Rattle.card_state.proofs.note.Tie as tie
 
 says-group-requires : tie.Need-says-group-requires
 says-group-requires c κs = search needs

@@ -1,9 +1,9 @@
--- `cards::state::is_again` meets its contract. Assumes nothing.
+-- `card_state::is_again` meets its contract. Assumes nothing.
 use borrow.Author.Tests.{eq-eqb, ne-eqb}
-use Rattle.cards.specs.State.{isSeen}
+use Rattle.card_state.specs.State.{isSeen}
 use borrow.Author.Needs.{needs}
-use Rattle.cards.proofs.state.is_again.Statement.{statement}
-use Rattle.cards.proofs.state.is_again.Tie as tie
+use Rattle.card_state.proofs.is_again.Statement.{statement}
+use Rattle.card_state.proofs.is_again.Tie as tie
 
 once-bit-requires : tie.Need-once-bit-requires
 once-bit-requires c κs = search needs

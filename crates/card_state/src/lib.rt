@@ -3,7 +3,7 @@ ghost use mathlib.Core.Path.{_≡_};
 ghost use mathlib.Core.Bool.{false, _||_, _&&_};
 ghost use lib.Dec.{eqb};
 ghost use Prim.Native.Nat.{ℕ, _<_, _≤_};
-ghost use Rattle.cards.specs.State.{onceBit, isSeen, phaseAfter, freshCard, closed, noted};
+ghost use Rattle.card_state.specs.State.{onceBit, isSeen, phaseAfter, freshCard, closed, noted};
 
 pub struct Card {
     // 0 before BEGIN, 1 before VERSION, 2 after it.

@@ -1,12 +1,12 @@
--- `cards::state::close` meets its contract. Assumes nothing.
+-- `card_state::close` meets its contract. Assumes nothing.
 use borrow.Author.Tests.{not-true, not-false}
 use mathlib.Core.Path.{_≡_}
 use mathlib.Core.Logic.{⊎-elim}
 use mathlib.Core.Bool.{not, false, _&&_, and-false}
-use Rattle.cards.specs.State.{closed}
+use Rattle.card_state.specs.State.{closed}
 use borrow.Author.Needs.{needs}
-use Rattle.cards.proofs.state.close.Statement.{statement}
-use Rattle.cards.proofs.state.close.Tie as tie
+use Rattle.card_state.proofs.close.Statement.{statement}
+use Rattle.card_state.proofs.close.Tie as tie
 
 returns : tie.Need-returns
 unfolding closed

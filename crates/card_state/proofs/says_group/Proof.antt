@@ -1,7 +1,7 @@
--- `cards::state::says_group` meets its contract. Assumes nothing.
+-- `card_state::says_group` meets its contract. Assumes nothing.
 use borrow.Author.Tests.{eq-eqb, ne-eqb}
-use Rattle.cards.proofs.state.says_group.Statement.{statement}
-use Rattle.cards.proofs.state.says_group.Tie as tie
+use Rattle.card_state.proofs.says_group.Statement.{statement}
+use Rattle.card_state.proofs.says_group.Tie as tie
 
 returns : tie.Need-returns
 returns c = simp (ne-eqb _ _ (c .if1 .taken))

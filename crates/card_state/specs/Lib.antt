@@ -1,0 +1,2 @@
+-- The definitions that the contracts of `card_state` cite. Assumes nothing.
+pub mod State
