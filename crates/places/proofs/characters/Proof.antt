@@ -1,16 +1,16 @@
--- `cabbook::places::characters` meets its contract. Assumes nothing.
+-- `places::characters` meets its contract. Assumes nothing.
 use borrow.Author.Needs.{needs}
-use mathlib.Core.Path.{_≡_, refl, sym, ap, _∙_}
+use mathlib.Core.Path.{_≡_, sym, ap, _∙_}
 use mathlib.Core.Logic.{⊎-elim}
 use mathlib.Core.Bool.{not}
 use Prim.Native.Nat.{_≤_, _<_, _+_, _-_}
 use native.Mathlib.Omega.{arith}
 use lib.ListN.{length, drop}
 use borrow.Author.Tests.{not-true, not-false}
-use Rattle.cabbook.specs.Places.{count, isFirst}
-use Rattle.cabbook.proofs.PlaceLaws.{count-one, count-none, count-end}
-use Rattle.cabbook.proofs.places.characters.Statement.{statement}
-use Rattle.cabbook.proofs.places.characters.Tie as tie
+use Rattle.places.specs.Places.{count, isFirst}
+use Rattle.places.proofs.PlaceLaws.{count-one, count-none, count-end}
+use Rattle.places.proofs.characters.Statement.{statement}
+use Rattle.places.proofs.characters.Tie as tie
 
 abbrev Inv-loop : tie.InvT-loop
 Inv-loop s n₀ i₀ n i = (n + count isFirst (drop i s) ≡ count isFirst s) × (n ≤ i)

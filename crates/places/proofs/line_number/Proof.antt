@@ -1,4 +1,4 @@
--- `cabbook::places::line_number` meets its contract. Assumes nothing.
+-- `places::line_number` meets its contract. Assumes nothing.
 use borrow.Author.Needs.{needs}
 use mathlib.Core.Path.{_≡_, refl}
 use mathlib.Core.Logic.{⊎-elim}
@@ -6,10 +6,10 @@ use Prim.Native.Nat.{_≤_, _<_, _+_, _-_}
 use native.Mathlib.Omega.{arith}
 use lib.ListN.{length, drop}
 use borrow.Author.Tests.{eq-eqb, ne-eqb}
-use Rattle.cabbook.specs.Places.{count, isLf}
-use Rattle.cabbook.proofs.PlaceLaws.{count-one, count-none, count-end}
-use Rattle.cabbook.proofs.places.line_number.Statement.{statement}
-use Rattle.cabbook.proofs.places.line_number.Tie as tie
+use Rattle.places.specs.Places.{count, isLf}
+use Rattle.places.proofs.PlaceLaws.{count-one, count-none, count-end}
+use Rattle.places.proofs.line_number.Statement.{statement}
+use Rattle.places.proofs.line_number.Tie as tie
 
 abbrev Inv-loop : tie.InvT-loop
 Inv-loop before n₀ i₀ n i = (n + count isLf (drop i before) ≡ 1 + count isLf before) × (n ≤ 1 + i)

@@ -1,12 +1,12 @@
--- `cabbook::places::line_opens` meets its contract. Assumes nothing.
+-- `places::line_opens` meets its contract. Assumes nothing.
 use borrow.Author.Needs.{needs}
 use mathlib.Core.Path.{_≡_}
 use Prim.Native.Nat.{_-_, _≤_}
 use native.Mathlib.Omega.{arith}
 use borrow.Author.Tests.{eq-eqb, ne-eqb}
 use lib.ListN.{getD, length, List·getD-eq-default}
-use Rattle.cabbook.proofs.places.line_opens.Statement.{statement}
-use Rattle.cabbook.proofs.places.line_opens.Tie as tie
+use Rattle.places.proofs.line_opens.Statement.{statement}
+use Rattle.places.proofs.line_opens.Tie as tie
 
 sub-if1 : tie.Need-sub-if1
 sub-if1 c = search needs

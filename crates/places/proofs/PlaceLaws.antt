@@ -8,7 +8,7 @@ use native.Mathlib.Omega.{arith}
 use lib.ListN.{length, getD, drop, drop-of-length-le}
 use lib.Seq.{drop-cons}
 use Rattle.octets.specs.Pick.{pick}
-use Rattle.cabbook.specs.Places.{count, backTo}
+use Rattle.places.specs.Places.{count, backTo}
 
 module _ (p : ℕ → Bool) (s : List ℕ) (i : ℕ) where
   count-at : i < length s → count p (drop i s) ≡ pick (p (getD s i 0)) 1 0 + count p (drop (i + 1) s)
