@@ -1,10 +1,11 @@
 -- Text added piece by piece to a page. Assumes nothing.
 use mathlib.Core.Path.{_≡_, refl, sym, ap, _∙_}
 use mathlib.Core.List.{List, [], _∷_, _++_}
-use Prim.Native.Nat.{ℕ, suc, _+_, _<_, _≤_}
+use Prim.Native.Nat.{ℕ, zero, suc, _+_, _-_, _<_, _≤_}
 use native.Mathlib.Numerals.{add-one}
+use native.Mathlib.Omega.{arith}
 use borrow.Author.Tests.{lt-ltb, le-ltb}
-use lib.ListN.{length, getD, drop, set, drop-of-length-le}
+use lib.ListN.{length, getD, drop, set, replicate, drop-of-length-le}
 use lib.Seq.{drop-cons}
 use Rattle.pages.specs.Pages.{Page, page, one, added}
 
@@ -22,14 +23,6 @@ unfolding added
 added-append [] b p = refl
 added-append (x ∷ xs) b p = added-append xs b (one x p)
 
-pub added-one : (x : ℕ) (p : Page) → added (x ∷ []) p ≡ one x p
-unfolding added
-added-one x p = refl
-
-pub added-none : (p : Page) → added [] p ≡ p
-unfolding added
-added-none p = refl
-
 -- the next octet of a text
 pub added-next : (s : List ℕ) (i : ℕ) (p : Page) → i < length s → added (drop i s) p ≡ added (drop (i + 1) s) (one (getD s i 0) p)
 unfolding added
@@ -38,3 +31,20 @@ added-next s i p h = rw (add-one, drop-cons s i 0 h)
 pub added-end : (s : List ℕ) (i : ℕ) (p : Page) → length s ≤ i → added (drop i s) p ≡ p
 unfolding added
 added-end s i p h = rw (drop-of-length-le s h)
+
+-- the next of k octets that are alike
+pub added-like : (x k : ℕ) (p : Page) → 0 < k → added (replicate k x) p ≡ added (replicate (k - 1) x) (one x p)
+unfolding added
+added-like x zero p h = absurd (omega arith)
+added-like x (suc k) p h =
+    let e : suc k - 1 ≡ k = omega arith in
+    rw e
+
+pub added-no-more : (x k : ℕ) (p : Page) → k ≤ 0 → added (replicate k x) p ≡ p
+unfolding added
+added-no-more x zero p h = refl
+added-no-more x (suc k) p h = absurd (omega arith)
+
+-- a piece of a text is added, and the rest is left
+pub added-piece : (whole a rest : List ℕ) (p q : Page) → whole ≡ a ++ rest → q ≡ added a p → added rest q ≡ added whole p
+added-piece whole a rest p q e f = ap (added rest) f ∙ sym (added-append a rest p) ∙ ap (λ (t : List ℕ). added t p) (sym e)

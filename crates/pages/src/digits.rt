@@ -15,8 +15,9 @@ fn digit(n: usize) -> u8
 }
 
 // Writes the digits of a number to the end of a room, and answers where they start.
-fn spell(n: usize, room: &mut [u8; 20]) -> usize
-    ensures { λ r. ⌜ (drop r (now (room .exit)) ≡ decimal n) × (r ≤ 20) ⌝ }
+fn spell(n: usize, room: &mut [u8]) -> usize
+    requires { ⌜ length (now room) ≡ 20 ⌝ }
+    ensures { λ r. ⌜ (drop r (now (room .exit)) ≡ decimal n) × (r ≤ 20) × (length (now (room .exit)) ≡ 20) ⌝ }
 {
     let mut i: usize = 20;
     let mut rest = n;

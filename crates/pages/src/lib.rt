@@ -4,12 +4,13 @@ pub mod digits;
 pub mod seen;
 
 ghost use mathlib.Core.Path.{_≡_};
+ghost use mathlib.Core.List.{_∷_, []};
 ghost use lib.ListN.{replicate};
-ghost use Rattle.pages.specs.Pages.{page, one, added};
+ghost use Rattle.pages.specs.Pages.{page, added};
 
 // Adds an octet, and answers how many octets are written then.
 pub fn put(room: &mut [u8], at: usize, octet: u8) -> usize
-    ensures { λ r. ⌜ page r (now (room .exit)) ≡ one octet (page at (now (room .entry))) ⌝ }
+    ensures { λ r. ⌜ page r (now (room .exit)) ≡ added (octet ∷ []) (page at (now (room .entry))) ⌝ }
 {
     if at < room.len() {
         room[at] = octet;

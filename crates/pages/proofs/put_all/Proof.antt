@@ -1,46 +1,44 @@
+-- `pages::put_all` meets its contract. Assumes nothing.
+use mathlib.Core.Path.{_≡_, refl, sym, ap, _∙_}
+use Prim.Native.Nat.{_+_, _-_}
+use lib.ListN.{length, drop}
+use Rattle.pages.specs.Pages.{page, added}
+use Rattle.pages.proofs.PageLaws.{added-next, added-end}
+use borrow.Author.Needs.{needs}
 use Rattle.pages.proofs.put_all.Statement.{statement}
 use Rattle.pages.proofs.put_all.Tie as tie
-use Rattle.pages.proofs.put_all.Reads as reads
-use Rattle.pages.proofs.put_all.Lts as lts
-use Rattle.pages.proofs.put.Reads as put-reads
 
 abbrev Inv-loop : tie.InvT-loop
-Inv-loop room₀ at text next₀ i₀ room next i = ?
+Inv-loop room₀ at text next₀ i₀ room next i = (length room ≡ length room₀) × (added (drop i text) (page next room) ≡ added text (page at room₀))
 
 abbrev μ-loop : tie.MeasureT-loop
-μ-loop room₀ at text next₀ i₀ room next i = ?
+μ-loop room₀ at text next₀ i₀ room next i = length text - i
 
--- src/lib.rt:27:5
 loop-holds : tie.Need-loop-holds Inv-loop μ-loop
-loop-holds c = ?
+loop-holds c =
+    (refl, refl)
 
--- src/lib.rt:28:32
 shared-slice-read-put : tie.Need-shared-slice-read-put Inv-loop μ-loop
-shared-slice-read-put c = ?
-
--- src/lib.rt:28:9
+shared-slice-read-put c = search needs
 put-requires : tie.Need-put-requires Inv-loop μ-loop
-put-requires c κs = ?
-
--- src/lib.rt:29:9
+put-requires c κs = search needs
 add-i : tie.Need-add-i Inv-loop μ-loop
-add-i c = ?
-
--- src/lib.rt:27:5
+add-i c = search needs
 loop-less : tie.Need-loop-less Inv-loop μ-loop
-loop-less c = ?
-
--- src/lib.rt:27:5
+loop-less c = search needs
 loop-again : tie.Need-loop-again Inv-loop μ-loop
-loop-again c = ?
+unfolding added
+loop-again c =
+    let l = c .before .before .before .before .before .before .loop in
+    let s = c .before .before .before .before .before .before .before .before .before .args .text .now in
+    (search needs, ap (added (drop (l .i + 1) s)) (c .before .before .put .ensures) ∙ sym (added-next s (l .i) (page (l .next) (l .room)) (c .before .before .before .before .before .loop-test .taken)) ∙ l .inv .1)
 
--- src/lib.rt:22:1
 same-length : tie.Need-same-length Inv-loop μ-loop
-same-length c = ?
-
--- src/lib.rt:22:1
+same-length c = search needs
 returns : tie.Need-returns Inv-loop μ-loop
-returns c = ?
+returns c =
+    let l = c .before .loop in
+    sym (added-end (c .before .before .before .before .args .text .now) (l .i) (page (l .next) (l .room)) (c .loop-test .left)) ∙ l .inv .1
 
 pub put-all-spec : {M : Type 1} → statement M
 put-all-spec =
