@@ -5,6 +5,9 @@ use Prim.Native.Nat.{ℕ, zero, suc, _+_, _-_, _<_, _≤_}
 use native.Mathlib.Numerals.{add-one}
 use native.Mathlib.Omega.{arith}
 use borrow.Author.Tests.{lt-ltb, le-ltb}
+use Prim.Native.String.{String, [] as blank, _∷_ as _and_}
+use Prim.Native.Char.{code}
+use Rattle.octets.specs.Ascii.{octets}
 use lib.ListN.{length, getD, drop, set, replicate, drop-of-length-le}
 use lib.Seq.{drop-cons}
 use Rattle.pages.specs.Pages.{Page, page, one, added}
@@ -48,3 +51,34 @@ added-no-more x (suc k) p h = absurd (omega arith)
 -- a piece of a text is added, and the rest is left
 pub added-piece : (whole a rest : List ℕ) (p q : Page) → whole ≡ a ++ rest → q ≡ added a p → added rest q ≡ added whole p
 added-piece whole a rest p q e f = ap (added rest) f ∙ sym (added-append a rest p) ∙ ap (λ (t : List ℕ). added t p) (sym e)
+
+-- what was added to a page so far
+pub record Adds (a : List ℕ) (p q : Page) : Type 0 where
+  pub sum : q ≡ added a p
+
+pub nothing : (p : Page) → Adds [] p p
+unfolding added
+nothing p = record { sum = refl }
+
+-- a piece after it
+pub piece : (b : List ℕ) {a : List ℕ} {p q r : Page} → Adds a p q → r ≡ added b q → Adds (a ++ b) p r
+piece b {a} {p} e f = record { sum = f ∙ ap (added b) (e .sum) ∙ sym (added-append a b p) }
+
+-- the octets of a text, computed
+abbrev spelt : String → List ℕ
+spelt blank = []
+spelt (c and s) = code c ∷ spelt s
+
+spelt-is : (s : String) → spelt s ≡ octets s
+unfolding octets
+spelt-is blank = refl
+spelt-is (c and s) = ap (λ (l : List ℕ). code c ∷ l) (spelt-is s)
+
+-- a text after it
+pub text : (s : String) {a : List ℕ} {p q r : Page} → Adds a p q → r ≡ added (spelt s) q → Adds (a ++ octets s) p r
+text s {a} {p} {q} e f = piece (octets s) e (f ∙ ap (λ (t : List ℕ). added t q) (spelt-is s))
+
+-- no text after it
+pub pause : {a : List ℕ} {p q : Page} → Adds a p q → Adds (a ++ []) p q
+unfolding added
+pause {a} {p} {q} e = piece [] e refl

@@ -1,0 +1,18 @@
+use mathlib.Core.Path.{refl}
+use Rattle.octets.specs.Ascii.{octets}
+use Rattle.properties.proofs.Upto.{upto}
+use Rattle.workshop.specs.Words.{words, wordsOf}
+use Rattle.workshop.proofs.WordLaws.{worded}
+use Rattle.workshop.proofs.words.table.Statement.{statement}
+use Rattle.workshop.proofs.words.table.Tie as tie
+use Rattle.workshop.proofs.words.table.Reads as reads
+use Rattle.workshop.proofs.words.table.Lts as lts
+
+-- src/words.rt:43:1
+returns : tie.Need-returns
+unfolding words wordsOf octets upto
+returns c =
+    worded _ refl refl refl
+
+pub table-spec : {M : Type 1} → statement M
+table-spec = tie.close (tie.spec returns)

@@ -1,0 +1,6 @@
+-- The definitions that the contracts of `workshop` cite. Assumes nothing.
+pub mod Words
+pub mod Sentences
+pub mod Rows
+pub mod Uploads
+pub mod Options
