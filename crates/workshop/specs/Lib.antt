@@ -2,5 +2,7 @@
 pub mod Words
 pub mod Sentences
 pub mod Rows
+pub mod Under
 pub mod Uploads
+pub mod Fields
 pub mod Options

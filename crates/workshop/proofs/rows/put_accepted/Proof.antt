@@ -1,65 +1,47 @@
+-- `workshop::rows::put_accepted` meets its contract. Assumes nothing.
 use Rattle.octets.specs.Ascii.{octets}
 use Rattle.pages.specs.Pages.{page}
-use Rattle.pages.proofs.PageLaws.{nothing, piece, pause}
-use borrow.Author.Tests.{eq-eqb, ne-eqb, lt-ltb, le-ltb}
+use Rattle.pages.proofs.PageLaws.{nothing, piece}
 use borrow.Author.Needs.{needs}
 use Rattle.workshop.proofs.rows.put_accepted.Statement.{statement}
 use Rattle.workshop.proofs.rows.put_accepted.Tie as tie
-use Rattle.workshop.proofs.rows.put_accepted.Reads as reads
-use Rattle.workshop.proofs.rows.put_accepted.Lts as lts
-use Rattle.pages.proofs.put_all.Reads as put-all-reads
-use Rattle.pages.proofs.seen.put_visible.Reads as put-visible-reads
-use Rattle.workshop.proofs.sentences.put_count.Reads as put-count-reads
 
--- src/rows.rt:11:9
 put-visible-requires : tie.Need-put-visible-requires
 put-visible-requires c κs = search needs
 
--- src/rows.rt:12:37
 slice-aggregate-put-all : tie.Need-slice-aggregate-put-all
 slice-aggregate-put-all c = search needs
 
--- src/rows.rt:12:9
 put-all-requires : tie.Need-put-all-requires
 put-all-requires c κs = search needs
 
--- src/rows.rt:13:50
 slice-aggregate-put-count : tie.Need-slice-aggregate-put-count
 slice-aggregate-put-count c = search needs
 
--- src/rows.rt:13:9
 put-count-requires : tie.Need-put-count-requires
 put-count-requires c κs = search needs
 
--- src/rows.rt:14:37
 slice-aggregate-put-all-2 : tie.Need-slice-aggregate-put-all-2
 slice-aggregate-put-all-2 c = search needs
 
--- src/rows.rt:14:9
 put-all-requires-2 : tie.Need-put-all-requires-2
 put-all-requires-2 c κs = search needs
 
--- src/rows.rt:15:50
 slice-aggregate-put-count-2 : tie.Need-slice-aggregate-put-count-2
 slice-aggregate-put-count-2 c = search needs
 
--- src/rows.rt:15:9
 put-count-requires-2 : tie.Need-put-count-requires-2
 put-count-requires-2 c κs = search needs
 
--- src/rows.rt:16:29
 slice-aggregate-put-all-3 : tie.Need-slice-aggregate-put-all-3
 slice-aggregate-put-all-3 c = search needs
 
--- src/rows.rt:16:5
 put-all-requires-3 : tie.Need-put-all-requires-3
 put-all-requires-3 c κs = search needs
 
--- src/rows.rt:8:1
 same-length : tie.Need-same-length
 same-length c = search needs
 
--- src/rows.rt:8:1
 returns : tie.Need-returns
 unfolding octets
 returns c =

@@ -1,58 +1,41 @@
+-- `workshop::rows::put_reason` meets its contract. Assumes nothing.
 use Rattle.octets.specs.Ascii.{octets}
 use Rattle.pages.specs.Pages.{page}
-use Rattle.pages.proofs.PageLaws.{nothing, piece, pause}
-use borrow.Author.Tests.{eq-eqb, ne-eqb, lt-ltb, le-ltb}
+use Rattle.pages.proofs.PageLaws.{nothing, piece}
 use borrow.Author.Needs.{needs}
 use Rattle.workshop.proofs.rows.put_reason.Statement.{statement}
 use Rattle.workshop.proofs.rows.put_reason.Tie as tie
-use Rattle.workshop.proofs.rows.put_reason.Reads as reads
-use Rattle.workshop.proofs.rows.put_reason.Lts as lts
-use Rattle.pages.proofs.digits.put_number.Reads as put-number-reads
-use Rattle.pages.proofs.put_all.Reads as put-all-reads
-use Rattle.workshop.proofs.rows.line_of.Reads as line-of-reads
-use Rattle.workshop.proofs.words.put_words.Reads as put-words-reads
 
--- src/rows.rt:31:38
 slice-aggregate-put-all : tie.Need-slice-aggregate-put-all
 slice-aggregate-put-all c = search needs
 
--- src/rows.rt:31:9
 put-all-requires : tie.Need-put-all-requires
 put-all-requires c κs = search needs
 
--- src/rows.rt:32:48
 line-of-requires : tie.Need-line-of-requires
 line-of-requires c κs = search needs
 
--- src/rows.rt:32:9
 put-number-requires : tie.Need-put-number-requires
 put-number-requires c κs = search needs
 
--- src/rows.rt:33:37
 slice-aggregate-put-all-2 : tie.Need-slice-aggregate-put-all-2
 slice-aggregate-put-all-2 c = search needs
 
--- src/rows.rt:33:9
 put-all-requires-2 : tie.Need-put-all-requires-2
 put-all-requires-2 c κs = search needs
 
--- src/rows.rt:34:9
 put-words-requires : tie.Need-put-words-requires
 put-words-requires c κs = search needs
 
--- src/rows.rt:35:29
 slice-aggregate-put-all-3 : tie.Need-slice-aggregate-put-all-3
 slice-aggregate-put-all-3 c = search needs
 
--- src/rows.rt:35:5
 put-all-requires-3 : tie.Need-put-all-requires-3
 put-all-requires-3 c κs = search needs
 
--- src/rows.rt:28:1
 same-length : tie.Need-same-length
 same-length c = search needs
 
--- src/rows.rt:28:1
 returns : tie.Need-returns
 unfolding octets
 returns c =

@@ -1,47 +1,36 @@
+-- `workshop::sentences::put_count` meets its contract. Assumes nothing.
 use Rattle.octets.specs.Ascii.{octets}
 use Rattle.pages.specs.Pages.{page}
 use Rattle.pages.proofs.PageLaws.{nothing, piece, pause}
-use borrow.Author.Tests.{eq-eqb, ne-eqb, lt-ltb, le-ltb}
+use borrow.Author.Tests.{eq-eqb, ne-eqb}
 use borrow.Author.Needs.{needs}
 use Rattle.workshop.proofs.sentences.put_count.Statement.{statement}
 use Rattle.workshop.proofs.sentences.put_count.Tie as tie
-use Rattle.workshop.proofs.sentences.put_count.Reads as reads
-use Rattle.workshop.proofs.sentences.put_count.Lts as lts
-use Rattle.pages.proofs.digits.put_number.Reads as put-number-reads
-use Rattle.pages.proofs.put_all.Reads as put-all-reads
 
--- src/sentences.rt:10:9
 put-number-requires : tie.Need-put-number-requires
 put-number-requires c κs = search needs
 
--- src/sentences.rt:11:9
 put-all-requires : tie.Need-put-all-requires
 put-all-requires c κs = search needs
 
--- src/sentences.rt:13:9
 same-length : tie.Need-same-length
 same-length c = search needs
 
--- src/sentences.rt:13:9
 returns : tie.Need-returns
 unfolding octets
 returns c =
     let a = c .before .before .before .before .before .before .before .before .before .before .before .args in
     rw (eq-eqb (a .n) 1 (c .if1 .taken)) ((pause (piece _ (piece _ (nothing (page (a .at) (a .room .now))) (c .before .before .before .before .before .before .before .put-number .ensures)) (c .before .before .before .put-all .ensures))) .sum)
 
--- src/sentences.rt:15:29
 slice-aggregate-put-all : tie.Need-slice-aggregate-put-all
 slice-aggregate-put-all c = search needs
 
--- src/sentences.rt:15:5
 put-all-requires-2 : tie.Need-put-all-requires-2
 put-all-requires-2 c κs = search needs
 
--- src/sentences.rt:7:1
 same-length-2 : tie.Need-same-length-2
 same-length-2 c = search needs
 
--- src/sentences.rt:7:1
 returns-2 : tie.Need-returns-2
 unfolding octets
 returns-2 c =

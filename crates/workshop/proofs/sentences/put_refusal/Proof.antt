@@ -1,43 +1,31 @@
+-- `workshop::sentences::put_refusal` meets its contract. Assumes nothing.
 use Rattle.pages.specs.Pages.{page}
-use Rattle.pages.specs.Digits.{decimal}
 use Rattle.pages.proofs.PageLaws.{nothing, piece, text}
 use borrow.Author.Needs.{needs}
 use Rattle.workshop.proofs.sentences.put_refusal.Statement.{statement}
 use Rattle.workshop.proofs.sentences.put_refusal.Tie as tie
-use Rattle.workshop.proofs.sentences.put_refusal.Reads as reads
-use Rattle.workshop.proofs.sentences.put_refusal.Lts as lts
-use Rattle.pages.proofs.digits.put_number.Reads as put-number-reads
-use Rattle.pages.proofs.put_all.Reads as put-all-reads
 
--- src/sentences.rt:22:38
 slice-aggregate-put-all : tie.Need-slice-aggregate-put-all
 slice-aggregate-put-all c = search needs
 
--- src/sentences.rt:22:9
 put-all-requires : tie.Need-put-all-requires
 put-all-requires c κs = search needs
 
--- src/sentences.rt:23:9
 put-number-requires : tie.Need-put-number-requires
 put-number-requires c κs = search needs
 
--- src/sentences.rt:24:37
 slice-aggregate-put-all-2 : tie.Need-slice-aggregate-put-all-2
 slice-aggregate-put-all-2 c = search needs
 
--- src/sentences.rt:24:9
 put-all-requires-2 : tie.Need-put-all-requires-2
 put-all-requires-2 c κs = search needs
 
--- src/sentences.rt:25:5
 put-number-requires-2 : tie.Need-put-number-requires-2
 put-number-requires-2 c κs = search needs
 
--- src/sentences.rt:19:1
 same-length : tie.Need-same-length
 same-length c = search needs
 
--- src/sentences.rt:19:1
 returns : tie.Need-returns
 returns c =
     let a = c .before .before .before .before .before .before .before .before .before .before .before .before .before .before .before .before .before .before .before .args in

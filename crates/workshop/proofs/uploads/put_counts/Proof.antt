@@ -1,44 +1,32 @@
+-- `workshop::uploads::put_counts` meets its contract. Assumes nothing.
 use Rattle.octets.specs.Ascii.{octets}
 use Rattle.pages.specs.Pages.{page}
-use Rattle.pages.proofs.PageLaws.{nothing, piece, pause}
-use borrow.Author.Tests.{eq-eqb, ne-eqb, lt-ltb, le-ltb}
+use Rattle.pages.proofs.PageLaws.{nothing, piece}
 use borrow.Author.Needs.{needs}
 use Rattle.workshop.proofs.uploads.put_counts.Statement.{statement}
 use Rattle.workshop.proofs.uploads.put_counts.Tie as tie
-use Rattle.workshop.proofs.uploads.put_counts.Reads as reads
-use Rattle.workshop.proofs.uploads.put_counts.Lts as lts
-use Rattle.pages.proofs.digits.put_right.Reads as put-right-reads
-use Rattle.pages.proofs.put_all.Reads as put-all-reads
 
--- src/uploads.rt:49:9
 put-right-requires : tie.Need-put-right-requires
 put-right-requires c κs = search needs
 
--- src/uploads.rt:50:37
 slice-aggregate-put-all : tie.Need-slice-aggregate-put-all
 slice-aggregate-put-all c = search needs
 
--- src/uploads.rt:50:9
 put-all-requires : tie.Need-put-all-requires
 put-all-requires c κs = search needs
 
--- src/uploads.rt:51:9
 put-right-requires-2 : tie.Need-put-right-requires-2
 put-right-requires-2 c κs = search needs
 
--- src/uploads.rt:52:29
 slice-aggregate-put-all-2 : tie.Need-slice-aggregate-put-all-2
 slice-aggregate-put-all-2 c = search needs
 
--- src/uploads.rt:52:5
 put-all-requires-2 : tie.Need-put-all-requires-2
 put-all-requires-2 c κs = search needs
 
--- src/uploads.rt:46:1
 same-length : tie.Need-same-length
 same-length c = search needs
 
--- src/uploads.rt:46:1
 returns : tie.Need-returns
 unfolding octets
 returns c =

@@ -1,46 +1,35 @@
+-- `workshop::uploads::put_sameness` meets its contract. Assumes nothing.
 use Rattle.octets.specs.Ascii.{octets}
 use Rattle.pages.specs.Pages.{page}
-use Rattle.pages.proofs.PageLaws.{nothing, piece, pause}
-use borrow.Author.Tests.{eq-eqb, ne-eqb, lt-ltb, le-ltb}
+use Rattle.pages.proofs.PageLaws.{nothing, piece}
 use borrow.Author.Needs.{needs}
 use Rattle.workshop.proofs.uploads.put_sameness.Statement.{statement}
 use Rattle.workshop.proofs.uploads.put_sameness.Tie as tie
-use Rattle.workshop.proofs.uploads.put_sameness.Reads as reads
-use Rattle.workshop.proofs.uploads.put_sameness.Lts as lts
-use Rattle.pages.proofs.put_all.Reads as put-all-reads
 
--- src/uploads.rt:40:41
 slice-aggregate-put-all : tie.Need-slice-aggregate-put-all
 slice-aggregate-put-all c = search needs
 
--- src/uploads.rt:40:9
 put-all-requires : tie.Need-put-all-requires
 put-all-requires c κs = search needs
 
--- src/uploads.rt:40:9
 same-length : tie.Need-same-length
 same-length c = search needs
 
--- src/uploads.rt:40:9
 returns : tie.Need-returns
 unfolding octets
 returns c =
     let a = c .before .before .before .before .before .before .before .args in
     rw (c .before .before .before .before .before .if1 .taken) ((piece _ (nothing (page (a .at) (a .room .now))) (c .before .before .put-all .ensures)) .sum)
 
--- src/uploads.rt:42:30
 slice-aggregate-put-all-2 : tie.Need-slice-aggregate-put-all-2
 slice-aggregate-put-all-2 c = search needs
 
--- src/uploads.rt:42:5
 put-all-requires-2 : tie.Need-put-all-requires-2
 put-all-requires-2 c κs = search needs
 
--- src/uploads.rt:36:1
 same-length-2 : tie.Need-same-length-2
 same-length-2 c = search needs
 
--- src/uploads.rt:36:1
 returns-2 : tie.Need-returns-2
 unfolding octets
 returns-2 c =

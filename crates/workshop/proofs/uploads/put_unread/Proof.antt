@@ -1,63 +1,48 @@
+-- `workshop::uploads::put_unread` meets its contract. Assumes nothing.
 use Rattle.octets.specs.Ascii.{octets}
 use Rattle.pages.specs.Pages.{page}
-use Rattle.pages.proofs.PageLaws.{nothing, piece, pause}
-use borrow.Author.Tests.{eq-eqb, ne-eqb, lt-ltb, le-ltb}
+use Rattle.pages.proofs.PageLaws.{nothing, piece}
+use borrow.Author.Tests.{eq-eqb, ne-eqb}
 use borrow.Author.Needs.{needs}
 use Rattle.workshop.proofs.uploads.put_unread.Statement.{statement}
 use Rattle.workshop.proofs.uploads.put_unread.Tie as tie
-use Rattle.workshop.proofs.uploads.put_unread.Reads as reads
-use Rattle.workshop.proofs.uploads.put_unread.Lts as lts
-use Rattle.pages.proofs.put_all.Reads as put-all-reads
-use Rattle.workshop.proofs.sentences.put_count.Reads as put-count-reads
 
--- src/uploads.rt:82:41
 slice-aggregate-put-all : tie.Need-slice-aggregate-put-all
 slice-aggregate-put-all c = search needs
 
--- src/uploads.rt:82:9
 put-all-requires : tie.Need-put-all-requires
 put-all-requires c κs = search needs
 
--- src/uploads.rt:82:9
 same-length : tie.Need-same-length
 same-length c = search needs
 
--- src/uploads.rt:82:9
 returns : tie.Need-returns
 unfolding octets
 returns c =
     let a = c .before .before .before .before .before .before .before .args in
     rw (eq-eqb (a .unread) 0 (c .before .before .before .before .before .if1 .taken)) ((piece _ (nothing (page (a .at) (a .room .now))) (c .before .before .put-all .ensures)) .sum)
 
--- src/uploads.rt:84:38
 slice-aggregate-put-all-2 : tie.Need-slice-aggregate-put-all-2
 slice-aggregate-put-all-2 c = search needs
 
--- src/uploads.rt:84:9
 put-all-requires-2 : tie.Need-put-all-requires-2
 put-all-requires-2 c κs = search needs
 
--- src/uploads.rt:85:51
 slice-aggregate-put-count : tie.Need-slice-aggregate-put-count
 slice-aggregate-put-count c = search needs
 
--- src/uploads.rt:85:9
 put-count-requires : tie.Need-put-count-requires
 put-count-requires c κs = search needs
 
--- src/uploads.rt:86:29
 slice-aggregate-put-all-3 : tie.Need-slice-aggregate-put-all-3
 slice-aggregate-put-all-3 c = search needs
 
--- src/uploads.rt:86:5
 put-all-requires-3 : tie.Need-put-all-requires-3
 put-all-requires-3 c κs = search needs
 
--- src/uploads.rt:78:1
 same-length-2 : tie.Need-same-length-2
 same-length-2 c = search needs
 
--- src/uploads.rt:78:1
 returns-2 : tie.Need-returns-2
 unfolding octets
 returns-2 c =

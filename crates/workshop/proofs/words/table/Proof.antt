@@ -1,3 +1,4 @@
+-- `workshop::words::table` meets its contract. Assumes nothing.
 use mathlib.Core.Path.{refl}
 use Rattle.octets.specs.Ascii.{octets}
 use Rattle.properties.proofs.Upto.{upto}
@@ -5,10 +6,7 @@ use Rattle.workshop.specs.Words.{words, wordsOf}
 use Rattle.workshop.proofs.WordLaws.{worded}
 use Rattle.workshop.proofs.words.table.Statement.{statement}
 use Rattle.workshop.proofs.words.table.Tie as tie
-use Rattle.workshop.proofs.words.table.Reads as reads
-use Rattle.workshop.proofs.words.table.Lts as lts
 
--- src/words.rt:43:1
 returns : tie.Need-returns
 unfolding words wordsOf octets upto
 returns c =
