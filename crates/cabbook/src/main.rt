@@ -8,7 +8,7 @@ mod writing;
 
 ghost use Rattle.cabbook.specs.Numbers.{Status};
 use files::Input;
-use morning::Play;
+use morning::Ending;
 use octets::cases::same_name;
 use writing::Form;
 
@@ -100,9 +100,9 @@ fn played(count: usize) -> u8
 {
     let p = morning::play(count);
     match p {
-        Play::NoSize => usage::wrong(b"--chunk takes a number from 1 to 16384"),
-        Play::NoFile => usage::wrong(b"morning needs a FILE"),
-        Play::Played(status) => status,
+        Ending::NoSize => usage::wrong(b"--chunk takes a number from 1 to 16384"),
+        Ending::NoFile => usage::wrong(b"morning needs a FILE"),
+        Ending::Played(status) => status,
     }
 }
 

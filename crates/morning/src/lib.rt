@@ -173,22 +173,22 @@ fn played(first: usize, count: usize, chunk: usize) -> u8
 }
 
 // How a morning went: the options had no size of a chunk or no file; or it was played, with an exit status.
-pub enum Play {
+pub enum Ending {
     NoSize,
     NoFile,
     Played(u8),
 }
 
 // Plays the morning with the files that the arguments name.
-pub fn play(count: usize) -> Play
+pub fn play(count: usize) -> Ending
     ensures { λ r. ⌜ Ends r ⌝ }
 {
     let o = options::read(count);
     if o.chunk == 0 {
-        return Play::NoSize;
+        return Ending::NoSize;
     }
     if o.first >= count {
-        return Play::NoFile;
+        return Ending::NoFile;
     }
-    Play::Played(played(o.first, count, o.chunk))
+    Ending::Played(played(o.first, count, o.chunk))
 }
