@@ -1,12 +1,18 @@
 // `show`: the cards of a file as a table, from the records.
 ghost use lib.ListN.{length};
-ghost use Prim.Native.Nat.{_+_, _≤_};
+ghost use Prim.Native.Nat.{_+_, _≤_, _<_};
 ghost use Rattle.cabbook.specs.Numbers.{Status};
 use crate::print;
 use crate::values;
 use libc::STDERR_FILENO;
 use libc::STDOUT_FILENO;
 use reader::Verdict;
+
+fn wide(n: u32) -> usize
+    ensures { λ r. ⌜ r < 4294967296 ⌝ }
+{
+    n as usize
+}
 
 // The columns before the value, of a line that starts and has a group, a name and a value so.
 fn fields(copy: &[u8], start: u32, group: u32, name: u32, value: u32) {
@@ -24,8 +30,8 @@ fn row(copy: &[u8], r: &[u32]) {
         return;
     }
     fields(copy, r[1], r[3], r[4], r[6]);
-    let end = r[1] as usize + r[2] as usize;
-    values::value(parts::part(copy, r[6] as usize, end), r[7]);
+    let end = wide(r[1]) + wide(r[2]);
+    values::value(parts::part(copy, wide(r[6]), end), r[7]);
     io::write_all(STDOUT_FILENO, b"\n");
 }
 
@@ -74,7 +80,8 @@ pub fn shown(path: &[u8], s: &[u8]) -> u8
     match v {
         Verdict::Accepted(_, lines) => {
             titles();
-            rows(&copy, parts::numbers(&records, parts::least(lines, 4096) * 8));
+            let n = parts::least(lines, 4096) * 8;
+            rows(&copy, &records[0..n]);
             0
         }
         Verdict::Refused(number, place) => {

@@ -1,4 +1,6 @@
 // The values of `show`: text without its escapes, the components of lists, or the value as it stands.
+ghost use lib.ListN.{length};
+ghost use Prim.Native.Nat.{_≤_};
 use crate::print;
 use libc::STDOUT_FILENO;
 use octets::rooms::Written;
@@ -40,11 +42,23 @@ fn plain(s: &[u8]) {
     }
 }
 
+// Where the component ends that starts at a place.
+fn component_end(s: &[u8], from: usize, semicolons: bool) -> usize
+    requires { ⌜ from ≤ length (now s) ⌝ }
+    ensures { λ r. ⌜ (from ≤ r) × (r ≤ length (now (s .entry))) ⌝ }
+{
+    let n = places::component(parts::part(s, from, s.len()), semicolons);
+    if n > s.len() - from {
+        return s.len();
+    }
+    from + n
+}
+
 // The components of a value, each as the text that it stands for, with a bar for a semicolon.
 fn components(s: &[u8], semicolons: bool) {
     let mut from: usize = 0;
     while from < s.len() {
-        let end = from + places::component(&s[from..], semicolons);
+        let end = component_end(s, from, semicolons);
         plain(&s[from..end]);
         if end < s.len() {
             if s[end] == b',' {

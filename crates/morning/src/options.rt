@@ -12,8 +12,7 @@ pub struct Options {
 const WIDEST: usize = 40;
 
 // The size that argument i gives.
-fn size_at(i: usize) -> usize
-{
+fn size_at(i: usize) -> usize {
     let mut word = [0u8; 16];
     let n = os::arg(i, &mut word);
     workshop::options::size_of(&word[..n])

@@ -21,7 +21,16 @@ pub fn row(i: usize, width: usize, ticket: u32, octets: usize, v: Verdict, same:
     let mut path = io::buffer();
     let k = os::arg(i, &mut path);
     let mut room = io::large_buffer();
-    let n = uploads::put_upload(&mut room, 0, &path[..k], width, ticket as usize, octets, v, same);
+    let n = uploads::put_upload(
+        &mut room,
+        0,
+        &path[..k],
+        width,
+        ticket as usize,
+        octets,
+        v,
+        same,
+    );
     sent(&room, n);
 }
 

@@ -48,7 +48,15 @@ fn name_start(start: u32, group: u32) -> usize
 }
 
 // Adds the columns before the value, of a line that starts and has a group, a name and a value so.
-pub fn put_fields(room: &mut [u8], at: usize, copy: &[u8], start: u32, group: u32, name: u32, value: u32) -> usize
+pub fn put_fields(
+    room: &mut [u8],
+    at: usize,
+    copy: &[u8],
+    start: u32,
+    group: u32,
+    name: u32,
+    value: u32,
+) -> usize
     ensures { λ r. ⌜ page r (now (room .exit)) ≡ added (fields (now (copy .entry)) start group name value) (page at (now (room .entry))) ⌝ }
 {
     let from = name_start(start, group);

@@ -36,7 +36,14 @@ fn put_reason(room: &mut [u8], at: usize, s: &[u8], number: u32, place: usize) -
 }
 
 // Adds the row of a file with these octets that is refused.
-pub fn put_refused(room: &mut [u8], at: usize, path: &[u8], s: &[u8], number: u32, place: usize) -> usize
+pub fn put_refused(
+    room: &mut [u8],
+    at: usize,
+    path: &[u8],
+    s: &[u8],
+    number: u32,
+    place: usize,
+) -> usize
     ensures { λ r. ⌜ page r (now (room .exit)) ≡ added (refusedRow (now (path .entry)) (now (s .entry)) number place) (page at (now (room .entry))) ⌝ }
 {
     let a = pages::seen::put_visible(room, at, path);

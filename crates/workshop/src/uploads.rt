@@ -53,7 +53,16 @@ fn put_counts(room: &mut [u8], at: usize, ticket: usize, octets: usize) -> usize
 }
 
 // Adds the row of an upload.
-pub fn put_upload(room: &mut [u8], at: usize, path: &[u8], width: usize, ticket: usize, octets: usize, v: Verdict, same: bool) -> usize
+pub fn put_upload(
+    room: &mut [u8],
+    at: usize,
+    path: &[u8],
+    width: usize,
+    ticket: usize,
+    octets: usize,
+    v: Verdict,
+    same: bool,
+) -> usize
     ensures { λ r. ⌜ page r (now (room .exit)) ≡ added (uploadRow (now (path .entry)) width ticket octets v same) (page at (now (room .entry))) ⌝ }
 {
     let a = pages::columns::put_column(room, at, path, width);
@@ -109,7 +118,14 @@ fn put_totals(room: &mut [u8], at: usize, accepted: usize, refused: usize) -> us
 }
 
 // Adds the line under the table.
-pub fn put_summary(room: &mut [u8], at: usize, accepted: usize, refused: usize, differing: usize, unread: usize) -> usize
+pub fn put_summary(
+    room: &mut [u8],
+    at: usize,
+    accepted: usize,
+    refused: usize,
+    differing: usize,
+    unread: usize,
+) -> usize
     ensures { λ r. ⌜ page r (now (room .exit)) ≡ added (summary accepted refused differing unread) (page at (now (room .entry))) ⌝ }
 {
     let a = put_totals(room, at, accepted, refused);

@@ -1,7 +1,6 @@
 -- `morning::rounds` is safe and ends. Assumes nothing.
 use borrow.Author.Needs.{needs}
 use mathlib.Core.Path.{_≡_}
-use Prim.Native.Nat.{_-_}
 use lib.ListN.{length}
 use Rattle.morning.proofs.rounds.Statement.{statement}
 use Rattle.morning.proofs.rounds.Tie as tie

@@ -20,10 +20,13 @@ loop-holds c =
 
 put-requires : tie.Need-put-requires Inv-loop μ-loop
 put-requires c κs = search needs
+
 sub-left : tie.Need-sub-left Inv-loop μ-loop
 sub-left c = search needs
+
 loop-less : tie.Need-loop-less Inv-loop μ-loop
 loop-less c = search needs
+
 loop-again : tie.Need-loop-again Inv-loop μ-loop
 unfolding added
 loop-again c =
@@ -32,6 +35,7 @@ loop-again c =
 
 same-length : tie.Need-same-length Inv-loop μ-loop
 same-length c = search needs
+
 returns : tie.Need-returns Inv-loop μ-loop
 returns c =
     let l = c .before .loop in

@@ -24,6 +24,7 @@ loop-holds c =
 
 bare-step-requires : tie.Need-bare-step-requires Inv-loop μ-loop
 bare-step-requires c κs = search needs
+
 returns : tie.Need-returns Inv-loop μ-loop
 returns c =
     let f = bareStep (c .before .before .before .before .before .args .semicolons) in
@@ -32,6 +33,7 @@ returns c =
 
 add-i : tie.Need-add-i Inv-loop μ-loop
 add-i c = search needs
+
 loop-less : tie.Need-loop-less Inv-loop μ-loop
 loop-less c =
     omega arith

@@ -14,8 +14,8 @@ abbrev μ-loop : tie.MeasureT-loop
 loop-holds : tie.Need-loop-holds Inv-loop μ-loop
 loop-holds c = search needs
 
-next-bare-requires : tie.Need-next-bare-requires Inv-loop μ-loop
-next-bare-requires c κs = search needs
+component-end-requires : tie.Need-component-end-requires Inv-loop μ-loop
+component-end-requires c κs = search needs
 
 sub-plain : tie.Need-sub-plain Inv-loop μ-loop
 sub-plain c = search needs
@@ -63,7 +63,7 @@ components-spec =
     Inv-loop
     μ-loop
     loop-holds
-    next-bare-requires
+    component-end-requires
     sub-plain
     part-plain-start
     part-plain-end

@@ -6,10 +6,10 @@ use Rattle.cabbook.proofs.values.paragraphs.Statement.{statement}
 use Rattle.cabbook.proofs.values.paragraphs.Tie as tie
 
 abbrev Inv-loop : tie.InvT-loop
-Inv-loop s from₀ t4 from = from ≤ length s + 1
+Inv-loop s from₀ from = from ≤ length s + 1
 
 abbrev μ-loop : tie.MeasureT-loop
-μ-loop s from₀ t4 from = length s + 1 - from
+μ-loop s from₀ from = length s + 1 - from
 
 loop-holds : tie.Need-loop-holds Inv-loop μ-loop
 loop-holds c = search needs
@@ -29,14 +29,8 @@ part-visible-end c = search needs
 visible-requires : tie.Need-visible-requires Inv-loop μ-loop
 visible-requires c κs = search needs
 
-slice-aggregate-write-all : tie.Need-slice-aggregate-write-all Inv-loop μ-loop
-slice-aggregate-write-all c = search needs
-
-write-all-requires : tie.Need-write-all-requires Inv-loop μ-loop
-write-all-requires c κs = search needs
-
-spaces-requires : tie.Need-spaces-requires Inv-loop μ-loop
-spaces-requires c κs = search needs
+indent-requires : tie.Need-indent-requires Inv-loop μ-loop
+indent-requires c κs = search needs
 
 add-from : tie.Need-add-from Inv-loop μ-loop
 add-from c = search needs
@@ -62,9 +56,7 @@ paragraphs-spec =
     part-visible-start
     part-visible-end
     visible-requires
-    slice-aggregate-write-all
-    write-all-requires
-    spaces-requires
+    indent-requires
     add-from
     loop-less
     loop-again

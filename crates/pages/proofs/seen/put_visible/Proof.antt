@@ -23,6 +23,7 @@ abbrev μ-loop : tie.MeasureT-loop
 
 table-requires : tie.Need-table-requires Inv-loop μ-loop
 table-requires c κs = search needs
+
 loop-holds : tie.Need-loop-holds Inv-loop μ-loop
 loop-holds c =
     (refl, omega arith, refl)
@@ -33,12 +34,16 @@ unit-length-requires c κs =
 
 shared-slice-read-put-hex : tie.Need-shared-slice-read-put-hex Inv-loop μ-loop
 shared-slice-read-put-hex c = search needs
+
 put-hex-requires : tie.Need-put-hex-requires Inv-loop μ-loop
 put-hex-requires c κs = search needs
+
 add-i : tie.Need-add-i Inv-loop μ-loop
 add-i c = search needs
+
 loop-less : tie.Need-loop-less Inv-loop μ-loop
 loop-less c = search needs
+
 loop-again : tie.Need-loop-again Inv-loop μ-loop
 loop-again c =
     let l = c .before .before .before .before .before .before .before .before .before .loop in
@@ -50,21 +55,27 @@ add-end c =
     let i = c .before .before .before .before .loop .i in
     let h : i + c .before .unit-length .result ≤ length (c .before .before .before .before .before .before .before .before .args .text .now) = unit-inside (allowed false) (c .before .before .before .before .before .before .before .before .args .text .now) i (c .before .unit-length .result) (c .before .unit-length .ensures) (c .before .before .before .before .loop .inv .1) in
     omega arith
+
 sub-put-all : tie.Need-sub-put-all Inv-loop μ-loop
 sub-put-all c = search needs
+
 part-put-all-start : tie.Need-part-put-all-start Inv-loop μ-loop
 part-put-all-start c = search needs
+
 part-put-all-end : tie.Need-part-put-all-end Inv-loop μ-loop
 part-put-all-end c =
     let i = c .before .before .before .before .before .loop .i in
     unit-inside (allowed false) (c .before .before .before .before .before .before .before .before .before .args .text .now) i (c .before .before .unit-length .result) (c .before .before .unit-length .ensures) (c .before .before .before .before .before .loop .inv .1)
+
 put-all-requires : tie.Need-put-all-requires Inv-loop μ-loop
 put-all-requires c κs = search needs
+
 loop-less-2 : tie.Need-loop-less-2 Inv-loop μ-loop
 loop-less-2 c =
     let i = c .before .before .before .before .before .before .before .before .before .loop .i in
     let h : i + c .before .before .before .before .before .before .unit-length .result ≤ length (c .before .before .before .before .before .before .before .before .before .before .before .before .before .args .text .now) = unit-inside (allowed false) (c .before .before .before .before .before .before .before .before .before .before .before .before .before .args .text .now) i (c .before .before .before .before .before .before .unit-length .result) (c .before .before .before .before .before .before .unit-length .ensures) (c .before .before .before .before .before .before .before .before .before .loop .inv .1) in
     omega arith
+
 loop-again-2 : tie.Need-loop-again-2 Inv-loop μ-loop
 loop-again-2 c =
     let l = c .before .before .before .before .before .before .before .before .before .loop in
@@ -77,6 +88,7 @@ loop-again-2 c =
 same-length : tie.Need-same-length Inv-loop μ-loop
 same-length c =
     c .before .loop .inv .0
+
 returns : tie.Need-returns Inv-loop μ-loop
 unfolding added
 returns c =

@@ -11,6 +11,7 @@ name-start-requires c κs = search needs
 
 add-past : tie.Need-add-past
 add-past c = search needs
+
 add-group-end : tie.Need-add-group-end
 add-group-end c = search needs
 
@@ -31,6 +32,7 @@ before-requires c κs = search needs
 
 add-part : tie.Need-add-part
 add-part c = search needs
+
 part-requires-3 : tie.Need-part-requires-3
 part-requires-3 c κs = search needs
 
