@@ -1,2 +1,1 @@
--- The laws that the proofs of `cabbook` cite. Assumes nothing.
-pub mod PlaceLaws
+-- No laws of its own. Assumes nothing.

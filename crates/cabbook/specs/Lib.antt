@@ -1,4 +1,2 @@
 -- The definitions that the contracts of `cabbook` cite. Assumes nothing.
 pub mod Numbers
-pub mod Places
-pub mod Inputs

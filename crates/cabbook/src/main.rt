@@ -1,20 +1,14 @@
 // cabbook: the workshop's command-line tool over the reader, the folder, text and the desk.
 mod checking;
-mod depot;
-mod files;
-mod options;
-mod places;
 mod print;
-mod refusals;
-mod rows;
+mod shown;
 mod table;
-mod uploads;
 mod usage;
-mod values;
 mod writing;
 
 ghost use Rattle.cabbook.specs.Numbers.{Status};
 use files::Input;
+use morning::Ending;
 use octets::cases::same_name;
 use writing::Form;
 
@@ -48,7 +42,7 @@ fn named(command: Command, path: &[u8]) -> u8
     let Input::Octets(n) = got else {
         return 2;
     };
-    let count = places::least(n, 16385);
+    let count = parts::least(n, 16385);
     done(command, path, &octets[0..count])
 }
 
@@ -100,6 +94,18 @@ fn one_or_input(command: Command, count: usize) -> u8 {
     one(command, count)
 }
 
+// Plays a morning of uploads, or says what its options lack.
+fn played(count: usize) -> u8
+    ensures { λ r. ⌜ Status r ⌝ }
+{
+    let p = morning::play(count);
+    match p {
+        Ending::NoSize => usage::wrong(b"--chunk takes a number from 1 to 16384"),
+        Ending::NoFile => usage::wrong(b"morning needs a FILE"),
+        Ending::Played(status) => status,
+    }
+}
+
 // Runs the command of that name, and answers the exit status.
 fn run(name: &[u8], count: usize) -> u8 {
     if same_name(name, b"check") {
@@ -118,7 +124,7 @@ fn run(name: &[u8], count: usize) -> u8 {
         return one_or_input(Command::Write(Form::Unescaped), count);
     }
     if same_name(name, b"morning") {
-        return uploads::play(count);
+        return played(count);
     }
     if same_name(name, b"help") || same_name(name, b"--help") {
         return usage::told();

@@ -1,6 +1,5 @@
 // `fold`, `escape` and `unescape`: octets to standard output.
 ghost use Rattle.cabbook.specs.Numbers.{Status};
-use crate::places;
 use crate::print;
 use libc::STDERR_FILENO;
 use libc::STDOUT_FILENO;
@@ -41,7 +40,7 @@ pub fn delivered(form: Form, path: &[u8], s: &[u8]) -> u8
     let w = written(form, s, &mut room);
     match w {
         Written::Wrote(n) => {
-            let count = places::least(n, 16384);
+            let count = parts::least(n, 16384);
             sent(&room[0..count])
         }
         Written::Refused(number, place) => {

@@ -1,0 +1,82 @@
+// The values of `show`: text without its escapes, the components of lists, or the value as it stands.
+ghost use lib.ListN.{length};
+ghost use Prim.Native.Nat.{_≤_};
+use crate::print;
+use libc::STDOUT_FILENO;
+use octets::rooms::Written;
+
+// Where the value's column starts.
+const INDENT: usize = 51;
+
+// Goes to the next line, to the value's column.
+fn indent() {
+    let mut room = [0u8; 64];
+    let a = pages::put_all(&mut room, 0, b"\n");
+    let n = pages::put_spaces(&mut room, a, INDENT);
+    print::sent(STDOUT_FILENO, &room, n);
+}
+
+// Text, each of its lines in the value's column.
+fn paragraphs(s: &[u8]) {
+    let mut from: usize = 0;
+    while from < s.len() {
+        let end = bytes::scan::find(s, from, s.len(), 10);
+        print::visible(&s[from..end]);
+        if end < s.len() {
+            indent();
+        }
+        from = end + 1;
+    }
+}
+
+// The text that escapes stand for.
+fn plain(s: &[u8]) {
+    let mut room = [0u8; 16384];
+    let w = text::unescape(s, &mut room);
+    match w {
+        Written::Wrote(n) => {
+            let count = parts::least(n, 16384);
+            paragraphs(&room[0..count]);
+        }
+        Written::Refused(_, _) => print::visible(s),
+    }
+}
+
+// Where the component ends that starts at a place.
+fn component_end(s: &[u8], from: usize, semicolons: bool) -> usize
+    requires { ⌜ from ≤ length (now s) ⌝ }
+    ensures { λ r. ⌜ (from ≤ r) × (r ≤ length (now (s .entry))) ⌝ }
+{
+    let n = places::component(parts::part(s, from, s.len()), semicolons);
+    if n > s.len() - from {
+        return s.len();
+    }
+    from + n
+}
+
+// The components of a value, each as the text that it stands for, with a bar for a semicolon.
+fn components(s: &[u8], semicolons: bool) {
+    let mut from: usize = 0;
+    while from < s.len() {
+        let end = component_end(s, from, semicolons);
+        plain(&s[from..end]);
+        if end < s.len() {
+            if s[end] == b',' {
+                io::write_all(STDOUT_FILENO, b", ");
+            } else {
+                io::write_all(STDOUT_FILENO, b" | ");
+            }
+        }
+        from = end + 1;
+    }
+}
+
+// A value by its kind: text, lists of texts, or as it stands.
+pub(crate) fn value(s: &[u8], kind: u32) {
+    match kind {
+        1 => plain(s),
+        2 => components(s, false),
+        4 | 5 | 6 => components(s, true),
+        _ => print::visible(s),
+    }
+}

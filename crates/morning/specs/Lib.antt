@@ -1,0 +1,2 @@
+-- The definitions that the contracts of `morning` cite. Assumes nothing.
+pub mod Ends

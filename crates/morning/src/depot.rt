@@ -1,0 +1,102 @@
+// The depot in the morning: the desk, the places at it, and what is counted.
+ghost use Prim.Native.Nat.{_<_};
+use desk::Desk;
+use reader::Verdict;
+
+// A place in the depot: the argument that names its file, 0 where there is none, the file's descriptor, and the upload's ticket.
+pub struct Place {
+    pub file: usize,
+    pub fd: i32,
+    pub ticket: u32,
+}
+
+// The desk and the places at it, the next argument and the last, how many places are in use, the chunks' size, and what was counted.
+pub struct Morning {
+    pub desk: Desk,
+    pub places: [Place; 40],
+    pub next: usize,
+    pub count: usize,
+    pub used: usize,
+    pub chunk: usize,
+    pub width: usize,
+    pub accepted: usize,
+    pub refused: usize,
+    pub unread: usize,
+    pub differing: usize,
+}
+
+// One more, as far as numbers go.
+pub fn more(n: usize) -> usize {
+    if n == usize::MAX {
+        return n;
+    }
+    n + 1
+}
+
+// A ticket from an answer.
+pub fn ticket_of(n: usize) -> u32 {
+    if n > 4294967295 {
+        return 0;
+    }
+    n as u32
+}
+
+fn nobody() -> Place {
+    Place {
+        file: 0,
+        fd: 0,
+        ticket: 0,
+    }
+}
+
+// Before the first upload.
+pub fn fresh(next: usize, count: usize, chunk: usize, width: usize) -> Morning {
+    let t = Desk::new(40);
+    let d = t.desk;
+    let none = nobody();
+    let places = [none; 40];
+    Morning {
+        desk: d,
+        places: places,
+        next: next,
+        count: count,
+        used: 0,
+        chunk: chunk,
+        width: width,
+        accepted: 0,
+        refused: 0,
+        unread: 0,
+        differing: 0,
+    }
+}
+
+// The place is free again: the upload is released and its file closed.
+pub fn left(mut m: Morning, k: usize, pool: &mut [u8]) -> Morning
+    requires { ⌜ k < 40 ⌝ }
+{
+    let p = m.places[k];
+    let d = m.desk;
+    let t = d.release(pool, p.ticket);
+    let next = t.desk;
+    m.desk = next;
+    libc::close(p.fd);
+    m.places[k] = nobody();
+    m.used = places::before(m.used);
+    m
+}
+
+// Counts a verdict.
+pub fn counted(mut m: Morning, v: Verdict, same: bool) -> Morning {
+    if !same {
+        m.differing = more(m.differing);
+    }
+    match v {
+        Verdict::Accepted(_, _) => {
+            m.accepted = more(m.accepted);
+        }
+        Verdict::Refused(_, _) => {
+            m.refused = more(m.refused);
+        }
+    }
+    m
+}

@@ -1,0 +1,61 @@
+-- `pages::put_all` meets its contract. Assumes nothing.
+use mathlib.Core.Path.{_≡_, refl, sym, ap, _∙_}
+use Prim.Native.Nat.{_+_, _-_}
+use lib.ListN.{length, drop}
+use Rattle.pages.specs.Pages.{page, added}
+use Rattle.pages.proofs.PageLaws.{added-next, added-end}
+use borrow.Author.Needs.{needs}
+use Rattle.pages.proofs.put_all.Statement.{statement}
+use Rattle.pages.proofs.put_all.Tie as tie
+
+abbrev Inv-loop : tie.InvT-loop
+Inv-loop room₀ at text next₀ i₀ room next i = (length room ≡ length room₀) × (added (drop i text) (page next room) ≡ added text (page at room₀))
+
+abbrev μ-loop : tie.MeasureT-loop
+μ-loop room₀ at text next₀ i₀ room next i = length text - i
+
+loop-holds : tie.Need-loop-holds Inv-loop μ-loop
+loop-holds c =
+    (refl, refl)
+
+shared-slice-read-put : tie.Need-shared-slice-read-put Inv-loop μ-loop
+shared-slice-read-put c = search needs
+
+put-requires : tie.Need-put-requires Inv-loop μ-loop
+put-requires c κs = search needs
+
+add-i : tie.Need-add-i Inv-loop μ-loop
+add-i c = search needs
+
+loop-less : tie.Need-loop-less Inv-loop μ-loop
+loop-less c = search needs
+
+loop-again : tie.Need-loop-again Inv-loop μ-loop
+unfolding added
+loop-again c =
+    let l = c .before .before .before .before .before .before .loop in
+    let s = c .before .before .before .before .before .before .before .before .before .args .text .now in
+    (search needs, ap (added (drop (l .i + 1) s)) (c .before .before .put .ensures) ∙ sym (added-next s (l .i) (page (l .next) (l .room)) (c .before .before .before .before .before .loop-test .taken)) ∙ l .inv .1)
+
+same-length : tie.Need-same-length Inv-loop μ-loop
+same-length c = search needs
+
+returns : tie.Need-returns Inv-loop μ-loop
+returns c =
+    let l = c .before .loop in
+    sym (added-end (c .before .before .before .before .args .text .now) (l .i) (page (l .next) (l .room)) (c .loop-test .left)) ∙ l .inv .1
+
+pub put-all-spec : {M : Type 1} → statement M
+put-all-spec =
+    tie.close
+    (tie.spec
+    Inv-loop
+    μ-loop
+    loop-holds
+    shared-slice-read-put
+    put-requires
+    add-i
+    loop-less
+    loop-again
+    same-length
+    returns)

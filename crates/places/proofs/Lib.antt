@@ -1,0 +1,3 @@
+-- The laws that the proofs of `places` cite. Assumes nothing.
+pub mod PlaceLaws
+pub mod ComponentLaws

@@ -1,0 +1,20 @@
+-- Where a component of a value ends. Assumes nothing.
+use Prim.Native.Nat.{ℕ}
+use mathlib.Core.Bool.{Bool, _&&_, _||_}
+use mathlib.Core.List.{List}
+use lib.Dec.{eqb, ltb}
+use lib.ListN.{length, getD}
+use Rattle.octets.specs.Pick.{pick}
+use Rattle.octets.specs.Scan.{scan}
+
+-- at an octet with which n octets start: a comma, or a semicolon where these split too, ends the component, and a backslash is passed
+-- with the octet after it
+abbrev pub bareAt : Bool → ℕ → ℕ → ℕ
+bareAt semicolons x n = pick (eqb x 44 || (eqb x 59 && semicolons)) 0 (pick (eqb x 92 && ltb 1 n) 2 1)
+
+unfoldable pub bareStep : Bool → List ℕ → ℕ
+bareStep semicolons l = bareAt semicolons (getD l 0 0) (length l)
+
+-- the length of the component with which a value starts
+unfoldable pub bareLength : Bool → List ℕ → ℕ
+bareLength semicolons l = scan (bareStep semicolons) l 0

@@ -1,0 +1,43 @@
+-- `workshop::fields::put_card` meets its contract. Assumes nothing.
+use Rattle.octets.specs.Ascii.{octets}
+use Rattle.pages.specs.Pages.{page}
+use Rattle.pages.proofs.PageLaws.{nothing, piece}
+use borrow.Author.Needs.{needs}
+use Rattle.workshop.proofs.fields.put_card.Statement.{statement}
+use Rattle.workshop.proofs.fields.put_card.Tie as tie
+
+slice-aggregate-put-all : tie.Need-slice-aggregate-put-all
+slice-aggregate-put-all c = search needs
+
+put-all-requires : tie.Need-put-all-requires
+put-all-requires c κs = search needs
+
+put-number-requires : tie.Need-put-number-requires
+put-number-requires c κs = search needs
+
+slice-aggregate-put-all-2 : tie.Need-slice-aggregate-put-all-2
+slice-aggregate-put-all-2 c = search needs
+
+put-all-requires-2 : tie.Need-put-all-requires-2
+put-all-requires-2 c κs = search needs
+
+same-length : tie.Need-same-length
+same-length c = search needs
+
+returns : tie.Need-returns
+unfolding octets
+returns c =
+    let a = c .before .before .before .before .before .before .before .before .before .before .before .before .before .before .before .args in
+    (piece _ (piece _ (piece _ (nothing (page (a .at) (a .room .now))) (c .before .before .before .before .before .before .before .before .before .before .before .put-all .ensures)) (c .before .before .before .before .before .before .before .put-number .ensures)) (c .before .before .put-all2 .ensures)) .sum
+
+pub put-card-spec : {M : Type 1} → statement M
+put-card-spec =
+    tie.close
+    (tie.spec
+    slice-aggregate-put-all
+    put-all-requires
+    put-number-requires
+    slice-aggregate-put-all-2
+    put-all-requires-2
+    same-length
+    returns)

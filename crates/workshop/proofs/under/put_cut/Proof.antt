@@ -1,0 +1,70 @@
+-- `workshop::under::put_cut` meets its contract. Assumes nothing.
+use mathlib.Core.Path.{sym, ap, _∙_}
+use mathlib.Core.List.{List}
+use Prim.Native.Nat.{ℕ}
+use lib.ListN.{length}
+use borrow.Author.Tests.{eq-eqb, ne-eqb}
+use Rattle.octets.specs.Ascii.{octets}
+use Rattle.parts.specs.Parts.{part}
+use Rattle.pages.specs.Pages.{page, added}
+use Rattle.pages.specs.Seen.{visible}
+use Rattle.pages.proofs.PageLaws.{nothing, piece, pause}
+use Rattle.workshop.specs.Under.{cutAt}
+use borrow.Author.Needs.{needs}
+use Rattle.workshop.proofs.under.put_cut.Statement.{statement}
+use Rattle.workshop.proofs.under.put_cut.Tie as tie
+
+character-start-requires : tie.Need-character-start-requires
+character-start-requires c κs = search needs
+
+part-requires : tie.Need-part-requires
+part-requires c κs = search needs
+
+put-visible-requires : tie.Need-put-visible-requires
+put-visible-requires c κs = search needs
+
+same-length : tie.Need-same-length
+same-length c = search needs
+
+returns : tie.Need-returns
+unfolding octets
+returns c =
+    let a = c .before .before .before .before .before .before .before .before .before .args in
+    let l = a .line .now in
+    let e = c .before .before .before .before .before .before .character-start .ensures .0 in
+    let p = page (a .at) (a .room .now) in
+    let f = c .before .before .before .put-visible .ensures ∙ ap (λ (t : List ℕ). added (visible t) p) (c .before .before .before .before .part .ensures ∙ ap (part l 0) e) in
+    rw (eq-eqb (cutAt l) (length l) (sym e ∙ c .if1 .taken)) ((pause (piece (visible (part l 0 (cutAt l))) (nothing p) f)) .sum)
+
+slice-aggregate-put-all : tie.Need-slice-aggregate-put-all
+slice-aggregate-put-all c = search needs
+
+put-all-requires : tie.Need-put-all-requires
+put-all-requires c κs = search needs
+
+same-length-2 : tie.Need-same-length-2
+same-length-2 c = search needs
+
+returns-2 : tie.Need-returns-2
+unfolding octets
+returns-2 c =
+    let a = c .before .before .before .before .before .before .before .before .before .before .before .before .before .before .args in
+    let l = a .line .now in
+    let e = c .before .before .before .before .before .before .before .before .before .before .before .character-start .ensures .0 in
+    let p = page (a .at) (a .room .now) in
+    let f = c .before .before .before .before .before .before .before .before .put-visible .ensures ∙ ap (λ (t : List ℕ). added (visible t) p) (c .before .before .before .before .before .before .before .before .before .part .ensures ∙ ap (part l 0) e) in
+    rw (ne-eqb (cutAt l) (length l) (λ q. c .before .before .before .before .before .if1 .left (e ∙ q))) ((piece _ (piece (visible (part l 0 (cutAt l))) (nothing p) f) (c .before .before .put-all .ensures)) .sum)
+
+pub put-cut-spec : {M : Type 1} → statement M
+put-cut-spec =
+    tie.close
+    (tie.spec
+    character-start-requires
+    part-requires
+    put-visible-requires
+    same-length
+    returns
+    slice-aggregate-put-all
+    put-all-requires
+    same-length-2
+    returns-2)

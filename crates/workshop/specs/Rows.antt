@@ -1,0 +1,25 @@
+-- The row of a file. Assumes nothing.
+use Prim.Native.Nat.{ℕ, _+_, min}
+use mathlib.Core.List.{List, _++_}
+use lib.ListN.{length}
+use Rattle.octets.specs.Ascii.{octets}
+use Rattle.parts.specs.Parts.{part}
+use Rattle.places.specs.Places.{count, isLf}
+use Rattle.pages.specs.Digits.{decimal}
+use Rattle.pages.specs.Seen.{visible}
+use Rattle.workshop.specs.Sentences.{counted, refusal}
+use Rattle.workshop.specs.Words.{wordsOf}
+
+abbrev pub acceptedRow : List ℕ → ℕ → ℕ → List ℕ
+acceptedRow path cards lines =
+    visible path ++ octets ": " ++ counted cards (octets " card") ++ octets ", " ++ counted lines (octets " line") ++ octets "\n"
+
+-- the number of the line that is reached after the octets before a place: 1, and 1 more for each LF
+abbrev pub lineOf : List ℕ → ℕ → ℕ
+lineOf s place = 1 + count isLf (part s 0 (min place (length s)))
+
+abbrev pub reason : List ℕ → ℕ → ℕ → List ℕ
+reason s number place = octets ", line " ++ decimal (lineOf s place) ++ octets ": " ++ wordsOf number ++ octets "\n"
+
+abbrev pub refusedRow : List ℕ → List ℕ → ℕ → ℕ → List ℕ
+refusedRow path s number place = visible path ++ octets ": " ++ refusal number place ++ reason s number place

@@ -1,0 +1,53 @@
+// The row of a file: what it holds, or why it is refused.
+ghost use mathlib.Core.Path.{_≡_};
+ghost use Rattle.pages.specs.Pages.{page, added};
+ghost use Rattle.workshop.specs.Rows.{acceptedRow, lineOf, reason, refusedRow};
+use crate::sentences;
+
+// Adds the row of a file with so many cards and lines.
+pub fn put_accepted(room: &mut [u8], at: usize, path: &[u8], cards: usize, lines: usize) -> usize
+    ensures { λ r. ⌜ page r (now (room .exit)) ≡ added (acceptedRow (now (path .entry)) cards lines) (page at (now (room .entry))) ⌝ }
+{
+    let a = pages::seen::put_visible(room, at, path);
+    let b = pages::put_all(room, a, b": ");
+    let c = sentences::put_count(room, b, cards, b" card");
+    let d = pages::put_all(room, c, b", ");
+    let e = sentences::put_count(room, d, lines, b" line");
+    pages::put_all(room, e, b"\n")
+}
+
+// The number of the line in which a place lies; of the last line where the place is past the end.
+fn line_of(s: &[u8], place: usize) -> usize
+    ensures { λ r. ⌜ r ≡ lineOf (now (s .entry)) place ⌝ }
+{
+    let at = parts::least(place, s.len());
+    places::line_number(parts::part(s, 0, at))
+}
+
+// Adds the line in which a refusal's place lies, and the refusal's words.
+fn put_reason(room: &mut [u8], at: usize, s: &[u8], number: u32, place: usize) -> usize
+    ensures { λ r. ⌜ page r (now (room .exit)) ≡ added (reason (now (s .entry)) number place) (page at (now (room .entry))) ⌝ }
+{
+    let a = pages::put_all(room, at, b", line ");
+    let b = pages::digits::put_number(room, a, line_of(s, place));
+    let c = pages::put_all(room, b, b": ");
+    let d = crate::words::put_words(room, c, number);
+    pages::put_all(room, d, b"\n")
+}
+
+// Adds the row of a file with these octets that is refused.
+pub fn put_refused(
+    room: &mut [u8],
+    at: usize,
+    path: &[u8],
+    s: &[u8],
+    number: u32,
+    place: usize,
+) -> usize
+    ensures { λ r. ⌜ page r (now (room .exit)) ≡ added (refusedRow (now (path .entry)) (now (s .entry)) number place) (page at (now (room .entry))) ⌝ }
+{
+    let a = pages::seen::put_visible(room, at, path);
+    let b = pages::put_all(room, a, b": ");
+    let c = sentences::put_refusal(room, b, number, place);
+    put_reason(room, c, s, number, place)
+}
