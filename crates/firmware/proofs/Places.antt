@@ -25,7 +25,7 @@ use Rattle.cards.specs.Judge.{laden, entered, fitting, judgeParts, judgeParsed,
 use Rattle.card_state.specs.declared.Card.{Card}
 use Rattle.card_state.specs.declared.Step.{Step}
 use Rattle.card_state.specs.declared.Step.the-variants.{Next, Refused as Halted}
-use Rattle.folds.specs.Lone.{firstLone, endsCrLf}
+use Rattle.ends.specs.Lone.{firstLone, endsCrLf}
 use Rattle.reader.specs.Outcome.{onward, judgeLines, verdictOf, judgeOf}
 use Rattle.reader.specs.declared.Verdict.{Verdict}
 use Rattle.reader.specs.declared.Verdict.the-variants.{Accepted, Refused}

@@ -9,7 +9,7 @@ use Rattle.octets.specs.Scan.{scan}
 use Rattle.octets.specs.Room.{filled, fillBounded}
 use Rattle.octets.specs.declared.rooms.Written.the-variants.{Wrote}
 use Rattle.characters.proofs.Chains.{no-end}
-use Rattle.folds.specs.Lone.{loneStep, firstLone, endsCrLf}
+use Rattle.ends.specs.Lone.{loneStep, firstLone, endsCrLf}
 use Rattle.reader.specs.Outcome.{judgeOf, logicalLines, ended, copyOf, recordsOf, writeOutcome, outcomeBy, readOutcome}
 use Rattle.reader.specs.declared.Verdict.{Verdict}
 use Rattle.reader.specs.declared.Verdict.the-variants.{Accepted}

@@ -19,7 +19,7 @@ fn line_length(s: &[u8], folds: bool, scratch: &mut [u8]) -> usize
     if !folds {
         return cuts::cutting::measure(s);
     }
-    let n = folds::unfolding::unfold(s, scratch);
+    let n = unfolding::unfold(s, scratch);
     cuts::cutting::measure(&scratch[..n])
 }
 
@@ -33,7 +33,7 @@ fn write_line(s: &[u8], folds: bool, scratch: &mut [u8], d: &mut [u8]) -> usize
     if !folds {
         return cuts::folding::fold_line(s, d);
     }
-    let n = folds::unfolding::unfold(s, scratch);
+    let n = unfolding::unfold(s, scratch);
     cuts::folding::fold_line(&scratch[..n], d)
 }
 

@@ -2,9 +2,5 @@
 pub mod FoldLaws
 pub mod HopLaws
 pub mod QuickLaws
-pub mod RunLaws
-pub mod CountLaws
 pub mod LineLaws
 pub mod SpanLaws
-pub mod EndLaws
-pub mod PutLaws

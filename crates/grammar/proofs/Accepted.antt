@@ -14,7 +14,7 @@ use Rattle.card_state.specs.State.{freshCard}
 use Rattle.card_state.specs.declared.Card.{Card}
 use Rattle.card_state.specs.declared.Step.{Step}
 use Rattle.card_state.specs.declared.Step.the-variants.{Next}
-use Rattle.folds.specs.Lone.{firstLone}
+use Rattle.ends.specs.Lone.{firstLone}
 use Rattle.reader.specs.Outcome.{judgeLines, verdictOf, judgeOf, logicalLines, ended}
 use Rattle.reader.specs.declared.Verdict.the-variants.{Accepted}
 use Rattle.reader.proofs.AcceptLaws.{accepting}

@@ -23,7 +23,7 @@ use Rattle.folds.proofs.LineLaws.{lines-step}
 use Rattle.language.proofs.Law.{line-law}
 use Rattle.language.proofs.PlacesLaw.{accepted-starts}
 use Rattle.octets.proofs.Bools.{by, and-both}
-use Rattle.folds.specs.Lone.{loneStep, firstLone, endsCrLf}
+use Rattle.ends.specs.Lone.{loneStep, firstLone, endsCrLf}
 use Rattle.reader.specs.Outcome.{ended}
 use Rattle.grammar.specs.Cards.{Readable}
 use Rattle.grammar.specs.Inputs.{Blank, Folded, end, octet, fold, Written, none, more}

@@ -10,7 +10,7 @@ use Rattle.folds.specs.Logical.{rawLines}
 use Rattle.lines.specs.Grammar.{Line, Each, WellFormed, render}
 use Rattle.properties.specs.Rows.{single}
 use Rattle.content.specs.Parts.{rowOfLine, kindOfLine}
-use Rattle.folds.specs.Lone.{firstLone}
+use Rattle.ends.specs.Lone.{firstLone}
 use Rattle.reader.specs.Outcome.{ended}
 use Rattle.grammar.specs.Values.{Fitting}
 use Rattle.grammar.specs.Cards.{Clean, Readable, Bare, Begins, Versions, Inner, Cards, linesOf, groupLines}

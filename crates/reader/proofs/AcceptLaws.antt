@@ -17,7 +17,7 @@ use Rattle.card_state.specs.declared.Card.{Card}
 use Rattle.card_state.specs.declared.Step.{Step}
 use Rattle.card_state.specs.declared.Step.the-variants.{Next, Refused as Halted}
 use Rattle.cards.proofs.CardLaws.{one-more}
-use Rattle.folds.specs.Lone.{loneStep, firstLone, endsCrLf}
+use Rattle.ends.specs.Lone.{loneStep, firstLone, endsCrLf}
 use Rattle.reader.specs.Outcome.{onward, judgeLines, verdictOf, judgeOf}
 use Rattle.reader.specs.declared.Verdict.the-variants.{Accepted, Refused}
 

@@ -11,7 +11,7 @@ use borrow.Author.Tests.{ne-eqb, eqb-true, eqb-false, le-ltb}
 use Rattle.octets.specs.Scan.{scan, gather}
 use Rattle.folds.specs.Folds.{foldAt, lineStep, lineLength, passed, kept, unfolded}
 use Rattle.folds.specs.Logical.{rawLines}
-use Rattle.folds.specs.Lone.{loneStep, firstLone, endsCrLf}
+use Rattle.ends.specs.Lone.{loneStep, firstLone, endsCrLf}
 use Rattle.folds.proofs.LineLaws.{lines-step, lines-end}
 use Rattle.reader.specs.Outcome.{ended, logicalLines, copyOf}
 

@@ -36,11 +36,11 @@ pub fn judge(input: &[u8]) -> Verdict
     if input.len() == 0 {
         return Verdict::Refused(2, 0);
     }
-    let lone = folds::ends::first_lone(input);
+    let lone = ends::first_lone(input);
     if lone < input.len() {
         return Verdict::Refused(3, lone);
     }
-    let ended = folds::ends::ends_cr_lf(input);
+    let ended = ends::ends_cr_lf(input);
     if !ended {
         return Verdict::Refused(4, input.len());
     }
@@ -60,7 +60,7 @@ pub fn read(input: &[u8], copy: &mut [u8], records: &mut [u32]) -> Verdict
     let Verdict::Accepted(cards, lines) = v else {
         return v;
     };
-    let octets = folds::unfolding::unfolded_length(input);
+    let octets = unfolding::unfolded_length(input);
     if copy.len() < octets {
         return Verdict::Refused(13, octets);
     }

@@ -40,7 +40,7 @@ fn judge_span(
     if !folded {
         return cards::judge::judge_line(t, rows, steps, s, at, c);
     }
-    let n = folds::unfolding::unfold(s, scratch);
+    let n = unfolding::unfold(s, scratch);
     cards::judge::judge_line(t, rows, steps, &scratch[..n], at, c)
 }
 

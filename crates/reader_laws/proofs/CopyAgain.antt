@@ -10,7 +10,7 @@ use borrow.Author.Tests.{ne-eqb}
 use Rattle.octets.specs.Scan.{scan, gather}
 use Rattle.characters.proofs.Chains.{NoEnd, none, more}
 use Rattle.folds.specs.Folds.{lineLength, unfolded}
-use Rattle.folds.specs.Lone.{loneStep, firstLone, endsCrLf}
+use Rattle.ends.specs.Lone.{loneStep, firstLone, endsCrLf}
 use Rattle.folds.proofs.FoldLaws.{unfold-shorter}
 use Rattle.lines.specs.Grammar.{Each}
 use Rattle.reader.specs.Outcome.{judgeOf, ended, logicalLines, copyOf, recordsOf}

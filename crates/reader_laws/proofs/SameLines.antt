@@ -14,7 +14,7 @@ use Rattle.cards.specs.Judge.{judgeLine}
 use Rattle.card_state.specs.declared.Card.{Card}
 use Rattle.card_state.specs.declared.Step.{Step}
 use Rattle.card_state.specs.declared.Step.the-variants.{Next}
-use Rattle.folds.specs.Lone.{firstLone, endsCrLf}
+use Rattle.ends.specs.Lone.{firstLone, endsCrLf}
 use Rattle.reader.specs.Outcome.{onward, judgeLines, verdictOf, judgeOf, logicalLines, copyOf, recordsOf}
 use Rattle.reader.specs.declared.Verdict.the-variants.{Accepted}
 use Rattle.reader.proofs.AcceptLaws.{onward-next, Accepting, accepting}

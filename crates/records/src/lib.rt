@@ -100,6 +100,6 @@ pub fn write_lines(t: &[u8; 256], rows: &[u8; 624], s: &[u8], copy: &mut [u8], o
     ensures { λ _. ⌜ now (copy .exit) ≡ overlay (unfolded (now (s .entry))) (now (copy .entry)) ⌝ }
     ensures { λ _. ⌜ now (out .exit) ≡ overlay (recordsFrom 0 (rawLines (unfolded (now (s .entry))))) (now (out .entry)) ⌝ }
 {
-    let n = folds::unfolding::unfold(s, copy);
+    let n = unfolding::unfold(s, copy);
     write_records(t, rows, &copy[..n], out);
 }

@@ -48,7 +48,7 @@ pub fn put_under(room: &mut [u8], at: usize, line: &[u8]) -> usize
         return at;
     }
     let mut text = [0u8; 16385];
-    let n = folds::unfolding::unfold(line, &mut text);
+    let n = unfolding::unfold(line, &mut text);
     let a = pages::put_all(room, at, b"    ");
     let b = put_cut(room, a, parts::part(&text, 0, n));
     pages::put_all(room, b, b"\n")

@@ -9,7 +9,7 @@ use borrow.Rule.Slice.PartMut.{putMid}
 use Rattle.octets.proofs.Writes.{Written, start, room, finish}
 use Rattle.cuts.specs.Pieces.{pieces, folded, Clean}
 use Rattle.cuts.proofs.Turns.{foldedFrom, turn-fits, turn-clean, turn, last-piece}
-use Rattle.folds.proofs.PutLaws.{put-part}
+use Rattle.unfolding.proofs.PutLaws.{put-part}
 use Rattle.cuts.proofs.folding.fold_line.Statement.{statement}
 use Rattle.cuts.proofs.folding.fold_line.Tie as tie
 

@@ -10,7 +10,7 @@ use Rattle.folds.specs.Folds.{unfolded}
 use Rattle.reader.specs.Outcome.{logicalLines}
 use Rattle.folds.proofs.SpanLaws.{whole, part-length}
 use Rattle.cuts.specs.Pieces.{folded, foldedLines, Clean, All}
-use Rattle.folds.proofs.PutLaws.{put-part}
+use Rattle.unfolding.proofs.PutLaws.{put-part}
 use Rattle.folder.proofs.TextLaws.{fold-turn, fold-length, clean-turn, none-left}
 use Rattle.folder.proofs.texts.write_text.Statement.{statement}
 use Rattle.folder.proofs.texts.write_text.Tie as tie

@@ -1,3 +1,4 @@
+-- `folds::spans::line_end` meets its contract. Assumes nothing.
 use borrow.Author.Needs.{needs}
 use mathlib.Core.Path.{_≡_, sym, _∙_}
 use Prim.Native.Nat.{ℕ, _≤_, _<_, _+_, _-_}
@@ -11,10 +12,6 @@ use Rattle.folds.proofs.FoldLaws.{fold-inside, line-fold, line-stop, li
 use Rattle.folds.proofs.SpanLaws.{end-from}
 use Rattle.folds.proofs.spans.line_end.Statement.{statement}
 use Rattle.folds.proofs.spans.line_end.Tie as tie
-use Rattle.folds.proofs.spans.line_end.Reads as reads
-use Rattle.folds.proofs.spans.line_end.Lts as lts
-use Rattle.folds.proofs.hops.next_cr.Reads as next-cr-reads
-use Rattle.folds.proofs.spans.fold_at.Reads as fold-at-reads
 
 abbrev Inv-loop : tie.InvT-loop
 Inv-loop s from at₀ met₀ at met =
@@ -24,19 +21,15 @@ abbrev μ-loop : tie.MeasureT-loop
 μ-loop s from at₀ met₀ at met =
     length s - at
 
--- src/spans.rt:42:5
 loop-holds : tie.Need-loop-holds Inv-loop μ-loop
 loop-holds c = search needs
 
--- src/spans.rt:43:12
 shared-slice-read-if1 : tie.Need-shared-slice-read-if1 Inv-loop μ-loop
 shared-slice-read-if1 c = search needs
 
--- src/spans.rt:44:17
 fold-at-requires : tie.Need-fold-at-requires Inv-loop μ-loop
 fold-at-requires c κs = search needs
 
--- src/spans.rt:46:17
 returns : tie.Need-returns Inv-loop μ-loop
 unfolding lineLength
 returns c =
@@ -45,17 +38,14 @@ returns c =
     let e = sym (c .before .fold-at .ensures) ∙ not-true _ (c .if2 .taken) in
     (sym (l .inv .1 ∙ scan-stop lineStep s (l .at) (line-stop s (l .at) e (c .before .before .if1 .taken))), l .inv .0)
 
--- src/spans.rt:48:13
 add-at : tie.Need-add-at Inv-loop μ-loop
 add-at c =
     omega (arith, fold-inside (c .before .before .before .before .before .before .before .args .s .now) (c .before .before .before .before .before .loop .at) (sym (c .before .fold-at .ensures) ∙ not-false _ (c .if2 .left)))
 
--- src/spans.rt:42:5
 loop-less : tie.Need-loop-less Inv-loop μ-loop
 loop-less c =
     omega (arith, fold-inside (c .before .before .before .before .before .before .before .args .s .now) (c .before .before .before .before .before .loop .at) (sym (c .before .fold-at .ensures) ∙ not-false _ (c .if2 .left)))
 
--- src/spans.rt:42:5
 loop-again : tie.Need-loop-again Inv-loop μ-loop
 loop-again c =
     let l = c .before .before .before .before .before .loop in
@@ -64,19 +54,15 @@ loop-again c =
     let h = fold-inside s (l .at) e in
     (h, l .inv .1 ∙ scan-step lineStep s (l .at) 3 (line-fold s (l .at) e) (omega arith) h)
 
--- src/spans.rt:51:13
 add-at-2 : tie.Need-add-at-2 Inv-loop μ-loop
 add-at-2 c = search needs
 
--- src/spans.rt:52:13
 add-met : tie.Need-add-met Inv-loop μ-loop
 add-met c = search needs
 
--- src/spans.rt:42:5
 loop-less-2 : tie.Need-loop-less-2 Inv-loop μ-loop
 loop-less-2 c = search needs
 
--- src/spans.rt:42:5
 loop-again-2 : tie.Need-loop-again-2 Inv-loop μ-loop
 loop-again-2 c =
     let l = c .before .before .before .before .loop in
@@ -84,20 +70,16 @@ loop-again-2 c =
     let h : l .at + 1 ≤ length s = omega arith in
     (h, l .inv .1 ∙ scan-step lineStep s (l .at) 1 (line-octet s (l .at) (c .before .if1 .left)) (omega arith) h)
 
--- src/spans.rt:54:42
 add-next-cr : tie.Need-add-next-cr Inv-loop μ-loop
 add-next-cr c = search needs
 
--- src/spans.rt:54:13
 next-cr-requires : tie.Need-next-cr-requires Inv-loop μ-loop
 next-cr-requires c κs = search needs
 
--- src/spans.rt:42:5
 loop-less-3 : tie.Need-loop-less-3 Inv-loop μ-loop
 loop-less-3 c =
     omega (arith, c .next-cr .ensures .1)
 
--- src/spans.rt:42:5
 loop-again-3 : tie.Need-loop-again-3 Inv-loop μ-loop
 unfolding lineLength
 loop-again-3 c =
@@ -107,7 +89,6 @@ loop-again-3 c =
     let h : l .at + 1 ≤ length s = omega arith in
     (v .ensures .0, l .inv .1 ∙ scan-step lineStep s (l .at) 1 (line-octet s (l .at) (c .before .before .if1 .left)) (omega arith) h ∙ sym (end-from s (l .at + 1) (v .result) (v .ensures .1)))
 
--- src/spans.rt:36:1
 returns-2 : tie.Need-returns-2 Inv-loop μ-loop
 unfolding lineLength
 returns-2 c =
