@@ -1,1 +1,6 @@
--- The laws that the proofs of `requests` cite.
+-- The laws that the proofs of `requests` and of the crates above it cite. Assumes nothing.
+pub mod WordLaws
+pub mod ListLaws
+pub mod NumberLaws
+pub mod HexLaws
+pub mod NameLaws

@@ -1,0 +1,55 @@
+use borrow.Author.Needs.{needs}
+use Rattle.requests.proofs.hex.value.Statement.{statement}
+use Rattle.requests.proofs.hex.value.Tie as tie
+use Rattle.requests.proofs.hex.value.Reads as reads
+use Rattle.requests.proofs.hex.value.Lts as lts
+
+-- src/hex.rt:20:9
+returns : tie.Need-returns
+returns c = ?
+
+-- src/hex.rt:23:9
+returns-2 : tie.Need-returns-2
+returns-2 c = ?
+
+-- src/hex.rt:26:9
+returns-3 : tie.Need-returns-3
+returns-3 c = ?
+
+-- src/hex.rt:29:16
+sub-result : tie.Need-sub-result
+sub-result c = search needs
+
+-- src/hex.rt:29:9
+returns-4 : tie.Need-returns-4
+returns-4 c = ?
+
+-- src/hex.rt:32:9
+returns-5 : tie.Need-returns-5
+returns-5 c = ?
+
+-- src/hex.rt:35:16
+sub-result-2 : tie.Need-sub-result-2
+sub-result-2 c = search needs
+
+-- src/hex.rt:35:9
+returns-6 : tie.Need-returns-6
+returns-6 c = ?
+
+-- src/hex.rt:16:1
+returns-7 : tie.Need-returns-7
+returns-7 c = ?
+
+pub value-spec : {M : Type 1} → statement M
+value-spec =
+    tie.close
+    (tie.spec
+    returns
+    returns-2
+    returns-3
+    sub-result
+    returns-4
+    returns-5
+    sub-result-2
+    returns-6
+    returns-7)

@@ -1,0 +1,11 @@
+use Rattle.requests.proofs.names.table.Statement.{statement}
+use Rattle.requests.proofs.names.table.Tie as tie
+use Rattle.requests.proofs.names.table.Reads as reads
+use Rattle.requests.proofs.names.table.Lts as lts
+
+-- src/names.rt:43:1
+returns : tie.Need-returns
+returns c = ?
+
+pub table-spec : {M : Type 1} → statement M
+table-spec = tie.close (tie.spec returns)

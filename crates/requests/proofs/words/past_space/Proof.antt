@@ -1,0 +1,25 @@
+use borrow.Author.Needs.{needs}
+use Rattle.requests.proofs.words.past_space.Statement.{statement}
+use Rattle.requests.proofs.words.past_space.Tie as tie
+use Rattle.requests.proofs.words.past_space.Reads as reads
+use Rattle.requests.proofs.words.past_space.Lts as lts
+use Rattle.requests.proofs.words.next.Reads as next-reads
+
+-- src/words.rt:42:9
+next-requires : tie.Need-next-requires
+next-requires c κs = search needs
+
+-- src/words.rt:44:9
+returns : tie.Need-returns
+returns c = ?
+
+-- src/words.rt:46:5
+add-result : tie.Need-add-result
+add-result c = ?
+
+-- src/words.rt:38:1
+returns-2 : tie.Need-returns-2
+returns-2 c = ?
+
+pub past-space-spec : {M : Type 1} → statement M
+past-space-spec = tie.close (tie.spec next-requires returns add-result returns-2)
