@@ -1,18 +1,20 @@
 -- The laws of pairs of hexadecimal digits, and of the octets written to a room. Assumes nothing.
 use mathlib.Core.Path.{_≡_, refl, sym, ap, _∙_}
-use mathlib.Core.Bool.{Bool, true, false, _&&_}
+use mathlib.Core.Bool.{Bool, true, false, not, _&&_}
 use mathlib.Core.List.{List, [], _∷_, _++_}
-use Prim.Native.Nat.{ℕ, zero, suc, _+_, _*_, _/_, _≤_, _<_}
+use Prim.Native.Nat.{ℕ, zero, suc, _+_, _*_, _/_, _%_, _≤_, _<_}
 use native.Mathlib.Nat.{le-of-suc-le-suc, not-suc-le-zero}
 use native.Mathlib.Omega.{arith}
+use lib.Dec.{eqb}
 use lib.ListN.{length, getD, drop}
 use borrow.Author.Tests.{ltb-true, lt-ltb, le-ltb}
 use Rattle.octets.specs.Pick.{pick}
+use Rattle.octets.specs.Ascii.{octets}
 use Rattle.octets.specs.Room.{overlay}
-use Rattle.requests.specs.Words.{all}
-use Rattle.requests.specs.Hex.{value, hexed, decoded, Taken, taken, stored}
+use Rattle.requests.specs.Words.{all, alike}
+use Rattle.requests.specs.Hex.{value, hexed, paired, decoded, Taken, taken, stored, octetsOf}
 use Rattle.requests.specs.declared.hex.Octets.the-variants.{Are, Bad}
-use Rattle.requests.proofs.ListLaws.{each}
+use Rattle.requests.proofs.ListLaws.{and-right, each}
 
 pub digit-low : (w : List ℕ) (i : ℕ) → all hexed w ≡ true → i < length w → value (getD w i 0) < 16
 unfolding hexed
@@ -35,10 +37,26 @@ decoded-at (x ∷ y ∷ w) (suc i) h =
     let low : 2 * suc i + 1 ≡ suc (suc (2 * i + 1)) = omega arith in
     rw (low, high) (decoded-at w i (omega arith))
 
-pub stored-short : (xs room : List ℕ) → length room < length xs → stored xs room ≡ taken Bad room
-unfolding stored
-stored-short xs room h = rw (lt-ltb (length room) (length xs) h)
+pub paired-all : (w : List ℕ) → paired w ≡ true → all hexed w ≡ true
+unfolding paired
+paired-all w e =
+    and-right (not (eqb (length w % 2) 1)) (all hexed w) (and-right (not (eqb (length w) 0)) (not (eqb (length w % 2) 1) && all hexed w) e)
 
-pub stored-all : (xs room : List ℕ) → length xs ≤ length room → stored xs room ≡ taken (Are (length xs)) (overlay xs room)
-unfolding stored
-stored-all xs room h = rw (le-ltb (length room) (length xs) h)
+-- what a word gives: none, bad, more than the room holds, or octets
+module _ (w room : List ℕ) where
+  pub octets-none : alike w (octets "-") ≡ true → octetsOf w room ≡ taken (Are 0) room
+  unfolding octetsOf stored
+  octets-none e = rw (e, le-ltb (length room) 0 (omega arith))
+
+  pub octets-bad : alike w (octets "-") ≡ false → paired w ≡ false → octetsOf w room ≡ taken Bad room
+  unfolding octetsOf
+  octets-bad e g = rw (e, g)
+
+  pub octets-over : alike w (octets "-") ≡ false → paired w ≡ true → length room < length w / 2 → octetsOf w room ≡ taken Bad room
+  unfolding octetsOf stored
+  octets-over e g h = rw (e, g, decoded-length w, lt-ltb (length room) (length w / 2) h)
+
+  pub octets-all : alike w (octets "-") ≡ false → paired w ≡ true → length w / 2 ≤ length room
+      → octetsOf w room ≡ taken (Are (length w / 2)) (overlay (decoded w) room)
+  unfolding octetsOf stored
+  octets-all e g h = rw (e, g, decoded-length w, le-ltb (length room) (length w / 2) h)

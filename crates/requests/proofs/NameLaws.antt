@@ -2,12 +2,13 @@
 use mathlib.Core.Path.{_≡_, refl, sym, ap, subst, _∙_}
 use mathlib.Core.Bool.{Bool, true, false, _&&_}
 use mathlib.Core.List.{List, [], _∷_}
-use Prim.Native.Nat.{ℕ, _+_, _*_, _≤_, _<_}
+use Prim.Native.Nat.{ℕ, _+_, _*_, _-_, _≤_, _<_}
 use native.Mathlib.Numerals.{add-one}
 use native.Mathlib.Omega.{arith}
 use lib.Dec.{T, leb, eqb, leb→le, eqb→eq}
-use lib.ListN.{length, getD, take, drop, replicate}
+use lib.ListN.{length, getD, take, drop, replicate, List·getD-eq-default}
 use lib.Seq.{drop-cons}
+use borrow.Author.Tests.{eq-eqb, ne-eqb}
 use Rattle.octets.proofs.Table.{every, at}
 use Rattle.requests.specs.Words.{alike}
 use Rattle.requests.proofs.ListLaws.{alike-same}
@@ -75,3 +76,24 @@ listed t e n h = subst (λ (l : List ℕ). Listed l n) (sym e) (listed-right n h
 pub listed-length : (t : List ℕ) → Lists t → length t ≡ 165
 unfolding Lists entriesFrom entries rowAt rows octets
 listed-length t e = ap length e
+
+-- the part of the table that spells a row's name
+pub spelt-part : (t : List ℕ) (n e : ℕ) → Listed t n → e ≡ getD t (n * 11 + 8) 0 → take (n * 11 + e - n * 11) (drop (n * 11) t) ≡ rowAt n .spelling
+spelt-part t n e l q =
+    let k : n * 11 + e - n * 11 ≡ length (rowAt n .spelling) = omega (arith, l .long) in
+    rw k (l .spelt)
+
+-- a row fits by its count of words and its name
+module _ (w : List ℕ) (k : ℕ) (r : Row) (n o : ℕ) (p : n ≡ r .numbers) (q : o ≡ r .octets) where
+  pub fits-not : (n + o ≡ k → ⊥) → fits w k r ≡ false
+  unfolding fits
+  fits-not h = rw (ne-eqb (r .numbers + r .octets) k (λ e. h (omega arith)))
+
+  pub fits-name : n + o ≡ k → fits w k r ≡ alike w (r .spelling)
+  unfolding fits
+  fits-name h = rw (eq-eqb (r .numbers + r .octets) k (omega arith))
+
+-- past the rows there is no request
+pub no-row : (n : ℕ) → 14 ≤ n → rowAt n ≡ noRow
+unfolding rowAt rows
+no-row n h = List·getD-eq-default rows noRow h

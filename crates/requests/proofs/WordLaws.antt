@@ -153,3 +153,8 @@ cr-off l =
 pub no-cr : (l : List ℕ) → (getD l (length l - 1) 0 ≡ 13 → ⊥) → withoutCr l ≡ l
 unfolding withoutCr
 no-cr l h = rw (ne-eqb (getD l (length l - 1) 0) 13 h)
+
+pub nothing-off : (l : List ℕ) → length l ≡ 0 → l ≡ withoutCr l
+unfolding withoutCr
+nothing-off [] h = refl
+nothing-off (x ∷ xs) h = absurd (omega arith)

@@ -1,3 +1,13 @@
+use mathlib.Core.Path.{_≡_, sym, ap, _∙_}
+use Rattle.requests.specs.Words.{alike}
+use Rattle.requests.specs.Names.{rowAt}
+use Rattle.requests.proofs.NameLaws.{listed, listed-length, spelt-part, fits-not, fits-name}
+use mathlib.Core.Path.{_≡_, sym, _∙_}
+use native.Mathlib.Omega.{arith}
+use borrow.Author.Tests.{eq-eqb, ne-eqb}
+use Rattle.requests.specs.Names.{rowAt, fits}
+use Rattle.requests.proofs.ListLaws.{told}
+use Rattle.requests.proofs.NameLaws.{listed, listed-length}
 use borrow.Author.Needs.{needs}
 use Rattle.requests.proofs.names.is_row.Statement.{statement}
 use Rattle.requests.proofs.names.is_row.Tie as tie
@@ -22,7 +32,10 @@ add-if1 c = search needs
 
 -- src/names.rt:82:9
 returns : tie.Need-returns
-returns c = ?
+unfolding fits
+returns c =
+    let a = c .before .before .before .before .before .args in
+    sym (fits-not (a .word .now) (a .after) (rowAt (a .row)) (c .before .before .numbers-at .result) (c .before .octets-at .result) (c .before .before .numbers-at .ensures .0) (c .before .octets-at .ensures .0) (c .if1 .taken))
 
 -- src/names.rt:84:16
 mul-base : tie.Need-mul-base
@@ -34,7 +47,8 @@ add-wide c = search needs
 
 -- src/names.rt:85:27
 shared-slice-read-wide : tie.Need-shared-slice-read-wide
-shared-slice-read-wide c = ?
+shared-slice-read-wide c =
+    omega (arith, listed-length (c .before .before .before .before .before .before .args .t .now) (c .before .before .before .before .before .before .pre .0), c .before .before .before .before .before .before .pre .1)
 
 -- src/names.rt:85:22
 wide-requires : tie.Need-wide-requires
@@ -42,7 +56,10 @@ wide-requires c κs = search needs
 
 -- src/names.rt:85:15
 add-end : tie.Need-add-end
-add-end c = ?
+add-end c =
+    let s = c .before .before .before .before .before .before .before in
+    let l = listed (s .args .t .now) (s .pre .0) (s .args .row) (s .pre .1) in
+    omega (arith, c .wide .ensures, l .long, l .short)
 
 -- src/names.rt:86:23
 sub-same : tie.Need-sub-same
@@ -54,7 +71,10 @@ part-same-start c = search needs
 
 -- src/names.rt:86:23
 part-same-end : tie.Need-part-same-end
-part-same-end c = ?
+part-same-end c =
+    let s = c .before .before .before .before .before .before .before in
+    let l = listed (s .args .t .now) (s .pre .0) (s .args .row) (s .pre .1) in
+    omega (arith, c .wide .ensures, l .long, l .short, listed-length (s .args .t .now) (s .pre .0))
 
 -- src/names.rt:86:5
 same-requires : tie.Need-same-requires
@@ -62,7 +82,14 @@ same-requires c κs = search needs
 
 -- src/names.rt:76:1
 returns-2 : tie.Need-returns-2
-returns-2 c = ?
+unfolding fits
+returns-2 c =
+    let s = c .before .before .before .before .before .before .before .before .before in
+    let a = s .args in
+    let w = a .word .now in
+    let l = listed (a .t .now) (s .pre .0) (a .row) (s .pre .1) in
+    let name = fits-name w (a .after) (rowAt (a .row)) (c .before .before .before .before .before .before .numbers-at .result) (c .before .before .before .before .before .octets-at .result) (c .before .before .before .before .before .before .numbers-at .ensures .0) (c .before .before .before .before .before .octets-at .ensures .0) (c .before .before .before .before .if1 .left) in
+    told _ w _ (c .same .ensures) ∙ ap (alike w) (spelt-part (a .t .now) (a .row) (c .before .before .wide .result) l (c .before .before .wide .ensures)) ∙ sym name
 
 pub is-row-spec : {M : Type 1} → statement M
 is-row-spec =

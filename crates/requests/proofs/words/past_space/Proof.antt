@@ -1,3 +1,5 @@
+use native.Mathlib.Omega.{arith}
+use Rattle.requests.proofs.WordLaws.{past-one, past-end}
 use borrow.Author.Needs.{needs}
 use Rattle.requests.proofs.words.past_space.Statement.{statement}
 use Rattle.requests.proofs.words.past_space.Tie as tie
@@ -11,15 +13,22 @@ next-requires c κs = search needs
 
 -- src/words.rt:44:9
 returns : tie.Need-returns
-returns c = ?
+returns c =
+    let a = c .before .before .before .args in
+    let e = c .before .next in
+    record { goes = past-end (a .line .now) (a .from) (e .result) (e .ensures .0) (c .if1 .taken); inside = omega arith }
 
 -- src/words.rt:46:5
 add-result : tie.Need-add-result
-add-result c = ?
+add-result c =
+    omega (arith, c .before .next .ensures .1 (c .before .before .before .pre))
 
 -- src/words.rt:38:1
 returns-2 : tie.Need-returns-2
-returns-2 c = ?
+returns-2 c =
+    let a = c .before .before .before .args in
+    let e = c .before .next in
+    record { goes = past-one (a .line .now) (a .from) (e .result) (e .ensures .0); inside = omega (arith, e .ensures .1 (c .before .before .before .pre)) }
 
 pub past-space-spec : {M : Type 1} → statement M
 past-space-spec = tie.close (tie.spec next-requires returns add-result returns-2)

@@ -1,3 +1,10 @@
+use native.Mathlib.Nat.{sub-zero}
+use Rattle.requests.proofs.WordLaws.{no-cr, nothing-off}
+use mathlib.Core.Path.{sym}
+use native.Mathlib.Omega.{arith}
+use lib.ListN.{length}
+use borrow.Author.Tests.{eq-eqb, ne-eqb}
+use Rattle.requests.specs.Words.{withoutCr}
 use borrow.Author.Needs.{needs}
 use Rattle.requests.proofs.words.without_cr.Statement.{statement}
 use Rattle.requests.proofs.words.without_cr.Tie as tie
@@ -6,7 +13,9 @@ use Rattle.requests.proofs.words.without_cr.Lts as lts
 
 -- src/words.rt:76:9
 returns : tie.Need-returns
-returns c = ?
+unfolding withoutCr
+returns c =
+    nothing-off (c .before .args .line .now) (c .if1 .taken)
 
 -- src/words.rt:78:16
 sub-last : tie.Need-sub-last
@@ -30,11 +39,15 @@ part-result-end c = search needs
 
 -- src/words.rt:80:9
 returns-2 : tie.Need-returns-2
-returns-2 c = ?
+unfolding withoutCr
+returns-2 c =
+    rw (sub-zero, eq-eqb _ 13 (c .before .if2 .taken))
 
 -- src/words.rt:72:1
 returns-3 : tie.Need-returns-3
-returns-3 c = ?
+unfolding withoutCr
+returns-3 c =
+    sym (no-cr (c .before .before .before .args .line .now) (c .if2 .left))
 
 pub without-cr-spec : {M : Type 1} → statement M
 without-cr-spec =

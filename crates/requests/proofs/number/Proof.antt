@@ -1,0 +1,26 @@
+use borrow.Author.Needs.{needs}
+use Rattle.requests.proofs.number.Statement.{statement}
+use Rattle.requests.proofs.number.Tie as tie
+use Rattle.requests.proofs.number.Reads as reads
+use Rattle.requests.proofs.number.Lts as lts
+use Rattle.requests.proofs.numbers.number_of.Reads as number-of-reads
+use Rattle.requests.proofs.words.word.Reads as word-reads
+
+-- src/lib.rt:42:9
+returns : tie.Need-returns
+returns c = ?
+
+-- src/lib.rt:44:24
+word-requires : tie.Need-word-requires
+word-requires c κs = search needs
+
+-- src/lib.rt:44:5
+number-of-requires : tie.Need-number-of-requires
+number-of-requires c κs = search needs
+
+-- src/lib.rt:38:1
+returns-2 : tie.Need-returns-2
+returns-2 c = ?
+
+pub number-spec : {M : Type 1} → statement M
+number-spec = tie.close (tie.spec returns word-requires number-of-requires returns-2)
