@@ -4,3 +4,4 @@ pub mod ListLaws
 pub mod NumberLaws
 pub mod HexLaws
 pub mod NameLaws
+pub mod RequestLaws

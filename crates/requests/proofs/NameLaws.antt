@@ -97,3 +97,7 @@ module _ (w : List ℕ) (k : ℕ) (r : Row) (n o : ℕ) (p : n ≡ r .numbers) (
 pub no-row : (n : ℕ) → 14 ≤ n → rowAt n ≡ noRow
 unfolding rowAt rows
 no-row n h = List·getD-eq-default rows noRow h
+
+-- one more number passed
+pub passed : (n k : ℕ) → k ≤ n → (n ≡ k → ⊥) → k + 1 ≤ n
+passed n k h e = omega arith

@@ -5,11 +5,11 @@ pub mod numbers;
 pub mod words;
 
 ghost use mathlib.Core.Path.{_≡_};
-ghost use Prim.Native.Nat.{_+_, _≤_};
+ghost use Prim.Native.Nat.{_+_, _≤_, _<_};
 ghost use Rattle.requests.specs.Hex.{taken};
 ghost use Rattle.requests.specs.Words.{wordAt};
-ghost use Rattle.requests.specs.Names.{rowAt};
-ghost use Rattle.requests.specs.Requests.{noRequest, numberAt, octetsAt, requested, requestOf};
+ghost use Rattle.requests.specs.Names.{Lists, rowAt};
+ghost use Rattle.requests.specs.Requests.{noRequest, numberAt, octetsAt, requested, read, requestOf};
 use hex::Octets;
 use names::Name;
 use numbers::Number;
@@ -55,20 +55,20 @@ fn last(line: &[u8], numbers: usize, octets: usize, out: &mut [u8]) -> Octets
     hex::octets_of(words::word(line, numbers + 1), out)
 }
 
-// The request of a line, with its octets at the front of out; out stays as it is where there is none.
-pub fn request_of(line: &[u8], out: &mut [u8]) -> Request
-    ensures { λ r. ⌜ requested r (now (out .exit)) ≡ requestOf (now (line .entry)) (now (out .entry)) ⌝ }
+// What a line says that starts with this row's name, with its octets at the front of out.
+fn read_row(t: &[u8], row: usize, line: &[u8], out: &mut [u8]) -> Request
+    requires { ⌜ Lists (now t) ⌝ }
+    requires { ⌜ row < 15 ⌝ }
+    ensures { λ r. ⌜ requested r (now (out .exit)) ≡ read (rowAt row) (now (line .entry)) (now (out .entry)) ⌝ }
 {
-    let t = names::table();
-    let row = names::row_of(&t, words::word(line, 0), words::spaces(line));
-    let n = names::numbers_at(&t, row);
+    let n = names::numbers_at(t, row);
     let Number::Is(first) = number(line, 1, n) else {
         return none();
     };
     let Number::Is(second) = number(line, 2, n) else {
         return none();
     };
-    let Octets::Are(count) = last(line, n, names::octets_at(&t, row), out) else {
+    let Octets::Are(count) = last(line, n, names::octets_at(t, row), out) else {
         return none();
     };
     Request {
@@ -77,4 +77,13 @@ pub fn request_of(line: &[u8], out: &mut [u8]) -> Request
         second: second,
         count: count,
     }
+}
+
+// The request of a line, with its octets at the front of out; out stays as it is where there is none.
+pub fn request_of(line: &[u8], out: &mut [u8]) -> Request
+    ensures { λ r. ⌜ requested r (now (out .exit)) ≡ requestOf (now (line .entry)) (now (out .entry)) ⌝ }
+{
+    let t = names::table();
+    let row = names::row_of(&t, words::word(line, 0), words::spaces(line));
+    read_row(&t, row, line, out)
 }

@@ -1,3 +1,9 @@
+use mathlib.Core.Path.{sym, ap, _∙_}
+use mathlib.Core.List.{List}
+use Prim.Native.Nat.{ℕ, _+_}
+use Rattle.requests.specs.Hex.{octetsOf}
+use Rattle.requests.specs.Words.{wordAt}
+use Rattle.requests.proofs.RequestLaws.{no-octets, the-octets}
 use borrow.Author.Needs.{needs}
 use Rattle.requests.proofs.last.Statement.{statement}
 use Rattle.requests.proofs.last.Tie as tie
@@ -8,7 +14,9 @@ use Rattle.requests.proofs.words.word.Reads as word-reads
 
 -- src/lib.rt:53:9
 returns : tie.Need-returns
-returns c = ?
+returns c =
+    let a = c .before .before .before .args in
+    sym (no-octets (wordAt (a .line .now) (a .numbers + 1)) (a .octets) (a .out .now) (c .if1 .taken))
 
 -- src/lib.rt:55:38
 add-word : tie.Need-add-word
@@ -28,7 +36,10 @@ same-length c = search needs
 
 -- src/lib.rt:48:1
 returns-2 : tie.Need-returns-2
-returns-2 c = ?
+returns-2 c =
+    let a = c .before .before .before .before .before .before .before .before .args in
+    let w = wordAt (a .line .now) (a .numbers + 1) in
+    c .before .before .octets-of .ensures ∙ ap (λ (v : List ℕ). octetsOf v (a .out .now)) (c .before .before .before .before .word .ensures) ∙ sym (the-octets w (a .octets) (a .out .now) (c .before .before .before .before .before .if1 .left))
 
 pub last-spec : {M : Type 1} → statement M
 last-spec =

@@ -1,3 +1,7 @@
+use mathlib.Core.Path.{sym, ap, _∙_}
+use Rattle.requests.specs.Numbers.{numberOf}
+use Rattle.requests.specs.Words.{wordAt}
+use Rattle.requests.proofs.RequestLaws.{no-number, a-number}
 use borrow.Author.Needs.{needs}
 use Rattle.requests.proofs.number.Statement.{statement}
 use Rattle.requests.proofs.number.Tie as tie
@@ -8,7 +12,9 @@ use Rattle.requests.proofs.words.word.Reads as word-reads
 
 -- src/lib.rt:42:9
 returns : tie.Need-returns
-returns c = ?
+returns c =
+    let a = c .before .before .args in
+    sym (no-number (wordAt (a .line .now) (a .k)) (a .k) (a .numbers) (c .if1 .taken))
 
 -- src/lib.rt:44:24
 word-requires : tie.Need-word-requires
@@ -20,7 +26,9 @@ number-of-requires c κs = search needs
 
 -- src/lib.rt:38:1
 returns-2 : tie.Need-returns-2
-returns-2 c = ?
+returns-2 c =
+    let a = c .before .before .before .before .args in
+    c .number-of .ensures ∙ ap numberOf (c .before .word .ensures) ∙ sym (a-number (wordAt (a .line .now) (a .k)) (a .k) (a .numbers) (c .before .before .if1 .left))
 
 pub number-spec : {M : Type 1} → statement M
 number-spec = tie.close (tie.spec returns word-requires number-of-requires returns-2)

@@ -1,3 +1,5 @@
+use native.Mathlib.Omega.{arith}
+use Rattle.requests.proofs.WordLaws.{next-low, word-part}
 use borrow.Author.Needs.{needs}
 use Rattle.requests.proofs.words.word.Statement.{statement}
 use Rattle.requests.proofs.words.word.Tie as tie
@@ -16,19 +18,24 @@ next-requires c κs = search needs
 
 -- src/words.rt:68:5
 sub-result : tie.Need-sub-result
-sub-result c = ?
+sub-result c =
+    omega (arith, c .next .ensures .0, next-low 32 (c .before .before .before .args .line .now) (c .before .start-of .result))
 
 -- src/words.rt:68:5
 part-result-start : tie.Need-part-result-start
-part-result-start c = ?
+part-result-start c =
+    omega (arith, c .next .ensures .0, next-low 32 (c .before .before .before .args .line .now) (c .before .start-of .result))
 
 -- src/words.rt:68:5
 part-result-end : tie.Need-part-result-end
-part-result-end c = ?
+part-result-end c =
+    omega (arith, c .next .ensures .1 (c .before .start-of .ensures .inside))
 
 -- src/words.rt:63:1
 returns : tie.Need-returns
-returns c = ?
+returns c =
+    let a = c .before .before .before .before .args in
+    word-part (a .line .now) (a .k) (c .before .before .start-of .result) (c .before .next .result) (c .before .before .start-of .ensures) (c .before .next .ensures .0)
 
 pub word-spec : {M : Type 1} → statement M
 word-spec =
