@@ -1,3 +1,4 @@
+-- `requests::last` meets its contract. Assumes nothing.
 use mathlib.Core.Path.{sym, ap, _∙_}
 use mathlib.Core.List.{List}
 use Prim.Native.Nat.{ℕ, _+_}
@@ -7,34 +8,24 @@ use Rattle.requests.proofs.RequestLaws.{no-octets, the-octets}
 use borrow.Author.Needs.{needs}
 use Rattle.requests.proofs.last.Statement.{statement}
 use Rattle.requests.proofs.last.Tie as tie
-use Rattle.requests.proofs.last.Reads as reads
-use Rattle.requests.proofs.last.Lts as lts
-use Rattle.requests.proofs.hex.octets_of.Reads as octets-of-reads
-use Rattle.requests.proofs.words.word.Reads as word-reads
 
--- src/lib.rt:53:9
 returns : tie.Need-returns
 returns c =
     let a = c .before .before .before .args in
     sym (no-octets (wordAt (a .line .now) (a .numbers + 1)) (a .octets) (a .out .now) (c .if1 .taken))
 
--- src/lib.rt:55:38
 add-word : tie.Need-add-word
 add-word c = search needs
 
--- src/lib.rt:55:20
 word-requires : tie.Need-word-requires
 word-requires c κs = search needs
 
--- src/lib.rt:55:5
 octets-of-requires : tie.Need-octets-of-requires
 octets-of-requires c κs = search needs
 
--- src/lib.rt:48:1
 same-length : tie.Need-same-length
 same-length c = search needs
 
--- src/lib.rt:48:1
 returns-2 : tie.Need-returns-2
 returns-2 c =
     let a = c .before .before .before .before .before .before .before .before .args in

@@ -1,3 +1,4 @@
+-- `requests::number` meets its contract. Assumes nothing.
 use mathlib.Core.Path.{sym, ap, _∙_}
 use Rattle.requests.specs.Numbers.{numberOf}
 use Rattle.requests.specs.Words.{wordAt}
@@ -5,26 +6,18 @@ use Rattle.requests.proofs.RequestLaws.{no-number, a-number}
 use borrow.Author.Needs.{needs}
 use Rattle.requests.proofs.number.Statement.{statement}
 use Rattle.requests.proofs.number.Tie as tie
-use Rattle.requests.proofs.number.Reads as reads
-use Rattle.requests.proofs.number.Lts as lts
-use Rattle.requests.proofs.numbers.number_of.Reads as number-of-reads
-use Rattle.requests.proofs.words.word.Reads as word-reads
 
--- src/lib.rt:42:9
 returns : tie.Need-returns
 returns c =
     let a = c .before .before .args in
     sym (no-number (wordAt (a .line .now) (a .k)) (a .k) (a .numbers) (c .if1 .taken))
 
--- src/lib.rt:44:24
 word-requires : tie.Need-word-requires
 word-requires c κs = search needs
 
--- src/lib.rt:44:5
 number-of-requires : tie.Need-number-of-requires
 number-of-requires c κs = search needs
 
--- src/lib.rt:38:1
 returns-2 : tie.Need-returns-2
 returns-2 c =
     let a = c .before .before .before .before .args in

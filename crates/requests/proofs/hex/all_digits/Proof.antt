@@ -1,6 +1,7 @@
+-- `requests::hex::all_digits` meets its contract. Assumes nothing.
 use borrow.Author.Needs.{needs}
-use mathlib.Core.Path.{_≡_, refl, sym, ap, _∙_}
-use Prim.Native.Nat.{ℕ, _-_, _≤_, _<_}
+use mathlib.Core.Path.{_≡_, refl, sym, _∙_}
+use Prim.Native.Nat.{_-_, _≤_}
 use native.Mathlib.Omega.{arith}
 use lib.ListN.{length, drop, getD}
 use borrow.Author.Tests.{lt-ltb, le-ltb}
@@ -9,9 +10,6 @@ use Rattle.requests.specs.Hex.{value, hexed}
 use Rattle.requests.proofs.ListLaws.{all-stop, all-step, all-end}
 use Rattle.requests.proofs.hex.all_digits.Statement.{statement}
 use Rattle.requests.proofs.hex.all_digits.Tie as tie
-use Rattle.requests.proofs.hex.all_digits.Reads as reads
-use Rattle.requests.proofs.hex.all_digits.Lts as lts
-use Rattle.requests.proofs.hex.value.Reads as value-reads
 
 abbrev Inv-loop : tie.InvT-loop
 Inv-loop word i₀ i =
@@ -21,38 +19,34 @@ abbrev μ-loop : tie.MeasureT-loop
 μ-loop word i₀ i =
     length word - i
 
--- src/hex.rt:45:5
 loop-holds : tie.Need-loop-holds Inv-loop μ-loop
 loop-holds c =
     (omega arith, refl)
 
--- src/hex.rt:46:18
 shared-slice-read-value : tie.Need-shared-slice-read-value Inv-loop μ-loop
 shared-slice-read-value c = search needs
--- src/hex.rt:46:12
+
 value-requires : tie.Need-value-requires Inv-loop μ-loop
 value-requires c κs = search needs
--- src/hex.rt:47:13
+
 returns : tie.Need-returns Inv-loop μ-loop
 unfolding hexed
 returns c =
     let l = c .before .before .before .before .loop in
     sym (l .inv .1 ∙ all-stop hexed (c .before .before .before .before .before .before .args .word .now) (l .i) (c .before .before .before .loop-test .taken) (le-ltb (value (getD (c .before .before .before .before .before .before .args .word .now) (l .i) 0)) 16 (omega (arith, c .before .value .ensures))))
 
--- src/hex.rt:49:9
 add-i : tie.Need-add-i Inv-loop μ-loop
 add-i c = search needs
--- src/hex.rt:45:5
+
 loop-less : tie.Need-loop-less Inv-loop μ-loop
 loop-less c = search needs
--- src/hex.rt:45:5
+
 loop-again : tie.Need-loop-again Inv-loop μ-loop
 unfolding hexed
 loop-again c =
     let l = c .before .before .before .before .loop in
     (omega arith, l .inv .1 ∙ all-step hexed (c .before .before .before .before .before .before .args .word .now) (l .i) (c .before .before .before .loop-test .taken) (lt-ltb (value (getD (c .before .before .before .before .before .before .args .word .now) (l .i) 0)) 16 (omega (arith, c .before .value .ensures))))
 
--- src/hex.rt:41:1
 returns-2 : tie.Need-returns-2 Inv-loop μ-loop
 returns-2 c =
     sym (c .before .loop .inv .1 ∙ all-end hexed (c .before .before .before .args .word .now) (c .before .loop .i) (c .loop-test .left))

@@ -1,86 +1,66 @@
-use mathlib.Core.Path.{_≡_, sym, ap, _∙_}
+-- `requests::names::is_row` meets its contract. Assumes nothing.
+use mathlib.Core.Path.{sym, ap, _∙_}
 use Rattle.requests.specs.Words.{alike}
 use Rattle.requests.specs.Names.{rowAt}
 use Rattle.requests.proofs.NameLaws.{listed, listed-length, spelt-part, fits-not, fits-name}
-use mathlib.Core.Path.{_≡_, sym, _∙_}
+use mathlib.Core.Path.{sym, _∙_}
 use native.Mathlib.Omega.{arith}
-use borrow.Author.Tests.{eq-eqb, ne-eqb}
 use Rattle.requests.specs.Names.{rowAt, fits}
 use Rattle.requests.proofs.ListLaws.{told}
 use Rattle.requests.proofs.NameLaws.{listed, listed-length}
 use borrow.Author.Needs.{needs}
 use Rattle.requests.proofs.names.is_row.Statement.{statement}
 use Rattle.requests.proofs.names.is_row.Tie as tie
-use Rattle.requests.proofs.names.is_row.Reads as reads
-use Rattle.requests.proofs.names.is_row.Lts as lts
-use Rattle.check.proofs.same.Reads as same-reads
-use Rattle.requests.proofs.names.numbers_at.Reads as numbers-at-reads
-use Rattle.requests.proofs.names.octets_at.Reads as octets-at-reads
-use Rattle.requests.proofs.names.wide.Reads as wide-reads
 
--- src/names.rt:81:8
 numbers-at-requires : tie.Need-numbers-at-requires
 numbers-at-requires c κs = search needs
 
--- src/names.rt:81:29
 octets-at-requires : tie.Need-octets-at-requires
 octets-at-requires c κs = search needs
 
--- src/names.rt:81:8
 add-if1 : tie.Need-add-if1
 add-if1 c = search needs
 
--- src/names.rt:82:9
 returns : tie.Need-returns
 unfolding fits
 returns c =
     let a = c .before .before .before .before .before .args in
     sym (fits-not (a .word .now) (a .after) (rowAt (a .row)) (c .before .before .numbers-at .result) (c .before .octets-at .result) (c .before .before .numbers-at .ensures .0) (c .before .octets-at .ensures .0) (c .if1 .taken))
 
--- src/names.rt:84:16
 mul-base : tie.Need-mul-base
 mul-base c = search needs
 
--- src/names.rt:85:29
 add-wide : tie.Need-add-wide
 add-wide c = search needs
 
--- src/names.rt:85:27
 shared-slice-read-wide : tie.Need-shared-slice-read-wide
 shared-slice-read-wide c =
     omega (arith, listed-length (c .before .before .before .before .before .before .args .t .now) (c .before .before .before .before .before .before .pre .0), c .before .before .before .before .before .before .pre .1)
 
--- src/names.rt:85:22
 wide-requires : tie.Need-wide-requires
 wide-requires c κs = search needs
 
--- src/names.rt:85:15
 add-end : tie.Need-add-end
 add-end c =
     let s = c .before .before .before .before .before .before .before in
     let l = listed (s .args .t .now) (s .pre .0) (s .args .row) (s .pre .1) in
     omega (arith, c .wide .ensures, l .long, l .short)
 
--- src/names.rt:86:23
 sub-same : tie.Need-sub-same
 sub-same c = search needs
 
--- src/names.rt:86:23
 part-same-start : tie.Need-part-same-start
 part-same-start c = search needs
 
--- src/names.rt:86:23
 part-same-end : tie.Need-part-same-end
 part-same-end c =
     let s = c .before .before .before .before .before .before .before in
     let l = listed (s .args .t .now) (s .pre .0) (s .args .row) (s .pre .1) in
     omega (arith, c .wide .ensures, l .long, l .short, listed-length (s .args .t .now) (s .pre .0))
 
--- src/names.rt:86:5
 same-requires : tie.Need-same-requires
 same-requires c κs = search needs
 
--- src/names.rt:76:1
 returns-2 : tie.Need-returns-2
 unfolding fits
 returns-2 c =

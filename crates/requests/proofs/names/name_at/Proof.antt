@@ -1,98 +1,81 @@
+-- `requests::names::name_at` meets its contract. Assumes nothing.
 use Rattle.requests.proofs.NameLaws.{no-row, passed}
-use mathlib.Core.Path.{sym, ap}
 use native.Mathlib.Omega.{arith}
-use Rattle.requests.specs.Names.{Row, rows, rowAt}
+use Rattle.requests.specs.Names.{rows, rowAt}
 use Rattle.requests.proofs.NameLaws.{no-row}
 use Rattle.requests.proofs.names.name_at.Statement.{statement}
 use Rattle.requests.proofs.names.name_at.Tie as tie
-use Rattle.requests.proofs.names.name_at.Reads as reads
-use Rattle.requests.proofs.names.name_at.Lts as lts
 
--- src/names.rt:106:1
 returns : tie.Need-returns
 unfolding rowAt rows
 returns c =
     rw (c .match .keys1)
 
--- src/names.rt:106:1
 returns-2 : tie.Need-returns-2
 unfolding rowAt rows
 returns-2 c =
     rw (c .match .keys2)
 
--- src/names.rt:106:1
 returns-3 : tie.Need-returns-3
 unfolding rowAt rows
 returns-3 c =
     rw (c .match .keys3)
 
--- src/names.rt:106:1
 returns-4 : tie.Need-returns-4
 unfolding rowAt rows
 returns-4 c =
     rw (c .match .keys4)
 
--- src/names.rt:106:1
 returns-5 : tie.Need-returns-5
 unfolding rowAt rows
 returns-5 c =
     rw (c .match .keys5)
 
--- src/names.rt:106:1
 returns-6 : tie.Need-returns-6
 unfolding rowAt rows
 returns-6 c =
     rw (c .match .keys6)
 
--- src/names.rt:106:1
 returns-7 : tie.Need-returns-7
 unfolding rowAt rows
 returns-7 c =
     rw (c .match .keys7)
 
--- src/names.rt:106:1
 returns-8 : tie.Need-returns-8
 unfolding rowAt rows
 returns-8 c =
     rw (c .match .keys8)
 
--- src/names.rt:106:1
 returns-9 : tie.Need-returns-9
 unfolding rowAt rows
 returns-9 c =
     rw (c .match .keys9)
 
--- src/names.rt:106:1
 returns-10 : tie.Need-returns-10
 unfolding rowAt rows
 returns-10 c =
     rw (c .match .keys10)
 
--- src/names.rt:106:1
 returns-11 : tie.Need-returns-11
 unfolding rowAt rows
 returns-11 c =
     rw (c .match .keys11)
 
--- src/names.rt:106:1
 returns-12 : tie.Need-returns-12
 unfolding rowAt rows
 returns-12 c =
     rw (c .match .keys12)
 
--- src/names.rt:106:1
 returns-13 : tie.Need-returns-13
 unfolding rowAt rows
 returns-13 c =
     rw (c .match .keys13)
 
--- src/names.rt:106:1
 returns-14 : tie.Need-returns-14
 unfolding rowAt rows
 returns-14 c =
     rw (c .match .keys14)
 
--- src/names.rt:106:1
 returns-15 : tie.Need-returns-15
 returns-15 c =
     let row = c .before .args .row in

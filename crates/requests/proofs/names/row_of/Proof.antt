@@ -1,14 +1,12 @@
+-- `requests::names::row_of` meets its contract. Assumes nothing.
 use borrow.Author.Needs.{needs}
 use mathlib.Core.Path.{_≡_, sym, ap, _∙_}
-use Prim.Native.Nat.{ℕ, _-_, _≤_}
+use Prim.Native.Nat.{_-_, _≤_}
 use native.Mathlib.Omega.{arith}
 use Rattle.requests.specs.Names.{rowAt, rowOf}
 use Rattle.requests.proofs.NameLaws.{searchFrom, search-start, search-found, search-next, search-none}
 use Rattle.requests.proofs.names.row_of.Statement.{statement}
 use Rattle.requests.proofs.names.row_of.Tie as tie
-use Rattle.requests.proofs.names.row_of.Reads as reads
-use Rattle.requests.proofs.names.row_of.Lts as lts
-use Rattle.requests.proofs.names.is_row.Reads as is-row-reads
 
 abbrev Inv-loop : tie.InvT-loop
 Inv-loop t word after row₀ row =
@@ -18,37 +16,32 @@ abbrev μ-loop : tie.MeasureT-loop
 μ-loop t word after row₀ row =
     14 - row
 
--- src/names.rt:96:5
 loop-holds : tie.Need-loop-holds Inv-loop μ-loop
 loop-holds c =
     (omega arith, search-start _ _)
 
--- src/names.rt:97:12
 is-row-requires : tie.Need-is-row-requires Inv-loop μ-loop
 is-row-requires c κs =
     (c .before .before .before .before .pre, omega arith)
 
--- src/names.rt:98:13
 returns : tie.Need-returns Inv-loop μ-loop
 returns c =
     let a = c .before .before .before .before .before .before .args in
     let l = c .before .before .before .loop in
     (sym (l .inv .1 ∙ search-found (a .word .now) (a .after) (l .row) (c .before .before .loop-test .taken) (sym (c .before .is-row .ensures) ∙ c .if1 .taken)), omega arith)
 
--- src/names.rt:100:9
 add-row : tie.Need-add-row Inv-loop μ-loop
 add-row c = search needs
--- src/names.rt:96:5
+
 loop-less : tie.Need-loop-less Inv-loop μ-loop
 loop-less c = search needs
--- src/names.rt:96:5
+
 loop-again : tie.Need-loop-again Inv-loop μ-loop
 loop-again c =
     let a = c .before .before .before .before .before .before .args in
     let l = c .before .before .before .loop in
     (omega arith, l .inv .1 ∙ search-next (a .word .now) (a .after) (l .row) (c .before .before .loop-test .taken) (sym (c .before .is-row .ensures) ∙ c .if1 .left))
 
--- src/names.rt:90:1
 returns-2 : tie.Need-returns-2 Inv-loop μ-loop
 returns-2 c =
     let a = c .before .before .before .before .args in

@@ -1,12 +1,10 @@
+-- `requests::names::table` meets its contract. Assumes nothing.
 use mathlib.Core.Path.{refl}
 use Rattle.octets.specs.Ascii.{octets}
 use Rattle.requests.specs.Names.{rows, rowAt, entries, entriesFrom, Lists}
 use Rattle.requests.proofs.names.table.Statement.{statement}
 use Rattle.requests.proofs.names.table.Tie as tie
-use Rattle.requests.proofs.names.table.Reads as reads
-use Rattle.requests.proofs.names.table.Lts as lts
 
--- src/names.rt:43:1
 returns : tie.Need-returns
 unfolding Lists entriesFrom entries rowAt rows octets
 returns c =

@@ -1,16 +1,14 @@
+-- `requests::numbers::number_of` meets its contract. Assumes nothing.
 use borrow.Author.Needs.{needs}
 use mathlib.Core.Path.{_≡_, sym, _∙_}
-use Prim.Native.Nat.{_-_, _*_, _+_, _≤_, _<_}
+use Prim.Native.Nat.{_-_, _≤_}
 use native.Mathlib.Omega.{arith}
-use lib.ListN.{length, drop, getD}
+use lib.ListN.{length, drop}
 use borrow.Author.Tests.{eq-eqb, ne-eqb}
 use Rattle.requests.specs.Numbers.{ones, largest, numberFrom, numberOf}
 use Rattle.requests.proofs.NumberLaws.{number-stop, number-large, number-step, number-end}
 use Rattle.requests.proofs.numbers.number_of.Statement.{statement}
 use Rattle.requests.proofs.numbers.number_of.Tie as tie
-use Rattle.requests.proofs.numbers.number_of.Reads as reads
-use Rattle.requests.proofs.numbers.number_of.Lts as lts
-use Rattle.requests.proofs.numbers.ones.Reads as ones-reads
 
 abbrev Inv-loop : tie.InvT-loop
 Inv-loop word n₀ i₀ n i =
@@ -20,54 +18,49 @@ abbrev μ-loop : tie.MeasureT-loop
 μ-loop word n₀ i₀ n i =
     length word - i
 
--- src/numbers.rt:28:9
 returns : tie.Need-returns Inv-loop μ-loop
 unfolding numberOf
 returns c =
     rw (eq-eqb _ 0 (c .if1 .taken))
 
--- src/numbers.rt:32:5
 loop-holds : tie.Need-loop-holds Inv-loop μ-loop
 unfolding numberOf
 loop-holds c =
     (omega arith, omega arith, rw (ne-eqb _ 0 (c .if1 .left)))
 
--- src/numbers.rt:33:24
 shared-slice-read-ones : tie.Need-shared-slice-read-ones Inv-loop μ-loop
 shared-slice-read-ones c = search needs
--- src/numbers.rt:33:13
+
 ones-requires : tie.Need-ones-requires Inv-loop μ-loop
 ones-requires c κs = search needs
--- src/numbers.rt:35:13
+
 returns-2 : tie.Need-returns-2 Inv-loop μ-loop
 returns-2 c =
     let w = c .before .before .before .before .before .before .before .args .word .now in
     let l = c .before .before .before .before .loop in
     sym (l .inv .2 ∙ number-stop (l .n) w (l .i) (c .before .before .before .loop-test .taken) (omega (arith, c .before .ones .ensures)))
 
--- src/numbers.rt:37:17
 sub-if3 : tie.Need-sub-if3 Inv-loop μ-loop
 sub-if3 c = search needs
--- src/numbers.rt:38:13
+
 returns-3 : tie.Need-returns-3 Inv-loop μ-loop
 returns-3 c =
     let w = c .before .before .before .before .before .before .before .before .args .word .now in
     let l = c .before .before .before .before .before .loop in
     sym (l .inv .2 ∙ number-large (l .n) w (l .i) (c .before .before .before .before .loop-test .taken) (omega (arith, c .before .before .ones .ensures)))
 
--- src/numbers.rt:40:13
 mul-n : tie.Need-mul-n Inv-loop μ-loop
 mul-n c = search needs
--- src/numbers.rt:40:13
+
 add-n : tie.Need-add-n Inv-loop μ-loop
 add-n c = search needs
--- src/numbers.rt:41:9
+
 add-i : tie.Need-add-i Inv-loop μ-loop
 add-i c = search needs
--- src/numbers.rt:32:5
+
 loop-less : tie.Need-loop-less Inv-loop μ-loop
 loop-less c = search needs
--- src/numbers.rt:32:5
+
 loop-again : tie.Need-loop-again Inv-loop μ-loop
 loop-again c =
     let w = c .before .before .before .before .before .before .before .before .args .word .now in
@@ -75,7 +68,6 @@ loop-again c =
     let e = c .before .before .ones .ensures in
     (omega arith, omega arith, l .inv .2 ∙ (rw e (number-step (l .n) w (l .i) (c .before .before .before .before .loop-test .taken) (omega (arith, e)))))
 
--- src/numbers.rt:24:1
 returns-4 : tie.Need-returns-4 Inv-loop μ-loop
 returns-4 c =
     let l = c .before .loop in

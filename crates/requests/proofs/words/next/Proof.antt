@@ -1,18 +1,16 @@
+-- `requests::words::next` meets its contract. Assumes nothing.
 use borrow.Author.Needs.{needs}
 use mathlib.Core.Path.{_≡_, refl, sym, ap, _∙_}
 use mathlib.Core.Bool.{not}
-use Prim.Native.Nat.{_+_, _-_, _≤_, _<_}
+use Prim.Native.Nat.{_-_, _≤_}
 use native.Mathlib.Omega.{arith}
-use lib.ListN.{length, drop, getD}
+use lib.ListN.{length}
 use borrow.Author.Tests.{eq-eqb, ne-eqb}
-use Rattle.octets.specs.Classes.{run}
 use Rattle.octets.proofs.Runs.{run-stop, run-step, run-end}
 use Rattle.requests.specs.Words.{other, nextOf}
 use Rattle.requests.proofs.WordLaws.{next-inside}
 use Rattle.requests.proofs.words.next.Statement.{statement}
 use Rattle.requests.proofs.words.next.Tie as tie
-use Rattle.requests.proofs.words.next.Reads as reads
-use Rattle.requests.proofs.words.next.Lts as lts
 
 abbrev Inv-loop : tie.InvT-loop
 Inv-loop s octet from i₀ i =
@@ -22,15 +20,13 @@ abbrev μ-loop : tie.MeasureT-loop
 μ-loop s octet from i₀ i =
     length s - i
 
--- src/words.rt:13:5
 loop-holds : tie.Need-loop-holds Inv-loop μ-loop
 loop-holds c =
     (omega arith, refl)
 
--- src/words.rt:14:12
 shared-slice-read-if1 : tie.Need-shared-slice-read-if1 Inv-loop μ-loop
 shared-slice-read-if1 c = search needs
--- src/words.rt:15:13
+
 returns : tie.Need-returns Inv-loop μ-loop
 unfolding nextOf
 returns c =
@@ -39,13 +35,12 @@ returns c =
     let found = l .inv .1 ∙ run-stop (other (a .octet)) (a .s .now) (l .i) (omega arith) (ap not (eq-eqb _ _ (c .if1 .taken))) in
     (sym found, λ h. omega arith)
 
--- src/words.rt:17:9
 add-i : tie.Need-add-i Inv-loop μ-loop
 add-i c = search needs
--- src/words.rt:13:5
+
 loop-less : tie.Need-loop-less Inv-loop μ-loop
 loop-less c = search needs
--- src/words.rt:13:5
+
 loop-again : tie.Need-loop-again Inv-loop μ-loop
 unfolding nextOf
 loop-again c =
@@ -53,7 +48,6 @@ loop-again c =
     let l = c .before .before .before .loop in
     (omega arith, l .inv .1 ∙ run-step (other (a .octet)) (a .s .now) (l .i) (omega arith) (ap not (ne-eqb _ _ (c .if1 .left))))
 
--- src/words.rt:8:1
 returns-2 : tie.Need-returns-2 Inv-loop μ-loop
 unfolding nextOf
 returns-2 c =

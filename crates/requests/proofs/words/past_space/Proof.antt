@@ -1,29 +1,23 @@
+-- `requests::words::past_space` meets its contract. Assumes nothing.
 use native.Mathlib.Omega.{arith}
 use Rattle.requests.proofs.WordLaws.{past-one, past-end}
 use borrow.Author.Needs.{needs}
 use Rattle.requests.proofs.words.past_space.Statement.{statement}
 use Rattle.requests.proofs.words.past_space.Tie as tie
-use Rattle.requests.proofs.words.past_space.Reads as reads
-use Rattle.requests.proofs.words.past_space.Lts as lts
-use Rattle.requests.proofs.words.next.Reads as next-reads
 
--- src/words.rt:42:9
 next-requires : tie.Need-next-requires
 next-requires c κs = search needs
 
--- src/words.rt:44:9
 returns : tie.Need-returns
 returns c =
     let a = c .before .before .before .args in
     let e = c .before .next in
     record { goes = past-end (a .line .now) (a .from) (e .result) (e .ensures .0) (c .if1 .taken); inside = omega arith }
 
--- src/words.rt:46:5
 add-result : tie.Need-add-result
 add-result c =
     omega (arith, c .before .next .ensures .1 (c .before .before .before .pre))
 
--- src/words.rt:38:1
 returns-2 : tie.Need-returns-2
 returns-2 c =
     let a = c .before .before .before .args in

@@ -1,5 +1,6 @@
+-- `requests::words::spaces` meets its contract. Assumes nothing.
 use borrow.Author.Needs.{needs}
-use mathlib.Core.Path.{_≡_, sym, _∙_}
+use mathlib.Core.Path.{_≡_, sym}
 use mathlib.Core.Logic.{⊎-elim}
 use Prim.Native.Nat.{_+_, _-_, _≤_}
 use native.Mathlib.Omega.{arith}
@@ -9,8 +10,6 @@ use Rattle.requests.specs.Words.{wordsOf}
 use Rattle.requests.proofs.WordLaws.{count-space, count-other, count-end}
 use Rattle.requests.proofs.words.spaces.Statement.{statement}
 use Rattle.requests.proofs.words.spaces.Tie as tie
-use Rattle.requests.proofs.words.spaces.Reads as reads
-use Rattle.requests.proofs.words.spaces.Lts as lts
 
 abbrev Inv-loop : tie.InvT-loop
 Inv-loop line n₀ i₀ n i =
@@ -20,24 +19,22 @@ abbrev μ-loop : tie.MeasureT-loop
 μ-loop line n₀ i₀ n i =
     length line - i
 
--- src/words.rt:28:5
 loop-holds : tie.Need-loop-holds Inv-loop μ-loop
 loop-holds c =
     (omega arith, omega arith, sym (zero-add _))
 
--- src/words.rt:29:12
 shared-slice-read-if1 : tie.Need-shared-slice-read-if1 Inv-loop μ-loop
 shared-slice-read-if1 c = search needs
--- src/words.rt:30:13
+
 add-n : tie.Need-add-n Inv-loop μ-loop
 add-n c = search needs
--- src/words.rt:32:9
+
 add-i : tie.Need-add-i Inv-loop μ-loop
 add-i c = search needs
--- src/words.rt:28:5
+
 loop-less : tie.Need-loop-less Inv-loop μ-loop
 loop-less c = search needs
--- src/words.rt:28:5
+
 loop-again : tie.Need-loop-again Inv-loop μ-loop
 loop-again c =
     let s = c .before .before .before .before .args .line .now in
@@ -45,7 +42,6 @@ loop-again c =
     ⊎-elim (λ w. (omega arith, omega arith, omega (arith, count-space s (l .i) (c .before .before .loop-test .taken) (w .0 .taken))))
     (λ w. (omega arith, omega arith, omega (arith, count-other s (l .i) (c .before .before .loop-test .taken) (w .0 .left)))) (c .if1 .came)
 
--- src/words.rt:23:1
 returns : tie.Need-returns Inv-loop μ-loop
 returns c =
     omega (arith, count-end (c .before .before .args .line .now) (c .before .loop .i) (c .loop-test .left))

@@ -1,6 +1,7 @@
+-- `requests::words::start_of` meets its contract. Assumes nothing.
 use borrow.Author.Needs.{needs}
 use mathlib.Core.Path.{_≡_, ap, _∙_}
-use Prim.Native.Nat.{ℕ, _-_, _≤_}
+use Prim.Native.Nat.{_-_, _≤_}
 use native.Mathlib.Nat.{sub-zero}
 use native.Mathlib.Omega.{arith}
 use lib.ListN.{length, drop}
@@ -8,9 +9,6 @@ use Rattle.requests.specs.Words.{wordAt}
 use Rattle.requests.proofs.WordLaws.{start-next}
 use Rattle.requests.proofs.words.start_of.Statement.{statement}
 use Rattle.requests.proofs.words.start_of.Tie as tie
-use Rattle.requests.proofs.words.start_of.Reads as reads
-use Rattle.requests.proofs.words.start_of.Lts as lts
-use Rattle.requests.proofs.words.past_space.Reads as past-space-reads
 
 abbrev Inv-loop : tie.InvT-loop
 Inv-loop line k at₀ i₀ at i =
@@ -20,30 +18,26 @@ abbrev μ-loop : tie.MeasureT-loop
 μ-loop line k at₀ i₀ at i =
     k - i
 
--- src/words.rt:55:5
 loop-holds : tie.Need-loop-holds Inv-loop μ-loop
 loop-holds c =
     (omega arith, omega arith, rw sub-zero)
 
--- src/words.rt:56:9
 past-space-requires : tie.Need-past-space-requires Inv-loop μ-loop
 past-space-requires c κs =
     omega arith
 
--- src/words.rt:57:9
 add-i : tie.Need-add-i Inv-loop μ-loop
 add-i c = search needs
--- src/words.rt:55:5
+
 loop-less : tie.Need-loop-less Inv-loop μ-loop
 loop-less c = search needs
--- src/words.rt:55:5
+
 loop-again : tie.Need-loop-again Inv-loop μ-loop
 loop-again c =
     let a = c .before .before .before .before .args in
     let l = c .before .before .loop in
     (omega arith, c .past-space .ensures .inside, start-next (a .line .now) (a .k) (l .i) (l .at) (c .past-space .result) (omega arith) (l .inv .2) (c .past-space .ensures))
 
--- src/words.rt:50:1
 returns : tie.Need-returns Inv-loop μ-loop
 returns c =
     let a = c .before .before .before .args in

@@ -1,37 +1,28 @@
+-- `requests::words::word` meets its contract. Assumes nothing.
 use native.Mathlib.Omega.{arith}
 use Rattle.requests.proofs.WordLaws.{next-low, word-part}
 use borrow.Author.Needs.{needs}
 use Rattle.requests.proofs.words.word.Statement.{statement}
 use Rattle.requests.proofs.words.word.Tie as tie
-use Rattle.requests.proofs.words.word.Reads as reads
-use Rattle.requests.proofs.words.word.Lts as lts
-use Rattle.requests.proofs.words.next.Reads as next-reads
-use Rattle.requests.proofs.words.start_of.Reads as start-of-reads
 
--- src/words.rt:66:9
 start-of-requires : tie.Need-start-of-requires
 start-of-requires c κs = search needs
 
--- src/words.rt:67:9
 next-requires : tie.Need-next-requires
 next-requires c κs = search needs
 
--- src/words.rt:68:5
 sub-result : tie.Need-sub-result
 sub-result c =
     omega (arith, c .next .ensures .0, next-low 32 (c .before .before .before .args .line .now) (c .before .start-of .result))
 
--- src/words.rt:68:5
 part-result-start : tie.Need-part-result-start
 part-result-start c =
     omega (arith, c .next .ensures .0, next-low 32 (c .before .before .before .args .line .now) (c .before .start-of .result))
 
--- src/words.rt:68:5
 part-result-end : tie.Need-part-result-end
 part-result-end c =
     omega (arith, c .next .ensures .1 (c .before .start-of .ensures .inside))
 
--- src/words.rt:63:1
 returns : tie.Need-returns
 returns c =
     let a = c .before .before .before .before .args in
