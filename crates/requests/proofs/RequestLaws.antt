@@ -6,16 +6,16 @@ use native.Mathlib.Omega.{arith}
 use lib.ListN.{length}
 use borrow.Author.Tests.{lt-ltb, le-ltb, eq-eqb, ne-eqb}
 use Rattle.octets.specs.Pick.{pick}
-use Rattle.requests.specs.Words.{wordsOf, wordAt}
-use Rattle.requests.specs.Numbers.{numberOf}
-use Rattle.requests.specs.Hex.{Taken, taken, octetsOf}
+use Rattle.words.specs.Words.{wordsOf, wordAt}
+use Rattle.words.specs.Numbers.{numberOf}
+use Rattle.words.specs.Hex.{Taken, taken, octetsOf}
 use Rattle.requests.specs.Names.{Row, rowAt, rowOf}
 use Rattle.requests.specs.Requests.{request, noRequest, Requested, requested, numberAt, octetsAt, counted, whole, read, requestOf}
 use Rattle.requests.specs.declared.names.Name.{Name}
-use Rattle.requests.specs.declared.numbers.Number.{Number}
-use Rattle.requests.specs.declared.numbers.Number.the-variants.{Is, Bad}
-use Rattle.requests.specs.declared.hex.Octets.{Octets}
-use Rattle.requests.specs.declared.hex.Octets.the-variants.{Are, Bad as NoOctets}
+use Rattle.words.specs.declared.numbers.Number.{Number}
+use Rattle.words.specs.declared.numbers.Number.the-variants.{Is, Bad}
+use Rattle.words.specs.declared.hex.Octets.{Octets}
+use Rattle.words.specs.declared.hex.Octets.the-variants.{Are, Bad as NoOctets}
 
 -- a request of a row, once the row is known
 pub of-row : (line room w : List ℕ) (row k : ℕ) → w ≡ wordAt line 0 → length (wordsOf line) ≡ k + 1 → rowAt row ≡ rowOf w k

@@ -1,18 +1,15 @@
 // A request line of the console: its words, the request that the first one names, and the numbers and octets of the others.
-pub mod hex;
 pub mod names;
-pub mod numbers;
-pub mod words;
 
 ghost use mathlib.Core.Path.{_≡_};
 ghost use Prim.Native.Nat.{_+_, _≤_, _<_};
-ghost use Rattle.requests.specs.Hex.{taken};
-ghost use Rattle.requests.specs.Words.{wordAt};
+ghost use Rattle.words.specs.Hex.{taken};
+ghost use Rattle.words.specs.Words.{wordAt};
 ghost use Rattle.requests.specs.Names.{Lists, rowAt};
 ghost use Rattle.requests.specs.Requests.{noRequest, numberAt, octetsAt, requested, read, requestOf};
-use hex::Octets;
 use names::Name;
-use numbers::Number;
+use words::hex::Octets;
+use words::numbers::Number;
 
 // A number that the request does not have is 0, and count octets stand at the front of the room lent for them.
 pub struct Request {
@@ -41,7 +38,7 @@ fn number(line: &[u8], k: usize, numbers: usize) -> Number
     if numbers < k {
         return Number::Is(0);
     }
-    numbers::number_of(words::word(line, k))
+    words::numbers::number_of(words::word(line, k))
 }
 
 // The octets after the numbers, where the request has octets.
@@ -52,7 +49,7 @@ fn last(line: &[u8], numbers: usize, octets: usize, out: &mut [u8]) -> Octets
     if octets == 0 {
         return Octets::Are(0);
     }
-    hex::octets_of(words::word(line, numbers + 1), out)
+    words::hex::octets_of(words::word(line, numbers + 1), out)
 }
 
 // What a line says that starts with this row's name, with its octets at the front of out.

@@ -1,7 +1,7 @@
 -- `requests::number` meets its contract. Assumes nothing.
 use mathlib.Core.Path.{sym, ap, _∙_}
-use Rattle.requests.specs.Numbers.{numberOf}
-use Rattle.requests.specs.Words.{wordAt}
+use Rattle.words.specs.Numbers.{numberOf}
+use Rattle.words.specs.Words.{wordAt}
 use Rattle.requests.proofs.RequestLaws.{no-number, a-number}
 use borrow.Author.Needs.{needs}
 use Rattle.requests.proofs.number.Statement.{statement}
