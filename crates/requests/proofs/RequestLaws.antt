@@ -11,7 +11,7 @@ use Rattle.words.specs.Numbers.{numberOf}
 use Rattle.words.specs.Hex.{Taken, taken, octetsOf}
 use Rattle.requests.specs.Names.{Row, rowAt, rowOf}
 use Rattle.requests.specs.Requests.{request, noRequest, Requested, requested, numberAt, octetsAt, counted, whole, read, requestOf}
-use Rattle.requests.specs.declared.names.Name.{Name}
+use Rattle.requests.specs.declared.Name.{Name}
 use Rattle.words.specs.declared.numbers.Number.{Number}
 use Rattle.words.specs.declared.numbers.Number.the-variants.{Is, Bad}
 use Rattle.words.specs.declared.hex.Octets.{Octets}

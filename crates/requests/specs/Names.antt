@@ -10,8 +10,8 @@ use lib.ListN.{length, getD, take}
 use Rattle.octets.specs.Pick.{pick}
 use Rattle.octets.specs.Ascii.{octets}
 use Rattle.words.specs.Words.{alike}
-use Rattle.requests.specs.declared.names.Name.{Name}
-use Rattle.requests.specs.declared.names.Name.the-variants.{Judge, Read, Fold, Escape, Unescape, Desk, Open, Add, Check, Show, Held, Release, Pool, Next, Bad}
+use Rattle.requests.specs.declared.Name.{Name}
+use Rattle.requests.specs.declared.Name.the-variants.{Judge, Read, Fold, Escape, Unescape, Desk, Open, Add, Check, Show, Held, Release, Pool, Next, Bad}
 
 pub record Row : Type 0 where
   pub name : Name

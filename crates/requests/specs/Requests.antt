@@ -9,8 +9,8 @@ use Rattle.words.specs.Numbers.{numberOf}
 use Rattle.words.specs.Hex.{Taken, taken, octetsOf}
 use Rattle.requests.specs.Names.{Row, rowOf}
 use Rattle.requests.specs.declared.Request.{Request}
-use Rattle.requests.specs.declared.names.Name.{Name}
-use Rattle.requests.specs.declared.names.Name.the-variants.{Bad}
+use Rattle.requests.specs.declared.Name.{Name}
+use Rattle.requests.specs.declared.Name.the-variants.{Bad}
 use Rattle.words.specs.declared.numbers.Number.{Number}
 use Rattle.words.specs.declared.numbers.Number.the-variants.{Is, Bad as NoNumber}
 use Rattle.words.specs.declared.hex.Octets.{Octets}

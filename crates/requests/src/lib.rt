@@ -1,5 +1,5 @@
 // A request line of the console: its words, the request that the first one names, and the numbers and octets of the others.
-pub mod names;
+mod names;
 
 ghost use mathlib.Core.Path.{_≡_};
 ghost use Prim.Native.Nat.{_+_, _≤_, _<_};
@@ -7,9 +7,27 @@ ghost use Rattle.words.specs.Hex.{taken};
 ghost use Rattle.words.specs.Words.{wordAt};
 ghost use Rattle.requests.specs.Names.{Lists, rowAt};
 ghost use Rattle.requests.specs.Requests.{noRequest, numberAt, octetsAt, requested, read, requestOf};
-use names::Name;
 use words::hex::Octets;
 use words::numbers::Number;
+
+// The requests, and what a line has that is none.
+pub enum Name {
+    Judge,
+    Read,
+    Fold,
+    Escape,
+    Unescape,
+    Desk,
+    Open,
+    Add,
+    Check,
+    Show,
+    Held,
+    Release,
+    Pool,
+    Next,
+    Bad,
+}
 
 // A number that the request does not have is 0, and count octets stand at the front of the room lent for them.
 pub struct Request {

@@ -2,27 +2,10 @@
 ghost use mathlib.Core.Path.{_≡_};
 ghost use Prim.Native.Nat.{_<_, _≤_};
 ghost use Rattle.requests.specs.Names.{Lists, rowAt, fits, rowOf};
-
-pub enum Name {
-    Judge,
-    Read,
-    Fold,
-    Escape,
-    Unescape,
-    Desk,
-    Open,
-    Add,
-    Check,
-    Show,
-    Held,
-    Release,
-    Pool,
-    Next,
-    Bad,
-}
+use crate::Name;
 
 // Eleven entries for each row, and a last row for no request: name, its length, how many numbers stand after it, 1 where octets do.
-pub const ROWS: [u8; 165] = *b"\
+const ROWS: [u8; 165] = *b"\
     judge...\x05\x00\x01\
     read....\x04\x02\x01\
     fold....\x04\x01\x01\
