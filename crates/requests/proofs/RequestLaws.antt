@@ -48,19 +48,21 @@ module _ (r : Row) (line room : List ℕ) (n : ℕ) (e : n ≡ r .numbers) where
       ≡ whole (r .name) (numberAt (wordAt line 1) 1 n) (numberAt (wordAt line 2) 2 n) (octetsAt (wordAt line (n + 1)) (r .octets) room) room
   read-at = rw e
 
-  pub first-bad : numberAt (wordAt line 1) 1 n ≡ Bad → read r line room ≡ requested noRequest room
-  first-bad p = rw (read-at, p)
+  -- x, y and z are what the words were read as
+  module _ (x : Number) (p : x ≡ numberAt (wordAt line 1) 1 n) where
+    pub first-bad : x ≡ Bad → read r line room ≡ requested noRequest room
+    first-bad h = rw (read-at, sym p, h)
 
-  pub second-bad : (a : ℕ) → numberAt (wordAt line 1) 1 n ≡ Is a → numberAt (wordAt line 2) 2 n ≡ Bad → read r line room ≡ requested noRequest room
-  second-bad a p q = rw (read-at, p, q)
+    module _ (y : Number) (q : y ≡ numberAt (wordAt line 2) 2 n) (a : ℕ) (f : x ≡ Is a) where
+      pub second-bad : y ≡ Bad → read r line room ≡ requested noRequest room
+      second-bad h = rw (read-at, sym p, f, sym q, h)
 
-  module _ (a b o : ℕ) (p : numberAt (wordAt line 1) 1 n ≡ Is a) (q : numberAt (wordAt line 2) 2 n ≡ Is b) (f : o ≡ r .octets) where
-    read-rest : (t : Taken) → t ≡ octetsAt (wordAt line (n + 1)) o room → read r line room ≡ requested (counted (r .name) a b (t .answer)) (t .room)
-    read-rest t g = rw (read-at, p, q, sym f, sym g)
+      module _ (b o : ℕ) (g : y ≡ Is b) (d : o ≡ r .octets) (z : Octets) (out : List ℕ) (s : taken z out ≡ octetsAt (wordAt line (n + 1)) o room) where
+        read-rest : read r line room ≡ requested (counted (r .name) a b z) out
+        read-rest = rw (read-at, sym p, f, sym q, g, sym d, sym s)
 
-    pub octets-bad : (x : Octets) (out : List ℕ) → taken x out ≡ octetsAt (wordAt line (n + 1)) o room → x ≡ NoOctets → read r line room ≡ requested noRequest out
-    octets-bad x out g h = rw (read-rest (taken x out) g, h)
+        pub octets-bad : z ≡ NoOctets → read r line room ≡ requested noRequest out
+        octets-bad h = rw (read-rest, h)
 
-    pub all-read : (x : Octets) (out : List ℕ) (k : ℕ) → taken x out ≡ octetsAt (wordAt line (n + 1)) o room → x ≡ Are k
-        → read r line room ≡ requested (request (r .name) a b k) out
-    all-read x out k g h = rw (read-rest (taken x out) g, h)
+        pub all-read : (k : ℕ) → z ≡ Are k → read r line room ≡ requested (request (r .name) a b k) out
+        all-read k h = rw (read-rest, h)

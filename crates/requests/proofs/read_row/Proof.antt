@@ -26,7 +26,8 @@ returns : tie.Need-returns
 returns c =
     let a = c .before .before .before .before .before .before .before .before .args in
     let n = c .before .before .before .before .numbers-at in
-    let e = first-bad (rowAt (a .row)) (a .line .now) (a .out .now) (n .result) (n .ensures .0) (sym (c .before .before .before .number .ensures) ∙ c .before .enum-told .given .1) in
+    let x = c .before .before .before .number in
+    let e = first-bad (rowAt (a .row)) (a .line .now) (a .out .now) (n .result) (n .ensures .0) (x .result) (x .ensures) (c .before .enum-told .given .1) in
     rw (c .none .ensures) (sym e)
 
 number-requires-2 : tie.Need-number-requires-2
@@ -45,7 +46,9 @@ returns-2 : tie.Need-returns-2
 returns-2 c =
     let a = c .before .before .before .before .before .before .before .before .before .before .before .before .args in
     let n = c .before .before .before .before .before .before .before .before .numbers-at in
-    let e = second-bad (rowAt (a .row)) (a .line .now) (a .out .now) (n .result) (n .ensures .0) _ (sym (c .before .before .before .before .before .before .before .number .ensures) ∙ c .before .before .before .before .before .first .given .1) (sym (c .before .before .before .number2 .ensures) ∙ c .before .enum-told2 .given .1) in
+    let x = c .before .before .before .before .before .before .before .number in
+    let y = c .before .before .before .number2 in
+    let e = second-bad (rowAt (a .row)) (a .line .now) (a .out .now) (n .result) (n .ensures .0) (x .result) (x .ensures) (y .result) (y .ensures) _ (c .before .before .before .before .before .first .given .1) (c .before .enum-told2 .given .1) in
     rw (c .none2 .ensures) (sym e)
 
 octets-at-requires : tie.Need-octets-at-requires
@@ -70,7 +73,10 @@ returns-3 : tie.Need-returns-3
 returns-3 c =
     let a = c .before .before .before .before .before .before .before .before .before .before .before .before .before .before .before .before .before .before .before .before .args in
     let n = c .before .before .before .before .before .before .before .before .before .before .before .before .before .before .before .before .numbers-at in
-    let e = octets-bad (rowAt (a .row)) (a .line .now) (a .out .now) (n .result) (n .ensures .0) _ _ (c .before .before .before .before .before .before .before .octets-at .result) (sym (c .before .before .before .before .before .before .before .before .before .before .before .before .before .before .before .number .ensures) ∙ c .before .before .before .before .before .before .before .before .before .before .before .before .before .first .given .1) (sym (c .before .before .before .before .before .before .before .before .before .before .before .number2 .ensures) ∙ c .before .before .before .before .before .before .before .before .before .second .given .1) (c .before .before .before .before .before .before .before .octets-at .ensures .0) _ _ (c .before .before .before .before .before .last .ensures) (c .before .enum-told3 .given .1) in
+    let o = c .before .before .before .before .before .before .before .octets-at in
+    let x = c .before .before .before .before .before .before .before .before .before .before .before .before .before .before .before .number in
+    let y = c .before .before .before .before .before .before .before .before .before .before .before .number2 in
+    let e = octets-bad (rowAt (a .row)) (a .line .now) (a .out .now) (n .result) (n .ensures .0) (x .result) (x .ensures) (y .result) (y .ensures) _ (c .before .before .before .before .before .before .before .before .before .before .before .before .before .first .given .1) _ (o .result) (c .before .before .before .before .before .before .before .before .before .second .given .1) (o .ensures .0) (c .before .before .before .before .before .last .result) _ (c .before .before .before .before .before .last .ensures) (c .before .enum-told3 .given .1) in
     rw (c .none3 .ensures) (sym e)
 
 name-at-requires : tie.Need-name-at-requires
@@ -83,7 +89,10 @@ returns-4 : tie.Need-returns-4
 returns-4 c =
     let a = c .before .before .before .before .before .before .before .before .before .before .before .before .before .before .before .before .before .before .before .before .before .args in
     let n = c .before .before .before .before .before .before .before .before .before .before .before .before .before .before .before .before .before .numbers-at in
-    let e = all-read (rowAt (a .row)) (a .line .now) (a .out .now) (n .result) (n .ensures .0) _ _ (c .before .before .before .before .before .before .before .before .octets-at .result) (sym (c .before .before .before .before .before .before .before .before .before .before .before .before .before .before .before .before .number .ensures) ∙ c .before .before .before .before .before .before .before .before .before .before .before .before .before .before .first .given .1) (sym (c .before .before .before .before .before .before .before .before .before .before .before .before .number2 .ensures) ∙ c .before .before .before .before .before .before .before .before .before .before .second .given .1) (c .before .before .before .before .before .before .before .before .octets-at .ensures .0) _ _ _ (c .before .before .before .before .before .before .last .ensures) (c .before .before .count .given .1) in
+    let o = c .before .before .before .before .before .before .before .before .octets-at in
+    let x = c .before .before .before .before .before .before .before .before .before .before .before .before .before .before .before .before .number in
+    let y = c .before .before .before .before .before .before .before .before .before .before .before .before .number2 in
+    let e = all-read (rowAt (a .row)) (a .line .now) (a .out .now) (n .result) (n .ensures .0) (x .result) (x .ensures) (y .result) (y .ensures) _ (c .before .before .before .before .before .before .before .before .before .before .before .before .before .before .first .given .1) _ (o .result) (c .before .before .before .before .before .before .before .before .before .before .second .given .1) (o .ensures .0) (c .before .before .before .before .before .before .last .result) _ (c .before .before .before .before .before .before .last .ensures) _ (c .before .before .count .given .1) in
     rw (c .name-at .ensures) (sym e)
 
 pub read-row-spec : {M : Type 1} → statement M
