@@ -1,17 +1,15 @@
 -- The laws of the request of a line. Assumes nothing.
-use mathlib.Core.Path.{_≡_, refl, sym, ap, _∙_}
+use mathlib.Core.Path.{_≡_, sym}
 use mathlib.Core.List.{List}
 use Prim.Native.Nat.{ℕ, _+_, _-_, _<_, _≤_}
 use native.Mathlib.Omega.{arith}
 use lib.ListN.{length}
 use borrow.Author.Tests.{lt-ltb, le-ltb, eq-eqb, ne-eqb}
-use Rattle.octets.specs.Pick.{pick}
 use Rattle.words.specs.Words.{wordsOf, wordAt}
 use Rattle.words.specs.Numbers.{numberOf}
-use Rattle.words.specs.Hex.{Taken, taken, octetsOf}
+use Rattle.words.specs.Hex.{taken, octetsOf}
 use Rattle.requests.specs.Names.{Row, rowAt, rowOf}
-use Rattle.requests.specs.Requests.{request, noRequest, Requested, requested, numberAt, octetsAt, counted, whole, read, requestOf}
-use Rattle.requests.specs.declared.Name.{Name}
+use Rattle.requests.specs.Requests.{request, noRequest, requested, numberAt, octetsAt, counted, whole, read, requestOf}
 use Rattle.words.specs.declared.numbers.Number.{Number}
 use Rattle.words.specs.declared.numbers.Number.the-variants.{Is, Bad}
 use Rattle.words.specs.declared.hex.Octets.{Octets}

@@ -6,7 +6,6 @@ use Prim.Native.Nat.{ℕ, _+_, _-_}
 use native.Mathlib.Omega.{arith}
 use lib.Dec.{ltb, eqb}
 use lib.ListN.{length}
-use borrow.Author.Tests.{eqb-true, eq-eqb}
 use Rattle.octets.specs.Pick.{pick}
 use Rattle.octets.specs.Ascii.{octets}
 use Rattle.words.specs.Words.{wordsOf, wordAt, alike}
@@ -18,7 +17,7 @@ use Rattle.words.specs.declared.hex.Octets.the-variants.{Are, Bad as NoOctets}
 use Rattle.words.proofs.ListLaws.{and-left, and-right}
 use Rattle.requests.proofs.RequestLaws.{no-octets}
 use Rattle.requests.specs.Names.{Row, rows, noRow, fits, search, rowOf}
-use Rattle.requests.specs.Requests.{Requested, noRequest, numberAt, octetsAt, counted, whole, read, requestOf}
+use Rattle.requests.specs.Requests.{numberAt, octetsAt, counted, whole, requestOf}
 use Rattle.requests.specs.declared.Name.{Name}
 use Rattle.requests.specs.declared.Name.the-variants.{Judge, Read, Fold, Escape, Unescape, Desk, Open, Add, Check, Show, Held, Release, Pool, Next, Bad}
 

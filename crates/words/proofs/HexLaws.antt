@@ -1,18 +1,16 @@
 -- The laws of pairs of hexadecimal digits, and of the octets written to a room. Assumes nothing.
-use mathlib.Core.Path.{_≡_, refl, sym, ap, _∙_}
-use mathlib.Core.Bool.{Bool, true, false, not, _&&_}
-use mathlib.Core.List.{List, [], _∷_, _++_}
+use mathlib.Core.Path.{_≡_, refl}
+use mathlib.Core.Bool.{true, false, not, _&&_}
+use mathlib.Core.List.{List, [], _∷_}
 use Prim.Native.Nat.{ℕ, zero, suc, _+_, _*_, _/_, _%_, _≤_, _<_}
-use native.Mathlib.Nat.{le-of-suc-le-suc, not-suc-le-zero}
 use native.Mathlib.Omega.{arith}
 use lib.Dec.{eqb}
-use lib.ListN.{length, getD, drop}
+use lib.ListN.{length, getD}
 use borrow.Author.Tests.{ltb-true, lt-ltb, le-ltb}
-use Rattle.octets.specs.Pick.{pick}
 use Rattle.octets.specs.Ascii.{octets}
 use Rattle.octets.specs.Room.{overlay}
 use Rattle.words.specs.Words.{all, alike}
-use Rattle.words.specs.Hex.{value, hexed, paired, decoded, Taken, taken, stored, octetsOf}
+use Rattle.words.specs.Hex.{value, hexed, paired, decoded, taken, stored, octetsOf}
 use Rattle.words.specs.declared.hex.Octets.the-variants.{Are, Bad}
 use Rattle.words.proofs.ListLaws.{and-right, each}
 

@@ -1,20 +1,20 @@
 -- What is written is read back: the decimal digits of a number, and the pairs of digits of octets. Assumes nothing.
-use mathlib.Core.Path.{_≡_, refl, sym, ap, _∙_}
-use mathlib.Core.Bool.{Bool, true, false, not, _&&_, and-false}
+use mathlib.Core.Path.{_≡_, refl, _∙_}
+use mathlib.Core.Bool.{Bool, true, false, and-false}
 use mathlib.Core.List.{List, [], _∷_, _++_}
 use Prim.Native.Nat.{ℕ, zero, suc, _+_, _*_, _/_, _%_, _^_, _≤_, _<_}
 use native.Mathlib.Nat.{pow-suc}
 use native.Mathlib.Omega.{arith}
 use lib.Dec.{ltb, eqb}
 use lib.ListN.{length, length-append}
-use borrow.Author.Tests.{ltb-true, ltb-false, lt-ltb, le-ltb, le-leb, eq-eqb, ne-eqb}
+use borrow.Author.Tests.{ltb-true, ltb-false, lt-ltb, le-leb, ne-eqb}
 use Rattle.octets.specs.Pick.{pick}
 use Rattle.octets.specs.Ascii.{octets}
 use Rattle.words.specs.Words.{all, alike}
 use Rattle.words.specs.Numbers.{ones, digit, valueFrom, largest, numberFrom, numberOf}
 use Rattle.words.specs.Hex.{value, hexed, paired, decoded, stored, octetsOf}
 use Rattle.words.specs.declared.numbers.Number.the-variants.{Is}
-use Rattle.words.proofs.ListLaws.{and-left, and-right, below, above, inside}
+use Rattle.words.proofs.ListLaws.{and-left, and-right, above, inside}
 use Rattle.words.proofs.NumberLaws.{value-join}
 
 -- the last k decimal digits of n, the most significant first

@@ -1,18 +1,18 @@
--- The laws of the words of a line: the first one, those after it, and how many there are; joined by spaces they are the line, and none
--- has a space. Assumes nothing.
+-- The laws of the words of a line: the first one, those after it, and how many there are; joined by spaces they are the line, none has
+-- a space, and words without spaces are those of the line that joins them. Assumes nothing.
 use mathlib.Core.Path.{_≡_, refl, sym, ap, _∙_}
 use mathlib.Core.Bool.{Bool, true, false, not, _&&_}
 use mathlib.Core.List.{List, [], _∷_, _++_}
 use Prim.Native.Nat.{ℕ, zero, suc, _+_, _-_, _≤_, _<_}
-use native.Mathlib.Nat.{le-of-suc-le-suc, not-suc-le-zero}
+use native.Mathlib.Nat.{not-suc-le-zero}
 use native.Mathlib.Numerals.{add-one}
 use native.Mathlib.Omega.{arith}
 use lib.Dec.{eqb}
 use lib.ListN.{length, getD, take, drop, length-append, length-drop, drop-of-length-le}
 use lib.Seq.{drop-cons, drop-drop, getD-append-seam, take-append-seam}
 use borrow.Author.Tests.{eq-eqb, ne-eqb, eqb-true}
-use Rattle.octets.specs.Pick.{pick}
 use Rattle.octets.specs.Classes.{run, more}
+use Rattle.words.proofs.ListLaws.{and-left, and-right}
 use Rattle.words.specs.Words.{all, other, nextOf, before, wordsOf, wordAt, joined, Follows, Starts, withoutCr}
 
 -- the first word
@@ -142,6 +142,34 @@ taken-clean p (x ∷ xs) = step (p x) refl (taken-clean p xs)
 pub words-clean : (k : ℕ) (l : List ℕ) → all (other 32) (wordAt l k) ≡ true
 words-clean zero l = rw (first-word l) (taken-clean (other 32) l)
 words-clean (suc k) l = rw (later-words l k) (words-clean k (drop (suc (run (other 32) l)) l))
+
+-- words without spaces, joined by spaces, are the words of that line
+unfoldable pub clean : List (List ℕ) → Bool
+clean [] = true
+clean (w ∷ ws) = all (other 32) w && clean ws
+
+word-on : (t : Bool) (x : ℕ) (w : List ℕ) (ws : List (List ℕ)) → not t ≡ true → before t x (w ∷ ws) ≡ (x ∷ w) ∷ ws
+word-on true x w ws e = let z : _≡_ {A = ℕ} 0 1 = cc in absurd (omega arith)
+word-on false x w ws e = refl
+
+one-word : (w : List ℕ) → all (other 32) w ≡ true → wordsOf w ≡ w ∷ []
+unfolding wordsOf all
+one-word [] h = refl
+one-word (x ∷ xs) h =
+    rw (one-word xs (and-right (other 32 x) (all (other 32) xs) h)) (word-on (eqb x 32) x xs [] (and-left (other 32 x) (all (other 32) xs) h))
+
+more-words : (w l : List ℕ) → all (other 32) w ≡ true → wordsOf (w ++ 32 ∷ l) ≡ w ∷ wordsOf l
+unfolding wordsOf all
+more-words [] l h = refl
+more-words (x ∷ xs) l h =
+    rw (more-words xs l (and-right (other 32 x) (all (other 32) xs) h)) (word-on (eqb x 32) x xs (wordsOf l) (and-left (other 32 x) (all (other 32) xs) h))
+
+pub words-back : (w : List ℕ) (ws : List (List ℕ)) → clean (w ∷ ws) ≡ true → wordsOf (joined (w ∷ ws)) ≡ w ∷ ws
+unfolding joined clean
+words-back w [] h = one-word w (and-left (all (other 32) w) true h)
+words-back w (v ∷ ws) h =
+    more-words w (joined (v ∷ ws)) (and-left (all (other 32) w) (clean (v ∷ ws)) h)
+    ∙ ap (λ (vs : List (List ℕ)). w ∷ vs) (words-back v ws (and-right (all (other 32) w) (clean (v ∷ ws)) h))
 
 -- a CR at the end is taken off, and any other line stays as it is
 pub cr-off : (l : List ℕ) → withoutCr (l ++ 13 ∷ []) ≡ l

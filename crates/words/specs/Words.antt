@@ -23,7 +23,7 @@ alike (x ∷ xs) (y ∷ ys) = eqb x y && alike xs ys
 abbrev pub other : ℕ → ℕ → Bool
 other b x = not (eqb x b)
 
--- the place of the first octet b from a place on, or the end
+-- the place of the first octet b from a place on, or the length where there is none; a place past the length stays as it is
 unfoldable pub nextOf : ℕ → List ℕ → ℕ → ℕ
 nextOf b s from = from + run (other b) (drop from s)
 
@@ -58,5 +58,6 @@ pub record Starts (s : List ℕ) (k a : ℕ) : Type 0 where
   pub there : wordAt s k ≡ wordAt (drop a s) 0
   pub inside : a ≤ length s
 
+-- the line without its last octet where that is a CR, any other line as it is
 unfoldable pub withoutCr : List ℕ → List ℕ
 withoutCr l = pick (eqb (getD l (length l - 1) 0) 13) (take (length l - 1) l) l

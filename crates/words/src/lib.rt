@@ -7,7 +7,7 @@ ghost use Prim.Native.Nat.{_+_, _≤_};
 ghost use lib.ListN.{length};
 ghost use Rattle.words.specs.Words.{nextOf, wordsOf, wordAt, Follows, Starts, withoutCr};
 
-// The place of the first such octet from a place on, or the length where there is none.
+// The place of the first such octet from a place on, or the length where there is none; a place past the length is its own answer.
 pub fn next(s: &[u8], octet: u8, from: usize) -> usize
     ensures { λ r. ⌜ r ≡ nextOf octet (now (s .entry)) from ⌝ }
     ensures { λ r. ⌜ (from ≤ length (now (s .entry)) → r ≤ length (now (s .entry))) ⌝ }
