@@ -1,0 +1,4 @@
+-- The definitions that the contracts of `calls` cite. Assumes nothing.
+pub mod Rooms
+pub mod Entries
+pub mod Uploads
