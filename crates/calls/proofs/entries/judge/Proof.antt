@@ -1,31 +1,34 @@
+-- `calls::entries::judge` meets its contract. Assumes nothing.
+use denote.Ref.{now}
+use mathlib.Core.Path.{ap, _∙_}
 use borrow.Author.Needs.{needs}
+use Rattle.answers.specs.Output.{output, added}
+use Rattle.answers.specs.Texts.{lineEnd, verdictText}
+use Rattle.reader.specs.declared.Verdict.{Verdict}
+use Rattle.answers.proofs.Adding.{then}
+use Rattle.calls.specs.Entries.{judgeAnswer}
+use mathlib.Core.List.{_++_}
 use Rattle.calls.proofs.entries.judge.Statement.{statement}
 use Rattle.calls.proofs.entries.judge.Tie as tie
-use Rattle.calls.proofs.entries.judge.Reads as reads
-use Rattle.calls.proofs.entries.judge.Lts as lts
-use Rattle.answers.proofs.ended.Reads as ended-reads
-use Rattle.answers.proofs.verdict.Reads as verdict-reads
-use Rattle.reader.proofs.judge.Reads as judge-reads
 
--- src/entries.rt:25:41
 judge-requires : tie.Need-judge-requires
 judge-requires c κs = search needs
 
--- src/entries.rt:25:9
 verdict-requires : tie.Need-verdict-requires
 verdict-requires c κs = search needs
 
--- src/entries.rt:26:5
 ended-requires : tie.Need-ended-requires
 ended-requires c κs = search needs
 
--- src/entries.rt:22:1
 same-length : tie.Need-same-length
 same-length c = search needs
 
--- src/entries.rt:22:1
 returns : tie.Need-returns
-returns c = ?
+unfolding judgeAnswer
+returns c =
+    let o = output (c .before .before .before .before .before .before .before .before .before .before .before .args .at) (now (c .before .before .before .before .before .before .before .before .before .before .before .args .out)) in
+    then (verdictText (c .before .before .before .before .before .before .before .judge .result)) lineEnd o (c .before .before .before .before .before .before .verdict .ensures) (c .before .before .ended .ensures)
+    ∙ ap (λ (v : Verdict). added (verdictText v ++ lineEnd) o) (c .before .before .before .before .before .before .before .judge .ensures)
 
 pub judge-spec : {M : Type 1} → statement M
 judge-spec =

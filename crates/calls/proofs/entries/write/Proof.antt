@@ -1,46 +1,45 @@
+-- `calls::entries::write` meets its contract. Assumes nothing.
+use denote.Ref.{now}
+use mathlib.Core.Path.{ap, _∙_}
+use mathlib.Core.List.{List}
+use Prim.Native.Nat.{ℕ}
 use borrow.Author.Needs.{needs}
+use native.Mathlib.Omega.{arith}
+use borrow.Author.Tests.{lt-ltb, le-ltb}
+use Rattle.answers.specs.Output.{output, added}
+use Rattle.calls.specs.Entries.{outcomeOf, leftText, writeAnswer}
+use Rattle.calls.proofs.RoomLaws.{room-part}
 use Rattle.calls.proofs.entries.write.Statement.{statement}
 use Rattle.calls.proofs.entries.write.Tie as tie
-use Rattle.calls.proofs.entries.write.Reads as reads
-use Rattle.calls.proofs.entries.write.Lts as lts
-use Rattle.answers.proofs.bad.Reads as bad-reads
-use Rattle.calls.proofs.entries.write_to.Reads as write-to-reads
 
--- src/entries.rt:148:9
 bad-requires : tie.Need-bad-requires
 bad-requires c κs = search needs
 
--- src/entries.rt:148:9
 same-length : tie.Need-same-length
 same-length c = search needs
 
--- src/entries.rt:148:9
 returns : tie.Need-returns
-returns c = ?
+unfolding writeAnswer
+returns c = rw (lt-ltb _ _ (c .before .before .before .before .if1 .taken)) (c .before .before .bad .ensures)
 
--- src/entries.rt:151:28
 sub-write-to : tie.Need-sub-write-to
 sub-write-to c = search needs
 
--- src/entries.rt:151:28
 part-room-start : tie.Need-part-room-start
 part-room-start c = search needs
 
--- src/entries.rt:151:28
 part-room-end : tie.Need-part-room-end
 part-room-end c = search needs
 
--- src/entries.rt:151:5
 write-to-requires : tie.Need-write-to-requires
 write-to-requires c κs = search needs
 
--- src/entries.rt:144:1
 same-length-2 : tie.Need-same-length-2
 same-length-2 c = search needs
 
--- src/entries.rt:144:1
 returns-2 : tie.Need-returns-2
-returns-2 c = ?
+unfolding writeAnswer
+returns-2 c = rw (le-ltb _ _ (c .before .before .before .before .before .before .if1 .left)) (c .before .before .before .write-to .ensures ∙ ap (λ (l : List ℕ). added (leftText (outcomeOf (c .before .before .before .before .before .before .before .before .before .args .entry) (now (c .before .before .before .before .before .before .before .before .before .args .input)) l)) (output (c .before .before .before .before .before .before .before .before .before .args .at) (now (c .before .before .before .before .before .before .before .before .before .args .out)))) (room-part (c .before .before .before .before .before .before .before .before .before .args .r) 70000 165 (omega arith)))
 
 pub write-spec : {M : Type 1} → statement M
 write-spec =

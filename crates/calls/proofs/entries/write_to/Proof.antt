@@ -1,45 +1,50 @@
+-- `calls::entries::write_to` meets its contract. Assumes nothing.
+use denote.Ref.{now}
+use mathlib.Core.Path.{ap, _∙_}
+use mathlib.Core.Bool.{Bool}
+use mathlib.Core.List.{List, _++_}
+use Prim.Native.Nat.{ℕ}
+use lib.ListN.{drop}
 use borrow.Author.Needs.{needs}
+use Rattle.answers.specs.Output.{output, added}
+use Rattle.answers.specs.Texts.{writtenText, roomEnd}
+use Rattle.octets.specs.Room.{Filled}
+use Rattle.answers.proofs.Adding.{then}
+use Rattle.calls.specs.Rooms.{all}
+use Rattle.calls.specs.Entries.{leftText}
 use Rattle.calls.proofs.entries.write_to.Statement.{statement}
 use Rattle.calls.proofs.entries.write_to.Tie as tie
-use Rattle.calls.proofs.entries.write_to.Reads as reads
-use Rattle.calls.proofs.entries.write_to.Lts as lts
-use Rattle.answers.proofs.looked_at.Reads as looked-at-reads
-use Rattle.answers.proofs.written.Reads as written-reads
-use Rattle.calls.proofs.entries.call.Reads as call-reads
-use Rattle.calls.proofs.entries.count_of.Reads as count-of-reads
-use Rattle.calls.proofs.rooms.is_kept.Reads as is-kept-reads
 
--- src/entries.rt:138:9
 call-requires : tie.Need-call-requires
 call-requires c κs = search needs
 
--- src/entries.rt:139:9
 written-requires : tie.Need-written-requires
 written-requires c κs = search needs
 
--- src/entries.rt:140:55
 count-of-requires : tie.Need-count-of-requires
 count-of-requires c κs = search needs
 
--- src/entries.rt:140:34
 is-kept-requires : tie.Need-is-kept-requires
 is-kept-requires c κs = search needs
 
--- src/entries.rt:140:5
 looked-at-requires : tie.Need-looked-at-requires
 looked-at-requires c κs = search needs
 
--- src/entries.rt:135:1
 same-length : tie.Need-same-length
 same-length c = search needs
 
--- src/entries.rt:135:1
 same-length-2 : tie.Need-same-length-2
 same-length-2 c = search needs
 
--- src/entries.rt:135:1
 returns : tie.Need-returns
-returns c = ?
+unfolding leftText
+returns c =
+    let o = output (c .before .before .before .before .before .before .before .before .before .before .before .before .before .before .before .before .before .before .before .args .at) (now (c .before .before .before .before .before .before .before .before .before .before .before .before .before .before .before .before .before .before .before .args .out)) in
+    let room = c .before .before .before .before .before .before .before .before .before .before .before .before .before .before .call .last .1 .1 .0 in
+    then (writtenText (c .before .before .before .before .before .before .before .before .before .before .before .before .before .before .call .result) room) (roomEnd (c .before .before .before .is-kept .result)) o (c .before .before .before .before .before .before .before .before .before .written .ensures) (c .before .before .looked-at .ensures)
+    ∙ ap (λ (b : Bool). added (writtenText (c .before .before .before .before .before .before .before .before .before .before .before .before .before .before .call .result) room ++ roomEnd b) o) (c .before .before .before .is-kept .ensures)
+    ∙ ap (λ (n : ℕ). added (writtenText (c .before .before .before .before .before .before .before .before .before .before .before .before .before .before .call .result) room ++ roomEnd (all 165 (drop n room))) o) (c .before .before .before .before .count-of .ensures)
+    ∙ ap (λ (f : Filled). added (leftText f) o) (c .before .before .before .before .before .before .before .before .before .before .before .before .before .before .call .ensures)
 
 pub write-to-spec : {M : Type 1} → statement M
 write-to-spec =

@@ -1,41 +1,46 @@
+-- `calls::rooms::fill` meets its contract. Assumes nothing.
+use denote.Ref.{now}
+use Prim.Native.Nat.{_-_, _≤_}
+use mathlib.Core.Path.{_≡_, refl}
+use mathlib.Core.List.{_++_}
+use native.Mathlib.Omega.{arith}
+use lib.ListN.{length, take, drop, length-set}
+use borrow.Author.Needs.{needs}
+use Rattle.calls.specs.Rooms.{octetRoom}
+use Rattle.calls.proofs.RoomLaws.{fill-step, fill-done}
 use Rattle.calls.proofs.rooms.fill.Statement.{statement}
 use Rattle.calls.proofs.rooms.fill.Tie as tie
-use Rattle.calls.proofs.rooms.fill.Reads as reads
-use Rattle.calls.proofs.rooms.fill.Lts as lts
 
 abbrev Inv-loop : tie.InvT-loop
-Inv-loop room₀ i₀ room i = ?
+Inv-loop room₀ i₀ room i = (i ≤ length room₀) × (length room ≡ length room₀) × (room ≡ take i (octetRoom (length room₀)) ++ drop i room₀)
 
 abbrev μ-loop : tie.MeasureT-loop
-μ-loop room₀ i₀ room i = ?
+μ-loop room₀ i₀ room i = length room₀ - i
 
--- src/rooms.rt:17:5
 loop-holds : tie.Need-loop-holds Inv-loop μ-loop
-loop-holds c = ?
+loop-holds c = (search needs, refl, refl)
 
--- src/rooms.rt:18:9
 slice-write-room : tie.Need-slice-write-room Inv-loop μ-loop
-slice-write-room c = ?
+slice-write-room c = omega arith
 
--- src/rooms.rt:19:9
 add-i : tie.Need-add-i Inv-loop μ-loop
-add-i c = ?
+add-i c = omega arith
 
--- src/rooms.rt:17:5
 loop-less : tie.Need-loop-less Inv-loop μ-loop
-loop-less c = ?
+loop-less c = omega arith
 
--- src/rooms.rt:17:5
 loop-again : tie.Need-loop-again Inv-loop μ-loop
-loop-again c = ?
+loop-again c =
+    let l = c .before .loop in
+    (search needs, simp length-set (l .inv .1), fill-step (now (c .before .before .args .room)) (l .room) (l .i) (omega arith) (l .inv .2))
 
--- src/rooms.rt:13:1
 same-length : tie.Need-same-length Inv-loop μ-loop
-same-length c = ?
+same-length c = c .before .loop .inv .1
 
--- src/rooms.rt:13:1
 returns : tie.Need-returns Inv-loop μ-loop
-returns c = ?
+returns c =
+    let l = c .before .loop in
+    fill-done (now (c .before .before .args .room)) (l .room) (l .i) (omega arith) (omega arith) (l .inv .2)
 
 pub fill-spec : {M : Type 1} → statement M
 fill-spec =

@@ -1,71 +1,75 @@
+-- `calls::uploads::changed` meets its contract. Assumes nothing.
+use denote.Ref.{now}
+use mathlib.Core.Path.{ap, _∙_}
+use mathlib.Core.List.{List, _++_}
+use Prim.Native.Nat.{ℕ, _-_}
+use native.Mathlib.Omega.{arith}
+use lib.ListN.{take, drop}
 use borrow.Author.Needs.{needs}
+use borrow.Author.Tests.{lt-ltb, le-ltb}
+use Rattle.answers.specs.Output.{output}
+use Rattle.desk.specs.Steps.{Turned}
+use Rattle.calls.specs.Uploads.{Told, told, kept, turnedTold, changeOf, over, change}
+use Rattle.calls.proofs.RoomLaws.{less-none, put-front}
 use Rattle.calls.proofs.uploads.changed.Statement.{statement}
 use Rattle.calls.proofs.uploads.changed.Tie as tie
-use Rattle.calls.proofs.uploads.changed.Reads as reads
-use Rattle.calls.proofs.uploads.changed.Lts as lts
-use Rattle.calls.proofs.uploads.Console.refused.Reads as refused-reads
-use Rattle.calls.proofs.uploads.call.Reads as call-reads
-use Rattle.calls.proofs.uploads.turned.Reads as turned-reads
 
--- src/uploads.rt:135:9
 refused-requires : tie.Need-refused-requires
 refused-requires c κs = search needs
 
--- src/uploads.rt:135:9
 same-length : tie.Need-same-length
 same-length c = search needs
 
--- src/uploads.rt:135:9
 returns : tie.Need-returns
-returns c = ?
+unfolding change
+returns c = rw (lt-ltb _ _ (c .before .before .before .before .if1 .taken)) (ap (λ (x : Told). kept x (now (c .before .before .before .before .before .before .before .before .args .pool))) (c .before .before .refused .ensures))
 
--- src/uploads.rt:138:9
 refused-requires-2 : tie.Need-refused-requires-2
 refused-requires-2 c κs = search needs
 
--- src/uploads.rt:138:9
 same-length-2 : tie.Need-same-length-2
 same-length-2 c = search needs
 
--- src/uploads.rt:138:9
 returns-2 : tie.Need-returns-2
-returns-2 c = ?
+unfolding change
+returns-2 c = rw (le-ltb _ _ (c .before .before .before .before .before .if1 .left), lt-ltb _ _ (c .before .before .before .before .if2 .taken)) (ap (λ (x : Told). kept x (now (c .before .before .before .before .before .before .before .before .before .args .pool))) (c .before .before .refused2 .ensures))
 
--- src/uploads.rt:140:33
 cast-call : tie.Need-cast-call
 cast-call c = search needs
 
--- src/uploads.rt:140:50
 sub-call : tie.Need-sub-call
 sub-call c = search needs
 
--- src/uploads.rt:140:50
 part-call-start : tie.Need-part-call-start
 part-call-start c = search needs
 
--- src/uploads.rt:140:50
 part-call-end : tie.Need-part-call-end
 part-call-end c = search needs
 
--- src/uploads.rt:140:9
 call-requires : tie.Need-call-requires
 call-requires c κs = search needs
 
--- src/uploads.rt:141:5
 turned-requires : tie.Need-turned-requires
 turned-requires c κs = search needs
 
--- src/uploads.rt:123:1
 same-length-3 : tie.Need-same-length-3
 same-length-3 c = search needs
 
--- src/uploads.rt:123:1
 same-length-4 : tie.Need-same-length-4
 same-length-4 c = search needs
 
--- src/uploads.rt:123:1
 returns-3 : tie.Need-returns-3
-returns-3 c = ?
+unfolding change
+returns-3 c =
+    let a = c .before .before .before .before .before .before .before .before .before .before .before .before .before .args in
+    let size = a .c .size in
+    let p = now (a .pool) in
+    let q = c .before .before .before .before .before .before .call .last .1 .1 .1 .1 .0 in
+    rw (le-ltb _ _ (c .before .before .before .before .before .before .before .before .before .if1 .left), le-ltb _ _ (c .before .before .before .before .before .before .before .before .if2 .left))
+    (ap (λ (x : Told). kept x (q ++ drop (size - 0) p)) (c .before .before .turned .ensures)
+    ∙ ap (λ (l : List ℕ). kept (turnedTold (c .before .before .before .before .before .before .call .result) size (output (a .c .at) (now (a .out)))) l) (put-front p q size (omega arith) (c .before .before .before .before .before .before .call .kept .1 .1 .1 .1 .0))
+    ∙ ap (λ (u : Turned). over u (told (a .c) (now (a .out))) p)
+    (c .before .before .before .before .before .before .call .ensures ∙ ap (λ (m : ℕ). changeOf (a .which) (a .c .desk) (take m p) (a .n) (now (a .chunk))) (less-none size)))
 
 pub changed-spec : {M : Type 1} → statement M
 changed-spec =

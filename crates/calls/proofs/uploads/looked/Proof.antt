@@ -1,72 +1,76 @@
+-- `calls::uploads::looked` meets its contract. Assumes nothing.
+use denote.Ref.{now}
+use mathlib.Core.Path.{ap, _∙_}
+use mathlib.Core.List.{List, _++_}
+use Prim.Native.Nat.{ℕ, _-_}
+use lib.ListN.{take}
 use borrow.Author.Needs.{needs}
+use borrow.Author.Tests.{lt-ltb, le-ltb}
+use Rattle.answers.specs.Output.{output, added}
+use Rattle.answers.specs.Texts.{lineEnd}
+use Rattle.answers.proofs.Adding.{then}
+use Rattle.calls.specs.declared.uploads.Console.{Console}
+use Rattle.calls.specs.Uploads.{tell, told, lookText, look}
+use Rattle.calls.proofs.RoomLaws.{less-none}
 use Rattle.calls.proofs.uploads.looked.Statement.{statement}
 use Rattle.calls.proofs.uploads.looked.Tie as tie
-use Rattle.calls.proofs.uploads.looked.Reads as reads
-use Rattle.calls.proofs.uploads.looked.Lts as lts
-use Rattle.answers.proofs.ended.Reads as ended-reads
-use Rattle.calls.proofs.uploads.Console.refused.Reads as refused-reads
-use Rattle.calls.proofs.uploads.Console.with_output.Reads as with-output-reads
-use Rattle.calls.proofs.uploads.seen.Reads as seen-reads
 
--- src/uploads.rt:161:9
 refused-requires : tie.Need-refused-requires
 refused-requires c κs = search needs
 
--- src/uploads.rt:161:9
 same-length : tie.Need-same-length
 same-length c = search needs
 
--- src/uploads.rt:161:9
 returns : tie.Need-returns
-returns c = ?
+unfolding look
+returns c = rw (lt-ltb _ _ (c .before .before .before .before .if1 .taken)) (c .before .before .refused .ensures)
 
--- src/uploads.rt:164:9
 refused-requires-2 : tie.Need-refused-requires-2
 refused-requires-2 c κs = search needs
 
--- src/uploads.rt:164:9
 same-length-2 : tie.Need-same-length-2
 same-length-2 c = search needs
 
--- src/uploads.rt:164:9
 returns-2 : tie.Need-returns-2
-returns-2 c = ?
+unfolding look
+returns-2 c = rw (le-ltb _ _ (c .before .before .before .before .before .if1 .left), lt-ltb _ _ (c .before .before .before .before .if2 .taken)) (c .before .before .refused2 .ensures)
 
--- src/uploads.rt:166:35
 cast-seen : tie.Need-cast-seen
 cast-seen c = search needs
 
--- src/uploads.rt:166:45
 sub-seen : tie.Need-sub-seen
 sub-seen c = search needs
 
--- src/uploads.rt:166:45
 part-seen-start : tie.Need-part-seen-start
 part-seen-start c = search needs
 
--- src/uploads.rt:166:45
 part-seen-end : tie.Need-part-seen-end
 part-seen-end c = search needs
 
--- src/uploads.rt:166:9
 seen-requires : tie.Need-seen-requires
 seen-requires c κs = search needs
 
--- src/uploads.rt:167:19
 ended-requires : tie.Need-ended-requires
 ended-requires c κs = search needs
 
--- src/uploads.rt:167:5
 with-output-requires : tie.Need-with-output-requires
 with-output-requires c κs = search needs
 
--- src/uploads.rt:156:1
 same-length-3 : tie.Need-same-length-3
 same-length-3 c = search needs
 
--- src/uploads.rt:156:1
 returns-3 : tie.Need-returns-3
-returns-3 c = ?
+unfolding look
+returns-3 c =
+    let a = c .before .before .before .before .before .before .before .before .before .before .before .before .before .before .args in
+    let size = a .c .size in
+    let p = now (a .pool) in
+    let o = output (a .c .at) (now (a .out)) in
+    rw (le-ltb _ _ (c .before .before .before .before .before .before .before .before .before .before .before .if1 .left), le-ltb _ _ (c .before .before .before .before .before .before .before .before .before .before .if2 .left))
+    (ap (λ (x : Console). told x (c .before .before .before .ended .last .0)) (c .with-output .ensures)
+    ∙ ap (tell (a .c .desk) size)
+    (then (lookText (a .which) (a .c .desk) (take (size - 0) p) (a .n)) lineEnd o (c .before .before .before .before .before .before .before .seen .ensures) (c .before .before .before .ended .ensures)
+    ∙ ap (λ (m : ℕ). added (lookText (a .which) (a .c .desk) (take m p) (a .n) ++ lineEnd) o) (less-none size)))
 
 pub looked-spec : {M : Type 1} → statement M
 looked-spec =

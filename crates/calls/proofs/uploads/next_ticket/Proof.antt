@@ -1,43 +1,43 @@
+-- `calls::uploads::next_ticket` meets its contract. Assumes nothing.
+use denote.Ref.{now}
+use mathlib.Core.Path.{ap}
 use borrow.Author.Needs.{needs}
+use borrow.Author.Tests.{lt-ltb, le-ltb}
+use Rattle.answers.specs.Output.{output}
+use Rattle.answers.specs.Texts.{lineEnd, doneText}
+use Rattle.answers.proofs.Adding.{then}
+use Rattle.calls.specs.Uploads.{tell, withNext, nextTicket}
 use Rattle.calls.proofs.uploads.next_ticket.Statement.{statement}
 use Rattle.calls.proofs.uploads.next_ticket.Tie as tie
-use Rattle.calls.proofs.uploads.next_ticket.Reads as reads
-use Rattle.calls.proofs.uploads.next_ticket.Lts as lts
-use Rattle.answers.proofs.done.Reads as done-reads
-use Rattle.answers.proofs.ended.Reads as ended-reads
-use Rattle.calls.proofs.uploads.Console.refused.Reads as refused-reads
 
--- src/uploads.rt:95:9
 refused-requires : tie.Need-refused-requires
 refused-requires c κs = search needs
 
--- src/uploads.rt:95:9
 same-length : tie.Need-same-length
 same-length c = search needs
 
--- src/uploads.rt:95:9
 returns : tie.Need-returns
-returns c = ?
+unfolding nextTicket
+returns c = rw (lt-ltb _ _ (c .before .before .before .before .if1 .taken)) (c .before .before .refused .ensures)
 
--- src/uploads.rt:99:9
 done-requires : tie.Need-done-requires
 done-requires c κs = search needs
 
--- src/uploads.rt:104:19
 cast-t12 : tie.Need-cast-t12
 cast-t12 c = search needs
 
--- src/uploads.rt:107:13
 ended-requires : tie.Need-ended-requires
 ended-requires c κs = search needs
 
--- src/uploads.rt:91:1
 same-length-2 : tie.Need-same-length-2
 same-length-2 c = search needs
 
--- src/uploads.rt:91:1
 returns-2 : tie.Need-returns-2
-returns-2 c = ?
+unfolding nextTicket
+returns-2 c =
+    let a = c .before .before .before .before .before .before .before .before .before .before .before .before .args in
+    rw (le-ltb _ _ (c .before .before .before .before .before .before .before .before .before .before .if1 .left))
+    (ap (tell (withNext (a .c .desk) (a .ticket)) (a .c .size)) (then (doneText (a .ticket)) lineEnd (output (a .c .at) (now (a .out))) (c .before .before .before .before .before .before .done .ensures) (c .before .before .ended .ensures)))
 
 pub next-ticket-spec : {M : Type 1} → statement M
 next-ticket-spec =

@@ -1,81 +1,90 @@
+-- `calls::uploads::pool_part` meets its contract. Assumes nothing.
+use denote.Ref.{now}
+use mathlib.Core.Path.{sym, ap, _∙_}
+use mathlib.Core.List.{List, _++_}
+use Prim.Native.Nat.{ℕ, _+_, _-_}
+use native.Mathlib.Omega.{arith}
+use lib.ListN.{take, drop}
 use borrow.Author.Needs.{needs}
+use borrow.Author.Tests.{lt-ltb, le-ltb}
+use Rattle.answers.specs.Output.{output, added}
+use Rattle.answers.specs.Texts.{lineEnd, octetsWord}
+use Rattle.answers.proofs.Adding.{then}
+use Rattle.calls.specs.declared.uploads.Console.{Console}
+use Rattle.calls.specs.Uploads.{tell, told, partOf, poolPart}
+use Rattle.calls.proofs.RoomLaws.{part-whole}
 use Rattle.calls.proofs.uploads.pool_part.Statement.{statement}
 use Rattle.calls.proofs.uploads.pool_part.Tie as tie
-use Rattle.calls.proofs.uploads.pool_part.Reads as reads
-use Rattle.calls.proofs.uploads.pool_part.Lts as lts
-use Rattle.answers.proofs.ended.Reads as ended-reads
-use Rattle.answers.proofs.hex.put_octets.Reads as put-octets-reads
-use Rattle.calls.proofs.uploads.Console.refused.Reads as refused-reads
-use Rattle.calls.proofs.uploads.Console.with_output.Reads as with-output-reads
-use Rattle.parts.proofs.part.Reads as part-reads
 
--- src/uploads.rt:174:9
 part-requires : tie.Need-part-requires
 part-requires c κs = search needs
 
--- src/uploads.rt:176:9
 refused-requires : tie.Need-refused-requires
 refused-requires c κs = search needs
 
--- src/uploads.rt:176:9
 same-length : tie.Need-same-length
 same-length c = search needs
 
--- src/uploads.rt:176:9
 returns : tie.Need-returns
-returns c = ?
+unfolding poolPart
+returns c =
+    let a = c .before .before .before .before .before .before .before .before .args in
+    rw (lt-ltb _ _ (c .before .before .before .before .if1 .taken)) (c .before .before .refused .ensures)
+    ∙ ap (λ (l : List ℕ). partOf (a .from) (a .count) (told (a .c) (now (a .out))) l) (c .before .before .before .before .before .part .ensures)
 
--- src/uploads.rt:178:16
 sub-if2 : tie.Need-sub-if2
 sub-if2 c = search needs
 
--- src/uploads.rt:179:9
 refused-requires-2 : tie.Need-refused-requires-2
 refused-requires-2 c κs = search needs
 
--- src/uploads.rt:179:9
 same-length-2 : tie.Need-same-length-2
 same-length-2 c = search needs
 
--- src/uploads.rt:179:9
 returns-2 : tie.Need-returns-2
-returns-2 c = ?
+unfolding poolPart
+returns-2 c =
+    let a = c .before .before .before .before .before .before .before .before .before .args in
+    rw (le-ltb _ _ (c .before .before .before .before .before .if1 .left), lt-ltb _ _ (c .before .before .before .before .if2 .taken)) (c .before .before .refused2 .ensures)
+    ∙ ap (λ (l : List ℕ). partOf (a .from) (a .count) (told (a .c) (now (a .out))) l) (c .before .before .before .before .before .before .part .ensures)
 
--- src/uploads.rt:181:63
 add-put-octets : tie.Need-add-put-octets
 add-put-octets c = search needs
 
--- src/uploads.rt:181:51
 sub-put-octets : tie.Need-sub-put-octets
 sub-put-octets c = search needs
 
--- src/uploads.rt:181:51
 part-put-octets-start : tie.Need-part-put-octets-start
 part-put-octets-start c = search needs
 
--- src/uploads.rt:181:51
 part-put-octets-end : tie.Need-part-put-octets-end
 part-put-octets-end c = search needs
 
--- src/uploads.rt:181:9
 put-octets-requires : tie.Need-put-octets-requires
 put-octets-requires c κs = search needs
 
--- src/uploads.rt:182:19
 ended-requires : tie.Need-ended-requires
 ended-requires c κs = search needs
 
--- src/uploads.rt:182:5
 with-output-requires : tie.Need-with-output-requires
 with-output-requires c κs = search needs
 
--- src/uploads.rt:171:1
 same-length-3 : tie.Need-same-length-3
 same-length-3 c = search needs
 
--- src/uploads.rt:171:1
 returns-3 : tie.Need-returns-3
-returns-3 c = ?
+unfolding poolPart
+returns-3 c =
+    let a = c .before .before .before .before .before .before .before .before .before .before .before .before .before .before .before .args in
+    let s = now (c .before .before .before .before .before .before .before .before .before .before .before .before .part .result) in
+    let e = a .from + a .count in
+    let o = output (a .c .at) (now (a .out)) in
+    rw (le-ltb _ _ (c .before .before .before .before .before .before .before .before .before .before .before .if1 .left), le-ltb _ _ (c .before .before .before .before .before .before .before .before .before .before .if2 .left))
+    (ap (λ (x : Console). told x (c .before .before .before .ended .last .0)) (c .with-output .ensures)
+    ∙ ap (tell (a .c .desk) (a .c .size))
+    (then (octetsWord (take (e - a .from) (drop (a .from) s))) lineEnd o (c .before .before .before .before .before .before .before .put-octets .ensures) (c .before .before .before .ended .ensures)
+    ∙ ap (λ (l : List ℕ). added (octetsWord l ++ lineEnd) o) (sym (part-whole s (a .from) e (omega arith) (omega arith)))))
+    ∙ ap (λ (l : List ℕ). partOf (a .from) (a .count) (told (a .c) (now (a .out))) l) (c .before .before .before .before .before .before .before .before .before .before .before .before .part .ensures)
 
 pub pool-part-spec : {M : Type 1} → statement M
 pool-part-spec =
