@@ -1,60 +1,65 @@
+-- `calls::uploads::new_desk` meets its contract. Assumes nothing.
+use denote.Ref.{now}
+use mathlib.Core.Path.{ap, _∙_}
+use mathlib.Core.List.{List, _++_}
+use Prim.Native.Nat.{ℕ, _-_}
+use native.Mathlib.Omega.{arith}
+use lib.ListN.{drop}
 use borrow.Author.Needs.{needs}
+use borrow.Author.Tests.{lt-ltb, le-ltb}
+use Rattle.answers.specs.Output.{output}
+use Rattle.desk.specs.Steps.{newStep}
+use Rattle.desk.specs.declared.Turn.{Turn}
+use Rattle.calls.specs.Uploads.{Told, kept, turnedTold, newDesk}
+use Rattle.calls.proofs.RoomLaws.{fill-front}
 use Rattle.calls.proofs.uploads.new_desk.Statement.{statement}
 use Rattle.calls.proofs.uploads.new_desk.Tie as tie
-use Rattle.calls.proofs.uploads.new_desk.Reads as reads
-use Rattle.calls.proofs.uploads.new_desk.Lts as lts
-use Rattle.calls.proofs.rooms.fill.Reads as fill-reads
-use Rattle.calls.proofs.uploads.Console.refused.Reads as refused-reads
-use Rattle.calls.proofs.uploads.turned.Reads as turned-reads
-use Rattle.desk.proofs.Desk.new.Reads as new-reads
 
--- src/uploads.rt:84:9
 refused-requires : tie.Need-refused-requires
 refused-requires c κs = search needs
 
--- src/uploads.rt:84:9
 same-length : tie.Need-same-length
 same-length c = search needs
 
--- src/uploads.rt:84:9
 returns : tie.Need-returns
-returns c = ?
+unfolding newDesk
+returns c = rw (lt-ltb _ _ (c .before .before .before .before .if1 .taken)) (ap (λ (x : Told). kept x (now (c .before .before .before .before .before .before .before .args .pool))) (c .before .before .refused .ensures))
 
--- src/uploads.rt:86:17
 sub-fill : tie.Need-sub-fill
 sub-fill c = search needs
 
--- src/uploads.rt:86:17
 part-fill-start : tie.Need-part-fill-start
 part-fill-start c = search needs
 
--- src/uploads.rt:86:17
 part-fill-end : tie.Need-part-fill-end
 part-fill-end c = search needs
 
--- src/uploads.rt:86:5
 fill-requires : tie.Need-fill-requires
 fill-requires c κs = search needs
 
--- src/uploads.rt:87:12
 new-requires : tie.Need-new-requires
 new-requires c κs = search needs
 
--- src/uploads.rt:87:5
 turned-requires : tie.Need-turned-requires
 turned-requires c κs = search needs
 
--- src/uploads.rt:80:1
 same-length-2 : tie.Need-same-length-2
 same-length-2 c = search needs
 
--- src/uploads.rt:80:1
 same-length-3 : tie.Need-same-length-3
 same-length-3 c = search needs
 
--- src/uploads.rt:80:1
 returns-2 : tie.Need-returns-2
-returns-2 c = ?
+unfolding newDesk
+returns-2 c =
+    let a = c .before .before .before .before .before .before .before .before .before .before .before .before .args in
+    let p = now (a .pool) in
+    let q = c .before .before .before .before .before .before .before .fill .last .0 in
+    let o = output (a .c .at) (now (a .out)) in
+    rw (le-ltb _ _ (c .before .before .before .before .before .before .before .before .before .if1 .left))
+    (ap (λ (x : Told). kept x (q ++ drop (a .n - 0) p)) (c .before .before .turned .ensures)
+    ∙ ap (λ (t : Turn). kept (turnedTold t (a .n) o) (q ++ drop (a .n - 0) p)) (c .before .before .before .before .new .ensures)
+    ∙ ap (λ (l : List ℕ). kept (turnedTold (newStep (a .slots)) (a .n) o) l) (fill-front p q (a .n) (omega arith) (c .before .before .before .before .before .before .before .fill .ensures)))
 
 pub new-desk-spec : {M : Type 1} → statement M
 new-desk-spec =

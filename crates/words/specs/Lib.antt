@@ -1,0 +1,4 @@
+-- The definitions that the contracts of `words` cite. Assumes nothing.
+pub mod Words
+pub mod Numbers
+pub mod Hex
