@@ -1,11 +1,11 @@
--- `console::input::moved_down` is safe and ends; what is moved goes to no later place. Assumes nothing.
+-- `console::moved_down` is safe and ends; what is moved goes to no later place. Assumes nothing.
 use Prim.Native.Nat.{_-_, _≤_}
 use mathlib.Core.Path.{_≡_, refl}
 use native.Mathlib.Omega.{arith}
 use lib.ListN.{length, length-set}
 use borrow.Author.Needs.{needs}
-use Rattle.console.proofs.input.moved_down.Statement.{statement}
-use Rattle.console.proofs.input.moved_down.Tie as tie
+use Rattle.console.proofs.moved_down.Statement.{statement}
+use Rattle.console.proofs.moved_down.Tie as tie
 
 abbrev Inv-loop : tie.InvT-loop
 Inv-loop buffer₀ from to n₀ i₀ buffer n i = (length buffer ≡ length buffer₀) × (n ≤ i)
