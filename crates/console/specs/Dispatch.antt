@@ -10,10 +10,10 @@ use Rattle.requests.specs.declared.Request.{Request}
 use Rattle.requests.specs.declared.Name.{Name}
 use Rattle.requests.specs.declared.Name.the-variants.{Judge, Read, Fold, Escape, Unescape, Desk, Open, Add, Check, Show, Held, Release, Pool, Next, Bad}
 use Rattle.calls.specs.Entries.{judgeAnswer, readAnswer, writeAnswer}
-use Rattle.calls.specs.Uploads.{Told, Kept, kept, says, badTold, newDesk, nextTicket, change, look, poolPart}
+use Rattle.uploads.specs.Uploads.{Told, Kept, kept, says, badTold, newDesk, nextTicket, change, look, poolPart}
 use Rattle.calls.specs.declared.entries.Writer.the-variants.{Fold as toFold, Escape as toEscape, Unescape as toUnescape}
-use Rattle.calls.specs.declared.uploads.Change.the-variants.{Open as toOpen, Add as toAdd, Release as toRelease}
-use Rattle.calls.specs.declared.uploads.Look.the-variants.{Check as toCheck, Show as toShow, Held as toHeld}
+use Rattle.uploads.specs.declared.Change.the-variants.{Open as toOpen, Add as toAdd, Release as toRelease}
+use Rattle.uploads.specs.declared.Look.the-variants.{Check as toCheck, Show as toShow, Held as toHeld}
 
 -- each request, with its numbers and the octets that it sends
 unfoldable pub answerBy : Name → ℕ → ℕ → List ℕ → Told → List ℕ → Kept

@@ -1,15 +1,14 @@
 // The answer to a line: its request, handed to the call that it names.
 ghost use mathlib.Core.Path.{_≡_};
-ghost use Rattle.calls.specs.Uploads.{told, kept};
+ghost use Rattle.uploads.specs.Uploads.{told, kept};
 ghost use Rattle.console.specs.Dispatch.{answerTo, answerIn, answerLine};
 use calls::entries;
 use calls::entries::Writer;
-use calls::uploads;
-use calls::uploads::Change;
-use calls::uploads::Console;
-use calls::uploads::Look;
 use requests::Name;
 use requests::Request;
+use uploads::Change;
+use uploads::Console;
+use uploads::Look;
 
 // The most octets of a line, its LF and a CR before it not counted.
 const LINE: usize = 140000;

@@ -2,11 +2,11 @@
 mod dispatch;
 mod input;
 
-use calls::uploads::Console;
 use input::Input;
 use input::Line;
 use libc::STDIN_FILENO;
 use libc::STDOUT_FILENO;
+use uploads::Console;
 
 // The most octets of an answer: all of the pool that 40 slots have, two digits an octet, and LF.
 const ANSWER: usize = 1310721;

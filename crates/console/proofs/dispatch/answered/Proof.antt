@@ -3,7 +3,7 @@ use denote.Ref.{now}
 use mathlib.Core.Path.{ap}
 use borrow.Author.Needs.{needs}
 use Rattle.calls.specs.Entries.{judgeAnswer, readAnswer, writeAnswer}
-use Rattle.calls.specs.Uploads.{Told, kept}
+use Rattle.uploads.specs.Uploads.{Told, kept}
 use Rattle.calls.specs.declared.entries.Writer.the-variants.{Fold, Escape, Unescape}
 use Rattle.console.specs.Dispatch.{answerBy}
 use Rattle.console.proofs.Said.{said}

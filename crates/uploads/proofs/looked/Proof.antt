@@ -1,4 +1,4 @@
--- `calls::uploads::looked` meets its contract. Assumes nothing.
+-- `uploads::looked` meets its contract. Assumes nothing.
 use denote.Ref.{now}
 use mathlib.Core.Path.{ap, _∙_}
 use mathlib.Core.List.{List, _++_}
@@ -9,11 +9,11 @@ use borrow.Author.Tests.{lt-ltb, le-ltb}
 use Rattle.answers.specs.Output.{output, added}
 use Rattle.answers.specs.Texts.{lineEnd}
 use Rattle.answers.proofs.Adding.{then}
-use Rattle.calls.specs.declared.uploads.Console.{Console}
-use Rattle.calls.specs.Uploads.{tell, told, lookText, look}
+use Rattle.uploads.specs.declared.Console.{Console}
+use Rattle.uploads.specs.Uploads.{tell, told, lookText, look}
 use Rattle.calls.proofs.RoomLaws.{less-none}
-use Rattle.calls.proofs.uploads.looked.Statement.{statement}
-use Rattle.calls.proofs.uploads.looked.Tie as tie
+use Rattle.uploads.proofs.looked.Statement.{statement}
+use Rattle.uploads.proofs.looked.Tie as tie
 
 refused-requires : tie.Need-refused-requires
 refused-requires c κs = search needs

@@ -1,12 +1,9 @@
 // The calls of the desk, and what is kept from one to the next.
 ghost use mathlib.Core.Path.{_≡_};
-ghost use mathlib.Core.List.{List};
-ghost use Prim.Native.Nat.{_≤_};
-ghost use lib.ListN.{length, take, drop};
 ghost use Rattle.desk.specs.Steps.{turned};
 ghost use Rattle.answers.specs.Output.{output, added};
-ghost use Rattle.calls.specs.Uploads.{told, kept, first, moved, badTold, turnedTold, newDesk, nextTicket, changeOf, change, lookText, look, poolPart};
-use crate::rooms;
+ghost use Rattle.uploads.specs.Uploads.{told, kept, first, moved, badTold, turnedTold, newDesk, nextTicket, changeOf, change, lookText, look, poolPart};
+use calls::rooms;
 use desk::Desk;
 use desk::Turn;
 

@@ -1,4 +1,4 @@
--- `calls::uploads::pool_part` meets its contract. Assumes nothing.
+-- `uploads::pool_part` meets its contract. Assumes nothing.
 use denote.Ref.{now}
 use mathlib.Core.Path.{sym, ap, _∙_}
 use mathlib.Core.List.{List, _++_}
@@ -10,11 +10,11 @@ use borrow.Author.Tests.{lt-ltb, le-ltb}
 use Rattle.answers.specs.Output.{output, added}
 use Rattle.answers.specs.Texts.{lineEnd, octetsWord}
 use Rattle.answers.proofs.Adding.{then}
-use Rattle.calls.specs.declared.uploads.Console.{Console}
-use Rattle.calls.specs.Uploads.{tell, told, partOf, poolPart}
+use Rattle.uploads.specs.declared.Console.{Console}
+use Rattle.uploads.specs.Uploads.{tell, told, partOf, poolPart}
 use Rattle.calls.proofs.RoomLaws.{part-whole}
-use Rattle.calls.proofs.uploads.pool_part.Statement.{statement}
-use Rattle.calls.proofs.uploads.pool_part.Tie as tie
+use Rattle.uploads.proofs.pool_part.Statement.{statement}
+use Rattle.uploads.proofs.pool_part.Tie as tie
 
 part-requires : tie.Need-part-requires
 part-requires c κs = search needs

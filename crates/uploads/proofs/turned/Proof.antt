@@ -1,13 +1,13 @@
--- `calls::uploads::turned` meets its contract. Assumes nothing.
+-- `uploads::turned` meets its contract. Assumes nothing.
 use denote.Ref.{now}
 use mathlib.Core.Path.{ap}
 use borrow.Author.Needs.{needs}
 use Rattle.answers.specs.Output.{output}
 use Rattle.answers.specs.Texts.{lineEnd, answerText}
 use Rattle.answers.proofs.Adding.{then}
-use Rattle.calls.specs.Uploads.{tell}
-use Rattle.calls.proofs.uploads.turned.Statement.{statement}
-use Rattle.calls.proofs.uploads.turned.Tie as tie
+use Rattle.uploads.specs.Uploads.{tell}
+use Rattle.uploads.proofs.turned.Statement.{statement}
+use Rattle.uploads.proofs.turned.Tie as tie
 
 answered-requires : tie.Need-answered-requires
 answered-requires c κs = search needs

@@ -1,4 +1,4 @@
--- `calls::uploads::new_desk` meets its contract. Assumes nothing.
+-- `uploads::new_desk` meets its contract. Assumes nothing.
 use denote.Ref.{now}
 use mathlib.Core.Path.{ap, _∙_}
 use mathlib.Core.List.{List, _++_}
@@ -10,10 +10,10 @@ use borrow.Author.Tests.{lt-ltb, le-ltb}
 use Rattle.answers.specs.Output.{output}
 use Rattle.desk.specs.Steps.{newStep}
 use Rattle.desk.specs.declared.Turn.{Turn}
-use Rattle.calls.specs.Uploads.{Told, kept, turnedTold, newDesk}
+use Rattle.uploads.specs.Uploads.{Told, kept, turnedTold, newDesk}
 use Rattle.calls.proofs.RoomLaws.{fill-front}
-use Rattle.calls.proofs.uploads.new_desk.Statement.{statement}
-use Rattle.calls.proofs.uploads.new_desk.Tie as tie
+use Rattle.uploads.proofs.new_desk.Statement.{statement}
+use Rattle.uploads.proofs.new_desk.Tie as tie
 
 refused-requires : tie.Need-refused-requires
 refused-requires c κs = search needs

@@ -1,4 +1,4 @@
--- `calls::uploads::next_ticket` meets its contract. Assumes nothing.
+-- `uploads::next_ticket` meets its contract. Assumes nothing.
 use denote.Ref.{now}
 use mathlib.Core.Path.{ap}
 use borrow.Author.Needs.{needs}
@@ -6,9 +6,9 @@ use borrow.Author.Tests.{lt-ltb, le-ltb}
 use Rattle.answers.specs.Output.{output}
 use Rattle.answers.specs.Texts.{lineEnd, doneText}
 use Rattle.answers.proofs.Adding.{then}
-use Rattle.calls.specs.Uploads.{tell, withNext, nextTicket}
-use Rattle.calls.proofs.uploads.next_ticket.Statement.{statement}
-use Rattle.calls.proofs.uploads.next_ticket.Tie as tie
+use Rattle.uploads.specs.Uploads.{tell, withNext, nextTicket}
+use Rattle.uploads.proofs.next_ticket.Statement.{statement}
+use Rattle.uploads.proofs.next_ticket.Tie as tie
 
 refused-requires : tie.Need-refused-requires
 refused-requires c κs = search needs

@@ -1,7 +1,7 @@
--- `calls::uploads::Console::new` meets its contract. Assumes nothing.
+-- `uploads::Console::new` meets its contract. Assumes nothing.
 use borrow.Author.Needs.{needs}
-use Rattle.calls.proofs.uploads.Console.new.Statement.{statement}
-use Rattle.calls.proofs.uploads.Console.new.Tie as tie
+use Rattle.uploads.proofs.Console.new.Statement.{statement}
+use Rattle.uploads.proofs.Console.new.Tie as tie
 
 new-requires : tie.Need-new-requires
 new-requires c κs = search needs

@@ -1,4 +1,4 @@
--- `calls::uploads::changed` meets its contract. Assumes nothing.
+-- `uploads::changed` meets its contract. Assumes nothing.
 use denote.Ref.{now}
 use mathlib.Core.Path.{ap, _∙_}
 use mathlib.Core.List.{List, _++_}
@@ -9,10 +9,10 @@ use borrow.Author.Needs.{needs}
 use borrow.Author.Tests.{lt-ltb, le-ltb}
 use Rattle.answers.specs.Output.{output}
 use Rattle.desk.specs.Steps.{Turned}
-use Rattle.calls.specs.Uploads.{Told, told, kept, turnedTold, changeOf, over, change}
+use Rattle.uploads.specs.Uploads.{Told, told, kept, turnedTold, changeOf, over, change}
 use Rattle.calls.proofs.RoomLaws.{less-none, put-front}
-use Rattle.calls.proofs.uploads.changed.Statement.{statement}
-use Rattle.calls.proofs.uploads.changed.Tie as tie
+use Rattle.uploads.proofs.changed.Statement.{statement}
+use Rattle.uploads.proofs.changed.Tie as tie
 
 refused-requires : tie.Need-refused-requires
 refused-requires c κs = search needs

@@ -1,7 +1,7 @@
--- `calls::uploads::call` meets its contract. Assumes nothing.
+-- `uploads::call` meets its contract. Assumes nothing.
 use borrow.Author.Needs.{needs}
-use Rattle.calls.proofs.uploads.call.Statement.{statement}
-use Rattle.calls.proofs.uploads.call.Tie as tie
+use Rattle.uploads.proofs.call.Statement.{statement}
+use Rattle.uploads.proofs.call.Tie as tie
 
 enum-told : tie.Need-enum-told
 enum-told c = search needs

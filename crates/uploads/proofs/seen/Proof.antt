@@ -1,4 +1,4 @@
--- `calls::uploads::seen` meets its contract. Assumes nothing.
+-- `uploads::seen` meets its contract. Assumes nothing.
 use denote.Ref.{now}
 use mathlib.Core.Path.{ap, _∙_}
 use mathlib.Core.List.{List}
@@ -8,9 +8,9 @@ use Rattle.answers.specs.Output.{output, added}
 use Rattle.answers.specs.Texts.{verdictText, answerText, octetsWord}
 use Rattle.reader.specs.declared.Verdict.{Verdict}
 use Rattle.desk.specs.declared.Answer.{Answer}
-use Rattle.calls.specs.Uploads.{lookText}
-use Rattle.calls.proofs.uploads.seen.Statement.{statement}
-use Rattle.calls.proofs.uploads.seen.Tie as tie
+use Rattle.uploads.specs.Uploads.{lookText}
+use Rattle.uploads.proofs.seen.Statement.{statement}
+use Rattle.uploads.proofs.seen.Tie as tie
 
 enum-told : tie.Need-enum-told
 enum-told c = search needs

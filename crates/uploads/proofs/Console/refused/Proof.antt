@@ -1,11 +1,11 @@
--- `calls::uploads::Console::refused` meets its contract. Assumes nothing.
+-- `uploads::Console::refused` meets its contract. Assumes nothing.
 use denote.Ref.{now}
 use mathlib.Core.Path.{ap, _∙_}
 use borrow.Author.Needs.{needs}
-use Rattle.calls.specs.declared.uploads.Console.{Console}
-use Rattle.calls.specs.Uploads.{tell, told}
-use Rattle.calls.proofs.uploads.Console.refused.Statement.{statement}
-use Rattle.calls.proofs.uploads.Console.refused.Tie as tie
+use Rattle.uploads.specs.declared.Console.{Console}
+use Rattle.uploads.specs.Uploads.{tell, told}
+use Rattle.uploads.proofs.Console.refused.Statement.{statement}
+use Rattle.uploads.proofs.Console.refused.Tie as tie
 
 bad-requires : tie.Need-bad-requires
 bad-requires c κs = search needs

@@ -11,12 +11,12 @@ use Rattle.desk.specs.declared.Desk.{Desk}
 use Rattle.desk.specs.declared.Turn.{Turn}
 use Rattle.answers.specs.Output.{Output, output, added}
 use Rattle.answers.specs.Texts.{lineEnd, badLine, doneText, verdictText, answerText, octetsWord}
 use Rattle.calls.specs.Rooms.{octetRoom}
-use Rattle.calls.specs.declared.uploads.Console.{Console}
-use Rattle.calls.specs.declared.uploads.Change.{Change}
-use Rattle.calls.specs.declared.uploads.Change.the-variants.{Open, Add, Release}
-use Rattle.calls.specs.declared.uploads.Look.{Look}
-use Rattle.calls.specs.declared.uploads.Look.the-variants.{Check, Show, Held}
+use Rattle.uploads.specs.declared.Console.{Console}
+use Rattle.uploads.specs.declared.Change.{Change}
+use Rattle.uploads.specs.declared.Change.the-variants.{Open, Add, Release}
+use Rattle.uploads.specs.declared.Look.{Look}
+use Rattle.uploads.specs.declared.Look.the-variants.{Check, Show, Held}
 
 -- the desk, how much pool is lent to it, and the output
 pub record Told : Type 0 where
