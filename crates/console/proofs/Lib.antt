@@ -1,2 +1,2 @@
--- The laws that several proofs of the console cite.
-mod Kept
+-- The law that the proof of the answers cites. Assumes nothing.
+mod Said

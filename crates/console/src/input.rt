@@ -1,6 +1,6 @@
-// Standard input, read in large pieces to a buffer and taken line by line.
-use crate::parts;
-use libc::STDIN_FILENO;
+// What was read of the input and not yet taken, in a buffer, and its lines.
+ghost use mathlib.Core.Path.{_≡_};
+ghost use Rattle.console.specs.Input.{begun, past, isWithinLine, lineOf};
 
 // The next line starts at from, and what was read ends at to; long tells that the line did not fit the buffer and lost octets.
 pub struct Input {
@@ -21,7 +21,9 @@ pub struct Line {
 
 impl Input {
     // Before the first line.
-    pub fn new() -> Input {
+    pub fn new() -> Input
+        ensures { λ r. ⌜ r ≡ begun ⌝ }
+    {
         Input {
             from: 0,
             to: 0,
@@ -31,7 +33,9 @@ impl Input {
     }
 
     // After a line: the next one starts at from.
-    fn past(self, from: usize) -> Input {
+    pub fn past(self, from: usize) -> Input
+        ensures { λ r. ⌜ r ≡ past self from ⌝ }
+    {
         Input {
             from: from,
             to: self.to,
@@ -40,8 +44,13 @@ impl Input {
         }
     }
 
-    // Whether a line was begun.
-    fn is_within_line(self) -> bool {
+    // Whether the input ended within a line.
+    fn is_within_line(self) -> bool
+        ensures { λ r. ⌜ r ≡ isWithinLine self ⌝ }
+    {
+        if !self.ended {
+            return false;
+        }
         if self.long {
             return true;
         }
@@ -49,73 +58,16 @@ impl Input {
     }
 }
 
-// The place past the first LF from a place on, or 0 where there is none.
-fn next_line(s: &[u8], from: usize) -> usize {
-    let mut i = from;
-    while i < s.len() {
-        if s[i] == 10 {
-            return i + 1;
-        }
-        i += 1;
-    }
-    0
-}
-
-// Moves the octets from `from` up to `to` to the front, and answers how many they are.
-fn moved_down(buffer: &mut [u8], from: usize, to: usize) -> usize {
-    let mut n: usize = 0;
-    let mut i = from;
-    while i < to {
-        if i >= buffer.len() {
-            return n;
-        }
-        buffer[n] = buffer[i];
-        n += 1;
-        i += 1;
-    }
-    n
-}
-
-// Reads once to the buffer's rest from `from` on, and answers where what was read ends.
-fn read_from(buffer: &mut [u8], from: usize) -> usize {
-    if from >= buffer.len() {
-        return from;
-    }
-    let rest = &mut buffer[from..];
-    let got = libc::read(STDIN_FILENO, rest);
-    let n = io::count(got, rest);
-    from + n
-}
-
-// With more of the input after what was not taken yet; where that fills the buffer, the line is too long and is dropped.
-fn refilled(buffer: &mut [u8], i: Input) -> Input {
-    let kept = moved_down(buffer, i.from, i.to);
-    if kept >= buffer.len() {
-        let end = read_from(buffer, 0);
-        return Input {
-            from: 0,
-            to: end,
-            long: true,
-            ended: end == 0,
-        };
-    }
-    let to = read_from(buffer, kept);
-    Input {
-        from: 0,
-        to: to,
-        long: i.long,
-        ended: to == kept,
-    }
-}
-
 // The line that starts where the last one ended; at the end of the input one without LF too.
-pub fn line_of(buffer: &[u8], i: Input) -> Line {
-    let next = next_line(parts::part(buffer, 0, i.to), i.from);
-    if next > 0 {
+pub fn line_of(buffer: &[u8], i: Input) -> Line
+    ensures { λ r. ⌜ r ≡ lineOf (now (buffer .entry)) i ⌝ }
+{
+    let end = words::next(parts::part(buffer, 0, i.to), 10, i.from);
+    if end < i.to {
         return Line {
             from: i.from,
-            to: next - 1,
-            next: next,
+            to: end,
+            next: end + 1,
             found: true,
             last: false,
         };
@@ -124,15 +76,7 @@ pub fn line_of(buffer: &[u8], i: Input) -> Line {
         from: i.from,
         to: i.to,
         next: i.to,
-        found: i.ended && i.is_within_line(),
+        found: i.is_within_line(),
         last: i.ended,
     }
-}
-
-// After a line, or with more of the input where there was none.
-pub fn after(buffer: &mut [u8], i: Input, line: Line) -> Input {
-    if line.found {
-        return i.past(line.next);
-    }
-    refilled(buffer, i)
 }

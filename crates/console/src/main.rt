@@ -1,19 +1,33 @@
 // The console: answers each request line of standard input by calling the entry that it names.
-mod answers;
 mod dispatch;
-mod entries;
-mod hex;
 mod input;
-mod output;
-mod parts;
-mod requests;
-mod rooms;
-mod uploads;
-mod words;
 
 use input::Input;
 use input::Line;
+use libc::STDIN_FILENO;
+use libc::STDOUT_FILENO;
 use uploads::Console;
+
+// The most octets of an answer: all of the pool that 40 slots have, two digits an octet, and LF.
+const ANSWER: usize = 1310721;
+
+// Sends on what waits, and answers that nothing waits any more.
+fn sent(out: &[u8], at: usize) -> usize {
+    io::write_all(STDOUT_FILENO, parts::part(out, 0, at));
+    0
+}
+
+// With room for an answer; what waits is sent on where there is less.
+fn with_room(c: Console, out: &[u8]) -> Console {
+    let at = c.at;
+    if at > out.len() {
+        return c.with_output(0);
+    }
+    if out.len() - at < ANSWER {
+        return c.with_output(sent(out, at));
+    }
+    c
+}
 
 // The answer to a line, or to one that is too long, added to the output; where there is no line the output is sent on.
 fn answered(
@@ -25,13 +39,69 @@ fn answered(
     out: &mut [u8],
 ) -> Console {
     if !line.found {
-        return c.with_output(output::sent(out, c.at));
+        return c.with_output(sent(out, c.at));
     }
+    let ready = with_room(c, out);
     if long {
-        return c.refused(out);
+        return ready.refused(out);
     }
-    let text = parts::without_cr(parts::part(buffer, line.from, line.to));
-    dispatch::answer(c, text, pool, out)
+    let text = words::without_cr(parts::part(buffer, line.from, line.to));
+    dispatch::answer(ready, text, pool, out)
+}
+
+// Moves the octets from `from` up to `to` to the front, and answers how many they are.
+fn moved_down(buffer: &mut [u8], from: usize, to: usize) -> usize {
+    let mut n: usize = 0;
+    let mut i = from;
+    while i < to {
+        if i >= buffer.len() {
+            return n;
+        }
+        buffer[n] = buffer[i];
+        n += 1;
+        i += 1;
+    }
+    n
+}
+
+// Reads once to the buffer's rest from `from` on, and answers where what was read ends.
+fn read_from(buffer: &mut [u8], from: usize) -> usize {
+    if from >= buffer.len() {
+        return from;
+    }
+    let rest = &mut buffer[from..];
+    let got = libc::read(STDIN_FILENO, rest);
+    let n = io::count(got, rest);
+    from + n
+}
+
+// With more of the input after what was not taken yet; where that fills the buffer, the line is too long and is dropped.
+fn refilled(buffer: &mut [u8], i: Input) -> Input {
+    let kept = moved_down(buffer, i.from, i.to);
+    if kept >= buffer.len() {
+        let end = read_from(buffer, 0);
+        return Input {
+            from: 0,
+            to: end,
+            long: true,
+            ended: end == 0,
+        };
+    }
+    let to = read_from(buffer, kept);
+    Input {
+        from: 0,
+        to: to,
+        long: i.long,
+        ended: to == kept,
+    }
+}
+
+// After a line, or with more of the input where there was none.
+fn after(buffer: &mut [u8], i: Input, line: Line) -> Input {
+    if line.found {
+        return i.past(line.next);
+    }
+    refilled(buffer, i)
 }
 
 // Line after line; the count of turns only shows that this ends.
@@ -43,10 +113,10 @@ fn serve(buffer: &mut [u8], pool: &mut [u8], out: &mut [u8]) {
         let line = input::line_of(buffer, i);
         c = answered(c, line, i.long, buffer, pool, out);
         if line.last {
-            output::sent(out, c.at);
+            sent(out, c.at);
             return;
         }
-        i = input::after(buffer, i, line);
+        i = after(buffer, i, line);
         turns -= 1;
     }
 }
@@ -55,6 +125,6 @@ fn serve(buffer: &mut [u8], pool: &mut [u8], out: &mut [u8]) {
 fn main() {
     let mut buffer = [0u8; 262144];
     let mut pool = [0u8; 655360];
-    let mut out = [0u8; 65536];
+    let mut out = [0u8; 2097152];
     serve(&mut buffer, &mut pool, &mut out);
 }

@@ -9,7 +9,7 @@ use lib.Dec.{T, leb, eqb, leb→le, eqb→eq}
 use lib.ListN.{length, getD, take, drop, replicate, List·getD-eq-default}
 use lib.Seq.{drop-cons}
 use borrow.Author.Tests.{eq-eqb, ne-eqb}
-use Rattle.octets.proofs.Table.{every, at}
+use Rattle.octets.proofs.Upto.{upto, alike as same-upto}
 use Rattle.words.specs.Words.{alike}
 use Rattle.words.proofs.ListLaws.{alike-same}
 use Rattle.octets.specs.Pick.{pick}
@@ -38,13 +38,12 @@ pub search-none : (w : List ℕ) (k : ℕ) → searchFrom w k 14 ≡ rowAt 14
 unfolding searchFrom search rowAt rows
 search-none w k = refl
 
-T-true : (b : Bool) → T b → b ≡ true
-T-true true t = refl
-T-true false t = absurd t
-
 -- a test that passes at each of the fifteen rows
-each-row : (f : ℕ → Bool) → T (every (λ n x. f n) 0 (replicate 15 0)) → (n : ℕ) → n < 15 → T (f n)
-each-row f t n h = at (λ n x. f n) (replicate 15 0) t n h
+each-row : (f : ℕ → Bool) → upto f 0 15 ≡ upto (λ (n : ℕ). true) 0 15 → (n : ℕ) → n < 15 → f n ≡ true
+each-row f t n h = same-upto f (λ (k : ℕ). true) 15 t n h
+
+true-T : (b : Bool) → b ≡ true → T b
+true-T b e = rw e tt
 
 -- what the table has for a row
 pub record Listed (t : List ℕ) (n : ℕ) : Type 0 where
@@ -57,16 +56,16 @@ pub record Listed (t : List ℕ) (n : ℕ) : Type 0 where
   pub once : rowAt n .octets ≤ 1
 
 listed-right : (n : ℕ) → n < 15 → Listed (entriesFrom 0 15) n
-unfolding entriesFrom entries rowAt rows octets alike
+unfolding entriesFrom entries rowAt rows octets alike upto
 listed-right n h =
     record {
-      spelt = alike-same _ _ (T-true _ (each-row (λ j. alike (take (length (rowAt j .spelling)) (drop (j * 11) (entriesFrom 0 15))) (rowAt j .spelling)) tt n h));
-      long = eqb→eq _ _ (each-row (λ j. eqb (getD (entriesFrom 0 15) (j * 11 + 8) 0) (length (rowAt j .spelling))) tt n h);
-      short = leb→le _ _ (each-row (λ j. leb (length (rowAt j .spelling)) 8) tt n h);
-      numbers = eqb→eq _ _ (each-row (λ j. eqb (getD (entriesFrom 0 15) (j * 11 + 9) 0) (rowAt j .numbers)) tt n h);
-      few = leb→le _ _ (each-row (λ j. leb (rowAt j .numbers) 2) tt n h);
-      octets = eqb→eq _ _ (each-row (λ j. eqb (getD (entriesFrom 0 15) (j * 11 + 10) 0) (rowAt j .octets)) tt n h);
-      once = leb→le _ _ (each-row (λ j. leb (rowAt j .octets) 1) tt n h);
+      spelt = alike-same _ _ (each-row (λ j. alike (take (length (rowAt j .spelling)) (drop (j * 11) (entriesFrom 0 15))) (rowAt j .spelling)) refl n h);
+      long = eqb→eq _ _ (true-T _ (each-row (λ j. eqb (getD (entriesFrom 0 15) (j * 11 + 8) 0) (length (rowAt j .spelling))) refl n h));
+      short = leb→le _ _ (true-T _ (each-row (λ j. leb (length (rowAt j .spelling)) 8) refl n h));
+      numbers = eqb→eq _ _ (true-T _ (each-row (λ j. eqb (getD (entriesFrom 0 15) (j * 11 + 9) 0) (rowAt j .numbers)) refl n h));
+      few = leb→le _ _ (true-T _ (each-row (λ j. leb (rowAt j .numbers) 2) refl n h));
+      octets = eqb→eq _ _ (true-T _ (each-row (λ j. eqb (getD (entriesFrom 0 15) (j * 11 + 10) 0) (rowAt j .octets)) refl n h));
+      once = leb→le _ _ (true-T _ (each-row (λ j. leb (rowAt j .octets) 1) refl n h));
     }
 
 pub listed : (t : List ℕ) → Lists t → (n : ℕ) → n < 15 → Listed t n

@@ -92,6 +92,10 @@ impl Console {
                 number_line(answer)
             }
             Request::Pool { from, count } => self.pool_part(from, count),
+            Request::Next { ticket } => {
+                self.desk.next_ticket = ticket;
+                format!("ok {ticket}")
+            }
         }
     }
 

@@ -22,6 +22,7 @@ impl LedgerConsole {
     pub fn answer(&mut self, line: &[u8]) -> Option<String> {
         match request_of(line)? {
             Request::Desk { slots, pool } => self.begin(slots, pool),
+            Request::Next { ticket } => self.next(ticket),
             call => answer_call(self.ledger.as_mut()?, call),
         }
     }
@@ -31,6 +32,17 @@ impl LedgerConsole {
         let proper = (1..=40).contains(&slots) && pool as u64 == slots * 16_384;
         self.ledger = proper.then(|| Ledger::new(slots as usize));
         proper.then(|| "ok 0".to_string())
+    }
+
+    /// The next ticket becomes this one; a desk on which it is 0, or not above each open ticket, is not sound, and has no ledger.
+    fn next(&mut self, ticket: u32) -> Option<String> {
+        let mut ledger = self.ledger.take()?;
+        if ticket == 0 || ledger.open_tickets.keys().any(|&open| open >= ticket) {
+            return None;
+        }
+        ledger.next_ticket = ticket;
+        self.ledger = Some(ledger);
+        Some(format!("ok {ticket}"))
     }
 }
 

@@ -27,6 +27,7 @@ pub enum Request {
     Held { ticket: u32 },
     Release { ticket: u32 },
     Pool { from: usize, count: usize },
+    Next { ticket: u32 },
 }
 
 /// The request of a line without its LF, or nothing for a bad request.
@@ -62,7 +63,7 @@ fn entry_request(words: &[&[u8]]) -> Option<Request> {
     }
 }
 
-/// The requests to the desk, and the one that looks at the pool.
+/// The requests to the desk, the one that looks at the pool and the one that sets a next ticket.
 fn desk_request(words: &[&[u8]]) -> Option<Request> {
     let ticket_of = |word| number_of(word, u64::from(u32::MAX)).map(|number| number as u32);
     match words {
@@ -80,6 +81,7 @@ fn desk_request(words: &[&[u8]]) -> Option<Request> {
         [b"pool", from, count] => {
             Some(Request::Pool { from: size_of(from, MOST_POOL)?, count: size_of(count, MOST_POOL)? })
         }
+        [b"next", ticket] => Some(Request::Next { ticket: ticket_of(ticket)? }),
         _ => None,
     }
 }

@@ -12,7 +12,7 @@ slice-aggregate-serve-2 : tie.Need-slice-aggregate-serve-2
 slice-aggregate-serve-2 c = sym (length-replicate {A = ℕ} 655360 0)
 
 slice-aggregate-serve-3 : tie.Need-slice-aggregate-serve-3
-slice-aggregate-serve-3 c = sym (length-replicate {A = ℕ} 65536 0)
+slice-aggregate-serve-3 c = sym (length-replicate {A = ℕ} 2097152 0)
 
 serve-requires : tie.Need-serve-requires
 serve-requires c κs = tt

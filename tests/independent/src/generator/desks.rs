@@ -1,6 +1,6 @@
 // Knows desk values with a list of calls each: next tickets near their end, entries open, and values that are refused.
 //
-// CONSOLE.md has no request that sets a desk value, and refusal 21 would take 4,294,967,294 openings. So this family
+// CONSOLE.md has a request that sets a next ticket, and none that sets any other part of a desk value. So this family
 // stays inside the program, which compares desk and ledger on it (`beside`).
 
 use crate::desk::{Desk, Entry, Session, MOST_SLOTS, SLOT_OCTETS, USED_UP};

@@ -9,6 +9,9 @@ use crate::ledger::Ledger;
 use crate::refusal::MOST_OCTETS;
 use crate::requests::add_line;
 
+/// Next tickets that a list starts at: used up, nearly so, and low ones.
+const NEXT_TICKETS: [u32; 7] = [u32::MAX, u32::MAX, u32::MAX - 1, u32::MAX - 2, u32::MAX - 5, 2, 1_000];
+
 /// Call lists without end: the paper's examples, lists by hand, then lists by chance.
 pub fn lists(seed: u64) -> impl Iterator<Item = Vec<String>> {
     let sources = source_inputs();
@@ -30,6 +33,7 @@ pub fn by_hand() -> Vec<Vec<String>> {
         two_side_by_side(),
         identifiers_like_tickets(),
         releases_and_their_zeros(),
+        tickets_near_their_end(),
     ];
     for (slots, pool) in [(1, 16_384), (2, 32_768), (40, 655_360)] {
         lists.push(every_call_on_every_ticket(slots, pool));
@@ -194,6 +198,17 @@ struct Caller<'a> {
     list: Vec<String>,
 }
 
+/// Next tickets set: used up, the last one, 0, one that is open, and below one that is open.
+fn tickets_near_their_end() -> Vec<String> {
+    owned(&[
+        "desk 2 32768", "next 4294967295", "open 0", "held 1", "next 4294967294", "open 7", "open 7",
+        "add 4294967294 61", "held 4294967294", "next 4294967294", "held 4294967294", "next 4294967295",
+        "held 4294967294", "release 4294967294", "open 0", "next 0", "open 0", "held 1", "next 1", "open 0",
+        "open 0", "open 0", "next 2", "held 1", "check 2", "show 1", "next 3", "release 1", "open 0",
+        "held 3", "next 4294967296", "held 3",
+    ])
+}
+
 /// A list by chance, mostly on a small proper desk.
 fn list_by_chance(dice: &mut Dice, sources: &[Vec<u8>]) -> Vec<String> {
     let slots = *dice.pick(&[1, 1, 2, 2, 2, 3, 3, 4, 5, 8, 40]);
@@ -203,7 +218,12 @@ fn list_by_chance(dice: &mut Dice, sources: &[Vec<u8>]) -> Vec<String> {
         _ => (slots, slots * MOST_OCTETS),
     };
     let mut list = vec![format!("desk {asked_slots} {pool}")];
-    list.extend(calls_by_chance(dice, Ledger::new(slots), pool, sources));
+    let mut ledger = Ledger::new(slots);
+    if dice.once_in(4) {
+        ledger.next_ticket = *dice.pick(&NEXT_TICKETS);
+        list.push(format!("next {}", ledger.next_ticket));
+    }
+    list.extend(calls_by_chance(dice, ledger, pool, sources));
     list
 }
 

@@ -20,7 +20,8 @@ const LINES: &[&str] = &[
     "add 1", "add 1 6", "add 4294967296 61", "add 1 61", "show 4294967296", "check x", "release 4294967296",
     "pool 0 1", "pool 16383 1", "pool 16384 1", "pool 16384 0", "pool 16385 0", "pool 655360 655360",
     "held 18446744073709551617", "desk 18446744073709551617 16384", "read 18446744073709551616 0 -",
-    "held 1", "desk 18446744073709551615 16384", "held 1",
+    "held 1", "desk 18446744073709551615 16384", "held 1", "next", "next 1 1", "next -", "next 4294967296",
+    "next 0001", "next 0",
 ];
 
 /// All protocol lines.

@@ -1,0 +1,30 @@
+-- `answers::done` meets its contract. Assumes nothing.
+use denote.Ref.{now}
+use borrow.Author.Needs.{needs}
+use Rattle.answers.specs.Output.{output, added}
+use Rattle.octets.specs.Ascii.{octets}
+use Rattle.answers.specs.Texts.{decimal, spaced, doneText}
+use Rattle.answers.proofs.Adding.{then}
+use Rattle.answers.proofs.done.Statement.{statement}
+use Rattle.answers.proofs.done.Tie as tie
+
+slice-aggregate-put-all : tie.Need-slice-aggregate-put-all
+slice-aggregate-put-all c = search needs
+
+put-all-requires : tie.Need-put-all-requires
+put-all-requires c κs = search needs
+
+put-next-requires : tie.Need-put-next-requires
+put-next-requires c κs = search needs
+
+same-length : tie.Need-same-length
+same-length c = search needs
+
+returns : tie.Need-returns
+unfolding doneText octets
+returns c = then (octets "ok") (spaced (decimal (c .before .before .before .before .before .before .before .before .before .before .args .number))) (output (c .before .before .before .before .before .before .before .before .before .before .args .at) (now (c .before .before .before .before .before .before .before .before .before .before .args .out))) (c .before .before .before .before .before .before .put-all .ensures) (c .before .before .put-next .ensures)
+
+pub done-spec : {M : Type 1} → statement M
+done-spec =
+    tie.close
+    (tie.spec slice-aggregate-put-all put-all-requires put-next-requires same-length returns)

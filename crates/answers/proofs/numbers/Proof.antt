@@ -1,0 +1,99 @@
+-- `answers::numbers` meets its contract. Assumes nothing.
+use denote.Ref.{now}
+use Prim.Native.Nat.{ℕ, _-_}
+use mathlib.Core.Path.{_≡_, refl, sym, _∙_}
+use mathlib.Core.List.{[], _∷_, _++_}
+use native.Mathlib.Omega.{arith}
+use lib.ListN.{length, getD, drop}
+use borrow.Author.Needs.{needs}
+use Rattle.answers.specs.Output.{output, added}
+use Rattle.answers.specs.Texts.{decimal, further, others}
+use Rattle.answers.proofs.Adding.{then, turn, stop}
+use Rattle.answers.proofs.Words.{others-cons, others-nil, joined-none, joined-some}
+use Rattle.answers.proofs.numbers.Statement.{statement}
+use Rattle.answers.proofs.numbers.Tie as tie
+
+abbrev Inv-loop : tie.InvT-loop
+Inv-loop out₀ at s end₀ i₀ out end i = (length out ≡ length out₀) × (added (others (drop i s)) (output end out) ≡ added (others (drop 1 s)) (output end₀ out₀))
+
+abbrev μ-loop : tie.MeasureT-loop
+μ-loop out₀ at s end₀ i₀ out end i = length s - i
+
+put-requires : tie.Need-put-requires Inv-loop μ-loop
+put-requires c κs = tt
+
+same-length : tie.Need-same-length Inv-loop μ-loop
+same-length c = search needs
+
+returns : tie.Need-returns Inv-loop μ-loop
+returns c = rw (joined-none (now (c .before .before .before .before .before .before .before .args .s)) (omega arith)) (c .before .before .before .put .ensures)
+
+shared-slice-read-put-number : tie.Need-shared-slice-read-put-number Inv-loop μ-loop
+shared-slice-read-put-number c = omega arith
+
+cast-put-number : tie.Need-cast-put-number Inv-loop μ-loop
+cast-put-number c = omega (arith, c .shared-slice-known2 .given 0)
+
+put-number-requires : tie.Need-put-number-requires Inv-loop μ-loop
+put-number-requires c κs = tt
+
+loop-holds : tie.Need-loop-holds Inv-loop μ-loop
+loop-holds c = (refl, refl)
+
+mul-put-further : tie.Need-mul-put-further Inv-loop μ-loop
+mul-put-further c = omega arith
+
+shared-slice-read-put-further : tie.Need-shared-slice-read-put-further Inv-loop μ-loop
+shared-slice-read-put-further c = omega arith
+
+put-further-requires : tie.Need-put-further-requires Inv-loop μ-loop
+put-further-requires c κs = tt
+
+add-i : tie.Need-add-i Inv-loop μ-loop
+add-i c = omega arith
+
+loop-less : tie.Need-loop-less Inv-loop μ-loop
+loop-less c = omega arith
+
+loop-again : tie.Need-loop-again Inv-loop μ-loop
+loop-again c =
+    let l = c .before .before .before .before .before .before .loop in (
+      omega arith,
+      turn further others others-cons (now (c .before .before .before .before .before .before .before .before .before .before .before .before .before .before .before .before .before .before .before .args .s)) (l .i) (omega arith) (output (l .end) (l .out)) (c .before .before .put-further .ensures) ∙ l .inv .1,
+    )
+
+same-length-2 : tie.Need-same-length-2 Inv-loop μ-loop
+same-length-2 c = omega arith
+
+returns-2 : tie.Need-returns-2 Inv-loop μ-loop
+returns-2 c =
+    let s = now (c .before .before .before .before .before .before .before .before .before .before .before .before .before .before .args .s) in
+    let l = c .before .loop in
+    let rest = others (drop 1 s) in
+    let first = decimal (getD s 0 0) in
+    rw (joined-some s (c .before .before .before .before .before .before .before .if1 .left))
+    (sym (stop further others others-nil s (l .i) (omega arith) (output (l .end) (l .out))) ∙ l .inv .1
+    ∙ then (32 ∷ []) (first ++ rest) (output (c .before .before .before .before .before .before .before .before .before .before .before .before .before .before .args .at) (now (c .before .before .before .before .before .before .before .before .before .before .before .before .before .before .args .out))) (c .before .before .before .before .before .before .before .before .before .before .put .ensures)
+    (then first rest (output (c .before .before .before .before .before .before .before .before .before .before .put .result) (c .before .before .before .before .before .before .before .before .before .before .put .last .0)) (c .before .before .before .before .put-number .ensures) refl))
+
+pub numbers-spec : {M : Type 1} → statement M
+numbers-spec =
+    tie.close
+    (tie.spec
+    Inv-loop
+    μ-loop
+    put-requires
+    same-length
+    returns
+    shared-slice-read-put-number
+    cast-put-number
+    put-number-requires
+    loop-holds
+    mul-put-further
+    shared-slice-read-put-further
+    put-further-requires
+    add-i
+    loop-less
+    loop-again
+    same-length-2
+    returns-2)

@@ -1,0 +1,43 @@
+-- `answers::refusal` meets its contract. Assumes nothing.
+use denote.Ref.{now}
+use borrow.Author.Needs.{needs}
+use Rattle.answers.specs.Output.{output, added}
+use mathlib.Core.List.{_++_}
+use Rattle.octets.specs.Ascii.{octets}
+use Rattle.answers.specs.Texts.{decimal, spaced, refusalText}
+use Rattle.answers.proofs.Adding.{then}
+use Rattle.answers.proofs.refusal.Statement.{statement}
+use Rattle.answers.proofs.refusal.Tie as tie
+
+slice-aggregate-put-all : tie.Need-slice-aggregate-put-all
+slice-aggregate-put-all c = search needs
+
+put-all-requires : tie.Need-put-all-requires
+put-all-requires c κs = search needs
+
+put-next-requires : tie.Need-put-next-requires
+put-next-requires c κs = search needs
+
+put-next-requires-2 : tie.Need-put-next-requires-2
+put-next-requires-2 c κs = search needs
+
+same-length : tie.Need-same-length
+same-length c = search needs
+
+returns : tie.Need-returns
+unfolding refusalText octets
+returns c =
+    let a = c .before .before .before .before .before .before .before .before .before .before .before .before .before .before .args in
+    then (octets "no") (spaced (decimal (a .number)) ++ spaced (decimal (a .place))) (output (a .at) (now (a .out))) (c .before .before .before .before .before .before .before .before .before .before .put-all .ensures)
+    (then (spaced (decimal (a .number))) (spaced (decimal (a .place))) (output (c .before .before .before .before .before .before .before .before .before .before .put-all .result) (c .before .before .before .before .before .before .before .before .before .before .put-all .last .0)) (c .before .before .before .before .before .before .put-next .ensures) (c .before .before .put-next2 .ensures))
+
+pub refusal-spec : {M : Type 1} → statement M
+refusal-spec =
+    tie.close
+    (tie.spec
+    slice-aggregate-put-all
+    put-all-requires
+    put-next-requires
+    put-next-requires-2
+    same-length
+    returns)

@@ -1,0 +1,49 @@
+-- `answers::verdict` meets its contract. Assumes nothing.
+use borrow.Author.Needs.{needs}
+use Rattle.answers.specs.Texts.{verdictText}
+use Rattle.answers.proofs.Adding.{then}
+use Rattle.answers.proofs.verdict.Statement.{statement}
+use Rattle.answers.proofs.verdict.Tie as tie
+
+enum-known-v : tie.Need-enum-known-v
+enum-known-v c = search needs
+
+done-requires : tie.Need-done-requires
+done-requires c κs = search needs
+
+put-next-requires : tie.Need-put-next-requires
+put-next-requires c κs = search needs
+
+enum-known-v-2 : tie.Need-enum-known-v-2
+enum-known-v-2 c = search needs
+
+refusal-requires : tie.Need-refusal-requires
+refusal-requires c κs = search needs
+
+same-length : tie.Need-same-length
+same-length c = search needs
+
+returns : tie.Need-returns
+unfolding verdictText
+returns c = rw (c .before .before .before .before .before .before .before .before .before .v .given .1) (then _ _ _ (c .before .before .before .before .before .before .done .ensures) (c .before .before .put-next .ensures))
+
+same-length-2 : tie.Need-same-length-2
+same-length-2 c = search needs
+
+returns-2 : tie.Need-returns-2
+unfolding verdictText
+returns-2 c = rw (c .before .before .before .before .before .v2 .given .1) (c .before .before .refusal .ensures)
+
+pub verdict-spec : {M : Type 1} → statement M
+verdict-spec =
+    tie.close
+    (tie.spec
+    enum-known-v
+    done-requires
+    put-next-requires
+    enum-known-v-2
+    refusal-requires
+    same-length
+    returns
+    same-length-2
+    returns-2)

@@ -1,0 +1,3 @@
+-- The definitions that the contracts of `answers` cite. Assumes nothing.
+pub mod Output
+pub mod Texts

@@ -1,0 +1,35 @@
+-- `calls::entries::judge` meets its contract. Assumes nothing.
+use denote.Ref.{now}
+use mathlib.Core.Path.{ap, _∙_}
+use borrow.Author.Needs.{needs}
+use Rattle.answers.specs.Output.{output, added}
+use Rattle.answers.specs.Texts.{lineEnd, verdictText}
+use Rattle.reader.specs.declared.Verdict.{Verdict}
+use Rattle.answers.proofs.Adding.{then}
+use Rattle.calls.specs.Entries.{judgeAnswer}
+use mathlib.Core.List.{_++_}
+use Rattle.calls.proofs.entries.judge.Statement.{statement}
+use Rattle.calls.proofs.entries.judge.Tie as tie
+
+judge-requires : tie.Need-judge-requires
+judge-requires c κs = search needs
+
+verdict-requires : tie.Need-verdict-requires
+verdict-requires c κs = search needs
+
+ended-requires : tie.Need-ended-requires
+ended-requires c κs = search needs
+
+same-length : tie.Need-same-length
+same-length c = search needs
+
+returns : tie.Need-returns
+unfolding judgeAnswer
+returns c =
+    let o = output (c .before .before .before .before .before .before .before .before .before .before .before .args .at) (now (c .before .before .before .before .before .before .before .before .before .before .before .args .out)) in
+    then (verdictText (c .before .before .before .before .before .before .before .judge .result)) lineEnd o (c .before .before .before .before .before .before .verdict .ensures) (c .before .before .ended .ensures)
+    ∙ ap (λ (v : Verdict). added (verdictText v ++ lineEnd) o) (c .before .before .before .before .before .before .before .judge .ensures)
+
+pub judge-spec : {M : Type 1} → statement M
+judge-spec =
+    tie.close (tie.spec judge-requires verdict-requires ended-requires same-length returns)

@@ -1,0 +1,36 @@
+-- `calls::entries::put_taken` meets its contract. Assumes nothing.
+use denote.Ref.{now}
+use mathlib.Core.Path.{_≡_, refl}
+use borrow.Author.Needs.{needs}
+use native.Mathlib.Omega.{arith}
+use borrow.Author.Tests.{eq-eqb, ne-eqb}
+use Rattle.answers.specs.Output.{output, added}
+use Rattle.answers.specs.Texts.{octetsWord, joined, spaced}
+use Rattle.answers.proofs.Adding.{then}
+use Rattle.calls.specs.Entries.{takenText}
+use Rattle.calls.proofs.entries.put_taken.Statement.{statement}
+use Rattle.calls.proofs.entries.put_taken.Tie as tie
+
+returns : tie.Need-returns
+unfolding takenText added
+returns c = rw (eq-eqb _ _ (c .if1 .taken))
+
+octets-requires : tie.Need-octets-requires
+octets-requires c κs = search needs
+
+numbers-requires : tie.Need-numbers-requires
+numbers-requires c κs = search needs
+
+same-length : tie.Need-same-length
+same-length c = search needs
+
+returns-2 : tie.Need-returns-2
+unfolding takenText
+returns-2 c =
+    let a = c .before .before .before .before .before .before .before .before .before .before .before .before .args in
+    rw (ne-eqb _ _ (c .before .before .before .before .before .before .before .before .if1 .left))
+    (then (spaced (octetsWord (now (a .copy)))) (spaced (joined (now (a .records)))) (output (a .at) (now (a .out))) (c .before .before .before .before .before .before .octets .ensures) (c .before .before .numbers .ensures))
+
+pub put-taken-spec : {M : Type 1} → statement M
+put-taken-spec =
+    tie.close (tie.spec returns octets-requires numbers-requires same-length returns-2)

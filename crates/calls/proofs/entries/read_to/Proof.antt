@@ -1,0 +1,58 @@
+-- `calls::entries::read_to` meets its contract. Assumes nothing.
+use denote.Ref.{now}
+use mathlib.Core.Path.{ap, _∙_}
+use mathlib.Core.List.{List, _++_}
+use Prim.Native.Nat.{ℕ}
+use borrow.Author.Needs.{needs}
+use Rattle.answers.specs.Output.{output, added}
+use Rattle.answers.specs.Texts.{verdictText}
+use Rattle.reader.specs.Outcome.{Taken}
+use Rattle.answers.proofs.Adding.{then}
+use Rattle.calls.specs.Entries.{roomsText, takenAnswer, readText}
+use Rattle.calls.proofs.entries.read_to.Statement.{statement}
+use Rattle.calls.proofs.entries.read_to.Tie as tie
+
+read-requires : tie.Need-read-requires
+read-requires c κs = search needs
+
+verdict-requires : tie.Need-verdict-requires
+verdict-requires c κs = search needs
+
+lines-of-requires : tie.Need-lines-of-requires
+lines-of-requires c κs = search needs
+
+put-rooms-requires : tie.Need-put-rooms-requires
+put-rooms-requires c κs = search needs
+
+same-length : tie.Need-same-length
+same-length c = search needs
+
+same-length-2 : tie.Need-same-length-2
+same-length-2 c = search needs
+
+same-length-3 : tie.Need-same-length-3
+same-length-3 c = search needs
+
+returns : tie.Need-returns
+unfolding readText
+returns c =
+    let a = c .before .before .before .before .before .before .before .before .before .before .before .before .before .before .before .before .before .before .before .before .before .before .args in
+    let o = output (a .at) (now (a .out)) in
+    let copy = c .before .before .before .before .before .before .before .before .before .before .before .before .before .before .before .read .last .1 .0 in
+    let records = c .before .before .before .before .before .before .before .before .before .before .before .before .before .before .before .read .last .1 .1 .0 in
+    then (verdictText (c .before .before .before .before .before .before .before .before .before .before .before .before .before .before .before .read .result)) (roomsText (c .before .before .before .before .before .before .lines-of .result) copy records) o (c .before .before .before .before .before .before .before .before .before .verdict .ensures) (c .before .before .put-rooms .ensures)
+    ∙ ap (λ (n : ℕ). added (verdictText (c .before .before .before .before .before .before .before .before .before .before .before .before .before .before .before .read .result) ++ roomsText n copy records) o) (c .before .before .before .before .before .before .lines-of .ensures)
+    ∙ ap (λ (t : Taken). added (takenAnswer t) o) (c .before .before .before .before .before .before .before .before .before .before .before .before .before .before .before .read .ensures)
+
+pub read-to-spec : {M : Type 1} → statement M
+read-to-spec =
+    tie.close
+    (tie.spec
+    read-requires
+    verdict-requires
+    lines-of-requires
+    put-rooms-requires
+    same-length
+    same-length-2
+    same-length-3
+    returns)

@@ -1,0 +1,60 @@
+-- `calls::entries::write_to` meets its contract. Assumes nothing.
+use denote.Ref.{now}
+use mathlib.Core.Path.{ap, _∙_}
+use mathlib.Core.Bool.{Bool}
+use mathlib.Core.List.{List, _++_}
+use Prim.Native.Nat.{ℕ}
+use lib.ListN.{drop}
+use borrow.Author.Needs.{needs}
+use Rattle.answers.specs.Output.{output, added}
+use Rattle.answers.specs.Texts.{writtenText, roomEnd}
+use Rattle.octets.specs.Room.{Filled}
+use Rattle.answers.proofs.Adding.{then}
+use Rattle.calls.specs.Rooms.{all}
+use Rattle.calls.specs.Entries.{leftText}
+use Rattle.calls.proofs.entries.write_to.Statement.{statement}
+use Rattle.calls.proofs.entries.write_to.Tie as tie
+
+call-requires : tie.Need-call-requires
+call-requires c κs = search needs
+
+written-requires : tie.Need-written-requires
+written-requires c κs = search needs
+
+count-of-requires : tie.Need-count-of-requires
+count-of-requires c κs = search needs
+
+is-kept-requires : tie.Need-is-kept-requires
+is-kept-requires c κs = search needs
+
+looked-at-requires : tie.Need-looked-at-requires
+looked-at-requires c κs = search needs
+
+same-length : tie.Need-same-length
+same-length c = search needs
+
+same-length-2 : tie.Need-same-length-2
+same-length-2 c = search needs
+
+returns : tie.Need-returns
+unfolding leftText
+returns c =
+    let o = output (c .before .before .before .before .before .before .before .before .before .before .before .before .before .before .before .before .before .before .before .args .at) (now (c .before .before .before .before .before .before .before .before .before .before .before .before .before .before .before .before .before .before .before .args .out)) in
+    let room = c .before .before .before .before .before .before .before .before .before .before .before .before .before .before .call .last .1 .1 .0 in
+    then (writtenText (c .before .before .before .before .before .before .before .before .before .before .before .before .before .before .call .result) room) (roomEnd (c .before .before .before .is-kept .result)) o (c .before .before .before .before .before .before .before .before .before .written .ensures) (c .before .before .looked-at .ensures)
+    ∙ ap (λ (b : Bool). added (writtenText (c .before .before .before .before .before .before .before .before .before .before .before .before .before .before .call .result) room ++ roomEnd b) o) (c .before .before .before .is-kept .ensures)
+    ∙ ap (λ (n : ℕ). added (writtenText (c .before .before .before .before .before .before .before .before .before .before .before .before .before .before .call .result) room ++ roomEnd (all 165 (drop n room))) o) (c .before .before .before .before .count-of .ensures)
+    ∙ ap (λ (f : Filled). added (leftText f) o) (c .before .before .before .before .before .before .before .before .before .before .before .before .before .before .call .ensures)
+
+pub write-to-spec : {M : Type 1} → statement M
+write-to-spec =
+    tie.close
+    (tie.spec
+    call-requires
+    written-requires
+    count-of-requires
+    is-kept-requires
+    looked-at-requires
+    same-length
+    same-length-2
+    returns)

@@ -1,0 +1,50 @@
+-- `console::dispatch::read_in` meets its contract. Assumes nothing.
+use denote.Ref.{now}
+use mathlib.Core.Path.{ap, _∙_}
+use mathlib.Core.List.{List}
+use Prim.Native.Nat.{ℕ}
+use borrow.Author.Needs.{needs}
+use Rattle.uploads.specs.Uploads.{told}
+use Rattle.requests.specs.Requests.{Requested}
+use Rattle.console.specs.Dispatch.{answerTo, answerFrom, answerIn}
+use Rattle.console.proofs.dispatch.read_in.Statement.{statement}
+use Rattle.console.proofs.dispatch.read_in.Tie as tie
+
+request-of-requires : tie.Need-request-of-requires
+request-of-requires c κs = search needs
+
+part-requires : tie.Need-part-requires
+part-requires c κs = search needs
+
+answered-requires : tie.Need-answered-requires
+answered-requires c κs = search needs
+
+same-length : tie.Need-same-length
+same-length c = search needs
+
+same-length-2 : tie.Need-same-length-2
+same-length-2 c = search needs
+
+same-length-3 : tie.Need-same-length-3
+same-length-3 c = search needs
+
+returns : tie.Need-returns
+unfolding answerIn
+returns c =
+    let t = told (c .before .before .before .before .before .before .before .before .before .before .before .before .before .before .before .before .before .args .c) (now (c .before .before .before .before .before .before .before .before .before .before .before .before .before .before .before .before .before .args .out)) in
+    let p = now (c .before .before .before .before .before .before .before .before .before .before .before .before .before .before .before .before .before .args .pool) in
+    c .before .before .before .before .answered .ensures
+    ∙ ap (λ (l : List ℕ). answerTo (c .before .before .before .before .before .before .before .before .before .before .before .request-of .result) l t p) (c .before .before .before .before .before .before .before .part .ensures)
+    ∙ ap (λ (x : Requested). answerFrom x t p) (c .before .before .before .before .before .before .before .before .before .before .before .request-of .ensures)
+
+pub read-in-spec : {M : Type 1} → statement M
+read-in-spec =
+    tie.close
+    (tie.spec
+    request-of-requires
+    part-requires
+    answered-requires
+    same-length
+    same-length-2
+    same-length-3
+    returns)

@@ -1,0 +1,23 @@
+-- `uploads::Console::refused` meets its contract. Assumes nothing.
+use denote.Ref.{now}
+use mathlib.Core.Path.{ap, _∙_}
+use borrow.Author.Needs.{needs}
+use Rattle.uploads.specs.declared.Console.{Console}
+use Rattle.uploads.specs.Uploads.{tell, told}
+use Rattle.uploads.proofs.Console.refused.Statement.{statement}
+use Rattle.uploads.proofs.Console.refused.Tie as tie
+
+bad-requires : tie.Need-bad-requires
+bad-requires c κs = search needs
+
+with-output-requires : tie.Need-with-output-requires
+with-output-requires c κs = search needs
+
+same-length : tie.Need-same-length
+same-length c = search needs
+
+returns : tie.Need-returns
+returns c = ap (λ (x : Console). told x (c .before .before .before .bad .last .0)) (c .with-output .ensures) ∙ ap (tell (c .before .before .before .before .before .before .args .self .desk) (c .before .before .before .before .before .before .args .self .size)) (c .before .before .before .bad .ensures)
+
+pub refused-spec : {M : Type 1} → statement M
+refused-spec = tie.close (tie.spec bad-requires with-output-requires same-length returns)

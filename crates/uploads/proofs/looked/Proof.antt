@@ -1,0 +1,93 @@
+-- `uploads::looked` meets its contract. Assumes nothing.
+use denote.Ref.{now}
+use mathlib.Core.Path.{ap, _∙_}
+use mathlib.Core.List.{List, _++_}
+use Prim.Native.Nat.{ℕ, _-_}
+use lib.ListN.{take}
+use borrow.Author.Needs.{needs}
+use borrow.Author.Tests.{lt-ltb, le-ltb}
+use Rattle.answers.specs.Output.{output, added}
+use Rattle.answers.specs.Texts.{lineEnd}
+use Rattle.answers.proofs.Adding.{then}
+use Rattle.uploads.specs.declared.Console.{Console}
+use Rattle.uploads.specs.Uploads.{tell, told, lookText, look}
+use Rattle.calls.proofs.RoomLaws.{less-none}
+use Rattle.uploads.proofs.looked.Statement.{statement}
+use Rattle.uploads.proofs.looked.Tie as tie
+
+refused-requires : tie.Need-refused-requires
+refused-requires c κs = search needs
+
+same-length : tie.Need-same-length
+same-length c = search needs
+
+returns : tie.Need-returns
+unfolding look
+returns c = rw (lt-ltb _ _ (c .before .before .before .before .if1 .taken)) (c .before .before .refused .ensures)
+
+refused-requires-2 : tie.Need-refused-requires-2
+refused-requires-2 c κs = search needs
+
+same-length-2 : tie.Need-same-length-2
+same-length-2 c = search needs
+
+returns-2 : tie.Need-returns-2
+unfolding look
+returns-2 c = rw (le-ltb _ _ (c .before .before .before .before .before .if1 .left), lt-ltb _ _ (c .before .before .before .before .if2 .taken)) (c .before .before .refused2 .ensures)
+
+cast-seen : tie.Need-cast-seen
+cast-seen c = search needs
+
+sub-seen : tie.Need-sub-seen
+sub-seen c = search needs
+
+part-seen-start : tie.Need-part-seen-start
+part-seen-start c = search needs
+
+part-seen-end : tie.Need-part-seen-end
+part-seen-end c = search needs
+
+seen-requires : tie.Need-seen-requires
+seen-requires c κs = search needs
+
+ended-requires : tie.Need-ended-requires
+ended-requires c κs = search needs
+
+with-output-requires : tie.Need-with-output-requires
+with-output-requires c κs = search needs
+
+same-length-3 : tie.Need-same-length-3
+same-length-3 c = search needs
+
+returns-3 : tie.Need-returns-3
+unfolding look
+returns-3 c =
+    let a = c .before .before .before .before .before .before .before .before .before .before .before .before .before .before .args in
+    let size = a .c .size in
+    let p = now (a .pool) in
+    let o = output (a .c .at) (now (a .out)) in
+    rw (le-ltb _ _ (c .before .before .before .before .before .before .before .before .before .before .before .if1 .left), le-ltb _ _ (c .before .before .before .before .before .before .before .before .before .before .if2 .left))
+    (ap (λ (x : Console). told x (c .before .before .before .ended .last .0)) (c .with-output .ensures)
+    ∙ ap (tell (a .c .desk) size)
+    (then (lookText (a .which) (a .c .desk) (take (size - 0) p) (a .n)) lineEnd o (c .before .before .before .before .before .before .before .seen .ensures) (c .before .before .before .ended .ensures)
+    ∙ ap (λ (m : ℕ). added (lookText (a .which) (a .c .desk) (take m p) (a .n) ++ lineEnd) o) (less-none size)))
+
+pub looked-spec : {M : Type 1} → statement M
+looked-spec =
+    tie.close
+    (tie.spec
+    refused-requires
+    same-length
+    returns
+    refused-requires-2
+    same-length-2
+    returns-2
+    cast-seen
+    sub-seen
+    part-seen-start
+    part-seen-end
+    seen-requires
+    ended-requires
+    with-output-requires
+    same-length-3
+    returns-3)

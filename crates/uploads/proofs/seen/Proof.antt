@@ -1,0 +1,81 @@
+-- `uploads::seen` meets its contract. Assumes nothing.
+use denote.Ref.{now}
+use mathlib.Core.Path.{ap, _∙_}
+use mathlib.Core.List.{List}
+use Prim.Native.Nat.{ℕ}
+use borrow.Author.Needs.{needs}
+use Rattle.answers.specs.Output.{output, added}
+use Rattle.answers.specs.Texts.{verdictText, answerText, octetsWord}
+use Rattle.reader.specs.declared.Verdict.{Verdict}
+use Rattle.desk.specs.declared.Answer.{Answer}
+use Rattle.uploads.specs.Uploads.{lookText}
+use Rattle.uploads.proofs.seen.Statement.{statement}
+use Rattle.uploads.proofs.seen.Tie as tie
+
+enum-told : tie.Need-enum-told
+enum-told c = search needs
+
+judge-requires : tie.Need-judge-requires
+judge-requires c κs = search needs
+
+verdict-requires : tie.Need-verdict-requires
+verdict-requires c κs = search needs
+
+enum-told-2 : tie.Need-enum-told-2
+enum-told-2 c = search needs
+
+show-requires : tie.Need-show-requires
+show-requires c κs = search needs
+
+put-octets-requires : tie.Need-put-octets-requires
+put-octets-requires c κs = search needs
+
+enum-told-3 : tie.Need-enum-told-3
+enum-told-3 c = search needs
+
+held-requires : tie.Need-held-requires
+held-requires c κs = search needs
+
+answered-requires : tie.Need-answered-requires
+answered-requires c κs = search needs
+
+same-length : tie.Need-same-length
+same-length c = search needs
+
+returns : tie.Need-returns
+unfolding lookText
+returns c = rw (c .before .before .before .before .before .enum-told .given .1) (c .before .before .verdict .ensures ∙ ap (λ (v : Verdict). added (verdictText v) (output (c .before .before .before .before .before .before .before .before .before .args .at) (now (c .before .before .before .before .before .before .before .before .before .args .out)))) (c .before .before .before .judge .ensures))
+
+same-length-2 : tie.Need-same-length-2
+same-length-2 c = search needs
+
+returns-2 : tie.Need-returns-2
+unfolding lookText
+returns-2 c = rw (c .before .before .before .before .before .enum-told2 .given .1) (c .before .before .put-octets .ensures ∙ ap (λ (l : List ℕ). added (octetsWord l) (output (c .before .before .before .before .before .before .before .before .before .args .at) (now (c .before .before .before .before .before .before .before .before .before .args .out)))) (c .before .before .before .show .ensures .octets))
+
+same-length-3 : tie.Need-same-length-3
+same-length-3 c = search needs
+
+returns-3 : tie.Need-returns-3
+unfolding lookText
+returns-3 c = rw (c .before .before .before .before .before .enum-told3 .given .1) (c .before .before .answered .ensures ∙ ap (λ (x : Answer). added (answerText x) (output (c .before .before .before .before .before .before .before .before .before .args .at) (now (c .before .before .before .before .before .before .before .before .before .args .out)))) (c .before .before .before .held .ensures))
+
+pub seen-spec : {M : Type 1} → statement M
+seen-spec =
+    tie.close
+    (tie.spec
+    enum-told
+    judge-requires
+    verdict-requires
+    enum-told-2
+    show-requires
+    put-octets-requires
+    enum-told-3
+    held-requires
+    answered-requires
+    same-length
+    returns
+    same-length-2
+    returns-2
+    same-length-3
+    returns-3)

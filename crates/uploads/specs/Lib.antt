@@ -1,0 +1,2 @@
+-- The definitions that the contracts of `uploads` cite. Assumes nothing.
+pub mod Uploads
