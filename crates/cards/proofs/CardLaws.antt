@@ -14,7 +14,7 @@ use Rattle.lines.specs.Parse.{Parse, got, bad, hd}
 use Rattle.lines.specs.Grammar.{Line, nameEnd}
 use Rattle.lines.specs.Rule.{parseLine}
 use Rattle.lines.specs.Places.{outcome, nameStart}
-use Rattle.lines.proofs.Inside.{InLine, in-line}
+use Rattle.parameters.proofs.Inside.{InLine, in-line}
 use Rattle.language.proofs.PlacesLaw.{accepted-starts}
 use Rattle.properties.specs.Rows.{isGroup}
 use Rattle.values.specs.Kinds.{valueScan}

@@ -11,15 +11,15 @@ use Rattle.lines.specs.Parse.{Parse, got, bad}
 use Rattle.lines.specs.Grammar.{Value, Line, nameEnd, front, WellFormed, render}
 use Rattle.lines.specs.Rule.{parseLine}
 use Rattle.lines.specs.Places.{outcome, nameStart}
-use Rattle.lines.specs.First.{firstNamed, firstOf, valueOctets}
-use Rattle.lines.specs.declared.rule.First.{First}
-use Rattle.lines.specs.declared.rule.First.the-variants.{Between, Nothing}
+use Rattle.parameters.specs.First.{firstNamed, firstOf, valueOctets}
+use Rattle.parameters.specs.declared.First.{First}
+use Rattle.parameters.specs.declared.First.the-variants.{Between, Nothing}
 use Rattle.lines.specs.declared.rule.Part.{Part as Answer}
 use Rattle.lines.specs.declared.rule.Part.the-variants.{Upto, Named, Listed, Parsed, Fault}
 use Rattle.lines.proofs.rule.Part.{the-type}
 use denote.Enum.Declared.{tagOf}
 use types.Run.{OneOf, miss}
-use Rattle.lines.proofs.Inside.{InLine, in-line}
+use Rattle.parameters.proofs.Inside.{InLine, in-line}
 use Rattle.language.specs.Placed.{Placed}
 use Rattle.language.specs.Found.{Holds, Found}
 use Rattle.language.proofs.Law.{line-law}

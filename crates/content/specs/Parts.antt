@@ -7,7 +7,7 @@ use lib.ListN.{length}
 use Rattle.lines.specs.Parse.{Parse, got, bad}
 use Rattle.lines.specs.Grammar.{Value, Param, Line, nameEnd}
 use Rattle.lines.specs.Rule.{parseLine}
-use Rattle.lines.specs.First.{firstNamed, valueOctets}
+use Rattle.parameters.specs.First.{firstNamed, valueOctets}
 use Rattle.lines.specs.declared.rule.Part.{Part}
 use Rattle.lines.specs.declared.rule.Part.the-variants.{Upto, Named, Listed, Parsed, Fault}
 use Rattle.properties.specs.Rows.{rowOf, lineKind, valueName}

@@ -6,8 +6,8 @@ ghost use Rattle.octets.specs.Classes.{Classes};
 ghost use Rattle.properties.specs.Rows.{Lists, lineKind};
 ghost use Rattle.lines.specs.Places.{nameStart};
 ghost use Rattle.content.specs.Parts.{faultOf, Accepted, firstValue, toldOf};
-use lines::rule::First;
 use lines::rule::Part;
+use parameters::First;
 
 pub struct Parts {
     // The property's number, 0 for a name that is not listed.
@@ -58,7 +58,7 @@ fn kind_at(t: &[u8; 256], rows: &[u8; 624], s: &[u8], row: usize, name: usize) -
     if !properties::takes_value(rows, row) {
         return kind;
     }
-    let f = lines::rule::param_first(t, s, name, b"VALUE");
+    let f = parameters::param_first(t, s, name, b"VALUE");
     let First::Between(a, e) = f else {
         return kind;
     };

@@ -11,11 +11,11 @@ use Rattle.lines.specs.Parse.{many}
 use Rattle.lines.specs.Grammar.{groupText, nameEnd}
 use Rattle.lines.specs.Rule.{word, closing, value, ends, isColon, moreValues, values, param, params, head, parseLine}
 use Rattle.lines.specs.Places.{outcome}
-use Rattle.lines.specs.First.{firstOf}
+use Rattle.parameters.specs.First.{firstOf}
 use Rattle.lines.specs.declared.rule.Part.{Part}
 use Rattle.lines.specs.declared.rule.Part.the-variants.{Parsed, Fault}
-use Rattle.lines.specs.declared.rule.First.{First}
-use Rattle.lines.specs.declared.rule.First.the-variants.{Between, Nothing}
+use Rattle.parameters.specs.declared.First.{First}
+use Rattle.parameters.specs.declared.First.the-variants.{Between, Nothing}
 
 pub record Example : Type 0 where
   pub line : String

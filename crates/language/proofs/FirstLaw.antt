@@ -14,8 +14,8 @@ use Rattle.octets.specs.Cases.{same}
 use Rattle.lines.specs.Parse.{got, hd, many}
 use Rattle.lines.specs.Grammar.{Value, plain, inQuotes, Param, Line, led, valueText, paramText, groupText, front, render, nameEnd, WellFormed}
 use Rattle.lines.specs.Rule.{ends, isColon, orEnd, param, params, head, parseLine}
-use Rattle.lines.specs.First.{spanOf, firstPlace, firstOf, valueOctets, firstNamed}
-use Rattle.lines.specs.declared.rule.First.{First}
+use Rattle.parameters.specs.First.{spanOf, firstPlace, firstOf, valueOctets, firstNamed}
+use Rattle.parameters.specs.declared.First.{First}
 use Rattle.lines.proofs.ParseLaws.{bad-got, guard-inv, pick-inv, next-inv}
 use Rattle.lines.proofs.PartLaws.{param-parts, head-count}
 use Rattle.language.specs.Found.{Found}

@@ -2,5 +2,3 @@
 pub mod ParseLaws
 pub mod PartLaws
 pub mod Steps
-pub mod FirstSteps
-pub mod Inside

@@ -3,4 +3,3 @@ pub mod Parse
 pub mod Grammar
 pub mod Rule
 pub mod Places
-pub mod First

@@ -5,7 +5,6 @@ ghost use lib.ListN.{length, drop};
 ghost use Rattle.octets.specs.Classes.{Classes};
 ghost use Rattle.lines.specs.Rule.{word, value, values, param, params, head, parseLine};
 ghost use Rattle.lines.specs.Places.{place, listed, headed, outcome};
-ghost use Rattle.lines.specs.First.{spanned, firstOf};
 
 // What reading a part answers; a fault is handed up unchanged.
 pub enum Part {
@@ -19,12 +18,6 @@ pub enum Part {
     Parsed(usize, usize, usize, usize),
     // 40 no name, or a bad name or group; 41 a bad parameter; 42 a bad quote; 43 no colon.
     Fault(u32),
-}
-
-// Where the octets of a parameter's value stand in a line, or that there is no such parameter.
-pub enum First {
-    Between(usize, usize),
-    Nothing,
 }
 
 // One or more letters, digits or hyphens.
@@ -95,7 +88,7 @@ fn read_values(t: &[u8; 256], s: &[u8], from: usize) -> Part
 }
 
 // A name, `=` and the values.
-fn read_param(t: &[u8; 256], s: &[u8], at: usize) -> Part
+pub fn read_param(t: &[u8; 256], s: &[u8], at: usize) -> Part
     requires { ⌜ Classes (now t) ⌝ }
     requires { ⌜ at ≤ length (now s) ⌝ }
     ensures { λ r. ⌜ r ≡ place at (param (drop at (now (s .entry)))) ⌝ }
@@ -175,45 +168,4 @@ pub fn read_line(t: &[u8; 256], s: &[u8]) -> Part
         return rest;
     };
     Part::Parsed(group, n, count, e + 1)
-}
-
-// Where the octets of a good value stand, quotes taken off.
-fn value_span(t: &[u8; 256], s: &[u8], at: usize) -> First
-    requires { ⌜ Classes (now t) ⌝ }
-    requires { ⌜ at ≤ length (now s) ⌝ }
-    ensures { λ r. ⌜ r ≡ spanned at (drop at (now (s .entry))) ⌝ }
-{
-    if s.len() <= at {
-        return First::Between(at, at);
-    }
-    if s[at] != 34 {
-        let end = octets::classes::span(t, s, at, 8);
-        return First::Between(at, end);
-    }
-    let end = octets::classes::span(t, s, at + 1, 16);
-    First::Between(at + 1, end)
-}
-
-// The first value of the first parameter of that name, without case, from the end of the line's name on.
-pub fn param_first(t: &[u8; 256], s: &[u8], from: usize, name: &[u8]) -> First
-    requires { ⌜ Classes (now t) ⌝ }
-    ensures { λ r. ⌜ r ≡ firstOf (now (name .entry)) from (suc (length (drop from (now (s .entry))))) (drop from (now (s .entry))) ⌝ }
-{
-    let mut at = from;
-    while at < s.len() {
-        if s[at] != 59 {
-            return First::Nothing;
-        }
-        let start = at + 1;
-        let p = read_param(t, s, start);
-        let Part::Upto(e) = p else {
-            return First::Nothing;
-        };
-        let end = octets::classes::span(t, s, start, 7);
-        if octets::cases::same_name(&s[start..end], name) {
-            return value_span(t, s, end + 1);
-        }
-        at = e;
-    }
-    First::Nothing
 }

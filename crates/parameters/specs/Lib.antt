@@ -1,0 +1,2 @@
+-- The definitions that the contracts of `parameters` cite. Assumes nothing.
+pub mod First
