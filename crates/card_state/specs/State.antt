@@ -1,7 +1,7 @@
 -- What is known of a card: which lines it has had so far, and what a line or its END does to it, by document 01's refusals 9 to 12.
 -- Assumes nothing.
 use Prim.Native.Nat.{ℕ, _+_, _/_, _%_}
-use mathlib.Core.Bool.{Bool, true, false, not, _&&_, _||_}
+use mathlib.Core.Bool.{Bool, false, not, _&&_, _||_}
 use lib.Bits.{bitOr}
 use lib.Dec.{eqb}
 use Rattle.octets.specs.Pick.{pick}

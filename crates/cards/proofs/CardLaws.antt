@@ -1,5 +1,5 @@
 -- What a line satisfies that was judged and passed, and where the parts of a line lie. Assumes nothing.
-use mathlib.Core.Path.{_≡_, refl, sym, ap, _∙_}
+use mathlib.Core.Path.{_≡_, refl, ap}
 use mathlib.Core.Bool.{Bool, true, false, not, _&&_}
 use mathlib.Core.List.{List}
 use Prim.Native.Nat.{ℕ, _+_, _<_, _≤_}
@@ -14,7 +14,7 @@ use Rattle.lines.specs.Parse.{Parse, got, bad, hd}
 use Rattle.lines.specs.Grammar.{Line, nameEnd}
 use Rattle.lines.specs.Rule.{parseLine}
 use Rattle.lines.specs.Places.{outcome, nameStart}
-use Rattle.parameters.proofs.Inside.{InLine, in-line}
+use Rattle.lines.proofs.Inside.{InLine, in-line}
 use Rattle.language.proofs.PlacesLaw.{accepted-starts}
 use Rattle.properties.specs.Rows.{isGroup}
 use Rattle.values.specs.Kinds.{valueScan}
@@ -24,7 +24,7 @@ use Rattle.card_state.specs.State.{inOrder, onceBit, isSeen, noted, closed}
 use Rattle.content.specs.Parts.{rowOfLine, kindOfLine, told, toldOf}
 use Rattle.cards.specs.Judge.{laden, entered, fitting, judgeParts, judgeParsed, judgeLine}
 use Rattle.content.specs.declared.Parts.{Parts}
-use Rattle.content.specs.declared.Told.the-variants.{Line as line, Fault as fault}
+use Rattle.content.specs.declared.Told.the-variants.{Line as line}
 use Rattle.card_state.specs.declared.Card.{Card}
 use Rattle.card_state.specs.declared.Step.{Step}
 use Rattle.card_state.specs.declared.Step.the-variants.{Next, Refused}

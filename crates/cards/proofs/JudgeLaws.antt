@@ -4,7 +4,7 @@ use mathlib.Core.Bool.{Bool, true, false, not}
 use mathlib.Core.List.{List}
 use Prim.Native.Nat.{ℕ, _-_, _≤_}
 use native.Mathlib.Omega.{arith}
-use lib.Dec.{eqb, ltb}
+use lib.Dec.{eqb}
 use lib.ListN.{length, take, drop, length-drop}
 use lib.Seq.{take-all}
 use borrow.Author.Tests.{eqb-true, le-ltb}
@@ -16,14 +16,14 @@ use Rattle.lines.specs.Rule.{parseLine}
 use Rattle.values.specs.Kinds.{valueScan}
 use Rattle.values.specs.declared.Fault.{Fault}
 use Rattle.values.specs.declared.Fault.the-variants.{Fits, Breaks}
-use Rattle.content.specs.Parts.{rowOfLine, kindOfLine, told, toldOf}
+use Rattle.content.specs.Parts.{told, toldOf}
 use Rattle.card_state.specs.State.{inOrder, onceBit, isSeen, noted}
 use Rattle.cards.specs.Judge.{laden, broken, entered, fitting, judgeParts, judgeParsed, judgeLine}
 use Rattle.content.specs.declared.Parts.{Parts}
 use Rattle.content.specs.declared.Told.the-variants.{Line as line, Fault as fault}
 use Rattle.card_state.specs.declared.Card.{Card}
 use Rattle.card_state.specs.declared.Step.{Step}
-use Rattle.card_state.specs.declared.Step.the-variants.{Next, Refused}
+use Rattle.card_state.specs.declared.Step.the-variants.{Refused}
 use Rattle.content.proofs.PartLaws.{Read}
 
 module _ (c : Card) (at row : ℕ) (v : List ℕ) where

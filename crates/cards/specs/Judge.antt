@@ -17,7 +17,7 @@ use Rattle.card_state.specs.State.{inOrder, noted, closed}
 use Rattle.content.specs.Parts.{rowOfLine, kindOfLine}
 use Rattle.card_state.specs.declared.Card.{Card}
 use Rattle.card_state.specs.declared.Step.{Step}
-use Rattle.card_state.specs.declared.Step.the-variants.{Next, Refused}
+use Rattle.card_state.specs.declared.Step.the-variants.{Refused}
 
 -- the number of a fault of the line rule: 6 for each
 abbrev pub lineRefusal : ℕ → ℕ

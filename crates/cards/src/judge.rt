@@ -1,9 +1,8 @@
 // The judgement of one logical line within its card: document 01's refusals 5 to 12 in their order.
 ghost use mathlib.Core.Path.{_≡_};
-ghost use mathlib.Core.Bool.{false, _||_, not};
+ghost use mathlib.Core.Bool.{false};
 ghost use Prim.Native.Nat.{_≤_, _<_};
-ghost use lib.Dec.{eqb};
-ghost use lib.ListN.{length, drop};
+ghost use lib.ListN.{length};
 ghost use Rattle.octets.specs.Classes.{Classes};
 ghost use Rattle.properties.specs.Rows.{Lists};
 ghost use Rattle.values.specs.States.{Scanner};

@@ -8,10 +8,10 @@ use native.Mathlib.Omega.{arith}
 use lib.ListN.{length, take, drop}
 use borrow.Author.Tests.{ne-eqb}
 use Rattle.lines.specs.Parse.{Parse, got, bad}
-use Rattle.lines.specs.Grammar.{Value, Line, nameEnd, front, WellFormed, render}
+use Rattle.lines.specs.Grammar.{Value, Line, nameEnd}
 use Rattle.lines.specs.Rule.{parseLine}
-use Rattle.lines.specs.Places.{outcome, nameStart}
-use Rattle.parameters.specs.First.{firstNamed, firstOf, valueOctets}
+use Rattle.lines.specs.Places.{outcome}
+use Rattle.parameters.specs.First.{firstNamed, firstOf}
 use Rattle.parameters.specs.declared.First.{First}
 use Rattle.parameters.specs.declared.First.the-variants.{Between, Nothing}
 use Rattle.lines.specs.declared.rule.Part.{Part as Answer}
@@ -19,9 +19,9 @@ use Rattle.lines.specs.declared.rule.Part.the-variants.{Upto, Named, Listed, Pa
 use Rattle.lines.proofs.rule.Part.{the-type}
 use denote.Enum.Declared.{tagOf}
 use types.Run.{OneOf, miss}
-use Rattle.parameters.proofs.Inside.{InLine, in-line}
+use Rattle.lines.proofs.Inside.{InLine, in-line}
 use Rattle.language.specs.Placed.{Placed}
-use Rattle.language.specs.Found.{Holds, Found}
+use Rattle.language.specs.Found.{Found}
 use Rattle.language.proofs.Law.{line-law}
 use Rattle.language.proofs.PlacesLaw.{places-law}
 use Rattle.language.proofs.FirstLaw.{first-law}

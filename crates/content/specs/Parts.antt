@@ -5,13 +5,12 @@ use mathlib.Core.List.{List}
 use mathlib.Core.Option.{Option, none, some}
 use lib.ListN.{length}
 use Rattle.lines.specs.Parse.{Parse, got, bad}
-use Rattle.lines.specs.Grammar.{Value, Param, Line, nameEnd}
+use Rattle.lines.specs.Grammar.{Value, Line, nameEnd}
 use Rattle.lines.specs.Rule.{parseLine}
 use Rattle.parameters.specs.First.{firstNamed, valueOctets}
 use Rattle.lines.specs.declared.rule.Part.{Part}
 use Rattle.lines.specs.declared.rule.Part.the-variants.{Upto, Named, Listed, Parsed, Fault}
 use Rattle.properties.specs.Rows.{rowOf, lineKind, valueName}
-use Rattle.content.specs.declared.Parts.{Parts}
 use Rattle.content.specs.declared.Told.{Told}
 use Rattle.content.specs.declared.Told.the-variants.{Line as line, Fault as fault}
 

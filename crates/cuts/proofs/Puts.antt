@@ -1,14 +1,12 @@
 -- Octets stored behind a list that was written to the start of room. Assumes nothing.
 use mathlib.Core.Path.{_≡_, refl, sym, ap, _∙_}
-use mathlib.Core.List.{List, [], _∷_, _++_, append-nil, append-assoc}
+use mathlib.Core.List.{List, [], _∷_, _++_, append-assoc}
 use Prim.Native.Nat.{ℕ, _+_, _-_, _≤_}
 use native.Mathlib.Numerals.{add-one}
 use native.Mathlib.Omega.{arith}
-use lib.ListN.{length, take, drop, set, length-append, length-drop, drop-of-length-le}
-use lib.Seq.{take-at, take-all, drop-at, drop-drop, sets, sets-eq}
-use borrow.Rule.Slice.PartMut.{putMid}
+use lib.ListN.{length, drop, set, length-append, length-drop}
+use lib.Seq.{take-at, drop-at, drop-drop, sets, sets-eq}
 use Rattle.octets.specs.Room.{overlay}
-use Rattle.octets.proofs.Writes.{Written, put}
 
 module _ (d u vs : List ℕ) (n : ℕ) (e : n ≡ length u) (fits : n + length vs ≤ length d) where
   whole : length (overlay u d) ≡ length d

@@ -2,7 +2,7 @@
 use Prim.Native.Nat.{ℕ, _*_, _≤_}
 use mathlib.Core.Path.{_≡_, refl, sym, ap, _∙_}
 use mathlib.Core.Bool.{Bool, true, false}
-use mathlib.Core.List.{List, [], _∷_, _++_}
+use mathlib.Core.List.{List, _∷_}
 use mathlib.Core.Logic.{_↔_}
 use native.Mathlib.Omega.{arith}
 use lib.Dec.{ltb}
@@ -33,7 +33,7 @@ use Rattle.fold_laws.proofs.Greedy.{only as no-other}
 use Rattle.fold_laws.proofs.WrittenLaws.{wrote as written, wrote-accepted, fold-written}
 use Rattle.fold_laws.proofs.Again.{read-again}
 use Rattle.firmware.specs.Word.{wordOutcome}
-use Rattle.grammar.specs.Cards.{Readable, CardLines, card, Cards, none as no-cards, more}
+use Rattle.grammar.specs.Cards.{Readable, card, Cards, none as no-cards, more}
 use Rattle.grammar.specs.Inputs.{InputOf}
 use Rattle.grammar.proofs.Accepted.{accepted-law, one-reading}
 use Rattle.grammar.proofs.RecordLaws.{copy-law, records-law}

@@ -5,7 +5,6 @@ ghost use Prim.Native.Nat.{_+_, _<_, _≤_};
 ghost use lib.ListN.{length, drop};
 ghost use Rattle.octets.specs.Classes.{bit};
 ghost use Rattle.octets.specs.Room.{overlay};
-ghost use Rattle.octets.specs.Counts.{count};
 ghost use Rattle.escapes.specs.Escapes.{backslash, code, meant, escapeAt, firstFault, unescaped};
 ghost use Rattle.escapes.specs.Pairs.{unsettled, settled};
 

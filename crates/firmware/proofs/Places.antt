@@ -1,21 +1,19 @@
 -- The places of the reader's refusals: none is past 16,384, so that each fits its half of a word. Assumes nothing.
-use mathlib.Core.Path.{_≡_, refl, sym, ap, _∙_}
+use mathlib.Core.Path.{_≡_, refl}
 use mathlib.Core.Bool.{Bool, true, false, not, _&&_}
 use mathlib.Core.List.{List, [], _∷_}
-use Prim.Native.Nat.{ℕ, zero, suc, _+_, _-_, _<_, _≤_, min}
+use Prim.Native.Nat.{ℕ, zero, suc, _+_, _-_, _≤_, min}
 use native.Mathlib.Omega.{arith}
 use lib.Dec.{eqb, ltb}
-use lib.ListN.{length, take, drop, length-take, length-drop}
+use lib.ListN.{length, drop, length-take, length-drop}
 use borrow.Author.Tests.{ltb-true, ltb-false}
 use Rattle.octets.specs.Pick.{pick}
 use Rattle.characters.specs.Characters.{allowed, firstBad}
-use Rattle.octets.specs.Scan.{scan}
 use Rattle.lines.specs.Parse.{Parse, got, bad}
 use Rattle.lines.specs.Grammar.{Line}
 use Rattle.lines.specs.Rule.{parseLine}
 use Rattle.folds.specs.Folds.{lineLength, unfolded}
 use Rattle.folds.specs.Logical.{linesBy, rawLines}
-use Rattle.properties.specs.Rows.{isGroup}
 use Rattle.values.specs.Kinds.{valueScan}
 use Rattle.values.specs.declared.Fault.{Fault}
 use Rattle.values.specs.declared.Fault.the-variants.{Fits, Breaks}

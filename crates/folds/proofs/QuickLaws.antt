@@ -1,15 +1,13 @@
 -- The quick way to a line's end: up to its first CR a line has no fold, so that it need not be copied. Assumes nothing.
 use mathlib.Core.Path.{_≡_, refl, sym, ap, _∙_}
-use mathlib.Core.Bool.{Bool, true, false, not, _&&_, _||_}
-use mathlib.Core.List.{List, [], _∷_, _++_}
-use Prim.Native.Nat.{ℕ, zero, suc, pred, _+_, _<_, _≤_}
+use mathlib.Core.Bool.{Bool, true, false, not}
+use mathlib.Core.List.{List, [], _∷_}
+use Prim.Native.Nat.{ℕ, zero, suc, _+_, _≤_}
 use native.Mathlib.Nat.{zero-add, suc-add, le-of-suc-le-suc, not-suc-le-zero}
 use native.Mathlib.Omega.{arith}
 use lib.Dec.{eqb}
-use lib.ListN.{length, getD, take, drop}
-use borrow.Author.Tests.{eqb-true, eqb-false}
+use lib.ListN.{length, take, drop}
 use Rattle.octets.specs.Classes.{run, more}
-use Rattle.octets.specs.Pick.{pick}
 use Rattle.octets.specs.Scan.{after, scan, gather}
 use Rattle.folds.specs.Folds.{foldAt, lineStep, lineLength, passed, kept, unfolded, notCr}
 

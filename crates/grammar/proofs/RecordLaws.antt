@@ -9,7 +9,7 @@ use Rattle.lines.specs.Parse.{got}
 use Rattle.lines.specs.Grammar.{Line, Each, WellFormed, front, render, nameEnd}
 use Rattle.lines.specs.Rule.{parseLine}
 use Rattle.lines.specs.Places.{outcome, nameStart}
-use Rattle.parameters.proofs.Inside.{InLine, in-line}
+use Rattle.lines.proofs.Inside.{InLine, in-line}
 use Rattle.language.specs.Placed.{Placed}
 use Rattle.language.proofs.Law.{line-law, line-unique}
 use Rattle.language.proofs.PlacesLaw.{places-law}

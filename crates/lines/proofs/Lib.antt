@@ -2,3 +2,4 @@
 pub mod ParseLaws
 pub mod PartLaws
 pub mod Steps
+pub mod Inside

@@ -1,11 +1,9 @@
 -- The digits of a number, the last one first. Assumes nothing.
 use mathlib.Core.Path.{_≡_, refl, sym, ap, _∙_}
-use mathlib.Core.Bool.{true, false}
-use mathlib.Core.List.{List, [], _∷_}
+use mathlib.Core.List.{List, _∷_}
 use Prim.Native.Nat.{ℕ, zero, suc, _+_, _-_, _/_, _%_, _<_, _≤_}
 use native.Mathlib.Omega.{arith}
-use lib.Dec.{ltb}
-use lib.ListN.{length, drop, set, getD, take, length-set, length-drop, drop-of-length-le}
+use lib.ListN.{length, drop, set, take, length-set, length-drop, drop-of-length-le}
 use lib.Seq.{drop-cons, getD-set-same, drop-set-lt, take-all}
 use borrow.Author.Tests.{lt-ltb, le-ltb}
 use Rattle.pages.specs.Digits.{spelled, decimal}
@@ -43,8 +41,3 @@ spell-end others (suc k) n h = absurd (omega arith)
 -- the digits stand at the end of twenty octets
 pub the-digits : (room : List ℕ) (r n : ℕ) → length room ≡ 20 → r ≤ 20 → drop r room ≡ decimal n → take (20 - r) (drop r room) ≡ decimal n
 the-digits room r n h l e = take-all (20 - r) (drop r room) (rw (length-drop r room) (omega arith)) ∙ e
-
-pub how-many : (room : List ℕ) (r n : ℕ) → length room ≡ 20 → r ≤ 20 → drop r room ≡ decimal n → 20 - r ≡ length (decimal n)
-how-many room r n h l e =
-    let q : length (drop r room) ≡ 20 - r = rw (length-drop r room, h) in
-    sym q ∙ ap length e

@@ -1,8 +1,8 @@
 -- Text made visible, character by character. Assumes nothing.
-use mathlib.Core.Path.{_≡_, refl, sym, ap, _∙_}
-use mathlib.Core.Bool.{Bool, true, false}
-use mathlib.Core.List.{List, [], _∷_, _++_}
-use Prim.Native.Nat.{ℕ, zero, suc, _+_, _-_, _<_, _≤_}
+use mathlib.Core.Path.{_≡_, sym, _∙_}
+use mathlib.Core.Bool.{true, false}
+use mathlib.Core.List.{List, [], _++_}
+use Prim.Native.Nat.{ℕ, _+_, _-_, _<_, _≤_}
 use native.Mathlib.Omega.{arith}
 use native.Mathlib.Nat.{add-zero}
 use lib.Dec.{eqb}
@@ -10,7 +10,6 @@ use lib.ListN.{length, drop, getD, take}
 use lib.Seq.{getD-drop}
 use borrow.Author.Tests.{eq-eqb, ne-eqb}
 use Rattle.octets.proofs.Scans.{gather-step, gather-end}
-use Rattle.octets.specs.Scan.{gather}
 use Rattle.pages.specs.Seen.{inHex, character, passed, standing, visible}
 
 module _ (s : List ℕ) (i n : ℕ) (e : n ≡ character (drop i s)) (h : i < length s) where

@@ -2,11 +2,11 @@
 ghost use mathlib.Core.Path.{_≡_};
 ghost use mathlib.Core.Bool.{false};
 ghost use Prim.Native.Nat.{_+_, _<_, _≤_};
-ghost use lib.ListN.{length, drop};
-ghost use Rattle.octets.specs.Classes.{Classes, run};
+ghost use lib.ListN.{length};
+ghost use Rattle.octets.specs.Classes.{Classes};
 ghost use Rattle.octets.specs.Pick.{pick};
 ghost use Rattle.octets.specs.Room.{overlay};
-ghost use Rattle.folds.specs.Folds.{notCr, lineLength, unfolded};
+ghost use Rattle.folds.specs.Folds.{unfolded};
 ghost use Rattle.folds.specs.Logical.{rawLines};
 ghost use Rattle.properties.specs.Rows.{Lists};
 ghost use Rattle.values.specs.States.{Scanner};

@@ -1,6 +1,6 @@
 -- The laws of plain octets. Assumes nothing.
 use mathlib.Core.Path.{_≡_, refl, sym, ap, _∙_}
-use mathlib.Core.Bool.{Bool, true, false, not, _&&_, _||_, and-true, and-false, and-assoc, or-true}
+use mathlib.Core.Bool.{Bool, true, false, not, _&&_, _||_, and-true, or-true}
 use mathlib.Core.List.{List, [], _∷_, _++_}
 use Prim.Native.Nat.{ℕ, suc, _+_, _-_, _<_, _≤_, zero}
 use native.Mathlib.Numerals.{add-one}

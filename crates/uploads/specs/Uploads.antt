@@ -1,12 +1,12 @@
 -- What the console answers to a request of the desk, and what it keeps then: desk, pool and output. Assumes nothing.
 use Prim.Native.Nat.{ℕ, _+_, _-_}
-use mathlib.Core.List.{List, [], _++_}
+use mathlib.Core.List.{List, _++_}
 use lib.Dec.{ltb}
 use lib.ListN.{length, take}
 use Rattle.octets.specs.Pick.{pick}
 use Rattle.octets.specs.Room.{overlay}
 use Rattle.parts.specs.Parts.{part}
-use Rattle.desk.specs.Steps.{Turned, newStep, openStep, addStep, releaseStep, showStep, heldStep, judgeStep, freshDesk}
+use Rattle.desk.specs.Steps.{Turned, newStep, openStep, addStep, releaseStep, showStep, heldStep, judgeStep}
 use Rattle.desk.specs.declared.Desk.{Desk}
 use Rattle.desk.specs.declared.Turn.{Turn}
 use Rattle.answers.specs.Output.{Output, output, added}

@@ -4,7 +4,7 @@ use Prim.Native.Nat.{ℕ, _+_, _<_, _/_, _%_}
 use mathlib.Core.Path.{_≡_}
 use mathlib.Core.List.{List, [], _∷_}
 use lib.ListN.{getD}
-use Rattle.values.specs.Octets.{Octets, any, plain, inner, escapee, backslash, comma, semicolon, colon, letter, scheme, graphic, digit, sex, theC, theA, theR, theD, point, nought, holds}
+use Rattle.values.specs.Octets.{Octets, any, plain, inner, escapee, backslash, comma, semicolon, colon, scheme, graphic, digit, theC, theA, theR, theD, point, nought, holds}
 use Rattle.values.specs.Shapes.{Shape, never, empty, one, _then_, _or_, many, after}
 use Rattle.values.specs.Kinds.{textOf, text, texts, uri, component, parts, components, gender, pidmap, vcard, version}
 

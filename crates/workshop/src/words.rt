@@ -1,6 +1,5 @@
 // The words of a refusal, by document 01's table.
 ghost use mathlib.Core.Path.{_≡_};
-ghost use Prim.Native.Nat.{_<_};
 ghost use Rattle.pages.specs.Pages.{page, added};
 ghost use Rattle.workshop.specs.Words.{wordsOf, Worded};
 

@@ -1,7 +1,7 @@
 -- `answers::done` meets its contract. Assumes nothing.
 use denote.Ref.{now}
 use borrow.Author.Needs.{needs}
-use Rattle.answers.specs.Output.{output, added}
+use Rattle.answers.specs.Output.{output}
 use Rattle.octets.specs.Ascii.{octets}
 use Rattle.answers.specs.Texts.{decimal, spaced, doneText}
 use Rattle.answers.proofs.Adding.{then}

@@ -1,7 +1,7 @@
 -- `answers::refusal` meets its contract. Assumes nothing.
 use denote.Ref.{now}
 use borrow.Author.Needs.{needs}
-use Rattle.answers.specs.Output.{output, added}
+use Rattle.answers.specs.Output.{output}
 use mathlib.Core.List.{_++_}
 use Rattle.octets.specs.Ascii.{octets}
 use Rattle.answers.specs.Texts.{decimal, spaced, refusalText}

@@ -1,5 +1,4 @@
 -- `answers::written` meets its contract. Assumes nothing.
-use denote.Ref.{now}
 use mathlib.Core.Path.{sym}
 use borrow.Author.Needs.{needs}
 use Rattle.answers.specs.Texts.{writtenText}

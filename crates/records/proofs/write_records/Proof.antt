@@ -9,7 +9,7 @@ use Rattle.octets.proofs.Writes.{Written, start, room, put, finish}
 use Rattle.folds.specs.Logical.{rawLines}
 use Rattle.folds.proofs.LineLaws.{lines-end}
 use Rattle.folds.proofs.SpanLaws.{part-length}
-use Rattle.records.specs.Records.{numbers, recordOf, recordsFrom}
+use Rattle.records.specs.Records.{recordOf, recordsFrom}
 use Rattle.records.proofs.RecordLaws.{record-length, records-turn}
 use Rattle.records.proofs.write_records.Statement.{statement}
 use Rattle.records.proofs.write_records.Tie as tie

@@ -1,5 +1,5 @@
 -- `requests::read_row` meets its contract. Assumes nothing.
-use mathlib.Core.Path.{sym, _∙_}
+use mathlib.Core.Path.{sym}
 use denote.Ref.{now}
 use Rattle.requests.specs.Names.{rowAt}
 use Rattle.requests.proofs.RequestLaws.{first-bad, second-bad, octets-bad, all-read}

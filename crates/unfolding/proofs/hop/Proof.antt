@@ -1,9 +1,8 @@
 -- `unfolding::hop` meets its contract. Assumes nothing.
 use borrow.Author.Needs.{needs}
-use mathlib.Core.Path.{_≡_}
-use Prim.Native.Nat.{ℕ, _≤_, _<_, _+_, _-_}
+use Prim.Native.Nat.{_≤_, _+_, _-_}
 use native.Mathlib.Omega.{arith}
-use lib.ListN.{length, drop}
+use lib.ListN.{length}
 use Rattle.unfolding.proofs.RunLaws.{Flat, flat-none, flat-join, flat-sixteen, flat-run}
 use Rattle.unfolding.proofs.hop.Statement.{statement}
 use Rattle.unfolding.proofs.hop.Tie as tie

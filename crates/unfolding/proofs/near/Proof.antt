@@ -1,11 +1,11 @@
 -- `unfolding::near` meets its contract. Assumes nothing.
 use borrow.Author.Needs.{needs}
-use mathlib.Core.Path.{_≡_, sym, ap, _∙_}
-use mathlib.Core.Bool.{Bool, true, false}
+use mathlib.Core.Path.{_≡_, sym, _∙_}
+use mathlib.Core.Bool.{false}
 use Prim.Native.Nat.{ℕ, _≤_, _<_, _+_, _-_}
 use native.Mathlib.Omega.{arith}
 use Rattle.unfolding.proofs.RunLaws.{bit-no}
-use lib.ListN.{length, drop, getD}
+use lib.ListN.{drop}
 use borrow.Author.Count.{below-none, below-more}
 use borrow.Author.Tests.{not-false, eqb-true}
 use Rattle.folds.specs.Folds.{foldAt}

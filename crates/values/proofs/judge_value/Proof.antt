@@ -1,6 +1,5 @@
 -- `values::judge_value` meets its contract. Assumes nothing.
 use borrow.Author.Needs.{needs}
-use mathlib.Core.Path.{_≡_, sym, ap, _∙_}
 use borrow.Author.Tests.{ne-eqb}
 use Rattle.values.specs.Kinds.{kindScan, lineShape, valueScan}
 use Rattle.values.specs.States.{states, stateShape}

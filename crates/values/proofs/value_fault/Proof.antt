@@ -1,6 +1,6 @@
 -- `values::value_fault` meets its contract. Assumes nothing.
 use borrow.Author.Needs.{needs}
-use mathlib.Core.Path.{_≡_, sym, ap, _∙_}
+use mathlib.Core.Path.{sym, ap, _∙_}
 use Rattle.values.specs.Shapes.{Shape, faultFrom}
 use Rattle.values.specs.Kinds.{kindScan}
 use Rattle.values.proofs.value_fault.Statement.{statement}

@@ -5,7 +5,6 @@ use mathlib.Core.Path.{_≡_, refl, sym, _∙_}
 use mathlib.Core.List.{List, [], _∷_}
 use native.Mathlib.Omega.{arith}
 use lib.ListN.{length, drop}
-use borrow.Author.Needs.{needs}
 use Rattle.answers.specs.Output.{output, added}
 use Rattle.answers.proofs.Adding.{turn, stop}
 use Rattle.answers.proofs.output.put_all.Statement.{statement}

@@ -1,6 +1,6 @@
 -- `answers::output::put_number` meets its contract. Assumes nothing.
 use denote.Ref.{now}
-use mathlib.Core.Path.{_≡_, ap, _∙_}
+use mathlib.Core.Path.{ap, _∙_}
 use borrow.Author.Needs.{needs}
 use mathlib.Core.List.{List}
 use native.Mathlib.Omega.{arith}

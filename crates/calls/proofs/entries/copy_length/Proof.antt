@@ -1,7 +1,5 @@
 -- `calls::entries::copy_length` meets its contract. Assumes nothing.
-use mathlib.Core.Path.{_≡_, refl}
 use borrow.Author.Needs.{needs}
-use native.Mathlib.Omega.{arith}
 use borrow.Author.Tests.{lt-ltb, le-ltb}
 use Rattle.calls.specs.Entries.{copyLength}
 use Rattle.calls.proofs.entries.copy_length.Statement.{statement}

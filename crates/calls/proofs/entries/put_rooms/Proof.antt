@@ -7,7 +7,7 @@ use borrow.Author.Needs.{needs}
 use Rattle.answers.specs.Output.{output, added}
 use Rattle.answers.specs.Texts.{roomEnd}
 use Rattle.answers.proofs.Adding.{then}
-use Rattle.calls.specs.Entries.{takenText, roomsText}
+use Rattle.calls.specs.Entries.{takenText}
 use Rattle.calls.proofs.RoomLaws.{rooms-text}
 use Rattle.calls.proofs.entries.put_rooms.Statement.{statement}
 use Rattle.calls.proofs.entries.put_rooms.Tie as tie

@@ -1,8 +1,6 @@
 -- `calls::entries::put_taken` meets its contract. Assumes nothing.
 use denote.Ref.{now}
-use mathlib.Core.Path.{_≡_, refl}
 use borrow.Author.Needs.{needs}
-use native.Mathlib.Omega.{arith}
 use borrow.Author.Tests.{eq-eqb, ne-eqb}
 use Rattle.answers.specs.Output.{output, added}
 use Rattle.answers.specs.Texts.{octetsWord, joined, spaced}

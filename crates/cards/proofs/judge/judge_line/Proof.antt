@@ -1,8 +1,8 @@
 -- `cards::judge::judge_line` meets its contract. Assumes nothing.
 use borrow.Author.Tests.{lt-ltb}
-use mathlib.Core.Path.{_≡_, sym, ap, _∙_}
+use mathlib.Core.Path.{sym, _∙_}
 use mathlib.Core.Bool.{false}
-use lib.ListN.{length, drop}
+use lib.ListN.{length}
 use Rattle.characters.specs.Characters.{allowed, firstBad}
 use Rattle.cards.specs.Judge.{judgeLine}
 use Rattle.content.proofs.PartLaws.{Read, read}

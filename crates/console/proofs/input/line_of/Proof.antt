@@ -1,5 +1,4 @@
 -- `console::input::line_of` meets its contract. Assumes nothing.
-use denote.Ref.{now}
 use mathlib.Core.Path.{refl, sym, ap, _∙_}
 use mathlib.Core.List.{List}
 use Prim.Native.Nat.{ℕ}

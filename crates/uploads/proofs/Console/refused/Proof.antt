@@ -1,5 +1,4 @@
 -- `uploads::Console::refused` meets its contract. Assumes nothing.
-use denote.Ref.{now}
 use mathlib.Core.Path.{ap, _∙_}
 use borrow.Author.Needs.{needs}
 use Rattle.uploads.specs.declared.Console.{Console}

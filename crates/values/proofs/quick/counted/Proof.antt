@@ -1,6 +1,6 @@
 -- `values::quick::counted` meets its contract. Assumes nothing.
 use borrow.Author.Needs.{needs}
-use mathlib.Core.Path.{_≡_, sym, _∙_}
+use mathlib.Core.Path.{sym, _∙_}
 use mathlib.Core.Bool.{false≢true}
 use Rattle.values.proofs.quick.counted.Statement.{statement}
 use Rattle.values.proofs.quick.counted.Tie as tie

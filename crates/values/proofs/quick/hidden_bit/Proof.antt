@@ -1,6 +1,6 @@
 -- `values::quick::hidden_bit` meets its contract. Assumes nothing.
 use borrow.Author.Needs.{needs}
-use mathlib.Core.Path.{_≡_, sym, _∙_}
+use mathlib.Core.Path.{sym, _∙_}
 use lib.Dec.{ltb}
 use Rattle.values.specs.Octets.{holds}
 use Rattle.octets.proofs.Bools.{two-bits, leb-not}

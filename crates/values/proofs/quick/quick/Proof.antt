@@ -1,6 +1,6 @@
 -- `values::quick::quick` meets its contract. Assumes nothing.
 use borrow.Author.Needs.{needs}
-use mathlib.Core.Path.{_≡_, sym, _∙_}
+use mathlib.Core.Path.{sym, _∙_}
 use mathlib.Core.Bool.{false≢true}
 use Rattle.values.specs.Kinds.{kindScan, shapeOf}
 use Rattle.values.proofs.QuietLaws.{quick-any, quick-text, quick-texts, quick-components, quick-parts}

@@ -1,9 +1,7 @@
 -- `values::scanner::step` meets its contract. Assumes nothing.
 use borrow.Author.Needs.{needs}
-use mathlib.Core.Path.{_≡_, sym, _∙_}
-use Prim.Native.Nat.{_<_, _+_, _*_}
+use Prim.Native.Nat.{_<_}
 use native.Mathlib.Omega.{arith}
-use lib.ListN.{getD}
 use Rattle.values.proofs.StepLaws.{next}
 use Rattle.values.proofs.scanner.step.Statement.{statement}
 use Rattle.values.proofs.scanner.step.Tie as tie

@@ -1,7 +1,5 @@
 -- `console::input::Input::is_within_line` meets its contract. Assumes nothing.
-use mathlib.Core.Path.{refl}
 use borrow.Author.Tests.{not-true, not-false}
-use borrow.Author.Needs.{needs}
 use Rattle.console.proofs.input.Input.is_within_line.Statement.{statement}
 use Rattle.console.proofs.input.Input.is_within_line.Tie as tie
 
