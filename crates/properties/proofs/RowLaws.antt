@@ -9,7 +9,7 @@ use native.Mathlib.Omega.{arith}
 use lib.Dec.{eqb, ltb}
 use lib.ListN.{length, getD, take, drop}
 use lib.Seq.{drop-cons}
-use borrow.Author.Tests.{ltb-true, eqb-true, eqb-false}
+use borrow.Author.Tests.{lt-ltb, ltb-true, eqb-true, eqb-false}
 use Rattle.octets.specs.Pick.{pick}
 use Rattle.octets.specs.Cases.{same}
 use Rattle.octets.proofs.CaseLaws.{same-length}
@@ -50,9 +50,9 @@ pub name-short : (n : ℕ) → n < 39 → length (rowAt n .name) < 13
 unfolding upto rowAt rows octets
 name-short n h = ltb-true _ _ (alike (λ j. ltb (length (rowAt j .name)) 13) (λ j. true) 39 refl n h)
 
-name-some : (n : ℕ) → n < 38 → 0 < length (rowAt (suc n) .name)
+name-some : (n : ℕ) → 1 ≤ n → n < 39 → 0 < length (rowAt n .name)
 unfolding upto rowAt rows octets
-name-some n h = ltb-true _ _ (alike (λ j. ltb 0 (length (rowAt (suc j) .name))) (λ j. true) 38 refl n h)
+name-some n g h = ltb-true _ _ (alike (λ j. ltb 0 (length (rowAt j .name))) (ltb 0) 39 refl n h ∙ lt-ltb 0 n g)
 
 -- a name that is as long as none of the rows from n on
 search-unlike : (v : List ℕ) (d n : ℕ) → n + d ≡ 39 → ((k : ℕ) → n ≤ k → k < 39 → length (rowAt k .name) ≡ length v → ⊥) → searchFrom v n ≡ 0
@@ -66,12 +66,7 @@ pub search-long : (v : List ℕ) → 12 < length v → rowOf v ≡ 0
 search-long v h = search-start v ∙ search-unlike v 38 1 refl (λ k g l e. omega (arith, name-short k l))
 
 pub search-empty : (v : List ℕ) → length v ≡ 0 → rowOf v ≡ 0
-search-empty v h =
-    search-start v
-    ∙ search-unlike v 38 1 refl (λ k g l e.
-    let there : suc (k - 1) ≡ k = omega arith in
-    let some = subst (λ (m : ℕ). 0 < length (rowAt m .name)) there (name-some (k - 1) (omega arith)) in
-    omega arith)
+search-empty v h = search-start v ∙ search-unlike v 38 1 refl (λ k g l e. omega (arith, name-some k g l))
 
 -- the first row from n on whose name has l octets
 sizedFrom : ℕ → ℕ → ℕ

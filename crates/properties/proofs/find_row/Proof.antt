@@ -1,8 +1,10 @@
 -- `properties::find_row` meets its contract. Assumes nothing.
 use borrow.Author.Needs.{needs}
 use mathlib.Core.Path.{_≡_, sym, _∙_}
+use mathlib.Core.List.{List}
 use Prim.Native.Nat.{ℕ, zero, suc, _-_, _%_, _<_}
 use native.Mathlib.Omega.{arith}
+use Rattle.properties.specs.Rows.{nextOf}
 use Rattle.properties.proofs.RowLaws.{Along, Sized, along-first, sized-next, search-found, search-long, search-empty}
 use Rattle.properties.proofs.find_row.Statement.{statement}
 use Rattle.properties.proofs.find_row.Tie as tie
@@ -44,22 +46,27 @@ returns-3 c =
 next-sized-requires : tie.Need-next-sized-requires Inv-loop μ-loop
 next-sized-requires c κs = (search needs, c .before .before .before .loop .inv .low)
 
+-- the turn's start, and the name
+abbrev start : tie.Else3 Inv-loop μ-loop → tie.At-loop Inv-loop μ-loop
+start c = c .before .before .before
+
+abbrev sought : tie.At-loop Inv-loop μ-loop → List ℕ
+sought l = l .before .before .before .before .before .args .name .now
+
 -- the search goes on at the next row, which comes later
-onward : (c : tie.After-next-sized Inv-loop μ-loop) → Sized (c .before .before .before .before .before .before .before .before .before .args .name .now) (suc (c .before .before .before .before .loop .row)) (c .next-sized .result)
+onward : (c : tie.Else3 Inv-loop μ-loop) → Sized (sought (start c)) (suc (start c .loop .row)) (nextOf (start c .loop .row))
 onward c =
-    let s = c .before .before in
-    let l = s .before .before in
-    let other = sym (s .spells .ensures) ∙ c .before .if3 .left in
-    rw (c .next-sized .ensures) (sized-next (l .before .before .before .before .before .args .name .now) (l .loop .row) (s .before .loop-test .taken) (l .loop .inv) other)
+    let l = start c in
+    sized-next (sought l) (l .loop .row) (c .before .before .loop-test .taken) (l .loop .inv) (sym (c .before .spells .ensures) ∙ c .if3 .left)
 
 loop-less : tie.Need-loop-less Inv-loop μ-loop
 loop-less c =
-    let i = c .before .before .before in
-    let l = i .before .loop in
-    falls (l .row) (c .next-sized .result) (i .loop-test .taken) (l .inv .low) (onward c .on .low) (onward c .after)
+    let l = start (c .before) .loop in
+    let on = onward (c .before) in
+    rw (c .next-sized .ensures) (falls (l .row) (nextOf (l .row)) (c .before .before .before .loop-test .taken) (l .inv .low) (on .on .low) (on .after))
 
 loop-again : tie.Need-loop-again Inv-loop μ-loop
-loop-again c = onward c .on
+loop-again c = rw (c .next-sized .ensures) (onward (c .before) .on)
 
 returns-4 : tie.Need-returns-4 Inv-loop μ-loop
 returns-4 c =
