@@ -1,12 +1,12 @@
 -- The property table, as document 01 lists it, the row of a name, and the kind of a line. Assumes nothing.
-use Prim.Native.Nat.{ℕ, zero, suc, _<_, _≤_}
+use Prim.Native.Nat.{ℕ, zero, suc}
 use Prim.Native.String.{String}
 use mathlib.Core.Path.{_≡_}
 use mathlib.Core.Bool.{Bool, true, false, not, _&&_, _||_}
 use mathlib.Core.List.{List, [], _∷_, _++_}
 use mathlib.Core.Option.{Option, none, some}
 use lib.Dec.{eqb, ltb}
-use lib.ListN.{length, getD, take}
+use lib.ListN.{length, getD, take, drop}
 use Rattle.octets.specs.Pick.{pick}
 use Rattle.octets.specs.Classes.{bit}
 use Rattle.octets.specs.Cases.{same}
@@ -81,9 +81,17 @@ noRow = record { name = []; kind = 0; times = often }
 unfoldable pub rowAt : ℕ → Row
 rowAt n = getD (noRow ∷ rows) n noRow
 
--- none of the rows from a up to e has a name of n octets
-abbrev pub Skipped : ℕ → ℕ → ℕ → Type 0
-Skipped n a e = (k : ℕ) → k < e → a ≤ k → length (rowAt k .name) ≡ n → ⊥
+-- the number of the first row whose name has l octets, counted from i; 0 where there is none
+unfoldable pub sized : ℕ → ℕ → List Row → ℕ
+sized l i [] = 0
+sized l i (r ∷ rs) = pick (eqb (length (r .name)) l) i (sized l (suc i) rs)
+
+unfoldable pub firstOf : ℕ → ℕ
+firstOf l = sized l 1 rows
+
+-- the first row after row n whose name is as long
+unfoldable pub nextOf : ℕ → ℕ
+nextOf n = sized (length (rowAt n .name)) (suc n) (drop n rows)
 
 unfoldable pub kindAt : ℕ → ℕ
 kindAt n = rowAt n .kind
@@ -119,12 +127,18 @@ valueName = octets "VALUE"
 unfoldable pub isGroup : List ℕ → Bool
 isGroup v = same v (octets "group")
 
--- the sixteen entries that the table has for a row: its name, filled up to twelve by points, the name's length, its kind, 1 where it is
--- marked *1, and 1 where VALUE sets the kind
+-- what the table has in the place of a row's name: the name, filled up to twelve by points; for row 0, which has none, the first row of
+-- each length from 1 to 12
+unfoldable pub nameEntries : ℕ → List ℕ
+nameEntries zero =
+    firstOf 1 ∷ firstOf 2 ∷ firstOf 3 ∷ firstOf 4 ∷ firstOf 5 ∷ firstOf 6 ∷
+    firstOf 7 ∷ firstOf 8 ∷ firstOf 9 ∷ firstOf 10 ∷ firstOf 11 ∷ firstOf 12 ∷ []
+nameEntries (suc n) = take 12 (rowAt (suc n) .name ++ octets "............")
+
+-- the sixteen entries that the table has for a row: those of its name, the name's length, its kind, the next row whose name is as long, and
+-- 1 where VALUE sets the kind
 unfoldable pub entries : ℕ → List ℕ
-entries n =
-    take 12 (rowAt n .name ++ octets "............")
-    ++ length (rowAt n .name) ∷ kindAt n ∷ bit (single n) 1 ∷ bit (takesValue n) 1 ∷ []
+entries n = nameEntries n ++ length (rowAt n .name) ∷ kindAt n ∷ nextOf n ∷ bit (takesValue n) 1 ∷ []
 
 -- k rows from row n on
 unfoldable pub entriesFrom : ℕ → ℕ → List ℕ

@@ -1,48 +1,49 @@
 // The property table: the row of a name, what a row says, and the kind that a VALUE parameter names.
 ghost use mathlib.Core.Path.{_≡_};
-ghost use Prim.Native.Nat.{_/_, _%_, _<_, _≤_};
+ghost use Prim.Native.Nat.{_<_, _≤_};
 ghost use lib.ListN.{length};
 ghost use Rattle.octets.specs.Cases.{same};
-ghost use Rattle.properties.specs.Rows.{rowOf, rowAt, Skipped, kindAt, single, takesValue, kindNamed, isGroup, Lists};
+ghost use Rattle.properties.specs.Rows.{rowOf, rowAt, firstOf, nextOf, kindAt, takesValue, kindNamed, isGroup, Lists};
 use octets::cases::same_name;
 use octets::indices::wide;
 
-// Sixteen entries for each row, after a row for no name: name, length of the name, kind, 1 for *1, 1 where VALUE sets the kind.
+// Sixteen entries for each row: name, length of the name, kind, next row whose name is as long, 1 where VALUE sets the kind. The row for
+// no name comes first, and has the first row of each length from 1 to 12 in its name's place.
 pub const ROWS: [u8; 624] = *b"\
-    ............\x00\x00\x00\x00\
-    BEGIN.......\x05\x00\x00\x00\
-    END.........\x03\x00\x00\x00\
-    SOURCE......\x06\x03\x00\x01\
-    KIND........\x04\x01\x01\x01\
-    XML.........\x03\x00\x00\x00\
-    FN..........\x02\x01\x00\x01\
-    N...........\x01\x04\x01\x00\
+    \x07\x06\x02\x04\x01\x03\x19\x08\x25\x1a\x0b\x20\x00\x00\x00\x00\
+    BEGIN.......\x05\x00\x09\x00\
+    END.........\x03\x00\x05\x00\
+    SOURCE......\x06\x03\x0c\x01\
+    KIND........\x04\x01\x0a\x01\
+    XML.........\x03\x00\x0d\x00\
+    FN..........\x02\x01\x12\x01\
+    N...........\x01\x04\x00\x00\
     NICKNAME....\x08\x02\x00\x00\
-    PHOTO.......\x05\x03\x00\x01\
-    BDAY........\x04\x00\x01\x01\
-    ANNIVERSARY.\x0b\x00\x01\x01\
-    GENDER......\x06\x07\x01\x00\
-    ADR.........\x03\x05\x00\x00\
-    TEL.........\x03\x01\x00\x01\
-    EMAIL.......\x05\x01\x00\x01\
-    IMPP........\x04\x03\x00\x01\
-    LANG........\x04\x00\x00\x01\
+    PHOTO.......\x05\x03\x0f\x01\
+    BDAY........\x04\x00\x10\x01\
+    ANNIVERSARY.\x0b\x00\x00\x01\
+    GENDER......\x06\x07\x18\x00\
+    ADR.........\x03\x05\x0e\x00\
+    TEL.........\x03\x01\x13\x01\
+    EMAIL.......\x05\x01\x14\x01\
+    IMPP........\x04\x03\x11\x01\
+    LANG........\x04\x00\x15\x01\
     TZ..........\x02\x01\x00\x01\
-    GEO.........\x03\x03\x00\x01\
-    TITLE.......\x05\x01\x00\x01\
-    ROLE........\x04\x01\x00\x01\
-    LOGO........\x04\x03\x00\x01\
-    ORG.........\x03\x06\x00\x00\
-    MEMBER......\x06\x03\x00\x01\
-    RELATED.....\x07\x03\x00\x01\
+    GEO.........\x03\x03\x17\x01\
+    TITLE.......\x05\x01\x1e\x01\
+    ROLE........\x04\x01\x16\x01\
+    LOGO........\x04\x03\x1b\x01\
+    ORG.........\x03\x06\x1d\x00\
+    MEMBER......\x06\x03\x1c\x01\
+    RELATED.....\x07\x03\x22\x01\
     CATEGORIES..\x0a\x02\x00\x00\
     NOTE........\x04\x01\x00\x01\
-    PRODID......\x06\x01\x01\x01\
-    REV.........\x03\x00\x01\x01\
-    SOUND.......\x05\x03\x00\x01\
-    UID.........\x03\x03\x01\x01\
+    PRODID......\x06\x01\x26\x01\
+    REV.........\x03\x00\x1f\x01\
+    SOUND.......\x05\x03\x24\x01\
+    UID.........\x03\x03\x21\x01\
     CLIENTPIDMAP\x0c\x08\x00\x00\
-    URL.........\x03\x03\x00\x01\
+    URL.........\x03\x03\x23\x01\
     VERSION.....\x07\x00\x00\x00\
     KEY.........\x03\x03\x00\x01\
     FBURL.......\x05\x03\x00\x01\
@@ -56,32 +57,22 @@ pub fn table() -> [u8; 624]
     ROWS
 }
 
-// The place of the length of the next row whose name has n octets, from the row whose length stands at `from` on; 636 for none. Two rows
-// are looked at in each turn.
-fn next_sized(rows: &[u8; 624], from: usize, n: u8) -> usize
+// The first row whose name has n octets, 0 for none.
+fn first_sized(rows: &[u8; 624], n: usize) -> usize
     requires { ⌜ Lists (now rows) ⌝ }
-    requires { ⌜ (from % 16 ≡ 12) × (from ≤ 636) ⌝ }
-    ensures { λ r. ⌜ (r % 16 ≡ 12) × (from ≤ r) × (r ≤ 636) ⌝ }
-    ensures { λ r. ⌜ Skipped n (from / 16) (r / 16) ⌝ }
-    ensures { λ r. ⌜ (r < 624 → length (rowAt (r / 16) .name) ≡ n) ⌝ }
+    requires { ⌜ (0 < n) × (n ≤ 12) ⌝ }
+    ensures { λ r. ⌜ r ≡ firstOf n ⌝ }
 {
-    let mut at = from;
-    while at < 608 {
-        if rows[at] == n {
-            return at;
-        }
-        if rows[at + 16] == n {
-            return at + 16;
-        }
-        at += 32;
-    }
-    if at >= 624 {
-        return at;
-    }
-    if rows[at] == n {
-        return at;
-    }
-    at + 16
+    wide(rows[n - 1])
+}
+
+// The next row whose name is as long as this one's, 0 for none.
+fn next_sized(rows: &[u8; 624], row: usize) -> usize
+    requires { ⌜ Lists (now rows) ⌝ }
+    requires { ⌜ row < 39 ⌝ }
+    ensures { λ r. ⌜ r ≡ nextOf row ⌝ }
+{
+    wide(rows[row * 16 + 14])
 }
 
 // Whether the row's name, which is as long, is this one without case: a capital and an octet differ at most in the bit of 32.
@@ -102,23 +93,24 @@ fn spells(rows: &[u8; 624], row: usize, name: &[u8]) -> bool
     true
 }
 
-// The number of the row with this name without case, or 0.
+// The number of the row with this name without case, or 0: only rows whose name is as long are looked at.
 pub fn find_row(rows: &[u8; 624], name: &[u8]) -> usize
     requires { ⌜ Lists (now rows) ⌝ }
     ensures { λ r. ⌜ r ≡ rowOf (now (name .entry)) ⌝ }
     ensures { λ r. ⌜ r < 39 ⌝ }
 {
+    if name.len() == 0 {
+        return 0;
+    }
     if 12 < name.len() {
         return 0;
     }
-    let n = name.len() as u8;
-    let mut place = next_sized(rows, 28, n);
-    while place < 624 {
-        let row = place / 16;
+    let mut row = first_sized(rows, name.len());
+    while 0 < row {
         if spells(rows, row, name) {
             return row;
         }
-        place = next_sized(rows, place + 16, n);
+        row = next_sized(rows, row);
     }
     0
 }
@@ -131,15 +123,6 @@ pub fn kind_of(rows: &[u8; 624], row: usize) -> usize
     ensures { λ r. ⌜ r < 9 ⌝ }
 {
     wide(rows[row * 16 + 13])
-}
-
-// Whether a row may stand only once in a card.
-pub fn once(rows: &[u8; 624], row: usize) -> bool
-    requires { ⌜ Lists (now rows) ⌝ }
-    requires { ⌜ row < 39 ⌝ }
-    ensures { λ r. ⌜ r ≡ single row ⌝ }
-{
-    rows[row * 16 + 14] == 1
 }
 
 // Whether a VALUE parameter sets the kind of a row's line.

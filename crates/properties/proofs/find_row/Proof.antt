@@ -1,91 +1,77 @@
 -- `properties::find_row` meets its contract. Assumes nothing.
 use borrow.Author.Needs.{needs}
-use mathlib.Core.Path.{_≡_, refl, sym, ap, _∙_}
+use mathlib.Core.Path.{_≡_, sym, _∙_}
 use mathlib.Core.List.{List}
-use Prim.Native.Nat.{ℕ, _+_, _-_, _/_, _%_, _<_, _≤_}
+use Prim.Native.Nat.{ℕ, zero, suc, _-_, _%_, _<_}
 use native.Mathlib.Omega.{arith}
-use lib.ListN.{length}
-use Rattle.properties.specs.Rows.{rowOf, rowAt, Skipped}
-use Rattle.properties.proofs.RowLaws.{searchFrom, search-start, search-found, search-next, search-skip, search-none, search-long}
+use Rattle.properties.specs.Rows.{nextOf}
+use Rattle.properties.proofs.RowLaws.{Along, Sized, along-first, sized-next, search-found, search-long, search-empty}
 use Rattle.properties.proofs.find_row.Statement.{statement}
 use Rattle.properties.proofs.find_row.Tie as tie
 
 abbrev Inv-loop : tie.InvT-loop
-Inv-loop rows name n place₀ place = (place % 16 ≡ 12) × (place ≤ 636) × (rowOf name ≡ searchFrom name (place / 16)) × (place < 624 → length (rowAt (place / 16) .name) ≡ length name)
+Inv-loop rows name row₀ row = Along name row
 
+-- rows go up, and 0 is the end
 abbrev μ-loop : tie.MeasureT-loop
-μ-loop rows name n place₀ place = 640 - place
+μ-loop rows name row₀ row = (39 - row) % 39
 
--- the search goes on at the next row of the name's length
-onward : (v : List ℕ) (a e : ℕ) → a ≤ e → e ≤ 39 → Skipped (length v) a e → searchFrom v a ≡ searchFrom v e
-onward v a e g h s =
-    let there : a + (e - a) ≡ e = omega arith in
-    search-skip v (e - a) a (omega arith) (λ k l. s k (omega arith)) ∙ ap (searchFrom v) there
+falls : (n m : ℕ) → 0 < n → n < 39 → m < 39 → (0 < m → n < m) → (39 - m) % 39 < (39 - n) % 39
+falls n zero p h l f = omega arith
+falls n (suc m) p h l f = let up = f (omega arith) in omega arith
 
 returns : tie.Need-returns Inv-loop μ-loop
-returns c = (sym (search-long (c .before .before .args .name .now) (c .if1 .taken)), omega arith)
-
-cast-n : tie.Need-cast-n Inv-loop μ-loop
-cast-n c = search needs
-
-next-sized-requires : tie.Need-next-sized-requires Inv-loop μ-loop
-next-sized-requires c κs = (search needs, (refl, omega arith))
-
-loop-holds : tie.Need-loop-holds Inv-loop μ-loop
-loop-holds c =
-    let v = c .before .before .before .args .name .now in
-    let e = c .next-sized .ensures in
-    let r = c .next-sized .result in
-    let first : 1 ≤ r / 16 = omega (arith, e .0) in
-    let last : r / 16 ≤ 39 = omega (arith, e .0) in
-    (e .0 .0, e .0 .2, search-start v ∙ onward v 1 (r / 16) first last (e .1 .0), e .1 .1)
-
-spells-requires : tie.Need-spells-requires Inv-loop μ-loop
-spells-requires c κs = (search needs, (omega arith, c .before .loop .inv .3 (omega arith)))
+returns c = (sym (search-empty (c .before .before .args .name .now) (c .if1 .taken)), omega arith)
 
 returns-2 : tie.Need-returns-2 Inv-loop μ-loop
-returns-2 c =
-    let l = c .before .before .before in
-    let v = l .before .before .before .before .args .name .now in
-    let row = l .loop .place / 16 in
-    let low : row < 39 = omega arith in
-    (sym (l .loop .inv .2 ∙ search-found v row low (sym (c .before .spells .ensures) ∙ c .if2 .taken)), low)
+returns-2 c = (sym (search-long (c .before .before .before .args .name .now) (c .if2 .taken)), omega arith)
 
-add-next-sized : tie.Need-add-next-sized Inv-loop μ-loop
-add-next-sized c = search needs
+first-sized-requires : tie.Need-first-sized-requires Inv-loop μ-loop
+first-sized-requires c κs = search needs
 
-next-sized-requires-2 : tie.Need-next-sized-requires-2 Inv-loop μ-loop
-next-sized-requires-2 c κs = (search needs, (omega arith, omega arith))
+loop-holds : tie.Need-loop-holds Inv-loop μ-loop
+loop-holds c = rw (c .first-sized .ensures) (along-first (c .before .before .before .before .args .name .now))
 
-loop-less : tie.Need-loop-less Inv-loop μ-loop
-loop-less c = omega (arith, c .next-sized2 .ensures .0 .1)
-
-loop-again : tie.Need-loop-again Inv-loop μ-loop
-loop-again c =
-    let s = c .before .before in
-    let l = s .before .before in
-    let v = l .before .before .before .before .args .name .now in
-    let e = c .next-sized2 .ensures in
-    let place = l .loop .place in
-    let r = c .next-sized2 .result in
-    let low : place / 16 < 39 = omega arith in
-    let next : (place + 16) / 16 ≡ place / 16 + 1 = omega arith in
-    let first : place / 16 + 1 ≤ r / 16 = omega (arith, e .0) in
-    let last : r / 16 ≤ 39 = omega (arith, e .0) in (
-      e .0 .0,
-      e .0 .2,
-      l .loop .inv .2
-          ∙ search-next v (place / 16) low (sym (s .spells .ensures) ∙ c .before .if2 .left)
-          ∙ onward v (place / 16 + 1) (r / 16) first last (rw (sym next) (e .1 .0)),
-      e .1 .1,
-    )
+spells-requires : tie.Need-spells-requires Inv-loop μ-loop
+spells-requires c κs = (search needs, (c .before .loop .inv .low, c .before .loop .inv .long (c .loop-test .taken)))
 
 returns-3 : tie.Need-returns-3 Inv-loop μ-loop
 returns-3 c =
-    let l = c .before in
-    let v = l .before .before .before .before .args .name .now in
-    let over : l .loop .place / 16 ≡ 39 = omega arith in
-    (sym (l .loop .inv .2 ∙ ap (searchFrom v) over ∙ search-none v), omega arith)
+    let i = c .before .before in
+    let l = i .before in
+    let v = l .before .before .before .before .before .args .name .now in
+    let on = l .loop .inv in
+    (sym (on .here (i .loop-test .taken) ∙ search-found v (l .loop .row) (on .low) (sym (c .before .spells .ensures) ∙ c .if3 .taken)), on .low)
+
+next-sized-requires : tie.Need-next-sized-requires Inv-loop μ-loop
+next-sized-requires c κs = (search needs, c .before .before .before .loop .inv .low)
+
+-- the turn's start, and the name
+abbrev start : tie.Else3 Inv-loop μ-loop → tie.At-loop Inv-loop μ-loop
+start c = c .before .before .before
+
+abbrev sought : tie.At-loop Inv-loop μ-loop → List ℕ
+sought l = l .before .before .before .before .before .args .name .now
+
+-- the search goes on at the next row, which comes later
+onward : (c : tie.Else3 Inv-loop μ-loop) → Sized (sought (start c)) (suc (start c .loop .row)) (nextOf (start c .loop .row))
+onward c =
+    let l = start c in
+    sized-next (sought l) (l .loop .row) (c .before .before .loop-test .taken) (l .loop .inv) (sym (c .before .spells .ensures) ∙ c .if3 .left)
+
+loop-less : tie.Need-loop-less Inv-loop μ-loop
+loop-less c =
+    let l = start (c .before) .loop in
+    let on = onward (c .before) in
+    rw (c .next-sized .ensures) (falls (l .row) (nextOf (l .row)) (c .before .before .before .loop-test .taken) (l .inv .low) (on .on .low) (on .after))
+
+loop-again : tie.Need-loop-again Inv-loop μ-loop
+loop-again c = rw (c .next-sized .ensures) (onward (c .before) .on)
+
+returns-4 : tie.Need-returns-4 Inv-loop μ-loop
+returns-4 c =
+    let over : c .before .loop .row ≡ 0 = omega arith in
+    (sym (c .before .loop .inv .over over), omega arith)
 
 pub find-row-spec : {M : Type 1} → statement M
 find-row-spec =
@@ -94,13 +80,12 @@ find-row-spec =
     Inv-loop
     μ-loop
     returns
-    cast-n
-    next-sized-requires
+    returns-2
+    first-sized-requires
     loop-holds
     spells-requires
-    returns-2
-    add-next-sized
-    next-sized-requires-2
+    returns-3
+    next-sized-requires
     loop-less
     loop-again
-    returns-3)
+    returns-4)

@@ -1,12 +1,12 @@
 -- `properties::table` meets its contract. Assumes nothing.
 use mathlib.Core.Path.{refl}
 use Rattle.octets.specs.Ascii.{octets}
-use Rattle.properties.specs.Rows.{rows, rowAt, kindAt, single, takesValue, entries, entriesFrom, Lists}
+use Rattle.properties.specs.Rows.{rows, rowAt, sized, firstOf, nextOf, kindAt, takesValue, nameEntries, entries, entriesFrom, Lists}
 use Rattle.properties.proofs.table.Statement.{statement}
 use Rattle.properties.proofs.table.Tie as tie
 
 returns : tie.Need-returns
-unfolding Lists entriesFrom entries rowAt kindAt single takesValue rows octets
+unfolding Lists entriesFrom entries nameEntries rowAt sized firstOf nextOf kindAt takesValue rows octets
 returns c = refl
 
 pub table-spec : {M : Type 1} → statement M
