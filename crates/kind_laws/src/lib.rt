@@ -1,1 +1,1 @@
-// No code: the laws of the kinds of value, over the crate properties.
+// No code: the laws of the kinds of value, over the crates properties and values.

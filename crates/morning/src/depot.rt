@@ -26,7 +26,7 @@ pub struct Morning {
 }
 
 // One more, as far as numbers go.
-pub fn more(n: usize) -> usize {
+pub(crate) fn more(n: usize) -> usize {
     if n == usize::MAX {
         return n;
     }
@@ -34,7 +34,7 @@ pub fn more(n: usize) -> usize {
 }
 
 // A ticket from an answer.
-pub fn ticket_of(n: usize) -> u32 {
+pub(crate) fn ticket_of(n: usize) -> u32 {
     if n > 4294967295 {
         return 0;
     }
@@ -50,7 +50,7 @@ fn nobody() -> Place {
 }
 
 // Before the first upload.
-pub fn fresh(next: usize, count: usize, chunk: usize, width: usize) -> Morning {
+pub(crate) fn fresh(next: usize, count: usize, chunk: usize, width: usize) -> Morning {
     let t = Desk::new(40);
     let d = t.desk;
     let none = nobody();
@@ -71,7 +71,7 @@ pub fn fresh(next: usize, count: usize, chunk: usize, width: usize) -> Morning {
 }
 
 // The place is free again: the upload is released and its file closed.
-pub fn left(mut m: Morning, k: usize, pool: &mut [u8]) -> Morning
+pub(crate) fn left(mut m: Morning, k: usize, pool: &mut [u8]) -> Morning
     requires { ⌜ k < 40 ⌝ }
 {
     let p = m.places[k];
@@ -86,7 +86,7 @@ pub fn left(mut m: Morning, k: usize, pool: &mut [u8]) -> Morning
 }
 
 // Counts a verdict.
-pub fn counted(mut m: Morning, v: Verdict, same: bool) -> Morning {
+pub(crate) fn counted(mut m: Morning, v: Verdict, same: bool) -> Morning {
     if !same {
         m.differing = more(m.differing);
     }

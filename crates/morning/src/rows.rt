@@ -10,14 +10,14 @@ fn sent(room: &[u8], n: usize) {
 }
 
 // The names of the columns.
-pub fn titles(width: usize) {
+pub(crate) fn titles(width: usize) {
     let mut room = io::buffer();
     let n = uploads::put_titles(&mut room, 0, width);
     sent(&room, n);
 }
 
 // The row of the upload of the file that argument i names.
-pub fn row(i: usize, width: usize, ticket: u32, octets: usize, v: Verdict, same: bool) {
+pub(crate) fn row(i: usize, width: usize, ticket: u32, octets: usize, v: Verdict, same: bool) {
     let mut path = io::buffer();
     let k = os::arg(i, &mut path);
     let mut room = io::large_buffer();
