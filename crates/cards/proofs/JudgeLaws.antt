@@ -22,7 +22,6 @@ use Rattle.cards.specs.Judge.{laden, broken, entered, fitting, judgePart
 use Rattle.content.specs.declared.Parts.{Parts}
 use Rattle.content.specs.declared.Told.the-variants.{Line as line, Fault as fault}
 use Rattle.card_state.specs.declared.Card.{Card}
-use Rattle.card_state.specs.declared.Step.{Step}
 use Rattle.card_state.specs.declared.Step.the-variants.{Refused}
 use Rattle.content.proofs.PartLaws.{Read}
 

@@ -32,7 +32,6 @@ use Rattle.properties.specs.Rows.{Row, rows, search, rowOf, kindAt, takesValue,
 use Rattle.properties.proofs.RowLaws.{kind-low}
 use Rattle.content.specs.Parts.{octetsOf, valueParam, rowOfLine, kindOfLine, faultOf, Accepted, firstValue, ofParse, told, toldOf}
 use Rattle.content.specs.declared.Parts.{Parts}
-use Rattle.content.specs.declared.Told.{Told}
 use Rattle.content.specs.declared.Told.the-variants.{Line as line, Fault as fault}
 
 -- a line that was read with these numbers

@@ -12,7 +12,7 @@ use Rattle.octets.specs.Scan.{gather}
 use Rattle.octets.specs.Room.{Filled, filled, overlay, refuse, fill, fillBounded}
 use Rattle.characters.specs.Characters.{allowed, firstBad}
 use Rattle.octets.specs.declared.rooms.Written.{Written}
-use Rattle.octets.specs.declared.rooms.Written.the-variants.{Wrote, Refused}
+use Rattle.octets.specs.declared.rooms.Written.the-variants.{Wrote}
 use Rattle.escapes.specs.Escapes.{firstFault, passed, standing, unescaped}
 use Rattle.text.specs.Outcomes.{checked, faultless, unescapeOutcome}
 use Rattle.cuts.specs.Pieces.{foldedLines}

@@ -1,18 +1,17 @@
 -- The places that `read_line` answers stand in the line and in order. Assumes nothing.
 use mathlib.Core.Path.{_≡_, refl}
-use mathlib.Core.List.{List, []}
+use mathlib.Core.List.{List}
 use Prim.Native.Nat.{ℕ, zero, suc, _+_, _<_, _≤_}
 use native.Mathlib.Omega.{arith}
-use lib.Dec.{eqb}
 use lib.ListN.{length, drop, length-drop}
 use borrow.Author.Tests.{ne-eqb}
-use Rattle.lines.specs.Parse.{Parse, got, bad, hd}
+use Rattle.lines.specs.Parse.{Parse, got, bad}
 use Rattle.lines.specs.Grammar.{Line, nameEnd}
-use Rattle.lines.specs.Rule.{value, orEnd, isColon, param, params, Head, head, word, parseLine}
+use Rattle.lines.specs.Rule.{value, orEnd, isColon, param, params, Head, head, parseLine}
 use Rattle.lines.specs.Places.{outcome, nameStart}
 use Rattle.lines.specs.declared.rule.Part.the-variants.{Parsed}
-use Rattle.lines.proofs.ParseLaws.{pick-inv, next-inv, many-count}
-use Rattle.lines.proofs.PartLaws.{word-taken, before-end, head-count, params-stop}
+use Rattle.lines.proofs.ParseLaws.{next-inv, many-count}
+use Rattle.lines.proofs.PartLaws.{before-end, head-parts, head-count, params-stop}
 
 -- of a line: the name starts after the group and its dot and has an octet, the parameters and the colon come after it, and then the value
 pub record InLine (l : List ℕ) (g n c v : ℕ) : Type 0 where
@@ -21,20 +20,10 @@ pub record InLine (l : List ℕ) (g n c v : ℕ) : Type 0 where
   pub value : v ≤ length l
 
 head-inside : (l : List ℕ) (x : Head) (k : ℕ) → head l ≡ got x k → nameStart (length (x .group)) < k
-unfolding head
 head-inside l x k h =
-    next-inv (word 40 l) _ h (λ a n p₁ q₁.
-    let i = word-taken 40 l a n p₁ in
-    pick-inv (eqb (hd (drop n l)) 46) _ _ q₁
-    (λ t q₂. next-inv _ _ q₂ (λ b m p₂ q.
-    let j = word-taken 40 (drop 1 (drop n l)) b m p₂ in
-    let ea : x ≡ record { group = a; name = b } = cc in
-    let ek : k ≡ n + suc m = cc in
-    rw (ea, ek) (start (length a) (n + suc m) (omega arith))))
-    (λ t q.
-    let ea : x ≡ record { group = []; name = a } = cc in
-    let ek : k ≡ n = cc in
-    rw (ea, ek) (i .some)))
+    head-parts l x k h
+    (λ a b n m ea ek i j. rw (ea, ek) (start (length a) (n + suc m) (omega arith)))
+    (λ a ea i. rw ea (i .some))
   where
     start : (g k : ℕ) → g + 1 < k → nameStart g < k
     start zero k h = omega arith

@@ -83,22 +83,27 @@ unfolding groupText
 group-dot [] b h = absurd (omega arith)
 group-dot (x ∷ xs) b h = append-assoc (x ∷ xs) (46 ∷ []) b
 
--- the octets taken are those of group, dot and name
-pub head-count : (l : List ℕ) (x : Head) (k : ℕ) → head l ≡ got x k → length (groupText (x .group) ++ x .name) ≡ k
-unfolding head groupText
-head-count l x k h =
+-- what an accepted head is made of: a group, a dot and a name, or a name alone
+pub head-parts : {C : Type 0} (l : List ℕ) (x : Head) (k : ℕ) → head l ≡ got x k
+    → ((a b : List ℕ) (n m : ℕ) → x ≡ record { group = a; name = b } → k ≡ n + suc m → Taken l a n → Taken (drop 1 (drop n l)) b m → C)
+    → ((a : List ℕ) → x ≡ record { group = []; name = a } → Taken l a k → C) → C
+unfolding head
+head-parts l x k h f g =
     next-inv (word 40 l) _ h (λ a n p₁ q₁.
     let i = word-taken 40 l a n p₁ in
     pick-inv (eqb (hd (drop n l)) 46) _ _ q₁
-    (λ t q₂. next-inv _ _ q₂ (λ b m p₂ q.
-    let j = word-taken 40 (drop 1 (drop n l)) b m p₂ in
-    let ea : x ≡ record { group = a; name = b } = cc in
-    let ek : k ≡ n + suc m = cc in
-    rw (ea, ek, group-dot a b (omega arith), length-append) (omega arith)))
+    (λ t q₂. next-inv _ _ q₂ (λ b m p₂ q. f a b n m (cc) (cc) i (word-taken 40 (drop 1 (drop n l)) b m p₂)))
     (λ t q.
-    let ea : x ≡ record { group = []; name = a } = cc in
     let ek : k ≡ n = cc in
-    rw (ea, ek) (i .count)))
+    g a (cc) (rw ek i)))
+
+-- the octets taken are those of group, dot and name
+pub head-count : (l : List ℕ) (x : Head) (k : ℕ) → head l ≡ got x k → length (groupText (x .group) ++ x .name) ≡ k
+unfolding groupText
+head-count l x k h =
+    head-parts l x k h
+    (λ a b n m ea ek i j. rw (ea, ek, group-dot a b (omega arith), length-append) (omega arith))
+    (λ a ea i. rw ea (i .count))
 
 -- after the parameters a colon stands
 pub params-stop : (n : ℕ) (l : List ℕ) (ps : List Param) (k : ℕ) → params n l ≡ got ps k → hd (drop k l) ≡ 58

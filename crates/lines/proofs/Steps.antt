@@ -42,6 +42,12 @@ module _ {A : Type 0} where
   place-upto at (got a k) h q f = f a k refl (cc)
   place-upto at (bad x) h q f = let z : _≡_ {A = ℕ} 0 1 = cc in absurd (omega arith)
 
+  -- the same at the start of the line
+  pub place-first : {C : Type 0} (m : Parse A) {r : Part} {e : ℕ} → r ≡ place 0 m → r ≡ Upto e → ((a : A) → m ≡ got a e → C) → C
+  place-first m {r} {e} h q f = place-upto 0 m h q (λ a k p g.
+      let i : k ≡ e = omega arith in
+      f a (p ∙ ap (got a) i))
+
   pub place-fault : {C : Type 0} (at : ℕ) (m : Parse A) {r : Part} → r ≡ place at m → OneOf (1 ∷ 2 ∷ 3 ∷ 4 ∷ []) (tagOf the-type r)
       → ((x : ℕ) → m ≡ bad x → C) → C
   place-fault at = only-fault (place at) (1 ∷ 2 ∷ 3 ∷ 4 ∷ []) (λ a k. miss (1 ∷ 2 ∷ 3 ∷ 4 ∷ []) 0 tt)
@@ -302,7 +308,7 @@ module _ {A : Type 0} (c at : ℕ) where
 pub inside : (s : List ℕ) (at k c : ℕ) → 0 < c → hd (drop k (drop at s)) ≡ c → at + k < length s
 inside s at k c pos h = omega (arith, before-end (drop at s) k (rw h pos), length-drop at s)
 
-pub colon-inside : (s : List ℕ) (at n : ℕ) (ps : List Param) (k : ℕ) → params n (drop at s) ≡ got ps k → at + k < length s
+colon-inside : (s : List ℕ) (at n : ℕ) (ps : List Param) (k : ℕ) → params n (drop at s) ≡ got ps k → at + k < length s
 colon-inside s at n ps k h = inside s at k 58 (omega arith) (params-stop n (drop at s) ps k h)
 
 module _ (s : List ℕ) where
@@ -322,9 +328,17 @@ module _ (s : List ℕ) where
         ap outcome (next-got _ q ∙ next-got _ r)
         ∙ ap (λ (e : ℕ). Parsed (length (h .group)) e (length ps) (n + k + 1)) (head-count s h n q)
 
-    pub line-answer : (ps : List Param) (k : ℕ) (g d e : ℕ) → params (suc (length (drop n s))) (drop n s) ≡ got ps k
+    line-answer : (ps : List Param) (k : ℕ) (g d e : ℕ) → params (suc (length (drop n s))) (drop n s) ≡ got ps k
         → g ≡ length (h .group) → d ≡ 0 + length ps → e ≡ n + k → Parsed g n d (e + 1) ≡ outcome (parseLine s)
     line-answer ps k g d e r eg ed ee =
         let w = line-whole ps k r in
         let ed′ : d ≡ length ps = omega arith in
         cc
+
+  -- by the answers on the head and on the parameters: the colon stands in the line, and what the whole answer is
+  pub line-told : {r q : Part} {g n d e : ℕ} → r ≡ headed (head s) → r ≡ Named g n → q ≡ listed 0 n (params (suc (length (drop n s))) (drop n s))
+      → q ≡ Listed d e → (e < length s) × (Parsed g n d (e + 1) ≡ outcome (parseLine s))
+  line-told {r} {q} {g} {n} {d} {e} hr er hq eq =
+      headed-named (head s) hr er (λ h p eg. listed-list 0 n _ hq eq (λ ps k m ed ee.
+      let i = colon-inside s n (suc (length (drop n s))) ps k m in
+      (omega arith, line-answer h n p ps k g d e m eg ed ee)))

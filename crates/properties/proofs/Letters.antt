@@ -1,17 +1,18 @@
 -- The names of rows are capitals, and an octet is such a letter in either case where both agree but for the bit of 32. Assumes nothing.
 use mathlib.Core.Path.{_≡_, refl, sym, ap, subst, _∙_}
-use mathlib.Core.Bool.{Bool, true, false, _&&_, false≢true}
+use mathlib.Core.Bool.{Bool, true, false}
 use mathlib.Core.List.{List, [], _∷_}
 use Prim.Native.Nat.{ℕ, zero, suc, _+_, _-_, _*_, _<_}
 use native.Mathlib.Nat.{le-of-suc-le-suc, not-suc-le-zero}
 use native.Mathlib.Omega.{arith}
 use lib.Dec.{eqb, leb}
 use lib.Bits.{bitOr}
-use lib.ListN.{length, getD, take, drop}
+use lib.ListN.{length, getD, drop}
 use lib.Seq.{getD-take, getD-drop}
 use borrow.Author.Tests.{eq-eqb, eqb-true, leb-true}
 use Rattle.octets.specs.Classes.{within}
-use Rattle.octets.specs.Cases.{lower}
+use Rattle.octets.specs.Cases.{lower, same}
+use Rattle.octets.proofs.CaseLaws.{same-differ, same-next}
 use Rattle.octets.specs.Ascii.{octets}
 use Rattle.octets.specs.Counts.{allIn}
 use Rattle.properties.specs.Rows.{rows, rowAt, Lists}
@@ -56,8 +57,20 @@ module _ (t : List ℕ) (n i : ℕ) (h : Lists t) (l : n < 39) (g : i < length (
   test : (a : ℕ) → a < 256 → eqb (bitOr a 32) (bitOr (getD t (n * 16 + i) 0) 32) ≡ eqb (lower a) (lower (getD (rowAt n .name) i 0))
   test a b = rw (letter-there) (either-case a (getD (rowAt n .name) i 0) b (capital n i l g))
 
-  pub letter-same : (a : ℕ) → a < 256 → bitOr a 32 ≡ bitOr (getD t (n * 16 + i) 0) 32 → lower a ≡ lower (getD (rowAt n .name) i 0)
+  letter-same : (a : ℕ) → a < 256 → bitOr a 32 ≡ bitOr (getD t (n * 16 + i) 0) 32 → lower a ≡ lower (getD (rowAt n .name) i 0)
   letter-same a b e = eqb-true _ _ (sym (test a b) ∙ eq-eqb _ _ e)
 
-  pub letter-other : (a : ℕ) → a < 256 → (bitOr a 32 ≡ bitOr (getD t (n * 16 + i) 0) 32 → ⊥) → lower a ≡ lower (getD (rowAt n .name) i 0) → ⊥
+  letter-other : (a : ℕ) → a < 256 → (bitOr a 32 ≡ bitOr (getD t (n * 16 + i) 0) 32 → ⊥) → lower a ≡ lower (getD (rowAt n .name) i 0) → ⊥
   letter-other a b f e = f (eqb-true _ _ (test a b ∙ eq-eqb _ _ e))
+
+-- a name as long as row n's, at its octet i
+module _ (t name : List ℕ) (n i : ℕ) (h : Lists t) (l : n < 39) (e : length (rowAt n .name) ≡ length name) (g : i < length name) (b : getD name i 0 < 256) where
+  there : i < length (rowAt n .name)
+  there = omega (arith, e)
+
+  pub spelt-other : (bitOr (getD name i 0) 32 ≡ bitOr (getD t (n * 16 + i) 0) 32 → ⊥) → same (drop i name) (drop i (rowAt n .name)) ≡ false
+  spelt-other f = same-differ name (rowAt n .name) i g there (letter-other t n i h l there (getD name i 0) b f)
+
+  pub spelt-next : bitOr (getD name i 0) 32 ≡ bitOr (getD t (n * 16 + i) 0) 32
+      → same (drop i name) (drop i (rowAt n .name)) ≡ same (drop (i + 1) name) (drop (i + 1) (rowAt n .name))
+  spelt-next q = same-next name (rowAt n .name) i g there (letter-same t n i h l there (getD name i 0) b q)

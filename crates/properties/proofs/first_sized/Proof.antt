@@ -1,7 +1,7 @@
 -- `properties::first_sized` meets its contract. Assumes nothing.
 use borrow.Author.Needs.{needs}
 use mathlib.Core.Path.{_≡_, ap, _∙_}
-use Prim.Native.Nat.{ℕ, suc, _-_}
+use Prim.Native.Nat.{suc, _-_}
 use native.Mathlib.Omega.{arith}
 use Rattle.properties.specs.Rows.{firstOf}
 use Rattle.properties.proofs.RowLaws.{first-listed}

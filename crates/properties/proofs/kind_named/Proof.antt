@@ -1,9 +1,7 @@
 -- `properties::kind_named` meets its contract. Assumes nothing.
 use borrow.Author.Needs.{needs}
-use mathlib.Core.Path.{_≡_, sym, _∙_}
-use mathlib.Core.Bool.{true, false}
+use mathlib.Core.Path.{sym, _∙_}
 use native.Mathlib.Omega.{arith}
-use Rattle.octets.specs.Cases.{same}
 use Rattle.octets.specs.Ascii.{octets}
 use Rattle.properties.specs.Rows.{kindNamed}
 use Rattle.properties.proofs.kind_named.Statement.{statement}

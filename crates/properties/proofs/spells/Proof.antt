@@ -1,14 +1,14 @@
 -- `properties::spells` meets its contract. Assumes nothing.
 use borrow.Author.Needs.{needs}
-use mathlib.Core.Path.{_≡_, refl, sym, ap, _∙_}
-use Prim.Native.Nat.{ℕ, _+_, _-_, _*_, _<_, _≤_}
+use mathlib.Core.Path.{_≡_, refl, sym, _∙_}
+use Prim.Native.Nat.{_-_, _<_, _≤_}
 use native.Mathlib.Omega.{arith}
-use lib.ListN.{length, getD, drop}
+use lib.ListN.{length, drop}
 use Rattle.octets.specs.Cases.{same}
-use Rattle.octets.proofs.CaseLaws.{same-differ, same-next, same-over}
+use Rattle.octets.proofs.CaseLaws.{same-over}
 use Rattle.properties.specs.Rows.{rowAt}
 use Rattle.properties.proofs.RowLaws.{name-short}
-use Rattle.properties.proofs.Letters.{letter-same, letter-other}
+use Rattle.properties.proofs.Letters.{spelt-other, spelt-next}
 use Rattle.properties.proofs.spells.Statement.{statement}
 use Rattle.properties.proofs.spells.Tie as tie
 
@@ -45,10 +45,7 @@ returns c =
     let l = k .before .before in
     let a = l .before .args in
     let p = l .before .pre in
-    let i = l .loop .i in
-    let g : i < length (rowAt (a .row) .name) = omega (arith, p .1 .1) in
-    let byte : getD (a .name .now) i 0 < 256 = omega (arith, k .shared-slice-known .given i) in
-    sym (l .loop .inv .1 ∙ same-differ (a .name .now) (rowAt (a .row) .name) i (omega arith) g (letter-other (a .rows .now) (a .row) i (p .0) (p .1 .0) g (getD (a .name .now) i 0) byte (c .if1 .taken)))
+    sym (l .loop .inv .1 ∙ spelt-other (a .rows .now) (a .name .now) (a .row) (l .loop .i) (p .0) (p .1 .0) (p .1 .1) (omega arith) (omega (arith, k .shared-slice-known .given (l .loop .i))) (c .if1 .taken))
 
 add-i : tie.Need-add-i Inv-loop μ-loop
 add-i c = search needs
@@ -62,10 +59,7 @@ loop-again c =
     let l = k .before .before in
     let a = l .before .args in
     let p = l .before .pre in
-    let i = l .loop .i in
-    let g : i < length (rowAt (a .row) .name) = omega (arith, p .1 .1) in
-    let byte : getD (a .name .now) i 0 < 256 = omega (arith, k .shared-slice-known .given i) in
-    (omega arith, l .loop .inv .1 ∙ same-next (a .name .now) (rowAt (a .row) .name) i (omega arith) g (letter-same (a .rows .now) (a .row) i (p .0) (p .1 .0) g (getD (a .name .now) i 0) byte (c .if1 .left)))
+    (omega arith, l .loop .inv .1 ∙ spelt-next (a .rows .now) (a .name .now) (a .row) (l .loop .i) (p .0) (p .1 .0) (p .1 .1) (omega arith) (omega (arith, k .shared-slice-known .given (l .loop .i))) (c .if1 .left))
 
 returns-2 : tie.Need-returns-2 Inv-loop μ-loop
 returns-2 c =

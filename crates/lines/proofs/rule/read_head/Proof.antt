@@ -1,12 +1,11 @@
 -- `lines::rule::read_head` meets its contract. Assumes nothing.
-use Rattle.lines.proofs.Steps.{place-upto, hand-up, past, head-bad, head-plain, head-bad-name, head-grouped}
+use Rattle.lines.proofs.Steps.{place-first, place-upto, hand-up, past, head-bad, head-plain, head-bad-name, head-grouped}
 use Rattle.lines.specs.declared.rule.Part.the-variants.{Named}
 use Rattle.lines.specs.Rule.{word}
-use Rattle.lines.specs.Parse.{got}
 use lib.ListN.{drop}
 use native.Mathlib.Omega.{arith}
 use Prim.Native.Nat.{_+_}
-use mathlib.Core.Path.{_≡_, sym, ap, _∙_}
+use mathlib.Core.Path.{sym, ap, _∙_}
 use borrow.Author.Needs.{needs}
 use Rattle.lines.proofs.rule.read_head.Statement.{statement}
 use Rattle.lines.proofs.rule.read_head.Tie as tie
@@ -24,24 +23,22 @@ returns c =
 
 returns-2 : tie.Need-returns-2
 returns-2 c =
-    let s = c .before .before .before .before .before .before .args .s .now in
-    let n = c .before .before .first .given .0 .0 in
+    let m = c .before .before in
+    let s = m .before .before .before .before .args .s .now in
+    let n = m .first .given .0 .0 in
     let over = c .if1 .taken in
-    place-upto 0 (word 40 s) (c .before .before .before .before .read-word .ensures) (c .before .before .first .given .1) (λ w k q h.
-    let e : k ≡ n = omega arith in
-    sym (head-plain s w n (q ∙ ap (got w) e) (past s n 46 (omega arith) over)))
+    place-first (word 40 s) (m .before .before .read-word .ensures) (m .first .given .1) (λ w q.
+    sym (head-plain s w n q (past s n 46 (omega arith) over)))
 
 shared-slice-read-if2 : tie.Need-shared-slice-read-if2
 shared-slice-read-if2 c = search needs
 
 returns-3 : tie.Need-returns-3
 returns-3 c =
-    let s = c .before .before .before .before .before .before .before .before .args .s .now in
-    let n = c .before .before .before .before .first .given .0 .0 in
-    let other = c .if2 .taken in
-    place-upto 0 (word 40 s) (c .before .before .before .before .before .before .read-word .ensures) (c .before .before .before .before .first .given .1) (λ w k q h.
-    let e : k ≡ n = omega arith in
-    sym (head-plain s w n (q ∙ ap (got w) e) other))
+    let m = c .before .before .before .before in
+    let s = m .before .before .before .before .args .s .now in
+    place-first (word 40 s) (m .before .before .read-word .ensures) (m .first .given .1) (λ w q.
+    sym (head-plain s w (m .first .given .0 .0) q (c .if2 .taken)))
 
 add-start : tie.Need-add-start
 add-start c = search needs
@@ -57,25 +54,19 @@ returns-4 c =
     let m = c .before .before .before .before .before .before in
     let s = m .before .before .before .before .args .s .now in
     let n = m .first .given .0 .0 in
-    let dot = c .before .before .if2 .left in
-    let r = c .before .read-word2 .ensures in
-    let keys = c .match2 .keys2 in
-    place-upto 0 (word 40 s) (m .before .before .read-word .ensures) (m .first .given .1) (λ w k q h.
-    let e : k ≡ n = omega arith in
-    hand-up (n + 1) (word 40 (drop (n + 1) s)) r keys (λ x p. head-bad-name s w n (q ∙ ap (got w) e) x dot p))
+    place-first (word 40 s) (m .before .before .read-word .ensures) (m .first .given .1) (λ w q.
+    hand-up (n + 1) (word 40 (drop (n + 1) s)) (c .before .read-word2 .ensures) (c .match2 .keys2) (λ x p.
+    head-bad-name s w n q x (c .before .before .if2 .left) p))
 
 returns-5 : tie.Need-returns-5
 returns-5 c =
-    let m = c .before .before .before .before .before .before .before .before in
+    let r = c .before .before .before in
+    let m = r .before .before .before .before .before in
     let s = m .before .before .before .before .args .s .now in
     let n = m .first .given .0 .0 in
-    let dot = c .before .before .before .before .if2 .left in
-    let r = c .before .before .before .read-word2 .ensures in
-    let told = c .before .second .given .1 in
-    place-upto 0 (word 40 s) (m .before .before .read-word .ensures) (m .first .given .1) (λ w k q h.
-    let e : k ≡ n = omega arith in
-    place-upto (n + 1) (word 40 (drop (n + 1) s)) r told (λ b i p g.
-    ap (Named n) g ∙ sym (head-grouped s w n (q ∙ ap (got w) e) b i dot p)))
+    place-first (word 40 s) (m .before .before .read-word .ensures) (m .first .given .1) (λ w q.
+    place-upto (n + 1) (word 40 (drop (n + 1) s)) (r .read-word2 .ensures) (c .before .second .given .1) (λ b i p g.
+    ap (Named n) g ∙ sym (head-grouped s w n q b i (r .before .if2 .left) p)))
 
 pub read-head-spec : {M : Type 1} → statement M
 read-head-spec =

@@ -1,5 +1,5 @@
 -- `lines::rule::read_line` meets its contract. Assumes nothing.
-use Rattle.lines.proofs.Steps.{headed-named, headed-up, listed-list, listed-up, colon-inside, line-bad, line-bad-params, line-answer}
+use Rattle.lines.proofs.Steps.{headed-named, headed-up, listed-up, line-bad, line-bad-params, line-told}
 use Rattle.lines.specs.Rule.{head, params}
 use lib.ListN.{length, drop}
 use native.Mathlib.Omega.{arith}
@@ -39,26 +39,13 @@ add-t9 : tie.Need-add-t9
 add-t9 c =
     let f = c .before .before .before .before .before in
     let s = f .before .before .before .before .args .s .now in
-    let n = f .first .given .0 .1 .0 in
-    let m = params (suc (length (drop n s))) (drop n s) in
-    let r = c .before .before .before .read-params .ensures in
-    let told = c .before .rest .given .1 in
-    headed-named (head s) (f .before .before .read-head .ensures) (f .first .given .1) (λ h q g.
-    listed-list 0 n m r told (λ ps k p d e.
-    let i = colon-inside s n (suc (length (drop n s))) ps k p in
-    omega arith))
+    omega (arith, line-told s (f .before .before .read-head .ensures) (f .first .given .1) (c .before .before .before .read-params .ensures) (c .before .rest .given .1) .0)
 
 returns-3 : tie.Need-returns-3
 returns-3 c =
     let f = c .before .before .before .before .before in
     let s = f .before .before .before .before .args .s .now in
-    let n = f .first .given .0 .1 .0 in
-    let m = params (suc (length (drop n s))) (drop n s) in
-    let r = c .before .before .before .read-params .ensures in
-    let told = c .before .rest .given .1 in
-    headed-named (head s) (f .before .before .read-head .ensures) (f .first .given .1) (λ h q g.
-    listed-list 0 n m r told (λ ps k p d e.
-    line-answer s h n q ps k _ _ _ p g d e))
+    line-told s (f .before .before .read-head .ensures) (f .first .given .1) (c .before .before .before .read-params .ensures) (c .before .rest .given .1) .1
 
 pub read-line-spec : {M : Type 1} → statement M
 read-line-spec =
