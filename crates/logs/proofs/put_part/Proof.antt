@@ -36,7 +36,11 @@ same-length c = search needs
 
 returns : tie.Need-returns
 unfolding entry
-returns c = let a = c .before .before .before .before .before .before .before .before .before .before .args in let n = one-length 3 (length (a .octets .now)) in let e = c .before .before .before .before .before .before .put-one .ensures .wrote in let k = c .before .before .before .before .before .before .put-one .kept in let v = part-length (a .octets .now) in record { wrote = omega arith; log = put-copied _ (a .octets .now) _ _ (omega arith) (c .before .before .copy-in .ensures) ∙ ap (λ (l : List ℕ). patch l (c .before .before .before .before .before .before .put-one .result) (a .octets .now)) (c .before .before .before .before .before .before .put-one .ensures .log) ∙ put-behind (a .d .now) (3 ∷ wordOctets (length (a .octets .now))) (a .octets .now) _ e }
+returns c =
+    let c2 = c .before .before in
+    let c6 = c2 .before .before .before .before in
+    let c10 = c6 .before .before .before .before in
+    let a = c10 .args in let n = one-length 3 (length (a .octets .now)) in let e = c6 .put-one .ensures .wrote in let k = c6 .put-one .kept in let v = part-length (a .octets .now) in record { wrote = omega arith; log = put-copied _ (a .octets .now) _ _ (omega arith) (c2 .copy-in .ensures) ∙ ap (λ (l : List ℕ). patch l (c6 .put-one .result) (a .octets .now)) (c6 .put-one .ensures .log) ∙ put-behind (a .d .now) (3 ∷ wordOctets (length (a .octets .now))) (a .octets .now) _ e }
 
 pub put-part-spec : {M : Type 1} → statement M
 put-part-spec =

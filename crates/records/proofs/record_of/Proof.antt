@@ -86,11 +86,15 @@ cast-t18 c =
 returns-2 : tie.Need-returns-2
 unfolding recordOf recordBy
 returns-2 c =
-    let a = c .before .before .before .before .before .before .before .before .before .before .before .before .args in
-    let x = c .before .before .before .before .before .before .before .before .told .given .0 .0 in
+    let c6 = c .before .before .before .before .before .before in
+    let c8 = c6 .before .before in
+    let c10 = c8 .before .before in
+    let c12 = c10 .before .before in
+    let a = c12 .args in
+    let x = c8 .told .given .0 .0 in
     let n = length (a .l .now) in
-    ap (λ (f : ℕ). x .row ∷ a .w ∷ n ∷ x .group ∷ (x .name - f) ∷ x .params ∷ (a .w + x .value) ∷ x .kind ∷ []) (c .before .before .before .before .before .before .name-start .ensures)
-    ∙ sym (ap (recordBy (a .w) n) (sym (c .before .before .before .before .before .before .before .before .before .before .parts-of .ensures) ∙ c .before .before .before .before .before .before .before .before .told .given .1))
+    ap (λ (f : ℕ). x .row ∷ a .w ∷ n ∷ x .group ∷ (x .name - f) ∷ x .params ∷ (a .w + x .value) ∷ x .kind ∷ []) (c6 .name-start .ensures)
+    ∙ sym (ap (recordBy (a .w) n) (sym (c10 .parts-of .ensures) ∙ c8 .told .given .1))
 
 pub record-of-spec : {M : Type 1} → statement M
 record-of-spec =

@@ -37,11 +37,15 @@ step : (c : tie.After-run-call Inv-loop μ-loop)
     let r = c .run-call in
     Running (worldOf (a .desk) (a .pool .now)) (a .script .now) (a .log .now) (r .result .desk) (r .last .1 .1 .0) (putMid (l .to) (length (l .log) - l .to) (l .log) (r .last .1 .1 .1 .0)) (l .at + c .before .before .before .before .width .result) (l .to + r .result .wrote)
 step c =
-    let l = c .before .before .before .before .before .before .before .loop in
+    let c4 = c .before .before .before .before in
+    let c6 = c4 .before .before in
+    let c7 = c6 .before in
+    let c11 = c7 .before .before .before .before in
+    let l = c7 .loop in
     let r = c .run-call in
-    rw (wide (c .before .before .before .before))
-    (next (l .inv) (c .before .before .before .before .before .before .loop-test .taken) (c .before .before .before .before .before .before .before .before .before .before .before .pre .1) (r .result .desk) (r .last .1 .1 .0) (r .last .1 .1 .1 .0) (r .result .wrote) (omega (arith, r .kept))
-    (rw (tail-is (c .before .before .before .before .before .before .before .before .before .before .before .args .script .now) (l .at)) at (r .ensures)))
+    rw (wide (c4))
+    (next (l .inv) (c6 .loop-test .taken) (c11 .pre .1) (r .result .desk) (r .last .1 .1 .0) (r .last .1 .1 .1 .0) (r .result .wrote) (omega (arith, r .kept))
+    (rw (tail-is (c11 .args .script .now) (l .at)) at (r .ensures)))
 
 loop-holds : tie.Need-loop-holds Inv-loop μ-loop
 loop-holds c = run-start _ _ _ _ (c .before .before .before .pre .0)

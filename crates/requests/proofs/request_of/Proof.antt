@@ -31,8 +31,13 @@ same-length c = search needs
 
 returns : tie.Need-returns
 returns c =
-    let a = c .before .before .before .before .before .before .before .before .before .before .before .before .args in
-    c .before .before .read-row .ensures ∙ sym (of-row (a .line .now) (a .out .now) _ (c .before .before .before .before .before .row-of .result) (c .before .before .before .before .before .before .spaces .result) (c .before .before .before .before .before .before .before .word .ensures) (c .before .before .before .before .before .before .spaces .ensures) (c .before .before .before .before .before .row-of .ensures .0))
+    let c2 = c .before .before in
+    let c5 = c2 .before .before .before in
+    let c6 = c5 .before in
+    let c7 = c6 .before in
+    let c12 = c7 .before .before .before .before .before in
+    let a = c12 .args in
+    c2 .read-row .ensures ∙ sym (of-row (a .line .now) (a .out .now) _ (c5 .row-of .result) (c6 .spaces .result) (c7 .word .ensures) (c6 .spaces .ensures) (c5 .row-of .ensures .0))
 
 pub request-of-spec : {M : Type 1} → statement M
 request-of-spec =

@@ -63,7 +63,9 @@ returns : tie.Need-returns
 returns c = let t = c .before .before .turned .ensures in acts-steps (opened (c .before .before .before .before)) (t .0) (t .1)
 
 half-requires : tie.Need-half-requires
-half-requires c κs = let v = whole (c .before .before .before .before .before .before .before .args .s .now) (c .before .before .before .before .before .before .before .pre .0) in let e = asked-add (c .before .before .before .before .before .before .before .args .s .now) (c .if2 .taken) in omega (arith, v .fits)
+half-requires c κs =
+    let c7 = c .before .before .before .before .before .before .before in
+    let v = whole (c7 .args .s .now) (c7 .pre .0) in let e = asked-add (c7 .args .s .now) (c .if2 .taken) in omega (arith, v .fits)
 
 cast-end : tie.Need-cast-end
 cast-end c = search needs
@@ -78,7 +80,10 @@ part-add-start : tie.Need-part-add-start
 part-add-start c = search needs
 
 part-add-end : tie.Need-part-add-end
-part-add-end c = let v = whole (c .before .before .before .before .before .before .before .before .before .args .s .now) (c .before .before .before .before .before .before .before .before .before .pre .0) in let e = asked-add (c .before .before .before .before .before .before .before .before .before .args .s .now) (c .before .before .if2 .taken) in omega (arith, v .fits, c .before .half .ensures .0)
+part-add-end c =
+    let c2 = c .before .before in
+    let c9 = c2 .before .before .before .before .before .before .before in
+    let v = whole (c9 .args .s .now) (c9 .pre .0) in let e = asked-add (c9 .args .s .now) (c2 .if2 .taken) in omega (arith, v .fits, c .before .half .ensures .0)
 
 add-requires : tie.Need-add-requires
 add-requires c κs = search needs

@@ -108,9 +108,12 @@ loop-less-2 c = search needs
 
 loop-again-2 : tie.Need-loop-again-2 Inv-loop μ-loop
 loop-again-2 c =
-    let h = c .before .before .before .before .loop-test .taken in
-    let e = next (c .before .before .before .before .before) h (lone c) ∙ ap (λ (b : ℕ). (b ∷ []) ++ gather passed kept (drop (I (c .before .before .before .before .before) + 1) (S (c .before .before .before .before .before))) 0) (c .before .before .if1 .taken) in
-    (omega arith, put-octet (c .before .before .before .before .before .loop .inv .1) 13 _ e (fits (c .before .before .before .before .before) h (lone c)))
+    let c2 = c .before .before in
+    let c4 = c2 .before .before in
+    let c5 = c4 .before in
+    let h = c4 .loop-test .taken in
+    let e = next (c5) h (lone c) ∙ ap (λ (b : ℕ). (b ∷ []) ++ gather passed kept (drop (I (c5) + 1) (S (c5))) 0) (c2 .if1 .taken) in
+    (omega arith, put-octet (c5 .loop .inv .1) 13 _ e (fits (c5) h (lone c)))
 
 shared-slice-read-d : tie.Need-shared-slice-read-d Inv-loop μ-loop
 shared-slice-read-d c = search needs
@@ -132,9 +135,13 @@ loop-less-3 c = search needs
 
 loop-again-3 : tie.Need-loop-again-3 Inv-loop μ-loop
 loop-again-3 c =
-    let h = c .before .before .before .before .loop-test .taken in
-    let f = not-cr (c .before .before .before .before .before .before .before .before .args .s .now) (c .before .before .before .before .before .loop .i) (c .before .before .if1 .left) in
-    (omega arith, put-octet (c .before .before .before .before .before .loop .inv .1) _ _ (next (c .before .before .before .before .before) h f) (fits (c .before .before .before .before .before) h f))
+    let c2 = c .before .before in
+    let c4 = c2 .before .before in
+    let c5 = c4 .before in
+    let a = c5 .before .before .before .args in
+    let h = c4 .loop-test .taken in
+    let f = not-cr (a .s .now) (c5 .loop .i) (c2 .if1 .left) in
+    (omega arith, put-octet (c5 .loop .inv .1) _ _ (next (c5) h f) (fits (c5) h f))
 
 add-hop : tie.Need-add-hop Inv-loop μ-loop
 add-hop c = search needs

@@ -25,20 +25,29 @@ cast-h c = search needs
 
 sub-if1 : tie.Need-sub-if1
 sub-if1 c =
-    let g = told (c .before .before .before .before .before .before .before .args .self) (length (now (c .before .before .before .before .before .before .before .args .pool))) (c .before .before .before .before .before .before .before .args .t) (c .before .before .slot2 .given .0 .0) (c .before .before .slot2 .given .0 .1 .0) _ (c .before .before .before .before .at-ticket .ensures) (c .before .before .slot2 .given .1) in omega arith
+    let c2 = c .before .before in
+    let c4 = c2 .before .before in
+    let a = c4 .before .before .before .args in
+    let g = told (a .self) (length (now (a .pool))) (a .t) (c2 .slot2 .given .0 .0) (c2 .slot2 .given .0 .1 .0) _ (c4 .at-ticket .ensures) (c2 .slot2 .given .1) in omega arith
 
 refused-requires-2 : tie.Need-refused-requires-2
 refused-requires-2 c κs = search needs
 
 returns : tie.Need-returns
 returns c =
-    let g = told (c .before .before .before .before .before .before .before .before .before .args .self) (length (now (c .before .before .before .before .before .before .before .before .before .args .pool))) (c .before .before .before .before .before .before .before .before .before .args .t) (c .before .before .before .before .slot2 .given .0 .0) (c .before .before .before .before .slot2 .given .0 .1 .0) _ (c .before .before .before .before .before .before .at-ticket .ensures) (c .before .before .before .before .slot2 .given .1) in
-    let h : 16384 < c .before .before .before .before .slot2 .given .0 .1 .0 .held + length (now (c .before .before .before .before .before .before .before .before .before .args .chunk)) = omega arith in
-    add-full (c .before .before .before .before .before .before .before .before .before .args .self) (now (c .before .before .before .before .before .before .before .before .before .args .pool)) (c .before .before .before .before .before .before .before .before .before .args .t) _ (c .before .before .before .before .before .before .at-ticket .ensures) (now (c .before .before .before .before .before .before .before .before .before .args .chunk)) (c .before .before .before .before .slot2 .given .0 .0) (c .before .before .before .before .slot2 .given .0 .1 .0) (c .before .before .before .before .slot2 .given .1) h _ (c .refused2 .ensures)
+    let c4 = c .before .before .before .before in
+    let c6 = c4 .before .before in
+    let a = c6 .before .before .before .args in
+    let g = told (a .self) (length (now (a .pool))) (a .t) (c4 .slot2 .given .0 .0) (c4 .slot2 .given .0 .1 .0) _ (c6 .at-ticket .ensures) (c4 .slot2 .given .1) in
+    let h : 16384 < c4 .slot2 .given .0 .1 .0 .held + length (now (a .chunk)) = omega arith in
+    add-full (a .self) (now (a .pool)) (a .t) _ (c6 .at-ticket .ensures) (now (a .chunk)) (c4 .slot2 .given .0 .0) (c4 .slot2 .given .0 .1 .0) (c4 .slot2 .given .1) h _ (c .refused2 .ensures)
 
 put-requires : tie.Need-put-requires
 put-requires c κs =
-    let g = told (c .before .before .before .before .before .before .before .before .before .args .self) (length (now (c .before .before .before .before .before .before .before .before .before .args .pool))) (c .before .before .before .before .before .before .before .before .before .args .t) (c .before .before .before .before .slot2 .given .0 .0) (c .before .before .before .before .slot2 .given .0 .1 .0) _ (c .before .before .before .before .before .before .at-ticket .ensures) (c .before .before .before .before .slot2 .given .1) in omega arith
+    let c4 = c .before .before .before .before in
+    let c6 = c4 .before .before in
+    let a = c6 .before .before .before .args in
+    let g = told (a .self) (length (now (a .pool))) (a .t) (c4 .slot2 .given .0 .0) (c4 .slot2 .given .0 .1 .0) _ (c6 .at-ticket .ensures) (c4 .slot2 .given .1) in omega arith
 
 add-m : tie.Need-add-m
 add-m c = search needs
@@ -48,20 +57,30 @@ cast-t20 c = search needs
 
 granted-requires : tie.Need-granted-requires
 granted-requires c κs =
-    let g = told (c .before .before .before .before .before .before .before .before .before .before .before .before .args .self) (length (now (c .before .before .before .before .before .before .before .before .before .before .before .before .args .pool))) (c .before .before .before .before .before .before .before .before .before .before .before .before .args .t) (c .before .before .before .before .before .before .before .slot2 .given .0 .0) (c .before .before .before .before .before .before .before .slot2 .given .0 .1 .0) _ (c .before .before .before .before .before .before .before .before .before .at-ticket .ensures) (c .before .before .before .before .before .before .before .slot2 .given .1) in omega arith
+    let c7 = c .before .before .before .before .before .before .before in
+    let c9 = c7 .before .before in
+    let a = c9 .before .before .before .args in
+    let g = told (a .self) (length (now (a .pool))) (a .t) (c7 .slot2 .given .0 .0) (c7 .slot2 .given .0 .1 .0) _ (c9 .at-ticket .ensures) (c7 .slot2 .given .1) in omega arith
 
 returns-2 : tie.Need-returns-2
 returns-2 c =
-    add-barred (c .before .before .before .before .before .before .before .args .self) (now (c .before .before .before .before .before .before .before .args .pool)) (c .before .before .before .before .before .before .before .args .t) _ (c .before .before .before .before .at-ticket .ensures) (now (c .before .before .before .before .before .before .before .args .chunk)) _ (c .before .before .slot .given .1) _ (c .refused .ensures)
+    let c2 = c .before .before in
+    let c4 = c2 .before .before in
+    let a = c4 .before .before .before .args in
+    add-barred (a .self) (now (a .pool)) (a .t) _ (c4 .at-ticket .ensures) (now (a .chunk)) _ (c2 .slot .given .1) _ (c .refused .ensures)
 
 same-length : tie.Need-same-length
 same-length c = search needs
 
 returns-3 : tie.Need-returns-3
 returns-3 c =
-    let g = told (c .before .before .before .before .before .before .before .before .before .before .before .before .before .args .self) (length (now (c .before .before .before .before .before .before .before .before .before .before .before .before .before .args .pool))) (c .before .before .before .before .before .before .before .before .before .before .before .before .before .args .t) (c .before .before .before .before .before .before .before .before .slot2 .given .0 .0) (c .before .before .before .before .before .before .before .before .slot2 .given .0 .1 .0) _ (c .before .before .before .before .before .before .before .before .before .before .at-ticket .ensures) (c .before .before .before .before .before .before .before .before .slot2 .given .1) in
-    let h : c .before .before .before .before .before .before .before .before .slot2 .given .0 .1 .0 .held + length (now (c .before .before .before .before .before .before .before .before .before .before .before .before .before .args .chunk)) ≤ 16384 = omega arith in
-    add-done (c .before .before .before .before .before .before .before .before .before .before .before .before .before .args .self) (now (c .before .before .before .before .before .before .before .before .before .before .before .before .before .args .pool)) (c .before .before .before .before .before .before .before .before .before .before .before .before .before .args .t) _ (c .before .before .before .before .before .before .before .before .before .before .at-ticket .ensures) (now (c .before .before .before .before .before .before .before .before .before .before .before .before .before .args .chunk)) (c .before .before .before .before .before .before .before .before .slot2 .given .0 .0) (c .before .before .before .before .before .before .before .before .slot2 .given .0 .1 .0) (c .before .before .before .before .before .before .before .before .slot2 .given .1) h _ (c .granted .ensures) _ (c .before .before .before .put .ensures)
+    let c3 = c .before .before .before in
+    let c8 = c3 .before .before .before .before .before in
+    let c10 = c8 .before .before in
+    let a = c10 .before .before .before .args in
+    let g = told (a .self) (length (now (a .pool))) (a .t) (c8 .slot2 .given .0 .0) (c8 .slot2 .given .0 .1 .0) _ (c10 .at-ticket .ensures) (c8 .slot2 .given .1) in
+    let h : c8 .slot2 .given .0 .1 .0 .held + length (now (a .chunk)) ≤ 16384 = omega arith in
+    add-done (a .self) (now (a .pool)) (a .t) _ (c10 .at-ticket .ensures) (now (a .chunk)) (c8 .slot2 .given .0 .0) (c8 .slot2 .given .0 .1 .0) (c8 .slot2 .given .1) h _ (c .granted .ensures) _ (c3 .put .ensures)
 
 pub add-spec : {M : Type 1} → statement M
 add-spec =

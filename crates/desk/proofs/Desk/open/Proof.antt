@@ -28,8 +28,11 @@ refused-requires-2 c κs = search needs
 
 returns : tie.Need-returns
 returns c =
-    let e = open-look (c .before .before .before .before .before .before .before .args .self) (now (c .before .before .before .before .before .before .before .args .pool)) (c .before .before .before .before .before .before .before .args .tram) _ (sym (c .before .before .before .before .look .ensures) ∙ c .before .before .enum-told .given .1) in
-    ap (λ (r : Turn). turned r (now (c .before .before .before .before .before .before .before .args .pool))) (c .refused2 .ensures) ∙ (rw (eq-eqb _ _ (c .before .if1 .taken)) at e)
+    let c2 = c .before .before in
+    let c4 = c2 .before .before in
+    let a = c4 .before .before .before .args in
+    let e = open-look (a .self) (now (a .pool)) (a .tram) _ (sym (c4 .look .ensures) ∙ c2 .enum-told .given .1) in
+    ap (λ (r : Turn). turned r (now (a .pool))) (c .refused2 .ensures) ∙ (rw (eq-eqb _ _ (c .before .if1 .taken)) at e)
 
 refused-requires-3 : tie.Need-refused-requires-3
 refused-requires-3 c κs = search needs
@@ -42,8 +45,11 @@ refused-requires-4 c κs = search needs
 
 returns-2 : tie.Need-returns-2
 returns-2 c =
-    let e = open-look (c .before .before .before .before .before .before .before .before .args .self) (now (c .before .before .before .before .before .before .before .before .args .pool)) (c .before .before .before .before .before .before .before .before .args .tram) _ (sym (c .before .before .before .before .before .look .ensures) ∙ c .before .before .before .p2 .given .1) in
-    ap (λ (r : Turn). turned r (now (c .before .before .before .before .before .before .before .before .args .pool))) (c .refused4 .ensures) ∙ (rw (eq-eqb _ _ (c .before .if2 .taken)) at e)
+    let c3 = c .before .before .before in
+    let c5 = c3 .before .before in
+    let a = c5 .before .before .before .args in
+    let e = open-look (a .self) (now (a .pool)) (a .tram) _ (sym (c5 .look .ensures) ∙ c3 .p2 .given .1) in
+    ap (λ (r : Turn). turned r (now (a .pool))) (c .refused4 .ensures) ∙ (rw (eq-eqb _ _ (c .before .if2 .taken)) at e)
 
 add-self : tie.Need-add-self
 add-self c = search needs
@@ -53,22 +59,34 @@ cast-granted c = search needs
 
 granted-requires : tie.Need-granted-requires
 granted-requires c κs =
-    look-place (c .before .before .before .before .before .before .before .args .self .entries) (c .before .before .before .before .before .before .before .args .self .slots) (c .before .before .before .before .before .before .before .args .self .next) (length (now (c .before .before .before .before .before .before .before .args .pool))) 0 _ (sym (c .before .before .before .before .look .ensures) ∙ c .before .before .p2 .given .1)
+    let c2 = c .before .before in
+    let c4 = c2 .before .before in
+    let a = c4 .before .before .before .args in
+    look-place (a .self .entries) (a .self .slots) (a .self .next) (length (now (a .pool))) 0 _ (sym (c4 .look .ensures) ∙ c2 .p2 .given .1)
 
 returns-3 : tie.Need-returns-3
 returns-3 c =
-    let e = open-look (c .before .before .before .before .before .before .before .args .self) (now (c .before .before .before .before .before .before .before .args .pool)) (c .before .before .before .before .before .before .before .args .tram) _ (sym (c .before .before .before .before .look .ensures) ∙ c .before .before .p .given .1) in
-    ap (λ (r : Turn). turned r (now (c .before .before .before .before .before .before .before .args .pool))) (c .refused .ensures) ∙ e
+    let c2 = c .before .before in
+    let c4 = c2 .before .before in
+    let a = c4 .before .before .before .args in
+    let e = open-look (a .self) (now (a .pool)) (a .tram) _ (sym (c4 .look .ensures) ∙ c2 .p .given .1) in
+    ap (λ (r : Turn). turned r (now (a .pool))) (c .refused .ensures) ∙ e
 
 returns-4 : tie.Need-returns-4
 returns-4 c =
-    let e = open-look (c .before .before .before .before .before .before .before .args .self) (now (c .before .before .before .before .before .before .before .args .pool)) (c .before .before .before .before .before .before .before .args .tram) _ (sym (c .before .before .before .before .look .ensures) ∙ c .before .before .enum-told .given .1) in
-    ap (λ (r : Turn). turned r (now (c .before .before .before .before .before .before .before .args .pool))) (c .refused3 .ensures) ∙ (rw (ne-eqb _ _ (c .before .if1 .left)) at e)
+    let c2 = c .before .before in
+    let c4 = c2 .before .before in
+    let a = c4 .before .before .before .args in
+    let e = open-look (a .self) (now (a .pool)) (a .tram) _ (sym (c4 .look .ensures) ∙ c2 .enum-told .given .1) in
+    ap (λ (r : Turn). turned r (now (a .pool))) (c .refused3 .ensures) ∙ (rw (ne-eqb _ _ (c .before .if1 .left)) at e)
 
 returns-5 : tie.Need-returns-5
 returns-5 c =
-    let e = open-look (c .before .before .before .before .before .before .before .before .args .self) (now (c .before .before .before .before .before .before .before .before .args .pool)) (c .before .before .before .before .before .before .before .before .args .tram) _ (sym (c .before .before .before .before .before .look .ensures) ∙ c .before .before .before .p2 .given .1) in
-    ap (λ (r : Turn). turned r (now (c .before .before .before .before .before .before .before .before .args .pool))) (c .granted .ensures) ∙ (rw (ne-eqb _ _ (c .before .if2 .left)) at e)
+    let c3 = c .before .before .before in
+    let c5 = c3 .before .before in
+    let a = c5 .before .before .before .args in
+    let e = open-look (a .self) (now (a .pool)) (a .tram) _ (sym (c5 .look .ensures) ∙ c3 .p2 .given .1) in
+    ap (λ (r : Turn). turned r (now (a .pool))) (c .granted .ensures) ∙ (rw (ne-eqb _ _ (c .before .if2 .left)) at e)
 
 pub open-spec : {M : Type 1} → statement M
 open-spec =

@@ -106,15 +106,19 @@ loop-less c = search needs
 
 loop-again : tie.Need-loop-again Inv-loop μ-loop
 loop-again c =
+    let c4 = c .before .before .before .before in
+    let c8 = c4 .before .before .before .before in
+    let c10 = c8 .before .before in
+    let c13 = c10 .before .before .before in
     let e = c .before .j .given .1 in
-    let l = c .before .before .before .before .before .before .before .before .before .before .loop in
-    let v = c .before .before .before .before .before .before .before .before .line-at in
-    let a = c .before .before .before .before .before .before .before .before .before .before .before .before .before .args in
-    let more = one-more (l .c) (c .before .j .given .0 .0) (l .at) _ (sym (c .before .before .before .before .judge-span .ensures .0) ∙ e) in (
-      omega (arith, c .before .before .before .before .judge-span, l .inv .0),
+    let l = c10 .loop in
+    let v = c8 .line-at in
+    let a = c13 .args in
+    let more = one-more (l .c) (c .before .j .given .0 .0) (l .at) _ (sym (c4 .judge-span .ensures .0) ∙ e) in (
+      omega (arith, c4 .judge-span, l .inv .0),
       omega (arith, l .inv .1),
       omega (arith, v .ensures .1, l .inv .2),
-      turn (c .before .before .before .before) ∙ ap (λ (r : Step). onward r (judgeLines (rawLines (drop (v .result .end + 2) (a .s .now))) (v .result .end + 2))) e,
+      turn (c4) ∙ ap (λ (r : Step). onward r (judgeLines (rawLines (drop (v .result .end + 2) (a .s .now))) (v .result .end + 2))) e,
     )
 
 returns-2 : tie.Need-returns-2 Inv-loop μ-loop

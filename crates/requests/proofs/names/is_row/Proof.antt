@@ -64,12 +64,16 @@ same-requires c κs = search needs
 returns-2 : tie.Need-returns-2
 unfolding fits
 returns-2 c =
-    let s = c .before .before .before .before .before .before .before .before .before in
+    let c2 = c .before .before in
+    let c4 = c2 .before .before in
+    let c5 = c4 .before in
+    let c6 = c5 .before in
+    let s = c6 .before .before .before in
     let a = s .args in
     let w = a .word .now in
     let l = listed (a .t .now) (s .pre .0) (a .row) (s .pre .1) in
-    let name = fits-name w (a .after) (rowAt (a .row)) (c .before .before .before .before .before .before .numbers-at .result) (c .before .before .before .before .before .octets-at .result) (c .before .before .before .before .before .before .numbers-at .ensures .0) (c .before .before .before .before .before .octets-at .ensures .0) (c .before .before .before .before .if1 .left) in
-    told _ w _ (c .same .ensures) ∙ ap (alike w) (spelt-part (a .t .now) (a .row) (c .before .before .wide .result) l (c .before .before .wide .ensures)) ∙ sym name
+    let name = fits-name w (a .after) (rowAt (a .row)) (c6 .numbers-at .result) (c5 .octets-at .result) (c6 .numbers-at .ensures .0) (c5 .octets-at .ensures .0) (c4 .if1 .left) in
+    told _ w _ (c .same .ensures) ∙ ap (alike w) (spelt-part (a .t .now) (a .row) (c2 .wide .result) l (c2 .wide .ensures)) ∙ sym name
 
 pub is-row-spec : {M : Type 1} → statement M
 is-row-spec =

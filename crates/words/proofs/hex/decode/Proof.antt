@@ -53,9 +53,12 @@ value-requires-2 c κs = search needs
 
 add-out : tie.Need-add-out Inv-loop μ-loop
 add-out c =
-    let w = c .before .before .before .before .before .before .before .before .args .word .now in
-    let i = c .before .before .before .before .before .loop .i in
-    omega (arith, c .before .before .value .ensures, c .value2 .ensures, digit-low w (2 * i) (c .before .before .before .before .before .before .before .before .pre .0) (omega arith), digit-low w (2 * i + 1) (c .before .before .before .before .before .before .before .before .pre .0) (omega arith))
+    let c2 = c .before .before in
+    let c5 = c2 .before .before .before in
+    let c8 = c5 .before .before .before in
+    let w = c8 .args .word .now in
+    let i = c5 .loop .i in
+    omega (arith, c2 .value .ensures, c .value2 .ensures, digit-low w (2 * i) (c8 .pre .0) (omega arith), digit-low w (2 * i + 1) (c8 .pre .0) (omega arith))
 
 slice-write-out : tie.Need-slice-write-out Inv-loop μ-loop
 slice-write-out c =
