@@ -9,7 +9,7 @@ use lib.ListN.{length, take, drop}
 use Rattle.characters.specs.Characters.{allowed}
 use Rattle.octets.specs.Room.{Filled, refuse}
 use Rattle.octet_laws.specs.Texts.{Text, Stops}
-use Rattle.escapes.specs.Escapes.{escaped}
+use Rattle.escaping.specs.Escaped.{escaped}
 use Rattle.text.specs.Outcomes.{escapeOutcome, unescapeOutcome}
 use Rattle.text_laws.specs.Stands.{Stands, Faulty}
 use Rattle.lines.specs.Grammar.{render}

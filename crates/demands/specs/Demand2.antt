@@ -8,7 +8,7 @@ use mathlib.Core.Logic.{_↔_}
 use lib.ListN.{length, take, drop}
 use Rattle.octets.specs.Room.{Filled, filled, overlay}
 use Rattle.octets.specs.declared.rooms.Written.the-variants.{Wrote}
-use Rattle.escapes.specs.Escapes.{escaped}
+use Rattle.escaping.specs.Escaped.{escaped}
 use Rattle.text.specs.Outcomes.{escapeOutcome, unescapeOutcome}
 use Rattle.text_laws.specs.Stands.{Stands}
 use Rattle.lines.specs.Grammar.{Line, render}

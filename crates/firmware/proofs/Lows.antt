@@ -13,7 +13,7 @@ use Rattle.octets.specs.Room.{Filled, filled, overlay, refuse, fill, fillBounde
 use Rattle.characters.specs.Characters.{allowed, firstBad}
 use Rattle.octets.specs.declared.rooms.Written.{Written}
 use Rattle.octets.specs.declared.rooms.Written.the-variants.{Wrote, Refused}
-use Rattle.escapes.specs.Escapes.{firstFault, passed, standing, unescaped}
+use Rattle.unescaping.specs.Unescaped.{firstFault, passed, standing, unescaped}
 use Rattle.text.specs.Outcomes.{checked, faultless, unescapeOutcome}
 use Rattle.cuts.specs.Pieces.{foldedLines}
 use Rattle.folder.specs.Outcome.{foldBy, foldOutcome}
