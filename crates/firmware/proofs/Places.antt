@@ -24,7 +24,8 @@ use Rattle.card_state.specs.declared.Card.{Card}
 use Rattle.card_state.specs.declared.Step.{Step}
 use Rattle.card_state.specs.declared.Step.the-variants.{Next, Refused as Halted}
 use Rattle.ends.specs.Lone.{firstLone, endsCrLf}
-use Rattle.reader.specs.Outcome.{onward, judgeLines, verdictOf, judgeOf}
+use Rattle.walks.specs.Walk.{onward, judgeLines}
+use Rattle.reader.specs.Outcome.{verdictOf, judgeOf}
 use Rattle.reader.specs.declared.Verdict.{Verdict}
 use Rattle.reader.specs.declared.Verdict.the-variants.{Accepted, Refused}
 

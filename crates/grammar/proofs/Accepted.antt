@@ -15,7 +15,8 @@ use Rattle.card_state.specs.declared.Card.{Card}
 use Rattle.card_state.specs.declared.Step.{Step}
 use Rattle.card_state.specs.declared.Step.the-variants.{Next}
 use Rattle.ends.specs.Lone.{firstLone}
-use Rattle.reader.specs.Outcome.{judgeLines, verdictOf, judgeOf, logicalLines, ended}
+use Rattle.walks.specs.Walk.{judgeLines}
+use Rattle.reader.specs.Outcome.{verdictOf, judgeOf, logicalLines, ended}
 use Rattle.reader.specs.declared.Verdict.the-variants.{Accepted}
 use Rattle.reader.proofs.AcceptLaws.{accepting}
 use Rattle.grammar.specs.Cards.{Readable, card, Cards, none, more}

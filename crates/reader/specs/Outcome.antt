@@ -7,25 +7,14 @@ use Rattle.octets.specs.Pick.{pick}
 use Rattle.octets.specs.Room.{overlay}
 use Rattle.folds.specs.Folds.{unfolded}
 use Rattle.folds.specs.Logical.{rawLines}
+use Rattle.walks.specs.Walk.{judgeLines}
 use Rattle.records.specs.Records.{recordsFrom}
 use Rattle.card_state.specs.State.{freshCard}
-use Rattle.cards.specs.Judge.{judgeLine}
-use Rattle.card_state.specs.declared.Card.{Card}
 use Rattle.card_state.specs.declared.Step.{Step}
 use Rattle.card_state.specs.declared.Step.the-variants.{Next, Refused as Halted}
 use Rattle.ends.specs.Lone.{firstLone, endsCrLf}
 use Rattle.reader.specs.declared.Verdict.{Verdict}
 use Rattle.reader.specs.declared.Verdict.the-variants.{Accepted, Refused}
-
--- a refusal is handed up unchanged
-abbrev pub onward : Step → (Card → Step) → Step
-onward (Next c) f = f c
-onward (Halted n p) f = Halted n p
-
--- the lines judged one after the other; they are as they came, and p is the place of the first of them in the input as given
-unfoldable pub judgeLines : List (List ℕ) → ℕ → Card → Step
-judgeLines [] p c = Next c
-judgeLines (l ∷ ls) p c = onward (judgeLine c p (unfolded l)) (judgeLines ls (p + length l + 2))
 
 -- after the last line of an input of n octets: 9 inside a card, else the counts of cards and lines
 unfoldable pub verdictOf : ℕ → Step → Verdict

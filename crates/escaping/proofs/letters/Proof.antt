@@ -1,4 +1,4 @@
--- `escapes::escaping::letters` meets its contract. Assumes nothing.
+-- `escaping::letters` meets its contract. Assumes nothing.
 use mathlib.Core.Path.{refl}
 use mathlib.Core.List.{List}
 use Prim.Native.Nat.{ℕ}

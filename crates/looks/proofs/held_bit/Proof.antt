@@ -1,4 +1,4 @@
--- `escapes::looks::held_bit` meets its contract. Assumes nothing.
+-- `looks::held_bit` meets its contract. Assumes nothing.
 use lib.Dec.{eqb}
 use Rattle.looks.specs.Looks.{held}
 use Rattle.looks.proofs.BitLaws.{held-bits}

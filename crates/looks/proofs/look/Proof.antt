@@ -1,4 +1,4 @@
--- `escapes::looks::look` meets its contract. Assumes nothing.
+-- `looks::look` meets its contract. Assumes nothing.
 use native.Mathlib.Omega.{arith}
 use borrow.Author.Needs.{needs}
 use Rattle.looks.proofs.look.Statement.{statement}

@@ -1,4 +1,4 @@
--- `escapes::looks::look_each` meets its contract. Assumes nothing.
+-- `looks::look_each` meets its contract. Assumes nothing.
 use mathlib.Core.Path.{_≡_, sym}
 use Prim.Native.Nat.{_≤_, _-_}
 use native.Mathlib.Omega.{arith}

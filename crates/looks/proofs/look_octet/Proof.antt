@@ -1,4 +1,4 @@
--- `escapes::looks::look_octet` meets its contract. Assumes nothing.
+-- `looks::look_octet` meets its contract. Assumes nothing.
 use native.Mathlib.Omega.{arith}
 use Rattle.screening.specs.Plain.{odd}
 use Rattle.looks.specs.Looks.{held}

@@ -1,4 +1,4 @@
--- `escapes::looks::look_parts` meets its contract. Assumes nothing.
+-- `looks::look_parts` meets its contract. Assumes nothing.
 use mathlib.Core.Path.{_≡_}
 use Prim.Native.Nat.{_-_}
 use native.Mathlib.Omega.{arith}

@@ -1,4 +1,4 @@
--- `escapes::unescaping::all_pairs` meets its contract. Assumes nothing.
+-- `unescaping::all_pairs` meets its contract. Assumes nothing.
 use borrow.Author.Needs.{needs}
 use mathlib.Core.Path.{_≡_, refl, sym, ap, _∙_}
 use mathlib.Core.Bool.{Bool, _&&_}

@@ -1,4 +1,4 @@
--- `escapes::unescaping::escape_at` meets its contract. Assumes nothing.
+-- `unescaping::escape_at` meets its contract. Assumes nothing.
 use mathlib.Core.Path.{sym, _∙_}
 use native.Mathlib.Omega.{arith}
 use lib.ListN.{getD}

@@ -1,4 +1,4 @@
--- `escapes::unescaping::is_code` meets its contract. Assumes nothing.
+-- `unescaping::is_code` meets its contract. Assumes nothing.
 use borrow.Author.Tests.{eq-eqb, ne-eqb}
 use Rattle.looks.specs.Marks.{special}
 use Rattle.unescaping.specs.Unescaped.{code}

@@ -1,4 +1,4 @@
--- `escapes::unescaping::meant_by` meets its contract. Assumes nothing.
+-- `unescaping::meant_by` meets its contract. Assumes nothing.
 use borrow.Author.Tests.{eq-eqb, ne-eqb}
 use Rattle.unescaping.specs.Unescaped.{meant}
 use Rattle.unescaping.proofs.meant_by.Statement.{statement}

@@ -1,4 +1,4 @@
--- `escapes::unescaping::measure` meets its contract. Assumes nothing.
+-- `unescaping::measure` meets its contract. Assumes nothing.
 use mathlib.Core.Path.{sym, _∙_}
 use native.Mathlib.Omega.{arith}
 use Rattle.unescaping.proofs.PairLaws.{settled-sound}

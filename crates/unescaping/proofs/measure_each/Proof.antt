@@ -1,4 +1,4 @@
--- `escapes::unescaping::measure_each` meets its contract. Assumes nothing.
+-- `unescaping::measure_each` meets its contract. Assumes nothing.
 use borrow.Author.Needs.{needs}
 use mathlib.Core.Path.{_≡_, sym, ap, _∙_}
 use Prim.Native.Nat.{_≤_, _+_, _-_}

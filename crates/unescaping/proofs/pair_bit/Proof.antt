@@ -1,4 +1,4 @@
--- `escapes::unescaping::pair_bit` meets its contract. Assumes nothing.
+-- `unescaping::pair_bit` meets its contract. Assumes nothing.
 use lib.Dec.{eqb}
 use Rattle.unescaping.specs.Pairs.{unsettled}
 use Rattle.unescaping.proofs.BitLaws.{pair-bits}

@@ -1,4 +1,4 @@
--- `escapes::unescaping::write` meets its contract. Assumes nothing.
+-- `unescaping::write` meets its contract. Assumes nothing.
 use borrow.Author.Needs.{needs}
 use mathlib.Core.Path.{_≡_, sym, ap, _∙_}
 use mathlib.Core.List.{[], _∷_, _++_}

@@ -1,4 +1,4 @@
--- `escapes::counts::backslashes` meets its contract. Assumes nothing.
+-- `looks::counts::backslashes` meets its contract. Assumes nothing.
 use borrow.Author.Needs.{needs}
 use mathlib.Core.Path.{_≡_, sym, _∙_}
 use Prim.Native.Nat.{_≤_, _+_, _-_}

@@ -1,4 +1,4 @@
--- `escapes::counts::marks` meets its contract. Assumes nothing.
+-- `looks::counts::marks` meets its contract. Assumes nothing.
 use borrow.Author.Needs.{needs}
 use mathlib.Core.Path.{_≡_, sym, ap, _∙_}
 use mathlib.Core.Bool.{Bool}

@@ -12,7 +12,7 @@ ghost use Rattle.properties.specs.Rows.{Lists};
 ghost use Rattle.values.specs.States.{Scanner};
 ghost use Rattle.card_state.specs.State.{freshCard};
 ghost use Rattle.cards.specs.Judge.{judgeLine};
-ghost use Rattle.reader.specs.Outcome.{judgeLines};
+ghost use Rattle.walks.specs.Walk.{judgeLines};
 use card_state::Card;
 use card_state::Step;
 

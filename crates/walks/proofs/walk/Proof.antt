@@ -1,4 +1,4 @@
--- `reader::walk::walk` meets its contract. Assumes nothing.
+-- `walks::walk` meets its contract. Assumes nothing.
 use borrow.Author.Needs.{needs}
 use mathlib.Core.Path.{_≡_, sym, ap, _∙_}
 use mathlib.Core.List.{List}
@@ -12,11 +12,11 @@ use Rattle.card_state.specs.State.{freshCard}
 use Rattle.card_state.specs.declared.Card.{Card}
 use Rattle.card_state.specs.declared.Step.{Step}
 use Rattle.cards.proofs.CardLaws.{one-more}
-use Rattle.reader.specs.Outcome.{onward, judgeLines}
+use Rattle.walks.specs.Walk.{onward, judgeLines}
 use Rattle.folds.proofs.SpanLaws.{whole, part-length}
-use Rattle.reader.proofs.WalkLaws.{judged, handed}
-use Rattle.reader.proofs.walk.walk.Statement.{statement}
-use Rattle.reader.proofs.walk.walk.Tie as tie
+use Rattle.walks.proofs.WalkLaws.{judged, handed}
+use Rattle.walks.proofs.walk.Statement.{statement}
+use Rattle.walks.proofs.walk.Tie as tie
 
 abbrev Inv-loop : tie.InvT-loop
 Inv-loop t rows steps s scratch₀ c₀ at₀ scratch c at =

@@ -1,6 +1,5 @@
--- `reader::walk::judge_span` meets its contract. Assumes nothing.
+-- `walks::judge_span` meets its contract. Assumes nothing.
 use Rattle.folds.proofs.FoldLaws.{unfold-shorter}
--- `reader::walk::judge_span` meets its contract. Assumes nothing.
 use mathlib.Core.Bool.{Bool}
 use Rattle.octets.specs.Room.{overlay}
 use mathlib.Core.Path.{sym, ap, _∙_}
@@ -15,8 +14,8 @@ use Rattle.octets.specs.Pick.{pick}
 use Rattle.folds.specs.Folds.{unfolded}
 use Rattle.cards.specs.Judge.{judgeLine}
 use borrow.Author.Needs.{needs}
-use Rattle.reader.proofs.walk.judge_span.Statement.{statement}
-use Rattle.reader.proofs.walk.judge_span.Tie as tie
+use Rattle.walks.proofs.judge_span.Statement.{statement}
+use Rattle.walks.proofs.judge_span.Tie as tie
 
 judge-line-requires : tie.Need-judge-line-requires
 judge-line-requires c κs =
