@@ -1,12 +1,11 @@
 -- What the reader answers and writes, by document 01: the numbers 1 to 14, the copy and the records. Assumes nothing.
 use Prim.Native.Nat.{ℕ, _+_}
-use mathlib.Core.List.{List, [], _∷_, _++_, map}
+use mathlib.Core.List.{List, [], _∷_, _++_}
 use lib.Dec.{eqb, ltb}
 use lib.ListN.{length}
 use Rattle.octets.specs.Pick.{pick}
 use Rattle.octets.specs.Room.{overlay}
-use Rattle.folds.specs.Folds.{unfolded}
-use Rattle.folds.specs.Logical.{rawLines}
+use Rattle.folds.specs.Logical.{rawLines, logicalLines}
 use Rattle.walks.specs.Walk.{judgeLines}
 use Rattle.records.specs.Records.{recordsFrom}
 use Rattle.card_state.specs.State.{freshCard}
@@ -28,10 +27,6 @@ judgeOf i =
     (pick (eqb (length i) 0) (Refused 2 0)
     (pick (ltb (firstLone i) (length i)) (Refused 3 (firstLone i))
     (pick (endsCrLf i) (verdictOf (length i) (judgeLines (rawLines i) 0 freshCard)) (Refused 4 (length i)))))
-
--- the logical lines, unfolded
-unfoldable pub logicalLines : List ℕ → List (List ℕ)
-logicalLines i = map unfolded (rawLines i)
 
 -- the lines in order, each ended by CR LF
 unfoldable pub ended : List (List ℕ) → List ℕ

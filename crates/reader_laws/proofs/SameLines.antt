@@ -8,7 +8,7 @@ use native.Mathlib.Omega.{arith}
 use lib.ListN.{length}
 use borrow.Author.Tests.{ne-eqb, eq-eqb, le-ltb}
 use Rattle.folds.specs.Folds.{unfolded}
-use Rattle.folds.specs.Logical.{rawLines}
+use Rattle.folds.specs.Logical.{rawLines, logicalLines}
 use Rattle.card_state.specs.State.{freshCard}
 use Rattle.cards.specs.Judge.{judgeLine}
 use Rattle.card_state.specs.declared.Card.{Card}
@@ -16,7 +16,7 @@ use Rattle.card_state.specs.declared.Step.{Step}
 use Rattle.card_state.specs.declared.Step.the-variants.{Next}
 use Rattle.ends.specs.Lone.{firstLone, endsCrLf}
 use Rattle.walks.specs.Walk.{onward, judgeLines}
-use Rattle.reader.specs.Outcome.{verdictOf, judgeOf, logicalLines, copyOf, recordsOf}
+use Rattle.reader.specs.Outcome.{verdictOf, judgeOf, copyOf, recordsOf}
 use Rattle.reader.specs.declared.Verdict.the-variants.{Accepted}
 use Rattle.walks.proofs.WalkLaws.{onward-next}
 use Rattle.reader.proofs.AcceptLaws.{Accepting, accepting}

@@ -1,4 +1,4 @@
--- `folder::texts::write_line` meets its contract. Assumes nothing.
+-- `texts::write_line` meets its contract. Assumes nothing.
 use mathlib.Core.Path.{_≡_, sym, ap, _∙_}
 use mathlib.Core.Bool.{Bool}
 use mathlib.Core.List.{List, _++_}
@@ -13,8 +13,8 @@ use Rattle.octets.specs.Room.{overlay}
 use Rattle.folds.specs.Folds.{unfolded}
 use Rattle.folds.proofs.FoldLaws.{unfold-shorter}
 use Rattle.cuts.specs.Pieces.{folded}
-use Rattle.folder.proofs.texts.write_line.Statement.{statement}
-use Rattle.folder.proofs.texts.write_line.Tie as tie
+use Rattle.texts.proofs.write_line.Statement.{statement}
+use Rattle.texts.proofs.write_line.Tie as tie
 
 fold-line-requires : tie.Need-fold-line-requires
 fold-line-requires c κs =

@@ -1,16 +1,16 @@
--- `folder::texts::text_length` meets its contract. Assumes nothing.
+-- `texts::text_length` meets its contract. Assumes nothing.
 use borrow.Author.Needs.{needs}
 use mathlib.Core.Path.{_≡_, ap}
 use Prim.Native.Nat.{_+_, _-_, _*_, _≤_}
 use native.Mathlib.Omega.{arith}
 use lib.ListN.{length, take, drop, length-replicate}
 use Rattle.folds.specs.Folds.{unfolded}
-use Rattle.reader.specs.Outcome.{logicalLines}
+use Rattle.folds.specs.Logical.{logicalLines}
 use Rattle.folds.proofs.SpanLaws.{whole, part-length}
 use Rattle.cuts.specs.Pieces.{foldedLines, Clean, All}
-use Rattle.folder.proofs.TextLaws.{fold-length, clean-turn, none-left}
-use Rattle.folder.proofs.texts.text_length.Statement.{statement}
-use Rattle.folder.proofs.texts.text_length.Tie as tie
+use Rattle.texts.proofs.TextLaws.{fold-length, clean-turn, none-left}
+use Rattle.texts.proofs.text_length.Statement.{statement}
+use Rattle.texts.proofs.text_length.Tie as tie
 
 abbrev Inv-loop : tie.InvT-loop
 Inv-loop s scratch₀ at₀ n₀ scratch at n =

@@ -6,7 +6,7 @@ ghost use lib.ListN.{length};
 ghost use Rattle.octets.specs.Pick.{pick};
 ghost use Rattle.octets.specs.Room.{filled, fillBounded, overlay};
 ghost use Rattle.folds.specs.Folds.{unfolded};
-ghost use Rattle.reader.specs.Outcome.{logicalLines};
+ghost use Rattle.folds.specs.Logical.{logicalLines};
 ghost use Rattle.cuts.specs.Pieces.{folded, foldedLines, Clean, All};
 
 // How many octets the logical line s has when it is folded anew: as it is where it has no fold, else unfolded into the scratch.

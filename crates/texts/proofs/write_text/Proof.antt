@@ -1,4 +1,4 @@
--- `folder::texts::write_text` meets its contract. Assumes nothing.
+-- `texts::write_text` meets its contract. Assumes nothing.
 use borrow.Author.Needs.{needs}
 use mathlib.Core.Path.{_≡_, _∙_}
 use mathlib.Core.List.{List}
@@ -7,13 +7,13 @@ use native.Mathlib.Omega.{arith}
 use lib.ListN.{length, take, drop, length-take, length-drop, length-replicate}
 use Rattle.octets.proofs.Writes.{Written, start, room, finish}
 use Rattle.folds.specs.Folds.{unfolded}
-use Rattle.reader.specs.Outcome.{logicalLines}
+use Rattle.folds.specs.Logical.{logicalLines}
 use Rattle.folds.proofs.SpanLaws.{whole, part-length}
 use Rattle.cuts.specs.Pieces.{folded, foldedLines, Clean, All}
 use Rattle.unfolding.proofs.PutLaws.{put-part}
-use Rattle.folder.proofs.TextLaws.{fold-turn, fold-length, clean-turn, none-left}
-use Rattle.folder.proofs.texts.write_text.Statement.{statement}
-use Rattle.folder.proofs.texts.write_text.Tie as tie
+use Rattle.texts.proofs.TextLaws.{fold-turn, fold-length, clean-turn, none-left}
+use Rattle.texts.proofs.write_text.Statement.{statement}
+use Rattle.texts.proofs.write_text.Tie as tie
 
 abbrev Inv-loop : tie.InvT-loop
 Inv-loop s out₀ scratch₀ at₀ w₀ out scratch at w =

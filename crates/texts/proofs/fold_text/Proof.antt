@@ -1,10 +1,10 @@
--- `folder::texts::fold_text` meets its contract. Assumes nothing.
+-- `texts::fold_text` meets its contract. Assumes nothing.
 use mathlib.Core.Path.{_≡_, sym, _∙_}
 use native.Mathlib.Omega.{arith}
 use borrow.Author.Needs.{needs}
 use Rattle.octets.proofs.RoomLaws.{fill-short, fill-fits, over-bound, within-bound}
-use Rattle.folder.proofs.texts.fold_text.Statement.{statement}
-use Rattle.folder.proofs.texts.fold_text.Tie as tie
+use Rattle.texts.proofs.fold_text.Statement.{statement}
+use Rattle.texts.proofs.fold_text.Tie as tie
 
 text-length-requires : tie.Need-text-length-requires
 text-length-requires c κs = search needs

@@ -1,4 +1,4 @@
--- `folder::texts::line_length` meets its contract. Assumes nothing.
+-- `texts::line_length` meets its contract. Assumes nothing.
 use mathlib.Core.Path.{_≡_, sym, ap, _∙_}
 use mathlib.Core.Bool.{Bool}
 use mathlib.Core.List.{List, _++_}
@@ -13,8 +13,8 @@ use Rattle.octets.specs.Room.{overlay}
 use Rattle.folds.specs.Folds.{unfolded}
 use Rattle.folds.proofs.FoldLaws.{unfold-shorter}
 use Rattle.cuts.specs.Pieces.{folded}
-use Rattle.folder.proofs.texts.line_length.Statement.{statement}
-use Rattle.folder.proofs.texts.line_length.Tie as tie
+use Rattle.texts.proofs.line_length.Statement.{statement}
+use Rattle.texts.proofs.line_length.Tie as tie
 
 measure-requires : tie.Need-measure-requires
 measure-requires c κs =

@@ -6,7 +6,7 @@ use lib.ListN.{length, take, drop, length-append}
 use Rattle.folds.specs.Folds.{lineLength, unfolded}
 use Rattle.folds.proofs.LineLaws.{lines-end}
 use Rattle.folds.proofs.SpanLaws.{lines-turn}
-use Rattle.reader.specs.Outcome.{logicalLines}
+use Rattle.folds.specs.Logical.{logicalLines}
 use Rattle.cuts.specs.Pieces.{folded, foldedLines, Clean, All}
 
 -- one turn: the line from `at` to e is the first of those that are left
