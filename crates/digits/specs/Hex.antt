@@ -8,9 +8,10 @@ use Rattle.octets.specs.Pick.{pick}
 use Rattle.octets.specs.Ascii.{octets}
 use Rattle.octets.specs.Room.{overlay}
 use Rattle.octets.specs.Classes.{within}
-use Rattle.words.specs.Words.{all, alike}
-use Rattle.words.specs.declared.hex.Octets.{Octets}
-use Rattle.words.specs.declared.hex.Octets.the-variants.{Are, Bad}
+use Rattle.octets.specs.Counts.{allIn}
+use Rattle.digits.specs.Alike.{alike}
+use Rattle.digits.specs.declared.hex.Octets.{Octets}
+use Rattle.digits.specs.declared.hex.Octets.the-variants.{Are, Bad}
 
 -- what a hexadecimal digit stands for, `0` to `9`, `A` to `F` or `a` to `f`; 16 for any other octet
 unfoldable pub value : ℕ → ℕ
@@ -21,7 +22,7 @@ hexed b = ltb (value b) 16
 
 -- one or more pairs of digits
 unfoldable pub paired : List ℕ → Bool
-paired w = not (eqb (length w) 0) && (not (eqb (length w % 2) 1) && all hexed w)
+paired w = not (eqb (length w) 0) && (not (eqb (length w % 2) 1) && allIn hexed w)
 
 -- the octets of pairs of digits
 unfoldable pub decoded : List ℕ → List ℕ

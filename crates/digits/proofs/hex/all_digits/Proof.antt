@@ -1,19 +1,19 @@
--- `words::hex::all_digits` meets its contract. Assumes nothing.
+-- `digits::hex::all_digits` meets its contract. Assumes nothing.
 use borrow.Author.Needs.{needs}
 use mathlib.Core.Path.{_≡_, refl, sym, _∙_}
 use Prim.Native.Nat.{_-_, _≤_}
 use native.Mathlib.Omega.{arith}
 use lib.ListN.{length, drop, getD}
 use borrow.Author.Tests.{lt-ltb, le-ltb}
-use Rattle.words.specs.Words.{all}
-use Rattle.words.specs.Hex.{value, hexed}
-use Rattle.words.proofs.ListLaws.{all-stop, all-step, all-end}
-use Rattle.words.proofs.hex.all_digits.Statement.{statement}
-use Rattle.words.proofs.hex.all_digits.Tie as tie
+use Rattle.octets.specs.Counts.{allIn}
+use Rattle.digits.specs.Hex.{value, hexed}
+use Rattle.digits.proofs.ListLaws.{all-stop, all-step, all-end}
+use Rattle.digits.proofs.hex.all_digits.Statement.{statement}
+use Rattle.digits.proofs.hex.all_digits.Tie as tie
 
 abbrev Inv-loop : tie.InvT-loop
 Inv-loop word i₀ i =
-    (i ≤ length word) × (all hexed word ≡ all hexed (drop i word))
+    (i ≤ length word) × (allIn hexed word ≡ allIn hexed (drop i word))
 
 abbrev μ-loop : tie.MeasureT-loop
 μ-loop word i₀ i =

@@ -1,10 +1,10 @@
--- `words::hex::value` meets its contract. Assumes nothing.
+-- `digits::hex::value` meets its contract. Assumes nothing.
 use native.Mathlib.Omega.{arith}
-use Rattle.words.specs.Hex.{value}
-use Rattle.words.proofs.ListLaws.{below, above, inside}
+use Rattle.digits.specs.Hex.{value}
+use Rattle.digits.proofs.ListLaws.{below, above, inside}
 use borrow.Author.Needs.{needs}
-use Rattle.words.proofs.hex.value.Statement.{statement}
-use Rattle.words.proofs.hex.value.Tie as tie
+use Rattle.digits.proofs.hex.value.Statement.{statement}
+use Rattle.digits.proofs.hex.value.Tie as tie
 
 returns : tie.Need-returns
 unfolding value

@@ -1,4 +1,4 @@
--- The laws of `all` and `alike`, and of a span of octets. Assumes nothing.
+-- The laws of `allIn` and `alike`, and of a span of octets. Assumes nothing.
 use mathlib.Core.Path.{_≡_, refl, sym}
 use mathlib.Core.Bool.{Bool, true, false, _&&_, and-false}
 use mathlib.Core.List.{List, [], _∷_}
@@ -11,7 +11,9 @@ use lib.ListN.{length, getD, drop, drop-of-length-le}
 use lib.Seq.{drop-cons}
 use borrow.Author.Tests.{eq-eqb, eqb-true, le-leb, lt-leb}
 use Rattle.octets.specs.Classes.{within}
-use Rattle.words.specs.Words.{all, alike}
+use Rattle.octets.proofs.Bools.{and-both}
+use Rattle.octets.specs.Counts.{allIn}
+use Rattle.digits.specs.Alike.{alike}
 
 module _ (lo hi b : ℕ) where
   pub below : b < lo → within lo hi b ≡ false
@@ -23,35 +25,27 @@ module _ (lo hi b : ℕ) where
   pub inside : lo ≤ b → b ≤ hi → within lo hi b ≡ true
   inside g h = rw (le-leb lo b g, le-leb b hi h)
 
-pub and-left : (x y : Bool) → (x && y) ≡ true → x ≡ true
-and-left true y e = refl
-and-left false y e = e
-
-pub and-right : (x y : Bool) → (x && y) ≡ true → y ≡ true
-and-right true y e = e
-and-right false y e = let z : _≡_ {A = ℕ} 0 1 = cc in absurd (omega arith)
-
 module _ (p : ℕ → Bool) (s : List ℕ) (i : ℕ) where
-  pub all-at : i < length s → all p (drop i s) ≡ (p (getD s i 0) && all p (drop (i + 1) s))
-  unfolding all
+  pub all-at : i < length s → allIn p (drop i s) ≡ (p (getD s i 0) && allIn p (drop (i + 1) s))
+  unfolding allIn
   all-at h = rw (add-one, drop-cons s i 0)
 
-  pub all-stop : i < length s → p (getD s i 0) ≡ false → all p (drop i s) ≡ false
+  pub all-stop : i < length s → p (getD s i 0) ≡ false → allIn p (drop i s) ≡ false
   all-stop h e = rw (all-at h, e)
 
-  pub all-step : i < length s → p (getD s i 0) ≡ true → all p (drop i s) ≡ all p (drop (i + 1) s)
+  pub all-step : i < length s → p (getD s i 0) ≡ true → allIn p (drop i s) ≡ allIn p (drop (i + 1) s)
   all-step h e = rw (all-at h, e)
 
-  pub all-end : length s ≤ i → all p (drop i s) ≡ true
-  unfolding all
+  pub all-end : length s ≤ i → allIn p (drop i s) ≡ true
+  unfolding allIn
   all-end h = rw (drop-of-length-le s h)
 
 -- where all pass, each does
-pub each : (p : ℕ → Bool) (s : List ℕ) (i : ℕ) → all p s ≡ true → i < length s → p (getD s i 0) ≡ true
-unfolding all
+pub each : (p : ℕ → Bool) (s : List ℕ) (i : ℕ) → allIn p s ≡ true → i < length s → p (getD s i 0) ≡ true
+unfolding allIn
 each p [] i e h = absurd (not-suc-le-zero h)
-each p (x ∷ xs) zero e h = and-left (p x) (all p xs) e
-each p (x ∷ xs) (suc i) e h = each p xs i (and-right (p x) (all p xs) e) (le-of-suc-le-suc h)
+each p (x ∷ xs) zero e h = and-both (p x) (allIn p xs) e .0
+each p (x ∷ xs) (suc i) e h = each p xs i (and-both (p x) (allIn p xs) e .1) (le-of-suc-le-suc h)
 
 pub alike-self : (a : List ℕ) → alike a a ≡ true
 unfolding alike
@@ -64,8 +58,8 @@ alike-same [] [] e = refl
 alike-same [] (y ∷ ys) e = let z : _≡_ {A = ℕ} 0 1 = cc in absurd (omega arith)
 alike-same (x ∷ xs) [] e = let z : _≡_ {A = ℕ} 0 1 = cc in absurd (omega arith)
 alike-same (x ∷ xs) (y ∷ ys) e =
-    let here = eqb-true x y (and-left (eqb x y) (alike xs ys) e) in
-    let later = alike-same xs ys (and-right (eqb x y) (alike xs ys) e) in
+    let here = eqb-true x y (and-both (eqb x y) (alike xs ys) e .0) in
+    let later = alike-same xs ys (and-both (eqb x y) (alike xs ys) e .1) in
     cc
 
 -- a test that tells whether two lists are equal is `alike`

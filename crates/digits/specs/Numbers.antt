@@ -6,9 +6,9 @@ use lib.Dec.{leb, ltb, eqb}
 use lib.ListN.{length}
 use Rattle.octets.specs.Pick.{pick}
 use Rattle.octets.specs.Classes.{within}
-use Rattle.words.specs.Words.{all}
-use Rattle.words.specs.declared.numbers.Number.{Number}
-use Rattle.words.specs.declared.numbers.Number.the-variants.{Is, Bad}
+use Rattle.octets.specs.Counts.{allIn}
+use Rattle.digits.specs.declared.numbers.Number.{Number}
+use Rattle.digits.specs.declared.numbers.Number.the-variants.{Is, Bad}
 
 -- what a decimal digit stands for, or 10
 unfoldable pub ones : ℕ → ℕ
@@ -28,7 +28,7 @@ largest = 18446744073709551615
 
 -- the digits of n and then these, where they are digits and the number fits
 unfoldable pub numberFrom : ℕ → List ℕ → Number
-numberFrom n w = pick (all digit w && leb (valueFrom n w) largest) (Is (valueFrom n w)) Bad
+numberFrom n w = pick (allIn digit w && leb (valueFrom n w) largest) (Is (valueFrom n w)) Bad
 
 -- one or more decimal digits whose number fits 64 bits
 unfoldable pub numberOf : List ℕ → Number

@@ -1,4 +1,4 @@
--- `words::hex::decode` meets its contract. Assumes nothing.
+-- `digits::hex::decode` meets its contract. Assumes nothing.
 use denote.Ref.{now}
 use borrow.Author.Needs.{needs}
 use mathlib.Core.Path.{_≡_, refl, _∙_}
@@ -7,10 +7,10 @@ use Prim.Native.Nat.{_+_, _*_, _-_, _/_, _≤_}
 use native.Mathlib.Omega.{arith}
 use lib.ListN.{length, take, drop, getD, length-set}
 use Rattle.octets.proofs.Copies.{copy-step, copy-done}
-use Rattle.words.specs.Hex.{value, decoded}
-use Rattle.words.proofs.HexLaws.{digit-low, decoded-length, decoded-at}
-use Rattle.words.proofs.hex.decode.Statement.{statement}
-use Rattle.words.proofs.hex.decode.Tie as tie
+use Rattle.digits.specs.Hex.{value, decoded}
+use Rattle.digits.proofs.HexLaws.{digit-low, decoded-length, decoded-at}
+use Rattle.digits.proofs.hex.decode.Statement.{statement}
+use Rattle.digits.proofs.hex.decode.Tie as tie
 
 abbrev Inv-loop : tie.InvT-loop
 Inv-loop word out₀ n i₀ out i =

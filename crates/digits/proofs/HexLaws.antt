@@ -9,12 +9,14 @@ use lib.ListN.{length, getD}
 use borrow.Author.Tests.{ltb-true, lt-ltb, le-ltb}
 use Rattle.octets.specs.Ascii.{octets}
 use Rattle.octets.specs.Room.{overlay}
-use Rattle.words.specs.Words.{all, alike}
-use Rattle.words.specs.Hex.{value, hexed, paired, decoded, taken, stored, octetsOf}
-use Rattle.words.specs.declared.hex.Octets.the-variants.{Are, Bad}
-use Rattle.words.proofs.ListLaws.{and-right, each}
+use Rattle.octets.specs.Counts.{allIn}
+use Rattle.digits.specs.Alike.{alike}
+use Rattle.digits.specs.Hex.{value, hexed, paired, decoded, taken, stored, octetsOf}
+use Rattle.digits.specs.declared.hex.Octets.the-variants.{Are, Bad}
+use Rattle.octets.proofs.Bools.{and-both}
+use Rattle.digits.proofs.ListLaws.{each}
 
-pub digit-low : (w : List ℕ) (i : ℕ) → all hexed w ≡ true → i < length w → value (getD w i 0) < 16
+pub digit-low : (w : List ℕ) (i : ℕ) → allIn hexed w ≡ true → i < length w → value (getD w i 0) < 16
 unfolding hexed
 digit-low w i e h = ltb-true (value (getD w i 0)) 16 (each hexed w i e h)
 
@@ -35,10 +37,10 @@ decoded-at (x ∷ y ∷ w) (suc i) h =
     let low : 2 * suc i + 1 ≡ suc (suc (2 * i + 1)) = omega arith in
     rw (low, high) (decoded-at w i (omega arith))
 
-pub paired-all : (w : List ℕ) → paired w ≡ true → all hexed w ≡ true
+pub paired-all : (w : List ℕ) → paired w ≡ true → allIn hexed w ≡ true
 unfolding paired
 paired-all w e =
-    and-right (not (eqb (length w % 2) 1)) (all hexed w) (and-right (not (eqb (length w) 0)) (not (eqb (length w % 2) 1) && all hexed w) e)
+    and-both (not (eqb (length w % 2) 1)) (allIn hexed w) (and-both (not (eqb (length w) 0)) (not (eqb (length w % 2) 1) && allIn hexed w) e .1) .1
 
 -- what a word gives: none, bad, more than the room holds, or octets
 module _ (w room : List ℕ) where

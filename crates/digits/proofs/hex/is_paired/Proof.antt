@@ -1,9 +1,9 @@
--- `words::hex::is_paired` meets its contract. Assumes nothing.
+-- `digits::hex::is_paired` meets its contract. Assumes nothing.
 use borrow.Author.Tests.{eq-eqb, ne-eqb}
-use Rattle.words.specs.Hex.{paired}
+use Rattle.digits.specs.Hex.{paired}
 use borrow.Author.Needs.{needs}
-use Rattle.words.proofs.hex.is_paired.Statement.{statement}
-use Rattle.words.proofs.hex.is_paired.Tie as tie
+use Rattle.digits.proofs.hex.is_paired.Statement.{statement}
+use Rattle.digits.proofs.hex.is_paired.Tie as tie
 
 returns : tie.Need-returns
 unfolding paired

@@ -1,10 +1,10 @@
--- `words::numbers::ones` meets its contract. Assumes nothing.
+-- `digits::numbers::ones` meets its contract. Assumes nothing.
 use native.Mathlib.Omega.{arith}
-use Rattle.words.specs.Numbers.{ones}
-use Rattle.words.proofs.ListLaws.{below, above, inside}
+use Rattle.digits.specs.Numbers.{ones}
+use Rattle.digits.proofs.ListLaws.{below, above, inside}
 use borrow.Author.Needs.{needs}
-use Rattle.words.proofs.numbers.ones.Statement.{statement}
-use Rattle.words.proofs.numbers.ones.Tie as tie
+use Rattle.digits.proofs.numbers.ones.Statement.{statement}
+use Rattle.digits.proofs.numbers.ones.Tie as tie
 
 returns : tie.Need-returns
 unfolding ones

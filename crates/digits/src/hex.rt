@@ -4,8 +4,8 @@ ghost use mathlib.Core.Bool.{true};
 ghost use Prim.Native.Nat.{_/_, _≤_};
 ghost use lib.ListN.{length};
 ghost use Rattle.octets.specs.Room.{overlay};
-ghost use Rattle.words.specs.Words.{all};
-ghost use Rattle.words.specs.Hex.{value, hexed, paired, decoded, taken, octetsOf};
+ghost use Rattle.octets.specs.Counts.{allIn};
+ghost use Rattle.digits.specs.Hex.{value, hexed, paired, decoded, taken, octetsOf};
 
 pub enum Octets {
     Are(usize),
@@ -39,7 +39,7 @@ fn value(octet: u8) -> u8
 
 // Whether every octet is a digit.
 fn all_digits(word: &[u8]) -> bool
-    ensures { λ r. ⌜ r ≡ all hexed (now (word .entry)) ⌝ }
+    ensures { λ r. ⌜ r ≡ allIn hexed (now (word .entry)) ⌝ }
 {
     let mut i: usize = 0;
     while i < word.len() {
@@ -66,7 +66,7 @@ fn is_paired(word: &[u8]) -> bool
 
 // Writes the octets of a word of pairs to the front of out.
 fn decode(word: &[u8], out: &mut [u8])
-    requires { ⌜ all hexed (now word) ≡ true ⌝ }
+    requires { ⌜ allIn hexed (now word) ≡ true ⌝ }
     requires { ⌜ length (now word) / 2 ≤ length (now out) ⌝ }
     ensures { λ _. ⌜ now (out .exit) ≡ overlay (decoded (now (word .entry))) (now (out .entry)) ⌝ }
 {

@@ -1,14 +1,14 @@
--- `words::numbers::number_of` meets its contract. Assumes nothing.
+-- `digits::numbers::number_of` meets its contract. Assumes nothing.
 use borrow.Author.Needs.{needs}
 use mathlib.Core.Path.{_≡_, sym, _∙_}
 use Prim.Native.Nat.{_-_, _≤_}
 use native.Mathlib.Omega.{arith}
 use lib.ListN.{length, drop}
 use borrow.Author.Tests.{eq-eqb, ne-eqb}
-use Rattle.words.specs.Numbers.{ones, largest, numberFrom, numberOf}
-use Rattle.words.proofs.NumberLaws.{number-stop, number-large, number-step, number-end}
-use Rattle.words.proofs.numbers.number_of.Statement.{statement}
-use Rattle.words.proofs.numbers.number_of.Tie as tie
+use Rattle.digits.specs.Numbers.{ones, largest, numberFrom, numberOf}
+use Rattle.digits.proofs.NumberLaws.{number-stop, number-large, number-step, number-end}
+use Rattle.digits.proofs.numbers.number_of.Statement.{statement}
+use Rattle.digits.proofs.numbers.number_of.Tie as tie
 
 abbrev Inv-loop : tie.InvT-loop
 Inv-loop word n₀ i₀ n i =

@@ -10,10 +10,10 @@ use lib.ListN.{length, getD, drop, drop-of-length-le}
 use lib.Seq.{drop-cons}
 use borrow.Author.Tests.{lt-ltb, le-ltb, le-leb, lt-leb}
 use Rattle.octets.specs.Pick.{pick}
-use Rattle.words.specs.Words.{all}
-use Rattle.words.specs.Numbers.{ones, digit, valueFrom, largest, numberFrom}
-use Rattle.words.specs.declared.numbers.Number.{Number}
-use Rattle.words.specs.declared.numbers.Number.the-variants.{Is, Bad}
+use Rattle.octets.specs.Counts.{allIn}
+use Rattle.digits.specs.Numbers.{ones, digit, valueFrom, largest, numberFrom}
+use Rattle.digits.specs.declared.numbers.Number.{Number}
+use Rattle.digits.specs.declared.numbers.Number.the-variants.{Is, Bad}
 
 -- digits only make a number larger
 pub value-grows : (n : ℕ) (w : List ℕ) → n ≤ valueFrom n w
@@ -32,8 +32,8 @@ module _ (n : ℕ) (s : List ℕ) (i : ℕ) where
   here t v = pick (t && leb v largest) (Is v) Bad
 
   from-at : i < length s
-      → numberFrom n (drop i s) ≡ here (digit (getD s i 0) && all digit (drop (i + 1) s)) (valueFrom (10 * n + ones (getD s i 0)) (drop (i + 1) s))
-  unfolding numberFrom all valueFrom here
+      → numberFrom n (drop i s) ≡ here (digit (getD s i 0) && allIn digit (drop (i + 1) s)) (valueFrom (10 * n + ones (getD s i 0)) (drop (i + 1) s))
+  unfolding numberFrom allIn valueFrom here
   from-at h = rw (add-one, drop-cons s i 0)
 
   pub number-stop : i < length s → 9 < ones (getD s i 0) → numberFrom n (drop i s) ≡ Bad
@@ -52,5 +52,5 @@ module _ (n : ℕ) (s : List ℕ) (i : ℕ) where
   number-step h g = rw (from-at h, lt-ltb (ones (getD s i 0)) 10 (omega arith))
 
   pub number-end : length s ≤ i → n ≤ largest → numberFrom n (drop i s) ≡ Is n
-  unfolding numberFrom all valueFrom
+  unfolding numberFrom allIn valueFrom
   number-end h g = rw (drop-of-length-le s h, le-leb n largest g)

@@ -1,6 +1,6 @@
 // Numbers in decimal digits.
 ghost use mathlib.Core.Path.{_≡_};
-ghost use Rattle.words.specs.Numbers.{ones, numberOf};
+ghost use Rattle.digits.specs.Numbers.{ones, numberOf};
 
 pub enum Number {
     Is(usize),

@@ -10,12 +10,14 @@ use lib.ListN.{length, length-append}
 use borrow.Author.Tests.{ltb-true, ltb-false, lt-ltb, le-leb, ne-eqb}
 use Rattle.octets.specs.Pick.{pick}
 use Rattle.octets.specs.Ascii.{octets}
-use Rattle.words.specs.Words.{all, alike}
-use Rattle.words.specs.Numbers.{ones, digit, valueFrom, largest, numberFrom, numberOf}
-use Rattle.words.specs.Hex.{value, hexed, paired, decoded, stored, octetsOf}
-use Rattle.words.specs.declared.numbers.Number.the-variants.{Is}
-use Rattle.words.proofs.ListLaws.{and-left, and-right, above, inside}
-use Rattle.words.proofs.NumberLaws.{value-join}
+use Rattle.octets.specs.Counts.{allIn}
+use Rattle.digits.specs.Alike.{alike}
+use Rattle.digits.specs.Numbers.{ones, digit, valueFrom, largest, numberFrom, numberOf}
+use Rattle.digits.specs.Hex.{value, hexed, paired, decoded, stored, octetsOf}
+use Rattle.digits.specs.declared.numbers.Number.the-variants.{Is}
+use Rattle.octets.proofs.Bools.{and-both}
+use Rattle.digits.proofs.ListLaws.{above, inside}
+use Rattle.digits.proofs.NumberLaws.{value-join}
 
 -- the last k decimal digits of n, the most significant first
 unfoldable pub digitsOf : ℕ → ℕ → List ℕ
@@ -26,13 +28,13 @@ ones-of : (d : ℕ) → d < 10 → ones (48 + d) ≡ d
 unfolding ones
 ones-of d h = rw (inside 48 57 (48 + d) (omega arith) (omega arith)) (omega arith)
 
-all-join : (p : ℕ → Bool) (a b : List ℕ) → all p a ≡ true → all p b ≡ true → all p (a ++ b) ≡ true
-unfolding all
+all-join : (p : ℕ → Bool) (a b : List ℕ) → allIn p a ≡ true → allIn p b ≡ true → allIn p (a ++ b) ≡ true
+unfolding allIn
 all-join p [] b g h = h
-all-join p (x ∷ xs) b g h = rw (and-left (p x) (all p xs) g) (all-join p xs b (and-right (p x) (all p xs) g) h)
+all-join p (x ∷ xs) b g h = rw (and-both (p x) (allIn p xs) g .0) (all-join p xs b (and-both (p x) (allIn p xs) g .1) h)
 
-digits-are : (k n : ℕ) → all digit (digitsOf k n) ≡ true
-unfolding digitsOf all digit
+digits-are : (k n : ℕ) → allIn digit (digitsOf k n) ≡ true
+unfolding digitsOf allIn digit
 digits-are zero n = refl
 digits-are (suc k) n =
     all-join digit (digitsOf k (n / 10)) ((48 + n % 10) ∷ []) (digits-are k (n / 10)) (rw (ones-of (n % 10) (omega arith), lt-ltb (n % 10) 10 (omega arith)))
@@ -73,15 +75,15 @@ glyph-value d h = by (ltb d 10) refl
 
 -- each element is an octet
 unfoldable pub octetal : List ℕ → Bool
-octetal l = all (λ x. ltb x 256) l
+octetal l = allIn (λ x. ltb x 256) l
 
 octet-low : (x : ℕ) (xs : List ℕ) → octetal (x ∷ xs) ≡ true → x < 256
-unfolding octetal all
-octet-low x xs h = ltb-true x 256 (and-left (ltb x 256) (octetal xs) h)
+unfolding octetal allIn
+octet-low x xs h = ltb-true x 256 (and-both (ltb x 256) (octetal xs) h .0)
 
 octets-low : (x : ℕ) (xs : List ℕ) → octetal (x ∷ xs) ≡ true → octetal xs ≡ true
-unfolding octetal all
-octets-low x xs h = and-right (ltb x 256) (octetal xs) h
+unfolding octetal allIn
+octets-low x xs h = and-both (ltb x 256) (octetal xs) h .1
 
 pairs-decoded : (l : List ℕ) → octetal l ≡ true → decoded (pairsOf l) ≡ l
 unfolding pairsOf decoded
@@ -91,8 +93,8 @@ pairs-decoded (x ∷ xs) h =
     let here : 16 * (x / 16) + x % 16 ≡ x = omega arith in
     rw (glyph-value (x / 16) (omega arith), glyph-value (x % 16) (omega arith), here, pairs-decoded xs (octets-low x xs h))
 
-pairs-hexed : (l : List ℕ) → octetal l ≡ true → all hexed (pairsOf l) ≡ true
-unfolding pairsOf all hexed
+pairs-hexed : (l : List ℕ) → octetal l ≡ true → allIn hexed (pairsOf l) ≡ true
+unfolding pairsOf allIn hexed
 pairs-hexed [] h = refl
 pairs-hexed (x ∷ xs) h =
     let low = octet-low x xs h in

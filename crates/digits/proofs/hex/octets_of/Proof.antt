@@ -1,13 +1,13 @@
--- `words::hex::octets_of` meets its contract. Assumes nothing.
+-- `digits::hex::octets_of` meets its contract. Assumes nothing.
 use mathlib.Core.Path.{sym, _∙_}
 use Rattle.octets.specs.Ascii.{octets}
 use Rattle.characters.proofs.Chars.{is-so, is-not}
-use Rattle.words.specs.Hex.{taken}
-use Rattle.words.proofs.ListLaws.{told}
-use Rattle.words.proofs.HexLaws.{paired-all, octets-none, octets-bad, octets-over, octets-all}
+use Rattle.digits.specs.Hex.{taken}
+use Rattle.digits.proofs.ListLaws.{told}
+use Rattle.digits.proofs.HexLaws.{paired-all, octets-none, octets-bad, octets-over, octets-all}
 use borrow.Author.Needs.{needs}
-use Rattle.words.proofs.hex.octets_of.Statement.{statement}
-use Rattle.words.proofs.hex.octets_of.Tie as tie
+use Rattle.digits.proofs.hex.octets_of.Statement.{statement}
+use Rattle.digits.proofs.hex.octets_of.Tie as tie
 
 slice-aggregate-same : tie.Need-slice-aggregate-same
 slice-aggregate-same c = search needs
