@@ -20,8 +20,8 @@ use Rattle.cuts.specs.Pieces.{foldedLines}
 use Rattle.folder.specs.Outcome.{foldOutcome}
 use Rattle.slots.specs.Sound.{stateAt}
 use Rattle.desk.specs.Steps.{Sound, Turned, refuse as refuseNew, refused, freshDesk, newStep, openStep, addStep, releaseStep, octetsIn, showStep, heldStep, judgeStep}
-use Rattle.slots.specs.declared.entries.Session.{Session}
-use Rattle.slots.specs.declared.entries.State.the-variants.{Free, Open}
+use Rattle.sessions.specs.declared.Session.{Session}
+use Rattle.sessions.specs.declared.State.the-variants.{Free, Open}
 use Rattle.desk.specs.declared.Desk.{Desk}
 use Rattle.desk.specs.declared.Turn.{Turn}
 use Rattle.desk.specs.declared.Answer.{Answer}

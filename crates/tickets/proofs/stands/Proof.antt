@@ -1,10 +1,10 @@
--- `slots::tickets::stands` meets its contract. Assumes nothing.
+-- `tickets::stands` meets its contract. Assumes nothing.
 use mathlib.Core.Path.{sym, _∙_}
 use borrow.Author.Needs.{needs}
 use borrow.Author.Tests.{eq-eqb, ne-eqb}
-use Rattle.slots.specs.Search.{among}
-use Rattle.slots.proofs.tickets.stands.Statement.{statement}
-use Rattle.slots.proofs.tickets.stands.Tie as tie
+use Rattle.tickets.specs.Search.{among}
+use Rattle.tickets.proofs.stands.Statement.{statement}
+use Rattle.tickets.proofs.stands.Tie as tie
 
 returns : tie.Need-returns
 unfolding among

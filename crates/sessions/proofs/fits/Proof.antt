@@ -1,8 +1,8 @@
--- `slots::entries::fits` meets its contract. Assumes nothing.
+-- `sessions::fits` meets its contract. Assumes nothing.
 use borrow.Author.Needs.{needs}
 use borrow.Author.Tests.{lt-ltb, le-ltb, le-leb, lt-leb}
-use Rattle.slots.proofs.entries.fits.Statement.{statement}
-use Rattle.slots.proofs.entries.fits.Tie as tie
+use Rattle.sessions.proofs.fits.Statement.{statement}
+use Rattle.sessions.proofs.fits.Tie as tie
 
 enum-told : tie.Need-enum-told
 enum-told c = search needs

@@ -1,7 +1,7 @@
--- `slots::entries::ticket_of` meets its contract. Assumes nothing.
+-- `sessions::ticket_of` meets its contract. Assumes nothing.
 use borrow.Author.Needs.{needs}
-use Rattle.slots.proofs.entries.ticket_of.Statement.{statement}
-use Rattle.slots.proofs.entries.ticket_of.Tie as tie
+use Rattle.sessions.proofs.ticket_of.Statement.{statement}
+use Rattle.sessions.proofs.ticket_of.Tie as tie
 
 enum-told : tie.Need-enum-told
 enum-told c = search needs

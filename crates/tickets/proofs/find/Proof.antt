@@ -1,14 +1,14 @@
--- `slots::tickets::find` meets its contract. Assumes nothing.
+-- `tickets::find` meets its contract. Assumes nothing.
 use denote.Ref.{now}
 use Prim.Native.Nat.{_-_, _≤_}
 use mathlib.Core.Path.{_≡_, sym, ap, _∙_}
 use native.Mathlib.Omega.{arith}
 use borrow.Author.Needs.{needs}
 use borrow.Author.Tests.{eq-eqb, ne-eqb}
-use Rattle.slots.specs.Search.{firstAt, column, sameAs}
-use Rattle.slots.proofs.Searches.{firstAt-none, firstAt-hit, firstAt-miss}
-use Rattle.slots.proofs.tickets.find.Statement.{statement}
-use Rattle.slots.proofs.tickets.find.Tie as tie
+use Rattle.tickets.specs.Search.{firstAt, column, sameAs}
+use Rattle.tickets.proofs.Searches.{firstAt-none, firstAt-hit, firstAt-miss}
+use Rattle.tickets.proofs.find.Statement.{statement}
+use Rattle.tickets.proofs.find.Tie as tie
 
 abbrev Inv-loop : tie.InvT-loop
 Inv-loop tickets t n place₀ place = (place ≤ n) × (firstAt (sameAs (column tickets) t) 0 n ≡ firstAt (sameAs (column tickets) t) place (n - place))

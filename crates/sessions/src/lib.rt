@@ -1,6 +1,6 @@
 // The entries of a desk: each is free or holds a session.
 ghost use mathlib.Core.Path.{_≡_};
-ghost use Rattle.slots.specs.Sound.{ticketOf, fits};
+ghost use Rattle.sessions.specs.Entries.{ticketOf, fits};
 
 // An open upload: its ticket, the tram's identifier and the octets held.
 pub struct Session {

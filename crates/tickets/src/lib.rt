@@ -1,7 +1,7 @@
 // The tickets of a desk's entries side by side, 0 for a free one, and searches among them.
 ghost use mathlib.Core.Path.{_≡_};
 ghost use Prim.Native.Nat.{_≤_};
-ghost use Rattle.slots.specs.Search.{firstAt, column, sameAs, among};
+ghost use Rattle.tickets.specs.Search.{firstAt, column, sameAs, among};
 
 // Where something stands, or the refusal that keeps a call from looking.
 pub enum Place {
