@@ -14,9 +14,9 @@ use Rattle.lines.specs.Grammar.{Line}
 use Rattle.lines.specs.Rule.{parseLine}
 use Rattle.folds.specs.Folds.{lineLength, unfolded}
 use Rattle.folds.specs.Logical.{linesBy, rawLines}
-use Rattle.values.specs.Kinds.{valueScan}
-use Rattle.values.specs.declared.Fault.{Fault}
-use Rattle.values.specs.declared.Fault.the-variants.{Fits, Breaks}
+use Rattle.kinds.specs.Kinds.{valueScan}
+use Rattle.kinds.specs.declared.Fault.{Fault}
+use Rattle.kinds.specs.declared.Fault.the-variants.{Fits, Breaks}
 use Rattle.card_state.specs.State.{freshCard, inOrder, onceBit, isSeen, noted, closed}
 use Rattle.content.specs.Parts.{rowOfLine, kindOfLine}
 use Rattle.cards.specs.Judge.{laden, entered, fitting, judgeParts, judgeParsed, judgeLine}

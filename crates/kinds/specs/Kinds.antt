@@ -4,9 +4,9 @@ use mathlib.Core.List.{List, [], _∷_}
 use lib.Dec.{eqb}
 use lib.ListN.{getD}
 use Rattle.octets.specs.Pick.{pick}
-use Rattle.values.specs.Octets.{Octets, any, plain, inner, escapee, backslash, comma, semicolon, colon, letter, scheme, graphic, digit, sex, theV, theC, theA, theR, theD, four, point, nought}
-use Rattle.values.specs.Shapes.{Shape, never, empty, one, _then_, _or_, many, faultFrom}
-use Rattle.values.specs.declared.Fault.{Fault}
+use Rattle.kinds.specs.Octets.{Octets, any, plain, inner, escapee, backslash, comma, semicolon, colon, letter, scheme, graphic, digit, sex, theV, theC, theA, theR, theD, four, point, nought}
+use Rattle.kinds.specs.Shapes.{Shape, never, empty, one, _then_, _or_, many, faultFrom}
+use Rattle.kinds.specs.declared.Fault.{Fault}
 
 -- one or none
 abbrev pub maybe : Shape → Shape

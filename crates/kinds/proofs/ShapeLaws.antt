@@ -7,10 +7,9 @@ use mathlib.Core.Logic.{_⊎_, inl, inr, ⊎-elim}
 use Prim.Native.Nat.{ℕ, _+_}
 use native.Mathlib.Omega.{arith}
 use Rattle.octets.specs.Pick.{pick}
-use Rattle.values.specs.Octets.{holds}
-use Rattle.values.specs.Shapes.{Shape, never, empty, one, _then_, _or_, many, joined, each, Is, mayEnd, lost, chain, isNever, fork, after, faultFrom}
-use Rattle.values.specs.declared.Fault.{Fault}
-use Rattle.values.specs.declared.Fault.the-variants.{Fits}
+use Rattle.kinds.specs.Octets.{holds}
+use Rattle.kinds.specs.Shapes.{Shape, never, empty, one, _then_, _or_, many, joined, each, Is, mayEnd, lost, chain, isNever, fork, after, faultFrom}
+use Rattle.kinds.specs.declared.Fault.the-variants.{Fits}
 use Rattle.octets.proofs.Bools.{by, and-both, or-some, or-left, or-right}
 
 pub nil-cons : (x : ℕ) (v : List ℕ) → [] ≡ x ∷ v → ⊥
