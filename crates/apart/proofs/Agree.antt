@@ -9,21 +9,21 @@ use lib.ListN.{length, drop, set, replicate, length-set, length-drop, getD-repli
 use lib.Seq.{length-take-le}
 use borrow.Author.Tests.{ltb-false, eqb-true, eqb-false, eq-eqb, ne-eqb}
 use Rattle.octets.specs.Pick.{pick}
-use Rattle.slots.specs.Search.{firstAt}
+use Rattle.tickets.specs.Search.{firstAt}
 use Rattle.slots.specs.Sound.{none, stateAt, Fit}
 use Rattle.slots.specs.Slots.{isFree, freeAt}
 use Rattle.pools.specs.Pools.{patch, zeros}
 use Rattle.pools.proofs.Patches.{zeros-length}
 use Rattle.desk.specs.Steps.{refused as refusing, newStep, slotOf, opened, openIn, openStep, grown, withState, addIn, addStep, releaseStep, octetsIn, showStep, heldStep, judgeStep}
-use Rattle.slots.proofs.Searches.{clash, firstAt-is, firstAt-not, unbarred}
+use Rattle.tickets.proofs.Searches.{clash, firstAt-is, firstAt-not, unbarred}
 use Rattle.slots.proofs.SoundLaws.{in-bounds}
 use Rattle.desk.proofs.DeskLaws.{is-sound, Granted}
-use Rattle.slots.specs.declared.tickets.Place.{Place}
-use Rattle.slots.specs.declared.tickets.Place.the-variants.{At, Nowhere, Barred}
-use Rattle.slots.specs.declared.entries.Session.{Session}
-use Rattle.slots.specs.declared.entries.Entry.{Entry}
-use Rattle.slots.specs.declared.entries.State.{State}
-use Rattle.slots.specs.declared.entries.State.the-variants.{Free, Open}
+use Rattle.tickets.specs.declared.Place.{Place}
+use Rattle.tickets.specs.declared.Place.the-variants.{At, Nowhere, Barred}
+use Rattle.sessions.specs.declared.Session.{Session}
+use Rattle.sessions.specs.declared.Entry.{Entry}
+use Rattle.sessions.specs.declared.State.{State}
+use Rattle.sessions.specs.declared.State.the-variants.{Free, Open}
 use Rattle.desk.specs.declared.Desk.{Desk}
 use Rattle.slots.specs.declared.Slot.the-variants.{Held, No}
 use Rattle.apart.specs.Ledger.{Deed, adds, judges, shows, asks, releases, Call, opens, on, told, absent, present, answer, leaves, Row, Ledger, lookup, change, Out, opening, ledgerStep, freshLedger, run, after}

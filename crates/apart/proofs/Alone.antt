@@ -8,7 +8,7 @@ use lib.Dec.{eqb}
 use lib.ListN.{length, take}
 use borrow.Author.Tests.{eqb-true, eqb-false, eq-eqb, ne-eqb}
 use Rattle.octets.specs.Pick.{pick}
-use Rattle.slots.proofs.Searches.{clash}
+use Rattle.tickets.proofs.Searches.{clash}
 use Rattle.apart.specs.Ledger.{Deed, Call, opens, on, Reply, refused, told, Found, absent, present, answer, leaves, Row, Ledger, lookup, change, Out, opening, ledgerStep, run, after}
 use Rattle.apart.specs.Uploads.{keep, mine, own, solo, unnamed}
 use Rattle.apart.proofs.Rows.{Below, change-same, change-other, change-absent, below-change}

@@ -9,17 +9,17 @@ use lib.ListN.{length, take}
 use borrow.Author.Tests.{ltb-true, ltb-false, eqb-true, eqb-false, eq-eqb, ne-eqb}
 use Rattle.octets.specs.Pick.{pick}
 use Rattle.reader.specs.Outcome.{judgeOf}
-use Rattle.slots.specs.Search.{firstAt}
+use Rattle.tickets.specs.Search.{firstAt}
 use Rattle.slots.specs.Sound.{stateAt}
 use Rattle.slots.specs.Slots.{isFree, freeAt}
 use Rattle.desk.specs.Steps.{Sound, Turned, refused, newStep, openIn, openStep, octetsIn, showStep, heldStep, judgeStep}
-use Rattle.slots.proofs.Searches.{clash, firstAt-is, firstAt-not, unbarred}
+use Rattle.tickets.proofs.Searches.{clash, firstAt-is, firstAt-not, unbarred}
 use Rattle.desk.proofs.DeskLaws.{is-sound}
-use Rattle.slots.specs.declared.tickets.Place.{Place}
-use Rattle.slots.specs.declared.tickets.Place.the-variants.{At, Nowhere, Barred}
-use Rattle.slots.specs.declared.entries.Session.{Session}
-use Rattle.slots.specs.declared.entries.State.{State}
-use Rattle.slots.specs.declared.entries.State.the-variants.{Free, Open}
+use Rattle.tickets.specs.declared.Place.{Place}
+use Rattle.tickets.specs.declared.Place.the-variants.{At, Nowhere, Barred}
+use Rattle.sessions.specs.declared.Session.{Session}
+use Rattle.sessions.specs.declared.State.{State}
+use Rattle.sessions.specs.declared.State.the-variants.{Free, Open}
 use Rattle.desk.specs.declared.Desk.{Desk}
 use Rattle.desk.specs.declared.Answer.the-variants.{Done, Refused}
 use Rattle.apart.specs.Ledger.{Deed, releases, Call, opens, on, Reply, Found, absent, present, shut, answer, leaves, Ledger, lookup, ledgerStep, freshLedger, run, after}

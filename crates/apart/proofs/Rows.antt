@@ -8,7 +8,7 @@ use lib.Dec.{eqb}
 use lib.ListN.{length}
 use borrow.Author.Tests.{eqb-true, ne-eqb}
 use Rattle.octets.specs.Pick.{pick}
-use Rattle.slots.proofs.Searches.{clash}
+use Rattle.tickets.proofs.Searches.{clash}
 use Rattle.apart.specs.Ledger.{Found, absent, present, Row, lookup, renew, change}
 
 pub no : {A : Type 0} (o : List ℕ) → absent ≡ present o → A

@@ -8,18 +8,18 @@ use lib.Dec.{eqb}
 use lib.ListN.{length, set}
 use lib.Seq.{getD-set-same, getD-set-other}
 use borrow.Author.Tests.{eqb-true, eqb-false, eq-eqb}
-use Rattle.slots.specs.Search.{firstAt}
+use Rattle.tickets.specs.Search.{firstAt}
 use Rattle.slots.specs.Sound.{none, stateAt, Fit}
 use Rattle.slots.specs.Slots.{isFree, openAt}
 use Rattle.desk.specs.Steps.{Sound, sound, slotOf, octetsIn}
-use Rattle.slots.proofs.Searches.{clash, firstAt-is, firstAt-not, unbarred}
+use Rattle.tickets.proofs.Searches.{clash, firstAt-is, firstAt-not, unbarred}
 use Rattle.desk.proofs.DeskLaws.{is-sound, Granted, granted}
-use Rattle.slots.specs.declared.tickets.Place.{Place}
-use Rattle.slots.specs.declared.tickets.Place.the-variants.{At, Nowhere, Barred}
-use Rattle.slots.specs.declared.entries.Session.{Session}
-use Rattle.slots.specs.declared.entries.Entry.{Entry}
-use Rattle.slots.specs.declared.entries.State.{State}
-use Rattle.slots.specs.declared.entries.State.the-variants.{Free, Open}
+use Rattle.tickets.specs.declared.Place.{Place}
+use Rattle.tickets.specs.declared.Place.the-variants.{At, Nowhere, Barred}
+use Rattle.sessions.specs.declared.Session.{Session}
+use Rattle.sessions.specs.declared.Entry.{Entry}
+use Rattle.sessions.specs.declared.State.{State}
+use Rattle.sessions.specs.declared.State.the-variants.{Free, Open}
 use Rattle.desk.specs.declared.Desk.{Desk}
 use Rattle.slots.specs.declared.Slot.the-variants.{Held, No}
 use Rattle.apart.specs.Ledger.{Found, absent, present, Row, Ledger, lookup}

@@ -6,8 +6,8 @@ use lib.ListN.{length, take}
 use Rattle.reader.specs.Outcome.{judgeOf}
 use Rattle.slots.specs.Sound.{stateAt}
 use Rattle.desk.specs.Steps.{Sound, openStep, showStep, heldStep, judgeStep}
-use Rattle.slots.specs.declared.entries.Session.{Session}
-use Rattle.slots.specs.declared.entries.State.the-variants.{Free, Open}
+use Rattle.sessions.specs.declared.Session.{Session}
+use Rattle.sessions.specs.declared.State.the-variants.{Free, Open}
 use Rattle.desk.specs.declared.Desk.{Desk}
 use Rattle.desk.specs.declared.Answer.the-variants.{Done, Refused}
 use Rattle.apart.specs.Ledger.{Deed, Call, opens, on, Reply, told, present, Ledger, lookup, ledgerStep, freshLedger, run, after}

@@ -17,9 +17,9 @@ use Rattle.lines.specs.Places.{outcome, nameStart}
 use Rattle.lines.proofs.Inside.{InLine, in-line}
 use Rattle.language.proofs.PlacesLaw.{accepted-starts}
 use Rattle.properties.specs.Rows.{isGroup}
-use Rattle.values.specs.Kinds.{valueScan}
-use Rattle.values.specs.declared.Fault.{Fault}
-use Rattle.values.specs.declared.Fault.the-variants.{Fits, Breaks}
+use Rattle.kinds.specs.Kinds.{valueScan}
+use Rattle.kinds.specs.declared.Fault.{Fault}
+use Rattle.kinds.specs.declared.Fault.the-variants.{Fits, Breaks}
 use Rattle.card_state.specs.State.{inOrder, onceBit, isSeen, noted, closed}
 use Rattle.content.specs.Parts.{rowOfLine, kindOfLine, told, toldOf}
 use Rattle.cards.specs.Judge.{laden, entered, fitting, judgeParts, judgeParsed, judgeLine}

@@ -13,9 +13,9 @@ use Rattle.characters.specs.Characters.{allowed, firstBad}
 use Rattle.lines.specs.Parse.{Parse, got, bad}
 use Rattle.lines.specs.Grammar.{Line}
 use Rattle.lines.specs.Rule.{parseLine}
-use Rattle.values.specs.Kinds.{valueScan}
-use Rattle.values.specs.declared.Fault.{Fault}
-use Rattle.values.specs.declared.Fault.the-variants.{Fits, Breaks}
+use Rattle.kinds.specs.Kinds.{valueScan}
+use Rattle.kinds.specs.declared.Fault.{Fault}
+use Rattle.kinds.specs.declared.Fault.the-variants.{Fits, Breaks}
 use Rattle.content.specs.Parts.{told, toldOf}
 use Rattle.card_state.specs.State.{inOrder, onceBit, isSeen, noted}
 use Rattle.cards.specs.Judge.{laden, broken, entered, fitting, judgeParts, judgeParsed, judgeLine}

@@ -10,9 +10,9 @@ use Rattle.lines.specs.Parse.{Parse, got, bad}
 use Rattle.lines.specs.Grammar.{Line}
 use Rattle.lines.specs.Rule.{parseLine}
 use Rattle.properties.specs.Rows.{isGroup}
-use Rattle.values.specs.Kinds.{valueScan}
-use Rattle.values.specs.declared.Fault.{Fault}
-use Rattle.values.specs.declared.Fault.the-variants.{Fits, Breaks}
+use Rattle.kinds.specs.Kinds.{valueScan}
+use Rattle.kinds.specs.declared.Fault.{Fault}
+use Rattle.kinds.specs.declared.Fault.the-variants.{Fits, Breaks}
 use Rattle.card_state.specs.State.{inOrder, noted, closed}
 use Rattle.content.specs.Parts.{rowOfLine, kindOfLine}
 use Rattle.card_state.specs.declared.Card.{Card}

@@ -6,14 +6,14 @@ ghost use lib.ListN.{length};
 ghost use Rattle.octets.specs.Classes.{Classes};
 ghost use Rattle.properties.specs.Rows.{Lists};
 ghost use Rattle.values.specs.States.{Scanner};
-ghost use Rattle.values.specs.Kinds.{valueScan};
+ghost use Rattle.kinds.specs.Kinds.{valueScan};
 ghost use Rattle.card_state.specs.State.{inOrder, onceBit, isSeen};
 ghost use Rattle.cards.specs.Judge.{framing, laden, broken, entered, judgeParts, judgeLine};
 use card_state::Card;
 use card_state::Step;
 use content::Parts;
 use content::Told;
-use values::Fault;
+use kinds::Fault;
 
 // Whether a line of the row may stand here.
 fn in_order(phase: u32, row: usize) -> bool

@@ -11,22 +11,22 @@ use borrow.Author.Tests.{ltb-true, ltb-false, lt-ltb, eqb-true, eqb-false, eq-eq
 use Rattle.octets.specs.Pick.{pick}
 use Rattle.reader.specs.declared.Verdict.{Verdict}
 use Rattle.reader.specs.declared.Verdict.the-variants.{Refused as Unread}
-use Rattle.slots.specs.Search.{firstAt}
+use Rattle.tickets.specs.Search.{firstAt}
 use Rattle.slots.specs.Sound.{stateAt, bounds}
 use Rattle.slots.specs.Slots.{isFree, openAt, freeAt, inPlace}
 use Rattle.desk.specs.Steps.{Sound, sound, Turned, refuse, refused, freshDesk, newStep, slotOf, openIn, openStep, addIn, addStep, releaseIn, releaseStep, octetsIn, showStep, heldIn, heldStep, judgeIn, judgeStep}
-use Rattle.slots.specs.declared.tickets.Place.{Place}
-use Rattle.slots.specs.declared.tickets.Place.the-variants.{At, Nowhere, Barred}
-use Rattle.slots.specs.declared.entries.Session.{Session}
-use Rattle.slots.specs.declared.entries.State.{State}
-use Rattle.slots.specs.declared.entries.State.the-variants.{Free, Open}
+use Rattle.tickets.specs.declared.Place.{Place}
+use Rattle.tickets.specs.declared.Place.the-variants.{At, Nowhere, Barred}
+use Rattle.sessions.specs.declared.Session.{Session}
+use Rattle.sessions.specs.declared.State.{State}
+use Rattle.sessions.specs.declared.State.the-variants.{Free, Open}
 use Rattle.slots.specs.declared.Slot.{Slot}
 use Rattle.slots.specs.declared.Slot.the-variants.{Held, No}
 use Rattle.desk.specs.declared.Desk.{Desk}
 use Rattle.desk.specs.declared.Turn.{Turn}
 use Rattle.desk.specs.declared.Answer.{Answer}
 use Rattle.desk.specs.declared.Answer.the-variants.{Done, Refused}
-use Rattle.slots.proofs.Searches.{firstAt-is, firstAt-not, unbarred}
+use Rattle.tickets.proofs.Searches.{firstAt-is, firstAt-not, unbarred}
 use Rattle.slots.proofs.SoundLaws.{bounds-are, in-bounds}
 use Rattle.slots.proofs.SlotLaws.{slot-inside}
 use Rattle.desk.proofs.DeskLaws.{sound-is, is-sound, granted}

@@ -14,7 +14,8 @@ use Rattle.characters.specs.Characters.{allowed, firstBad}
 use Rattle.octets.specs.Room.{Filled, filled, refuse, overlay, fill, fillBounded}
 use Rattle.octets.specs.declared.rooms.Written.the-variants.{Wrote}
 use Rattle.octet_laws.proofs.Utf8.{allowed-only}
-use Rattle.escapes.specs.Escapes.{escaped, firstFault, unescaped}
+use Rattle.escaping.specs.Escaped.{escaped}
+use Rattle.unescaping.specs.Unescaped.{firstFault, unescaped}
 use Rattle.text.specs.Outcomes.{checked, faultless, escapeOutcome, unescapeOutcome}
 use Rattle.text_laws.specs.Stands.{Stands, none, itself, escape}
 use Rattle.text_laws.proofs.StandsLaws.{stands-exactly}

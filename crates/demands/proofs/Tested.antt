@@ -18,9 +18,9 @@ use Rattle.reader.specs.declared.Verdict.the-variants.{Accepted, Refused}
 use Rattle.folder.specs.Outcome.{foldOutcome}
 use Rattle.slots.specs.Sound.{stateAt, bounds}
 use Rattle.desk.specs.Steps.{newStep}
-use Rattle.slots.specs.declared.entries.Session.{Session}
-use Rattle.slots.specs.declared.entries.State.{State}
-use Rattle.slots.specs.declared.entries.State.the-variants.{Free, Open}
+use Rattle.sessions.specs.declared.Session.{Session}
+use Rattle.sessions.specs.declared.State.{State}
+use Rattle.sessions.specs.declared.State.the-variants.{Free, Open}
 use Rattle.apart.specs.Ledger.{Call, Reply, refused, told, counts, part, ledgerStep, freshLedger, run}
 use Rattle.apart.specs.Demand.{Proper, world}
 use Rattle.apart.proofs.Claim.{demand3}

@@ -14,7 +14,8 @@ use Rattle.octets.specs.declared.rooms.Written.the-variants.{Wrote, Refused}
 use Rattle.characters.proofs.Chars.{bad-le}
 use Rattle.octets.proofs.Scans.{scan-le}
 use Rattle.octet_laws.proofs.Utf8.{bad-place, bad-nowhere}
-use Rattle.escapes.specs.Escapes.{escaped, textStep, firstFault, unescaped}
+use Rattle.escaping.specs.Escaped.{escaped}
+use Rattle.unescaping.specs.Unescaped.{textStep, firstFault, unescaped}
 use Rattle.text.specs.Outcomes.{checked, faultless, escapeOutcome, unescapeOutcome}
 use Rattle.text_laws.specs.Stands.{Stands, Faulty}
 use Rattle.text_laws.proofs.StandsLaws.{stands-exactly, fault-found, fault-first}

@@ -13,8 +13,8 @@ use Rattle.reader.specs.Outcome.{Taken, took, readOutcome}
 use Rattle.reader.specs.declared.Verdict.the-variants.{Accepted, Refused}
 use Rattle.slots.specs.Sound.{stateAt}
 use Rattle.desk.specs.Steps.{newStep}
-use Rattle.slots.specs.declared.entries.Session.{Session}
-use Rattle.slots.specs.declared.entries.State.the-variants.{Open}
+use Rattle.sessions.specs.declared.Session.{Session}
+use Rattle.sessions.specs.declared.State.the-variants.{Open}
 use Rattle.desk.specs.declared.Answer.the-variants.{Done}
 use Rattle.apart.specs.Ledger.{Call, opens, on, releases, told}
 use Rattle.apart.specs.Demand.{Proper, answers, world}

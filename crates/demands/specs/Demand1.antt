@@ -9,7 +9,7 @@ use lib.ListN.{length, take, drop}
 use Rattle.characters.specs.Characters.{allowed}
 use Rattle.octets.specs.Room.{Filled, refuse}
 use Rattle.octet_laws.specs.Texts.{Text, Stops}
-use Rattle.escapes.specs.Escapes.{escaped}
+use Rattle.escaping.specs.Escaped.{escaped}
 use Rattle.text.specs.Outcomes.{escapeOutcome, unescapeOutcome}
 use Rattle.text_laws.specs.Stands.{Stands, Faulty}
 use Rattle.lines.specs.Grammar.{render}
@@ -20,8 +20,8 @@ use Rattle.cuts.specs.Pieces.{foldedLines}
 use Rattle.folder.specs.Outcome.{foldOutcome}
 use Rattle.slots.specs.Sound.{stateAt}
 use Rattle.desk.specs.Steps.{Sound, Turned, refuse as refuseNew, refused, freshDesk, newStep, openStep, addStep, releaseStep, octetsIn, showStep, heldStep, judgeStep}
-use Rattle.slots.specs.declared.entries.Session.{Session}
-use Rattle.slots.specs.declared.entries.State.the-variants.{Free, Open}
+use Rattle.sessions.specs.declared.Session.{Session}
+use Rattle.sessions.specs.declared.State.the-variants.{Free, Open}
 use Rattle.desk.specs.declared.Desk.{Desk}
 use Rattle.desk.specs.declared.Turn.{Turn}
 use Rattle.desk.specs.declared.Answer.{Answer}

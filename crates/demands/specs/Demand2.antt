@@ -8,11 +8,12 @@ use mathlib.Core.Logic.{_↔_}
 use lib.ListN.{length, take, drop}
 use Rattle.octets.specs.Room.{Filled, filled, overlay}
 use Rattle.octets.specs.declared.rooms.Written.the-variants.{Wrote}
-use Rattle.escapes.specs.Escapes.{escaped}
+use Rattle.escaping.specs.Escaped.{escaped}
 use Rattle.text.specs.Outcomes.{escapeOutcome, unescapeOutcome}
 use Rattle.text_laws.specs.Stands.{Stands}
 use Rattle.lines.specs.Grammar.{Line, render}
-use Rattle.reader.specs.Outcome.{judgeOf, logicalLines, Taken, readOutcome}
+use Rattle.reader.specs.Outcome.{judgeOf, Taken, readOutcome}
+use Rattle.folds.specs.Logical.{logicalLines}
 use Rattle.reader.specs.declared.Verdict.the-variants.{Accepted}
 use Rattle.cuts.specs.Pieces.{pieces}
 use Rattle.folder.specs.Outcome.{foldOutcome}

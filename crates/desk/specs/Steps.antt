@@ -8,14 +8,14 @@ use Rattle.octets.specs.Pick.{pick}
 use Rattle.reader.specs.Outcome.{judgeOf}
 use Rattle.reader.specs.declared.Verdict.{Verdict}
 use Rattle.reader.specs.declared.Verdict.the-variants.{Refused as Unread}
-use Rattle.slots.specs.Search.{firstAt}
+use Rattle.tickets.specs.Search.{firstAt}
 use Rattle.slots.specs.Sound.{none, bounds, Sound as SoundEntries, sound as soundEntries}
 use Rattle.slots.specs.Slots.{guarded as guardedEntries, freeAt, slotOf as slotIn}
-use Rattle.slots.specs.declared.tickets.Place.{Place}
-use Rattle.slots.specs.declared.tickets.Place.the-variants.{At, Nowhere, Barred}
-use Rattle.slots.specs.declared.entries.Session.{Session}
-use Rattle.slots.specs.declared.entries.State.{State}
-use Rattle.slots.specs.declared.entries.State.the-variants.{Free, Open}
+use Rattle.tickets.specs.declared.Place.{Place}
+use Rattle.tickets.specs.declared.Place.the-variants.{At, Nowhere, Barred}
+use Rattle.sessions.specs.declared.Session.{Session}
+use Rattle.sessions.specs.declared.State.{State}
+use Rattle.sessions.specs.declared.State.the-variants.{Free, Open}
 use Rattle.slots.specs.declared.Slot.{Slot}
 use Rattle.slots.specs.declared.Slot.the-variants.{Held, No}
 use Rattle.pools.specs.Pools.{patch, zeros, Part, partOf}

@@ -1,12 +1,12 @@
 // The upload desk: 1 to 40 slots of 16,384 octets in a lent pool, and a session in each open one.
 use pools::SLOT_SIZE;
 use reader::Verdict;
+use sessions::Entry;
+use sessions::Session;
+use sessions::State;
 use slots::SLOTS;
 use slots::Slot;
-use slots::entries::Entry;
-use slots::entries::Session;
-use slots::entries::State;
-use slots::tickets::Place;
+use tickets::Place;
 ghost use mathlib.Core.Path.{_≡_};
 ghost use Prim.Native.Nat.{_<_};
 ghost use Rattle.pools.specs.Pools.{Lies};

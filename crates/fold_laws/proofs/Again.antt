@@ -10,7 +10,8 @@ use Rattle.octets.specs.Room.{filled, fillBounded}
 use Rattle.octets.specs.declared.rooms.Written.the-variants.{Wrote}
 use Rattle.characters.proofs.Chains.{no-end}
 use Rattle.ends.specs.Lone.{loneStep, firstLone, endsCrLf}
-use Rattle.reader.specs.Outcome.{judgeOf, logicalLines, ended, copyOf, recordsOf, writeOutcome, outcomeBy, readOutcome}
+use Rattle.reader.specs.Outcome.{judgeOf, ended, copyOf, recordsOf, writeOutcome, outcomeBy, readOutcome}
+use Rattle.folds.specs.Logical.{logicalLines}
 use Rattle.reader.specs.declared.Verdict.{Verdict}
 use Rattle.reader.specs.declared.Verdict.the-variants.{Accepted}
 use Rattle.reader.proofs.AcceptLaws.{accepting}

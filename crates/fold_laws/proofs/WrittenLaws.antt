@@ -15,7 +15,8 @@ use Rattle.cards.specs.Judge.{judgeLine}
 use Rattle.card_state.specs.declared.Card.{Card}
 use Rattle.card_state.specs.declared.Step.the-variants.{Next}
 use Rattle.cards.proofs.CardLaws.{line-clean}
-use Rattle.reader.specs.Outcome.{judgeOf, logicalLines}
+use Rattle.reader.specs.Outcome.{judgeOf}
+use Rattle.folds.specs.Logical.{logicalLines}
 use Rattle.reader.specs.declared.Verdict.{Verdict}
 use Rattle.reader.specs.declared.Verdict.the-variants.{Accepted, Refused as Denied}
 use Rattle.cuts.specs.Pieces.{foldedLines, Clean, All}

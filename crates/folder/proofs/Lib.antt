@@ -1,3 +1,2 @@
 -- The laws that the proofs of `folder` and of the crates above it cite. Assumes nothing.
-pub mod TextLaws
 pub mod Accepted

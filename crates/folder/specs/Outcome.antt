@@ -3,7 +3,8 @@
 use Prim.Native.Nat.{ℕ}
 use mathlib.Core.List.{List}
 use Rattle.octets.specs.Room.{Filled, refuse, fillBounded}
-use Rattle.reader.specs.Outcome.{judgeOf, logicalLines}
+use Rattle.reader.specs.Outcome.{judgeOf}
+use Rattle.folds.specs.Logical.{logicalLines}
 use Rattle.reader.specs.declared.Verdict.{Verdict}
 use Rattle.reader.specs.declared.Verdict.the-variants.{Accepted, Refused}
 use Rattle.cuts.specs.Pieces.{foldedLines}

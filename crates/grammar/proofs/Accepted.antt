@@ -7,7 +7,7 @@ use native.Mathlib.Omega.{arith}
 use lib.ListN.{length, length-append}
 use borrow.Author.Tests.{le-ltb, eq-eqb, ne-eqb}
 use Rattle.folds.specs.Folds.{unfolded}
-use Rattle.folds.specs.Logical.{linesBy, rawLines}
+use Rattle.folds.specs.Logical.{linesBy, rawLines, logicalLines}
 use Rattle.lines.specs.Grammar.{Line, Each, render}
 use Rattle.language.proofs.Law.{line-unique}
 use Rattle.card_state.specs.State.{freshCard}
@@ -15,7 +15,8 @@ use Rattle.card_state.specs.declared.Card.{Card}
 use Rattle.card_state.specs.declared.Step.{Step}
 use Rattle.card_state.specs.declared.Step.the-variants.{Next}
 use Rattle.ends.specs.Lone.{firstLone}
-use Rattle.reader.specs.Outcome.{judgeLines, verdictOf, judgeOf, logicalLines, ended}
+use Rattle.walks.specs.Walk.{judgeLines}
+use Rattle.reader.specs.Outcome.{verdictOf, judgeOf, ended}
 use Rattle.reader.specs.declared.Verdict.the-variants.{Accepted}
 use Rattle.reader.proofs.AcceptLaws.{accepting}
 use Rattle.grammar.specs.Cards.{Readable, card, Cards, none, more}

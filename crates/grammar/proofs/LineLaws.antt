@@ -15,9 +15,9 @@ use Rattle.lines.specs.Grammar.{Line, front}
 use Rattle.lines.specs.Rule.{parseLine}
 use Rattle.language.proofs.Law.{line-law, refused-law}
 use Rattle.properties.specs.Rows.{rows, rowAt, single, isGroup}
-use Rattle.values.specs.Kinds.{valueScan}
-use Rattle.values.specs.declared.Fault.{Fault}
-use Rattle.values.specs.declared.Fault.the-variants.{Fits, Breaks}
+use Rattle.kinds.specs.Kinds.{valueScan}
+use Rattle.kinds.specs.declared.Fault.{Fault}
+use Rattle.kinds.specs.declared.Fault.the-variants.{Fits, Breaks}
 use Rattle.octets.proofs.Bools.{by}
 use Rattle.card_state.specs.State.{inOrder, noted, closed}
 use Rattle.content.specs.Parts.{rowOfLine, kindOfLine}

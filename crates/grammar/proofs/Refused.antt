@@ -21,7 +21,8 @@ use Rattle.card_state.specs.declared.Card.{Card}
 use Rattle.card_state.specs.declared.Step.{Step}
 use Rattle.card_state.specs.declared.Step.the-variants.{Next, Refused as Halted}
 use Rattle.ends.specs.Lone.{loneStep, firstLone, endsCrLf}
-use Rattle.reader.specs.Outcome.{onward, judgeLines, verdictOf, judgeOf, ended}
+use Rattle.walks.specs.Walk.{onward, judgeLines}
+use Rattle.reader.specs.Outcome.{verdictOf, judgeOf, ended}
 use Rattle.reader.specs.declared.Verdict.the-variants.{Accepted, Refused}
 use Rattle.grammar.specs.Refusals.{EndsCrLf, Framed, SoFar, LineRefused, RefusedBy, long, empty, lone, unended, line, unfinished}
 use Rattle.grammar.proofs.Known.{phaseOf, Known, fresh-known}

@@ -15,7 +15,7 @@ use Rattle.cards.specs.Judge.{judgeLine}
 use Rattle.card_state.specs.declared.Card.{Card}
 use Rattle.card_state.specs.declared.Step.{Step}
 use Rattle.card_state.specs.declared.Step.the-variants.{Next}
-use Rattle.reader.specs.Outcome.{onward, judgeLines}
+use Rattle.walks.specs.Walk.{onward, judgeLines}
 use Rattle.grammar.specs.Cards.{Readable, Begins, Versions, Inside, count, ofRow, linesOf, groupLines, Once, Inner, CardLines, card, Cards, none, more}
 use Rattle.grammar.specs.Refusals.{Begun, nothing, first, within, Sound}
 use Rattle.grammar.proofs.Known.{Known, count-append, line-known, end-known}

@@ -12,9 +12,9 @@ use borrow.Author.Tests.{le-ltb, ltb-false, eqb-true, eqb-false}
 use Rattle.characters.specs.Characters.{allowed, firstBad}
 use Rattle.characters.proofs.Chars.{bad-le}
 use Rattle.octet_laws.proofs.Utf8.{allowed-only}
-use Rattle.values.specs.Kinds.{shapeOf, kindScan, valueScan}
-use Rattle.values.specs.Shapes.{Is}
-use Rattle.values.specs.declared.Fault.the-variants.{Fits}
+use Rattle.kinds.specs.Kinds.{shapeOf, kindScan, valueScan}
+use Rattle.kinds.specs.Shapes.{Is}
+use Rattle.kinds.specs.declared.Fault.the-variants.{Fits}
 use Rattle.octets.proofs.Bools.{by}
 use Rattle.kind_laws.proofs.KindLaws.{fits-kind}
 use Rattle.kind_laws.proofs.Plain.{kind-0, kind-1, kind-2, kind-3, kind-4, kind-5, kind-6, kind-7, kind-8, fixed-begin, fixed-end, fixed-version, by-kind}

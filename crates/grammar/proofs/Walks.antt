@@ -12,7 +12,8 @@ use Rattle.card_state.specs.State.{freshCard}
 use Rattle.card_state.specs.declared.Card.{Card}
 use Rattle.card_state.specs.declared.Step.{Step}
 use Rattle.card_state.specs.declared.Step.the-variants.{Next, Refused}
-use Rattle.reader.specs.Outcome.{onward, judgeLines, ended}
+use Rattle.walks.specs.Walk.{onward, judgeLines}
+use Rattle.reader.specs.Outcome.{ended}
 use Rattle.grammar.specs.Cards.{Readable, CardLines, Cards, none, more}
 use Rattle.grammar.specs.Refusals.{Begun, nothing, SoFar, Sound, LineRefused}
 use Rattle.grammar.proofs.Known.{Known, fresh-known, lineCard, line-known, endCard, end-known}

@@ -7,9 +7,9 @@ use mathlib.Core.Logic.{_↔_}
 use Prim.Native.Nat.{ℕ, _<_}
 use lib.Dec.{eqb}
 use Rattle.octets.specs.Pick.{pick}
-use Rattle.values.specs.Shapes.{Shape, lost, Is}
-use Rattle.values.specs.Kinds.{text, texts, uri, component, parts, components, gender, pidmap, vcard, version, shapeOf, lineShape, kindScan, valueScan}
-use Rattle.values.specs.declared.Fault.the-variants.{Fits, Breaks}
+use Rattle.kinds.specs.Shapes.{Shape, lost, Is}
+use Rattle.kinds.specs.Kinds.{text, texts, uri, component, parts, components, gender, pidmap, vcard, version, shapeOf, lineShape, kindScan, valueScan}
+use Rattle.kinds.specs.declared.Fault.the-variants.{Fits, Breaks}
 use Rattle.octets.proofs.Upto.{upto, alike}
 use Rattle.kind_laws.proofs.Places.{Broken, fits, breaks}
 

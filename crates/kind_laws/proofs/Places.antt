@@ -13,11 +13,11 @@ use borrow.Author.Tests.{ltb-true, ltb-false}
 use Rattle.octets.specs.Pick.{pick}
 use Rattle.octets.specs.Classes.{letter as isLetter, digit as isDigit}
 use Rattle.octets.specs.Cases.{lower}
-use Rattle.values.specs.Octets.{Octets, any, plain, inner, escapee, backslash, comma, semicolon, colon, letter, scheme, graphic, digit, sex, theV, theC, theA, theR, theD, four, point, nought, holds}
-use Rattle.values.specs.Shapes.{Shape, never, empty, one, _then_, _or_, many, joined, each, Is, mayEnd, lost, chain, isNever, fork, after, faultFrom}
-use Rattle.values.specs.declared.Fault.the-variants.{Fits, Breaks}
+use Rattle.kinds.specs.Octets.{Octets, any, plain, inner, escapee, backslash, comma, semicolon, colon, letter, scheme, graphic, digit, sex, theV, theC, theA, theR, theD, four, point, nought, holds}
+use Rattle.kinds.specs.Shapes.{Shape, never, empty, one, _then_, _or_, many, joined, each, Is, mayEnd, lost, chain, isNever, fork, after, faultFrom}
+use Rattle.kinds.specs.declared.Fault.the-variants.{Fits, Breaks}
 use Rattle.octets.proofs.Bools.{by, and-both, or-some}
-use Rattle.values.proofs.ShapeLaws.{lost-none, after-to, fits-from}
+use Rattle.kinds.proofs.ShapeLaws.{lost-none, after-to, fits-from}
 
 and-none : (s t : Bool) → (s && t) ≡ false → (s ≡ false) ⊎ (t ≡ false)
 and-none true t e = inr e

@@ -8,13 +8,13 @@ use lib.Dec.{eqb}
 use borrow.Author.Tests.{eqb-true, ne-eqb}
 use Rattle.octets.specs.Cases.{lower, same}
 use Rattle.octets.specs.Ascii.{octets}
-use Rattle.values.specs.Octets.{Octets, scheme, graphic, digit, colon, semicolon, letter, sex, theV, theC, theA, theR, theD, four, point, nought, holds}
-use Rattle.values.specs.Shapes.{Shape, empty, one, _then_, _or_, many, joined, each, Is}
-use Rattle.values.specs.Kinds.{text, uri, gender, pidmap, vcard, version, shapeOf, kindScan, valueScan, lineShape}
+use Rattle.kinds.specs.Octets.{Octets, scheme, graphic, digit, colon, semicolon, letter, sex, theV, theC, theA, theR, theD, four, point, nought, holds}
+use Rattle.kinds.specs.Shapes.{Shape, empty, one, _then_, _or_, many, joined, each, Is}
+use Rattle.kinds.specs.Kinds.{text, uri, gender, pidmap, vcard, version, shapeOf, kindScan, valueScan, lineShape}
 use Rattle.octets.specs.Counts.{allIn}
-use Rattle.values.specs.declared.Fault.the-variants.{Fits}
+use Rattle.kinds.specs.declared.Fault.the-variants.{Fits}
 use Rattle.octets.proofs.Bools.{and-both}
-use Rattle.values.proofs.QuietLaws.{run-many, itself, whole}
+use Rattle.kinds.proofs.QuietLaws.{run-many, itself, whole}
 use Rattle.kind_laws.specs.Words.{In, All, Text, Texts, Semicolons, Uri, Gender, Pidmap}
 use Rattle.kind_laws.proofs.KindLaws.{fits-kind, fits-line}
 use Rattle.kind_laws.proofs.Escapes.{is-text, is-texts, is-five, is-seven, is-components}

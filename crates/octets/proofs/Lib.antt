@@ -9,4 +9,5 @@ pub mod CaseLaws
 pub mod Copies
 pub mod RoomLaws
 pub mod Writes
+pub mod PieceLaws
 pub mod CountLaws

@@ -1,5 +1,5 @@
 -- What an accepted input satisfies, and how many lines it has. Assumes nothing.
-use mathlib.Core.Path.{_≡_, refl, ap}
+use mathlib.Core.Path.{_≡_, refl}
 use mathlib.Core.Bool.{Bool, true, false}
 use mathlib.Core.List.{List, [], _∷_}
 use Prim.Native.Nat.{ℕ, zero, suc, _+_, _≤_}
@@ -9,36 +9,20 @@ use lib.ListN.{length, drop}
 use borrow.Author.Tests.{ltb-false, eqb-true, eqb-false}
 use Rattle.octets.specs.Pick.{pick}
 use Rattle.octets.proofs.Scans.{scan-le}
-use Rattle.folds.specs.Folds.{lineLength, unfolded}
+use Rattle.folds.specs.Folds.{lineLength}
 use Rattle.folds.specs.Logical.{linesBy, rawLines}
 use Rattle.card_state.specs.State.{freshCard}
-use Rattle.cards.specs.Judge.{judgeLine}
 use Rattle.card_state.specs.declared.Card.{Card}
 use Rattle.card_state.specs.declared.Step.{Step}
 use Rattle.card_state.specs.declared.Step.the-variants.{Next, Refused as Halted}
-use Rattle.cards.proofs.CardLaws.{one-more}
 use Rattle.ends.specs.Lone.{loneStep, firstLone, endsCrLf}
-use Rattle.reader.specs.Outcome.{onward, judgeLines, verdictOf, judgeOf}
+use Rattle.walks.specs.Walk.{judgeLines}
+use Rattle.walks.proofs.WalkLaws.{counted}
+use Rattle.reader.specs.Outcome.{verdictOf, judgeOf}
 use Rattle.reader.specs.declared.Verdict.the-variants.{Accepted, Refused}
 
 clash : {A : Type 0} → _≡_ {A = ℕ} 0 1 → A
 clash e = absurd (omega arith)
-
--- where the lines after it are accepted too, a line was judged and led to a card
-pub onward-next : {A : Type 0} (r : Step) (f : Card → Step) (c′ : Card) → onward r f ≡ Next c′
-    → ((d : Card) → r ≡ Next d → f d ≡ Next c′ → A) → A
-onward-next (Next d) f c′ e k = k d refl e
-onward-next (Halted n p) f c′ e k = clash cc
-
--- each judged line is counted
-pub counted : (ls : List (List ℕ)) (p : ℕ) (c c′ : Card) → judgeLines ls p c ≡ Next c′ → c′ .lines ≡ c .lines + length ls
-unfolding judgeLines
-counted [] p c c′ e =
-    let q : c ≡ c′ = cc in
-    omega (arith, ap (λ (x : Card). x .lines) q)
-counted (l ∷ ls) p c c′ e =
-    onward-next (judgeLine c p (unfolded l)) (judgeLines ls (p + length l + 2)) c′ e
-    (λ d q r. omega (arith, one-more c d p (unfolded l) q, counted ls (p + length l + 2) d c′ r))
 
 few : (n : ℕ) (l : List ℕ) → length (linesBy n l) ≤ n
 unfolding linesBy

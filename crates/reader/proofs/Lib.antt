@@ -1,5 +1,4 @@
 -- The laws that the proofs of `reader` cite. Assumes nothing.
-pub mod WalkLaws
 pub mod AcceptLaws
 pub mod CopyUnfolds
 pub mod LinesAgain

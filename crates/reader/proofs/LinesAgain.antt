@@ -14,7 +14,7 @@ use borrow.Author.Tests.{ne-eqb}
 use Rattle.characters.specs.Characters.{allowed, firstBad}
 use Rattle.characters.proofs.Chains.{NoEnd, none, more, no-end, good-chars}
 use Rattle.folds.specs.Folds.{lineLength, unfolded}
-use Rattle.folds.specs.Logical.{rawLines}
+use Rattle.folds.specs.Logical.{rawLines, logicalLines}
 use Rattle.folds.proofs.LineLaws.{lines-end}
 use Rattle.lines.specs.Grammar.{Each}
 use Rattle.card_state.specs.State.{freshCard}
@@ -22,9 +22,11 @@ use Rattle.cards.specs.Judge.{judgeLine}
 use Rattle.card_state.specs.declared.Card.{Card}
 use Rattle.card_state.specs.declared.Step.the-variants.{Next}
 use Rattle.cards.proofs.CardLaws.{line-clean}
-use Rattle.reader.specs.Outcome.{judgeLines, judgeOf, ended, logicalLines, copyOf}
+use Rattle.walks.specs.Walk.{judgeLines}
+use Rattle.reader.specs.Outcome.{judgeOf, ended, copyOf}
 use Rattle.reader.specs.declared.Verdict.the-variants.{Accepted}
-use Rattle.reader.proofs.AcceptLaws.{onward-next, accepting}
+use Rattle.walks.proofs.WalkLaws.{onward-next}
+use Rattle.reader.proofs.AcceptLaws.{accepting}
 use Rattle.reader.proofs.CopyUnfolds.{line-octet, raw, line-stop}
 
 -- characters only, with no control but tab; neither empty nor led by a space or tab

@@ -7,9 +7,9 @@ use lib.ListN.{length, length-map}
 use borrow.Author.Tests.{lt-ltb, le-ltb}
 use Rattle.octets.specs.Room.{overlay}
 use Rattle.folds.specs.Folds.{unfolded}
-use Rattle.folds.specs.Logical.{rawLines}
+use Rattle.folds.specs.Logical.{rawLines, logicalLines}
 use Rattle.records.specs.Records.{recordsFrom}
-use Rattle.reader.specs.Outcome.{judgeOf, logicalLines, copyOf, recordsOf, took, writeOutcome, outcomeBy, readOutcome}
+use Rattle.reader.specs.Outcome.{judgeOf, copyOf, recordsOf, took, writeOutcome, outcomeBy, readOutcome}
 use Rattle.reader.specs.declared.Verdict.{Verdict}
 use Rattle.reader.specs.declared.Verdict.the-variants.{Accepted, Refused}
 use Rattle.reader.proofs.AcceptLaws.{accepting, lines-counted}

@@ -1,31 +1,19 @@
 -- What the reader answers and writes, by document 01: the numbers 1 to 14, the copy and the records. Assumes nothing.
 use Prim.Native.Nat.{ℕ, _+_}
-use mathlib.Core.List.{List, [], _∷_, _++_, map}
+use mathlib.Core.List.{List, [], _∷_, _++_}
 use lib.Dec.{eqb, ltb}
 use lib.ListN.{length}
 use Rattle.octets.specs.Pick.{pick}
 use Rattle.octets.specs.Room.{overlay}
-use Rattle.folds.specs.Folds.{unfolded}
-use Rattle.folds.specs.Logical.{rawLines}
+use Rattle.folds.specs.Logical.{rawLines, logicalLines}
+use Rattle.walks.specs.Walk.{judgeLines}
 use Rattle.records.specs.Records.{recordsFrom}
 use Rattle.card_state.specs.State.{freshCard}
-use Rattle.cards.specs.Judge.{judgeLine}
-use Rattle.card_state.specs.declared.Card.{Card}
 use Rattle.card_state.specs.declared.Step.{Step}
 use Rattle.card_state.specs.declared.Step.the-variants.{Next, Refused as Halted}
 use Rattle.ends.specs.Lone.{firstLone, endsCrLf}
 use Rattle.reader.specs.declared.Verdict.{Verdict}
 use Rattle.reader.specs.declared.Verdict.the-variants.{Accepted, Refused}
-
--- a refusal is handed up unchanged
-abbrev pub onward : Step → (Card → Step) → Step
-onward (Next c) f = f c
-onward (Halted n p) f = Halted n p
-
--- the lines judged one after the other; they are as they came, and p is the place of the first of them in the input as given
-unfoldable pub judgeLines : List (List ℕ) → ℕ → Card → Step
-judgeLines [] p c = Next c
-judgeLines (l ∷ ls) p c = onward (judgeLine c p (unfolded l)) (judgeLines ls (p + length l + 2))
 
 -- after the last line of an input of n octets: 9 inside a card, else the counts of cards and lines
 unfoldable pub verdictOf : ℕ → Step → Verdict
@@ -39,10 +27,6 @@ judgeOf i =
     (pick (eqb (length i) 0) (Refused 2 0)
     (pick (ltb (firstLone i) (length i)) (Refused 3 (firstLone i))
     (pick (endsCrLf i) (verdictOf (length i) (judgeLines (rawLines i) 0 freshCard)) (Refused 4 (length i)))))
-
--- the logical lines, unfolded
-unfoldable pub logicalLines : List ℕ → List (List ℕ)
-logicalLines i = map unfolded (rawLines i)
 
 -- the lines in order, each ended by CR LF
 unfoldable pub ended : List (List ℕ) → List ℕ

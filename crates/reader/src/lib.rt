@@ -3,8 +3,6 @@ ghost use mathlib.Core.Path.{_≡_};
 ghost use Rattle.reader.specs.Outcome.{verdictOf, judgeOf, took, readOutcome};
 use card_state::Step;
 
-pub mod walk;
-
 // The counts of cards and lines, or a refusal's number and place.
 pub enum Verdict {
     Accepted(usize, usize),
@@ -47,7 +45,7 @@ pub fn judge(input: &[u8]) -> Verdict
     let t = octets::classes::table();
     let rows = properties::table();
     let steps = values::scanner::table();
-    let last = walk::walk(&t, &rows, &steps, input);
+    let last = walks::walk(&t, &rows, &steps, input);
     concluded(input.len(), last)
 }
 

@@ -13,7 +13,8 @@ use Rattle.folds.specs.Folds.{lineLength, unfolded}
 use Rattle.ends.specs.Lone.{loneStep, firstLone, endsCrLf}
 use Rattle.folds.proofs.FoldLaws.{unfold-shorter}
 use Rattle.lines.specs.Grammar.{Each}
-use Rattle.reader.specs.Outcome.{judgeOf, ended, logicalLines, copyOf, recordsOf}
+use Rattle.reader.specs.Outcome.{judgeOf, ended, copyOf, recordsOf}
+use Rattle.folds.specs.Logical.{logicalLines}
 use Rattle.reader.specs.declared.Verdict.the-variants.{Accepted}
 use Rattle.reader.proofs.AcceptLaws.{accepting}
 use Rattle.reader.proofs.CopyUnfolds.{ends-append, kept-octet, raw, copy-unfolds}

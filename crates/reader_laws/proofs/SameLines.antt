@@ -8,16 +8,18 @@ use native.Mathlib.Omega.{arith}
 use lib.ListN.{length}
 use borrow.Author.Tests.{ne-eqb, eq-eqb, le-ltb}
 use Rattle.folds.specs.Folds.{unfolded}
-use Rattle.folds.specs.Logical.{rawLines}
+use Rattle.folds.specs.Logical.{rawLines, logicalLines}
 use Rattle.card_state.specs.State.{freshCard}
 use Rattle.cards.specs.Judge.{judgeLine}
 use Rattle.card_state.specs.declared.Card.{Card}
 use Rattle.card_state.specs.declared.Step.{Step}
 use Rattle.card_state.specs.declared.Step.the-variants.{Next}
 use Rattle.ends.specs.Lone.{firstLone, endsCrLf}
-use Rattle.reader.specs.Outcome.{onward, judgeLines, verdictOf, judgeOf, logicalLines, copyOf, recordsOf}
+use Rattle.walks.specs.Walk.{onward, judgeLines}
+use Rattle.reader.specs.Outcome.{verdictOf, judgeOf, copyOf, recordsOf}
 use Rattle.reader.specs.declared.Verdict.the-variants.{Accepted}
-use Rattle.reader.proofs.AcceptLaws.{onward-next, Accepting, accepting}
+use Rattle.walks.proofs.WalkLaws.{onward-next}
+use Rattle.reader.proofs.AcceptLaws.{Accepting, accepting}
 use Rattle.reader_laws.proofs.Anywhere.{any-place}
 
 -- the converse of `accepting`: what it says is all that acceptance asks

@@ -12,8 +12,10 @@ use Rattle.cards.specs.Judge.{judgeLine}
 use Rattle.cards.proofs.CardLaws.{one-more}
 use Rattle.card_state.specs.declared.Card.{Card}
 use Rattle.card_state.specs.declared.Step.the-variants.{Next}
-use Rattle.reader.specs.Outcome.{judgeLines, judgeOf}
-use Rattle.reader.proofs.AcceptLaws.{onward-next, lines-few, accepting, lines-counted}
+use Rattle.walks.specs.Walk.{judgeLines}
+use Rattle.reader.specs.Outcome.{judgeOf}
+use Rattle.walks.proofs.WalkLaws.{onward-next}
+use Rattle.reader.proofs.AcceptLaws.{lines-few, accepting, lines-counted}
 use Rattle.reader.specs.declared.Verdict.{Verdict}
 use Rattle.reader.specs.declared.Verdict.the-variants.{Accepted, Refused}
 use Rattle.firmware.proofs.Places.{place-low}

@@ -10,8 +10,8 @@ use lib.ListN.{length, getD, take, drop, List·getD-eq-default}
 use lib.Seq.{drop-cons}
 use borrow.Author.Tests.{eq-eqb, ne-eqb}
 use Rattle.octets.proofs.Upto.{upto, alike as same-upto}
-use Rattle.words.specs.Words.{alike}
-use Rattle.words.proofs.ListLaws.{alike-same}
+use Rattle.digits.specs.Alike.{alike}
+use Rattle.digits.proofs.ListLaws.{alike-same}
 use Rattle.octets.specs.Pick.{pick}
 use Rattle.octets.specs.Ascii.{octets}
 use Rattle.requests.specs.Names.{Row, rows, noRow, rowAt, fits, search, rowOf, entries, entriesFrom, Lists}

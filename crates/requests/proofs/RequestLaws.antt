@@ -6,14 +6,14 @@ use native.Mathlib.Omega.{arith}
 use lib.ListN.{length}
 use borrow.Author.Tests.{lt-ltb, le-ltb, eq-eqb, ne-eqb}
 use Rattle.words.specs.Words.{wordsOf, wordAt}
-use Rattle.words.specs.Numbers.{numberOf}
-use Rattle.words.specs.Hex.{taken, octetsOf}
+use Rattle.digits.specs.Numbers.{numberOf}
+use Rattle.digits.specs.Hex.{taken, octetsOf}
 use Rattle.requests.specs.Names.{Row, rowAt, rowOf}
 use Rattle.requests.specs.Requests.{request, noRequest, requested, numberAt, octetsAt, counted, whole, read, requestOf}
-use Rattle.words.specs.declared.numbers.Number.{Number}
-use Rattle.words.specs.declared.numbers.Number.the-variants.{Is, Bad}
-use Rattle.words.specs.declared.hex.Octets.{Octets}
-use Rattle.words.specs.declared.hex.Octets.the-variants.{Are, Bad as NoOctets}
+use Rattle.digits.specs.declared.numbers.Number.{Number}
+use Rattle.digits.specs.declared.numbers.Number.the-variants.{Is, Bad}
+use Rattle.digits.specs.declared.hex.Octets.{Octets}
+use Rattle.digits.specs.declared.hex.Octets.the-variants.{Are, Bad as NoOctets}
 
 -- a request of a row, once the row is known
 pub of-row : (line room w : List ℕ) (row k : ℕ) → w ≡ wordAt line 0 → length (wordsOf line) ≡ k + 1 → rowAt row ≡ rowOf w k

@@ -8,13 +8,14 @@ use lib.Dec.{ltb, eqb}
 use lib.ListN.{length}
 use Rattle.octets.specs.Pick.{pick}
 use Rattle.octets.specs.Ascii.{octets}
-use Rattle.words.specs.Words.{wordsOf, wordAt, alike}
-use Rattle.words.specs.Hex.{Taken, taken, stored, decoded, paired, octetsOf}
-use Rattle.words.specs.declared.numbers.Number.{Number}
-use Rattle.words.specs.declared.numbers.Number.the-variants.{Is, Bad as NoNumber}
-use Rattle.words.specs.declared.hex.Octets.{Octets}
-use Rattle.words.specs.declared.hex.Octets.the-variants.{Are, Bad as NoOctets}
-use Rattle.words.proofs.ListLaws.{and-left, and-right}
+use Rattle.words.specs.Words.{wordsOf, wordAt}
+use Rattle.digits.specs.Alike.{alike}
+use Rattle.digits.specs.Hex.{Taken, taken, stored, decoded, paired, octetsOf}
+use Rattle.digits.specs.declared.numbers.Number.{Number}
+use Rattle.digits.specs.declared.numbers.Number.the-variants.{Is, Bad as NoNumber}
+use Rattle.digits.specs.declared.hex.Octets.{Octets}
+use Rattle.digits.specs.declared.hex.Octets.the-variants.{Are, Bad as NoOctets}
+use Rattle.octets.proofs.Bools.{and-both}
 use Rattle.requests.proofs.RequestLaws.{no-octets}
 use Rattle.requests.specs.Names.{Row, rows, noRow, fits, search, rowOf}
 use Rattle.requests.specs.Requests.{numberAt, octetsAt, counted, whole, requestOf}
@@ -82,7 +83,7 @@ bad-search : (w : List ℕ) (k : ℕ) (rs : List Row) → all-named rs ≡ true 
 unfolding search all-named
 bad-search w k [] h e = refl
 bad-search w k (r ∷ rs) h e =
-    bad-pick (fits w k r) r (search w k rs) (and-left (named (r .name)) (all-named rs) h) (bad-search w k rs (and-right (named (r .name)) (all-named rs) h)) e
+    bad-pick (fits w k r) r (search w k rs) (and-both (named (r .name)) (all-named rs) h .0) (bad-search w k rs (and-both (named (r .name)) (all-named rs) h .1)) e
 
 pub no-name : (w : List ℕ) (k : ℕ) → rowOf w k .name ≡ Bad → rowOf w k ≡ noRow
 unfolding rowOf rows named all-named

@@ -9,7 +9,7 @@ use lib.Dec.{eqb}
 use lib.ListN.{length, getD, take}
 use Rattle.octets.specs.Pick.{pick}
 use Rattle.octets.specs.Ascii.{octets}
-use Rattle.words.specs.Words.{alike}
+use Rattle.digits.specs.Alike.{alike}
 use Rattle.requests.specs.declared.Name.{Name}
 use Rattle.requests.specs.declared.Name.the-variants.{Judge, Read, Fold, Escape, Unescape, Desk, Open, Add, Check, Show, Held, Release, Pool, Next, Bad}
 

@@ -5,16 +5,16 @@ use lib.Dec.{ltb, eqb}
 use lib.ListN.{length}
 use Rattle.octets.specs.Pick.{pick}
 use Rattle.words.specs.Words.{wordsOf, wordAt}
-use Rattle.words.specs.Numbers.{numberOf}
-use Rattle.words.specs.Hex.{Taken, taken, octetsOf}
+use Rattle.digits.specs.Numbers.{numberOf}
+use Rattle.digits.specs.Hex.{Taken, taken, octetsOf}
 use Rattle.requests.specs.Names.{Row, rowOf}
 use Rattle.requests.specs.declared.Request.{Request}
 use Rattle.requests.specs.declared.Name.{Name}
 use Rattle.requests.specs.declared.Name.the-variants.{Bad}
-use Rattle.words.specs.declared.numbers.Number.{Number}
-use Rattle.words.specs.declared.numbers.Number.the-variants.{Is, Bad as NoNumber}
-use Rattle.words.specs.declared.hex.Octets.{Octets}
-use Rattle.words.specs.declared.hex.Octets.the-variants.{Are, Bad as NoOctets}
+use Rattle.digits.specs.declared.numbers.Number.{Number}
+use Rattle.digits.specs.declared.numbers.Number.the-variants.{Is, Bad as NoNumber}
+use Rattle.digits.specs.declared.hex.Octets.{Octets}
+use Rattle.digits.specs.declared.hex.Octets.the-variants.{Are, Bad as NoOctets}
 
 abbrev pub request : Name → ℕ → ℕ → ℕ → Request
 request n a b k = record { name = n; first = a; second = b; count = k }

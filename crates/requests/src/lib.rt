@@ -3,12 +3,12 @@ mod names;
 
 ghost use mathlib.Core.Path.{_≡_};
 ghost use Prim.Native.Nat.{_+_, _≤_, _<_};
-ghost use Rattle.words.specs.Hex.{taken};
+ghost use Rattle.digits.specs.Hex.{taken};
 ghost use Rattle.words.specs.Words.{wordAt};
 ghost use Rattle.requests.specs.Names.{Lists, rowAt};
 ghost use Rattle.requests.specs.Requests.{noRequest, numberAt, octetsAt, requested, read, requestOf};
-use words::hex::Octets;
-use words::numbers::Number;
+use digits::hex::Octets;
+use digits::numbers::Number;
 
 // The requests, and what a line has that is none.
 pub enum Name {
@@ -56,7 +56,7 @@ fn number(line: &[u8], k: usize, numbers: usize) -> Number
     if numbers < k {
         return Number::Is(0);
     }
-    words::numbers::number_of(words::word(line, k))
+    digits::numbers::number_of(words::word(line, k))
 }
 
 // The octets after the numbers, where the request has octets.
@@ -67,7 +67,7 @@ fn last(line: &[u8], numbers: usize, octets: usize, out: &mut [u8]) -> Octets
     if octets == 0 {
         return Octets::Are(0);
     }
-    words::hex::octets_of(words::word(line, numbers + 1), out)
+    digits::hex::octets_of(words::word(line, numbers + 1), out)
 }
 
 // What a line says that starts with this row's name, with its octets at the front of out.

@@ -1,4 +1,3 @@
 -- The laws that the proofs of `slots` and the crates above cite. Assumes nothing.
-pub mod Searches
 pub mod SoundLaws
 pub mod SlotLaws

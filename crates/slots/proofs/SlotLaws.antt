@@ -9,17 +9,18 @@ use lib.ListN.{length, set}
 use lib.Seq.{getD-set-same, getD-set-other}
 use borrow.Author.Tests.{ltb-true, ltb-false, eqb-true, eqb-false, eq-eqb, ne-eqb}
 use Rattle.octets.specs.Pick.{pick}
-use Rattle.slots.specs.Search.{firstAt, column, sameAs, among}
-use Rattle.slots.specs.Sound.{stateAt, Sound, ticketOf, ticketAt, sound}
+use Rattle.tickets.specs.Search.{firstAt, column, sameAs, among}
+use Rattle.slots.specs.Sound.{stateAt, Sound, ticketAt, sound}
+use Rattle.sessions.specs.Entries.{ticketOf}
 use Rattle.slots.specs.Slots.{guarded, freeAt, openAt, inState, inPlace, lookOf, slotOf}
-use Rattle.slots.proofs.Searches.{clash, firstAt-is, firstAt-not, firstAt-same, unbarred, among-same}
+use Rattle.tickets.proofs.Searches.{clash, firstAt-is, firstAt-not, firstAt-same, unbarred, among-same}
 use Rattle.slots.proofs.SoundLaws.{sound-is}
-use Rattle.slots.specs.declared.tickets.Place.{Place}
-use Rattle.slots.specs.declared.tickets.Place.the-variants.{At, Nowhere, Barred}
-use Rattle.slots.specs.declared.entries.Session.{Session}
-use Rattle.slots.specs.declared.entries.State.{State}
-use Rattle.slots.specs.declared.entries.State.the-variants.{Free, Open}
-use Rattle.slots.specs.declared.entries.Entry.{Entry}
+use Rattle.tickets.specs.declared.Place.{Place}
+use Rattle.tickets.specs.declared.Place.the-variants.{At, Nowhere, Barred}
+use Rattle.sessions.specs.declared.Session.{Session}
+use Rattle.sessions.specs.declared.State.{State}
+use Rattle.sessions.specs.declared.State.the-variants.{Free, Open}
+use Rattle.sessions.specs.declared.Entry.{Entry}
 use Rattle.slots.specs.declared.Slot.the-variants.{Held, No}
 
 -- ---- 25 and 24

@@ -6,13 +6,14 @@ use mathlib.Core.List.{List}
 use native.Mathlib.Omega.{arith}
 use lib.Dec.{ltb, eqb}
 use borrow.Author.Tests.{ltb-true, ltb-false, leb-true, eqb-true, eqb-false, lt-ltb, le-leb}
-use Rattle.slots.specs.Search.{allAt, among}
-use Rattle.slots.specs.Sound.{stateAt, Fit, Sound, ticketAt, fits, fitsAt, goodAt, bounds, sound}
-use Rattle.slots.proofs.Searches.{clash, pick-both, allAt-all, all-allAt, among-not, not-among}
-use Rattle.slots.specs.declared.entries.Session.{Session}
-use Rattle.slots.specs.declared.entries.State.{State}
-use Rattle.slots.specs.declared.entries.State.the-variants.{Free, Open}
-use Rattle.slots.specs.declared.entries.Entry.{Entry}
+use Rattle.tickets.specs.Search.{allAt, among}
+use Rattle.slots.specs.Sound.{stateAt, Fit, Sound, ticketAt, fitsAt, goodAt, bounds, sound}
+use Rattle.sessions.specs.Entries.{fits}
+use Rattle.tickets.proofs.Searches.{clash, pick-both, allAt-all, all-allAt, among-not, not-among}
+use Rattle.sessions.specs.declared.Session.{Session}
+use Rattle.sessions.specs.declared.State.{State}
+use Rattle.sessions.specs.declared.State.the-variants.{Free, Open}
+use Rattle.sessions.specs.declared.Entry.{Entry}
 
 -- ---- an entry
 

@@ -1,4 +1,3 @@
 -- The definitions that the contracts of `slots` cite. Assumes nothing.
-pub mod Search
 pub mod Sound
 pub mod Slots

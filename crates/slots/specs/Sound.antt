@@ -1,16 +1,17 @@
 -- A sound desk by its entries, slot count and next ticket, in document 01's words and as a test. Assumes nothing.
 use Prim.Native.Nat.{ℕ, _<_, _≤_}
 use mathlib.Core.Path.{_≡_}
-use mathlib.Core.Bool.{Bool, true, false, not}
+use mathlib.Core.Bool.{Bool, false, not}
 use mathlib.Core.List.{List}
-use lib.Dec.{ltb, leb}
+use lib.Dec.{leb}
 use lib.ListN.{getD}
 use Rattle.octets.specs.Pick.{pick}
-use Rattle.slots.specs.Search.{allAt, among}
-use Rattle.slots.specs.declared.entries.Session.{Session}
-use Rattle.slots.specs.declared.entries.State.{State}
-use Rattle.slots.specs.declared.entries.State.the-variants.{Free, Open}
-use Rattle.slots.specs.declared.entries.Entry.{Entry}
+use Rattle.sessions.specs.Entries.{ticketOf, fits}
+use Rattle.tickets.specs.Search.{allAt, among}
+use Rattle.sessions.specs.declared.Session.{Session}
+use Rattle.sessions.specs.declared.State.{State}
+use Rattle.sessions.specs.declared.State.the-variants.{Free, Open}
+use Rattle.sessions.specs.declared.Entry.{Entry}
 
 abbrev pub none : Entry
 none = record { state = Free }
@@ -35,17 +36,8 @@ pub record Sound (es : List Entry) (slots next : ℕ) : Type 0 where
   pub each : (i : ℕ) → i < 40 → (s : Session) → stateAt es i ≡ Open s → Fit next s
   pub distinct : (i j : ℕ) → i < 40 → j < 40 → (s u : Session) → stateAt es i ≡ Open s → stateAt es j ≡ Open u → s .ticket ≡ u .ticket → i ≡ j
 
--- the ticket of an open entry, and 0 of a free one
-abbrev pub ticketOf : State → ℕ
-ticketOf Free = 0
-ticketOf (Open s) = s .ticket
-
 abbrev pub ticketAt : List Entry → ℕ → ℕ
 ticketAt es i = ticketOf (stateAt es i)
-
-abbrev pub fits : ℕ → ℕ → ℕ → State → Bool
-fits slots next i Free = true
-fits slots next i (Open s) = pick (ltb i slots) (pick (leb 1 (s .ticket)) (pick (ltb (s .ticket) next) (leb (s .held) 16384) false) false) false
 
 abbrev pub fitsAt : List Entry → ℕ → ℕ → ℕ → Bool
 fitsAt es slots next i = fits slots next i (stateAt es i)

@@ -1,10 +1,7 @@
 // A look along the entries of a desk: whether the desk is sound, and the slot of a ticket or the lowest free one.
-pub mod entries;
-pub mod tickets;
-
-use entries::Entry;
-use entries::Session;
-use entries::State;
+use sessions::Entry;
+use sessions::Session;
+use sessions::State;
 use tickets::Place;
 ghost use mathlib.Core.Path.{_≡_};
 ghost use Rattle.slots.specs.Sound.{bounds};
@@ -42,10 +39,10 @@ pub fn look(entries: [Entry; SLOTS], slots: usize, next: u32, size: usize, t: u3
     let mut i: usize = 0;
     while i < SLOTS {
         let e = entries[i];
-        if !entries::fits(e, i, slots, next) {
+        if !sessions::fits(e, i, slots, next) {
             return Place::Barred(25);
         }
-        let u = entries::ticket_of(e);
+        let u = sessions::ticket_of(e);
         if tickets::stands(&ts, u, i) {
             return Place::Barred(25);
         }

@@ -10,14 +10,16 @@ use borrow.Author.Tests.{lt-ltb, le-ltb, ltb-false}
 use Rattle.octets.specs.Room.{Filled, refuse, fill, fillBounded}
 use Rattle.octets.specs.Pick.{pick}
 use Rattle.characters.specs.Characters.{allowed, firstBad}
-use Rattle.escapes.specs.Escapes.{escaped, firstFault, unescaped}
+use Rattle.escaping.specs.Escaped.{escaped}
+use Rattle.unescaping.specs.Unescaped.{firstFault, unescaped}
 use Rattle.octets.specs.Counts.{any}
-use Rattle.escapes.specs.Looks.{held, seen}
+use Rattle.looks.specs.Looks.{held, seen}
 use Rattle.text.specs.declared.Screened.the-variants.{Saw, Refused}
 use Rattle.text.specs.Screened.{screened}
 use Rattle.text.specs.Outcomes.{checked, faultless}
 use Rattle.octets.proofs.RoomLaws.{within-bound}
-use Rattle.escapes.proofs.LookLaws.{same-unmarked, bare}
+use Rattle.escaping.proofs.LengthLaws.{same-unmarked}
+use Rattle.unescaping.proofs.BareLaws.{bare}
 
 -- by what screening answers: its refusal, or the outcome that is left
 module _ (lf : Bool) (x y : ℕ) (t room : List ℕ) (left : Filled) where

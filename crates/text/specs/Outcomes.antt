@@ -8,7 +8,8 @@ use lib.ListN.{length}
 use Rattle.octets.specs.Pick.{pick}
 use Rattle.octets.specs.Room.{Filled, refuse, fill, fillBounded}
 use Rattle.characters.specs.Characters.{allowed, firstBad}
-use Rattle.escapes.specs.Escapes.{escaped, firstFault, unescaped}
+use Rattle.escaping.specs.Escaped.{escaped}
+use Rattle.unescaping.specs.Unescaped.{firstFault, unescaped}
 
 -- 1 over 16,384 octets, then 31 where an octet is not allowed or starts no character, then the outcome that is left
 unfoldable pub checked : (ℕ → Bool) → List ℕ → List ℕ → Filled → Filled

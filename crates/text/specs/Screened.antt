@@ -6,7 +6,7 @@ use lib.Dec.{ltb}
 use lib.ListN.{length}
 use Rattle.octets.specs.Pick.{pick}
 use Rattle.characters.specs.Characters.{allowed, firstBad}
-use Rattle.escapes.specs.Looks.{seen}
+use Rattle.looks.specs.Looks.{seen}
 use Rattle.text.specs.declared.Screened.{Screened}
 use Rattle.text.specs.declared.Screened.the-variants.{Saw, Refused}
 

@@ -6,7 +6,8 @@ ghost use lib.ListN.{length};
 ghost use Rattle.characters.specs.Characters.{allowed, firstBad};
 ghost use Rattle.screening.specs.Plain.{odd};
 ghost use Rattle.octets.specs.Room.{filled, fill, fillBounded};
-ghost use Rattle.escapes.specs.Escapes.{escaped, unescaped};
+ghost use Rattle.escaping.specs.Escaped.{escaped};
+ghost use Rattle.unescaping.specs.Unescaped.{unescaped};
 ghost use Rattle.octets.specs.Counts.{any};
 ghost use Rattle.text.specs.Screened.{screened};
 ghost use Rattle.text.specs.Outcomes.{faultless, escapeOutcome, unescapeOutcome};
@@ -39,7 +40,7 @@ fn screen(text: &[u8], x: u8, y: u8, lf: bool) -> Screened
     if 16384 < text.len() {
         return Screened::Refused(1, 16384);
     }
-    let look = escapes::looks::look(text, x, y);
+    let look = looks::look(text, x, y);
     let bad = bad_octet(text, look, lf);
     if bad < text.len() {
         return Screened::Refused(31, bad);
@@ -63,15 +64,15 @@ fn escape_each(text: &[u8], out: &mut [u8]) -> Written
     requires { ⌜ length (now text) ≤ 16384 ⌝ }
     ensures { λ r. ⌜ filled r (now (out .exit)) ≡ fillBounded (escaped (now (text .entry))) (now (out .entry)) ⌝ }
 {
-    let n = text.len() + escapes::counts::marks(text);
+    let n = text.len() + looks::counts::marks(text);
     if 16384 < n {
         return Written::Refused(16, 16384);
     }
     if out.len() < n {
         return Written::Refused(15, n);
     }
-    let t = escapes::escaping::letters();
-    escapes::escaping::write(&t, text, out);
+    let t = escaping::letters();
+    escaping::write(&t, text, out);
     Written::Wrote(n)
 }
 
@@ -96,7 +97,7 @@ fn unescape_each(text: &[u8], out: &mut [u8]) -> Written
     requires { ⌜ length (now text) ≤ 16384 ⌝ }
     ensures { λ r. ⌜ filled r (now (out .exit)) ≡ faultless (now (text .entry)) (now (out .entry)) (fill (unescaped (now (text .entry))) (now (out .entry))) ⌝ }
 {
-    let m = escapes::unescaping::measure(text);
+    let m = unescaping::measure(text);
     let fault = m.fault;
     if fault < text.len() {
         return Written::Refused(30, fault);
@@ -105,7 +106,7 @@ fn unescape_each(text: &[u8], out: &mut [u8]) -> Written
     if out.len() < kept {
         return Written::Refused(15, kept);
     }
-    escapes::unescaping::write(text, out);
+    unescaping::write(text, out);
     Written::Wrote(kept)
 }
 

@@ -1,6 +1,6 @@
 -- What escape wrote, unescape turns back: the law of demand 2. Assumes nothing.
 use mathlib.Core.Path.{_≡_, refl, sym, ap, subst, _∙_}
-use mathlib.Core.Bool.{Bool, true, false, _||_}
+use mathlib.Core.Bool.{Bool, true, false, _||_, true≢false}
 use mathlib.Core.List.{List, [], _∷_, _++_}
 use Prim.Native.Nat.{ℕ, _≤_}
 use native.Mathlib.Omega.{arith}
@@ -13,10 +13,11 @@ use Rattle.octets.specs.Room.{Filled, filled, refuse, overlay, fill, fillBounde
 use Rattle.octets.specs.declared.rooms.Written.the-variants.{Wrote, Refused}
 use Rattle.characters.specs.Characters.{allowed, firstBad}
 use Rattle.characters.proofs.Chars.{bad-le}
-use Rattle.escapes.specs.Escapes.{special, marked, letter, inEscape, escaped, firstFault, unescaped}
+use Rattle.looks.specs.Marks.{special, marked}
+use Rattle.escaping.specs.Escaped.{letter, inEscape, escaped}
+use Rattle.unescaping.specs.Unescaped.{firstFault, unescaped}
 use Rattle.text.specs.Outcomes.{checked, faultless, escapeOutcome, unescapeOutcome}
 use Rattle.text_laws.specs.Stands.{Escape, backslash, comma, semicolon, small-n, Stands, none, itself, escape}
-use Rattle.escapes.proofs.EscapeLaws.{clash}
 use Rattle.text.proofs.OutcomeLaws.{no-fault}
 use Rattle.octets.proofs.RoomLaws.{fill-fits}
 use Rattle.text_laws.proofs.StandsLaws.{passes, gives}
@@ -35,11 +36,11 @@ mark-escape x = by (eqb x 92) (eqb x 44) (eqb x 59) (eqb x 10) refl refl refl re
     by false true c d p q r s z = is 44 (eqb-true x 44 q) comma
     by false false true d p q r s z = is 59 (eqb-true x 59 r) semicolon
     by false false false true p q r s z = is 10 (eqb-true x 10 s) small-n
-    by false false false false p q r s z = absurd (clash (sym z))
+    by false false false false p q r s z = absurd (true≢false (sym z))
 
 stays-itself : (x : ℕ) → marked x ≡ false → (x ≡ 44 → ⊥) × (x ≡ 92 → ⊥)
 unfolding marked special
-stays-itself x m = (λ e. clash (sym (ap (λ (n : ℕ). (eqb n 92 || (eqb n 44 || eqb n 59)) || eqb n 10) e) ∙ m), λ e. clash (sym (ap (λ (n : ℕ). (eqb n 92 || (eqb n 44 || eqb n 59)) || eqb n 10) e) ∙ m))
+stays-itself x m = (λ e. true≢false (sym (ap (λ (n : ℕ). (eqb n 92 || (eqb n 44 || eqb n 59)) || eqb n 10) e) ∙ m), λ e. true≢false (sym (ap (λ (n : ℕ). (eqb n 92 || (eqb n 44 || eqb n 59)) || eqb n 10) e) ∙ m))
 
 -- every text's escaped form is text with escapes, which stands for it
 pub escaped-stands : (t : List ℕ) → Stands (escaped t) t

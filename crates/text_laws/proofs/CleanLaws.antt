@@ -1,6 +1,6 @@
 -- The escaped form of a text that escape takes is a text that unescape takes: whole characters, and no 0A. Assumes nothing.
 use mathlib.Core.Path.{_≡_, refl, sym, ap, subst, _∙_}
-use mathlib.Core.Bool.{Bool, true, false, _||_, or-true}
+use mathlib.Core.Bool.{Bool, true, false, _||_, or-true, true≢false}
 use mathlib.Core.List.{List, [], _∷_, _++_}
 use Prim.Native.Nat.{ℕ, zero, suc, _<_, _≤_}
 use native.Mathlib.Nat.{not-suc-le-zero, le-of-suc-le-suc}
@@ -13,8 +13,8 @@ use Rattle.octets.specs.Classes.{valued}
 use Rattle.characters.specs.Characters.{charLength, allowed, firstBad}
 use Rattle.characters.proofs.Chars.{ascii}
 use Rattle.characters.proofs.Chains.{Chars, end, start, inner, char-same, tail-range, chars-fit, chars-tail, good-chars, chars-good}
-use Rattle.escapes.specs.Escapes.{special, marked, letter, inEscape, escaped}
-use Rattle.escapes.proofs.EscapeLaws.{clash}
+use Rattle.looks.specs.Marks.{special, marked}
+use Rattle.escaping.specs.Escaped.{letter, inEscape, escaped}
 
 -- an octet that is no ASCII is written as it is
 high-stays : (x : ℕ) → 0x80 ≤ x → inEscape x ≡ x ∷ []
@@ -62,7 +62,7 @@ letter-fine x = by (eqb x 92) (eqb x 44) (eqb x 59) (eqb x 10) refl refl refl re
     by false true c d p q r s z = is 44 (eqb-true x 44 q) (omega arith, refl)
     by false false true d p q r s z = is 59 (eqb-true x 59 r) (omega arith, refl)
     by false false false true p q r s z = is 10 (eqb-true x 10 s) (omega arith, refl)
-    by false false false false p q r s z = absurd (clash (sym z))
+    by false false false false p q r s z = absurd (true≢false (sym z))
 
 -- an octet that is allowed and stays is none of 0A
 stays-valued : (x : ℕ) → allowed true x ≡ true → marked x ≡ false → valued x ≡ true
@@ -71,7 +71,7 @@ stays-valued x a m = by (valued x) (special x) (eqb x 10) a m
   where
     by : (v s n : Bool) → (v || n) ≡ true → (s || n) ≡ false → v ≡ true
     by true s n a m = refl
-    by false s true a m = absurd (clash (sym (or-true s) ∙ m))
+    by false s true a m = absurd (true≢false (sym (or-true s) ∙ m))
     by false s false a m = a
 
 high-allowed : (x : ℕ) → 0x80 ≤ x → allowed false x ≡ true

@@ -1,7 +1,7 @@
 -- The check of refusal 30 passes exactly on text with escapes, `unescaped` gives what it stands for, and where the check fails, its
 -- place is that of the first fault. Assumes nothing.
 use mathlib.Core.Path.{_≡_, refl, sym, ap, subst, _∙_}
-use mathlib.Core.Bool.{Bool, true, false, _||_}
+use mathlib.Core.Bool.{Bool, true, false, _||_, true≢false}
 use mathlib.Core.List.{List, [], _∷_, _++_, append-nil}
 use Prim.Native.Nat.{ℕ, suc, _+_, _<_}
 use native.Mathlib.Nat.{not-suc-le-zero, le-of-suc-le-suc}
@@ -11,10 +11,10 @@ use lib.ListN.{length, take, drop}
 use lib.Seq.{take-length}
 use borrow.Author.Tests.{eqb-true, eqb-false, ne-eqb}
 use Rattle.octets.specs.Scan.{scan, gather}
-use Rattle.escapes.specs.Escapes.{special, code, meant, escapeAt, textStep, firstFault, passed, standing, unescaped}
+use Rattle.looks.specs.Marks.{special}
+use Rattle.unescaping.specs.Unescaped.{code, meant, escapeAt, textStep, firstFault, passed, standing, unescaped}
 use Rattle.text_laws.specs.Stands.{Escape, backslash, comma, semicolon, small-n, capital-n, Stands, none, itself, escape, Faulty, bare-comma, last-backslash, bare-backslash}
-use Rattle.escapes.proofs.EscapeLaws.{clash}
-use Rattle.escapes.proofs.LengthLaws.{first-octet}
+use Rattle.unescaping.proofs.UnescapeLaws.{first-octet}
 
 -- an octet is the code of an escape where `code` says so
 escape-code : {y x : ℕ} → Escape y x → (code y ≡ true) × (meant y ≡ x)
@@ -39,7 +39,7 @@ code-escape y = by (eqb y 92) (eqb y 44) (eqb y 59) (eqb y 110) (eqb y 78) refl 
     by false false true d f p q r s u z = is 59 (eqb-true y 59 r) semicolon
     by false false false true f p q r s u z = is 110 (eqb-true y 110 s) small-n
     by false false false false true p q r s u z = is 78 (eqb-true y 78 u) capital-n
-    by false false false false false p q r s u z = absurd (clash (sym z))
+    by false false false false false p q r s u z = absurd (true≢false (sym z))
 
 -- an octet at the start of a list that is no backslash
 module _ (x : ℕ) (xs : List ℕ) (b : eqb x 92 ≡ false) where
@@ -120,7 +120,7 @@ module _ (y : ℕ) (ys : List ℕ) (r : Read ys (firstFault ys)) where
           subst (λ (p : ℕ). Read (92 ∷ y ∷ ys) p) (sym (two-more y ys c))
           (record { text = meant y ∷ r .text; stands = escape (code-escape y c) (r .stands); fault = λ h. r .fault (le-of-suc-le-suc (le-of-suc-le-suc h)) })
       by false c =
-          stops (92 ∷ y ∷ ys) (backslash-fault y ys c) (bare-backslash (λ x e. clash (sym (escape-code e .0) ∙ c)))
+          stops (92 ∷ y ∷ ys) (backslash-fault y ys c) (bare-backslash (λ x e. true≢false (sym (escape-code e .0) ∙ c)))
 
 -- a list is text with escapes up to its first fault, which is one
 reads : (w : List ℕ) → Read w (firstFault w)

@@ -1,5 +1,6 @@
--- One step of the scanner. Assumes nothing.
+-- One step of the scanner, and the last part of a URI. Assumes nothing.
 use mathlib.Core.Path.{_≡_, refl, sym, ap, _∙_}
+use mathlib.Core.Bool.{true}
 use mathlib.Core.List.{List, _∷_}
 use Prim.Native.Nat.{ℕ, _+_, _*_, _/_, _%_, _<_, _≤_}
 use native.Mathlib.Numerals.{add-one}
@@ -9,13 +10,15 @@ use lib.ListN.{length, getD, drop, drop-of-length-le}
 use lib.Seq.{drop-cons}
 use borrow.Author.Tests.{eq-eqb, ne-eqb, le-leb, lt-leb}
 use Rattle.octets.specs.Pick.{pick}
-use Rattle.values.specs.Octets.{Octets, holds}
-use Rattle.values.specs.Shapes.{Shape, never, empty, one, _then_, _or_, many, mayEnd, lost, after, faultFrom}
-use Rattle.values.specs.Kinds.{text, texts, uri, component, parts, components, gender, pidmap, vcard, version}
+use Rattle.octets.specs.Counts.{allIn}
+use Rattle.kinds.specs.Octets.{Octets, graphic, holds}
+use Rattle.kinds.specs.Shapes.{Shape, never, empty, one, _then_, _or_, many, mayEnd, lost, after, faultFrom}
+use Rattle.kinds.specs.Kinds.{text, texts, uri, component, parts, components, gender, pidmap, vcard, version}
 use Rattle.values.specs.States.{states, stateShape, speaker, Scanner, Next}
-use Rattle.values.specs.declared.Fault.{Fault}
-use Rattle.values.specs.declared.Fault.the-variants.{Fits, Breaks}
+use Rattle.kinds.specs.declared.Fault.the-variants.{Fits, Breaks}
 use Rattle.octets.proofs.Upto.{upto, alike}
+use Rattle.kinds.proofs.ShapeLaws.{fits-from}
+use Rattle.kinds.proofs.QuietLaws.{run-many, itself}
 
 -- the state 0 alone is lost, and those from 29 on may end
 lost-right : (q : ℕ) → q < 38 → lost (stateShape q) ≡ eqb q 0
@@ -68,3 +71,8 @@ module _ (s : List ℕ) (q i : ℕ) where
   pub fault-none : length s ≤ i → q < 38 → 29 ≤ q → faultFrom (stateShape q) i (drop i s) ≡ Fits
   unfolding faultFrom
   fault-none h l e = rw (drop-of-length-le s h, ends-right q l, le-leb 29 q e)
+
+-- printing octets alone are left of a URI
+pub quick-uri : (v : List ℕ) (i n : ℕ) → n ≡ 32 → allIn (holds graphic) v ≡ true → faultFrom (stateShape n) i v ≡ Fits
+unfolding stateShape states
+quick-uri v i n e h = rw e (fits-from (many (one graphic)) i v (run-many (one graphic) (holds graphic) (itself graphic) v h))

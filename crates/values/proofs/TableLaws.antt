@@ -7,8 +7,8 @@ use lib.Dec.{ltb}
 use lib.ListN.{getD, take, drop}
 use lib.Seq.{getD-drop}
 use borrow.Author.Tests.{ltb-true}
-use Rattle.values.specs.Octets.{Octets, any, plain, inner, escapee, backslash, comma, semicolon, colon, letter, scheme, graphic, digit, sex, theV, theC, theA, theR, theD, four, point, nought, holds}
-use Rattle.values.specs.Shapes.{after}
+use Rattle.kinds.specs.Octets.{Octets, any, plain, inner, escapee, backslash, comma, semicolon, colon, letter, scheme, graphic, digit, sex, theV, theC, theA, theR, theD, four, point, nought, holds}
+use Rattle.kinds.specs.Shapes.{after}
 use Rattle.values.specs.States.{stateShape, speaker, Scanner}
 use Rattle.octets.proofs.Upto.{upto, along, entries}
 

@@ -4,9 +4,9 @@ use Prim.Native.Nat.{ℕ, _+_, _<_, _/_, _%_}
 use mathlib.Core.Path.{_≡_}
 use mathlib.Core.List.{List, [], _∷_}
 use lib.ListN.{getD}
-use Rattle.values.specs.Octets.{Octets, any, plain, inner, escapee, backslash, comma, semicolon, colon, scheme, graphic, digit, theC, theA, theR, theD, point, nought, holds}
-use Rattle.values.specs.Shapes.{Shape, never, empty, one, _then_, _or_, many, after}
-use Rattle.values.specs.Kinds.{textOf, text, texts, uri, component, parts, components, gender, pidmap, vcard, version}
+use Rattle.kinds.specs.Octets.{Octets, any, plain, inner, escapee, comma, semicolon, colon, scheme, graphic, digit, theC, theA, theR, theD, point, nought, holds}
+use Rattle.kinds.specs.Shapes.{Shape, never, empty, one, _then_, _or_, many, after}
+use Rattle.kinds.specs.Kinds.{textOf, text, texts, uri, component, parts, components, gender, pidmap, vcard, version}
 
 -- past a backslash
 abbrev pub escape : Octets → Shape

@@ -1,17 +1,12 @@
 // Whether a value satisfies its kind, and if not, from which octet on nothing could.
 ghost use mathlib.Core.Path.{_≡_};
 ghost use Prim.Native.Nat.{_<_};
-ghost use Rattle.values.specs.Kinds.{kindScan, valueScan};
+ghost use Rattle.kinds.specs.Kinds.{kindScan, valueScan};
 ghost use Rattle.values.specs.States.{Scanner};
 
-mod quick;
 pub mod scanner;
 
-// A value fits, or the first octet from which nothing could, or the end.
-pub enum Fault {
-    Fits,
-    Breaks(usize),
-}
+use kinds::Fault;
 
 // Whether s satisfies its kind: `Breaks` has the first octet from which nothing could, or the end.
 pub fn value_fault(steps: &[u8; 1016], kind: usize, s: &[u8]) -> Fault
@@ -19,7 +14,7 @@ pub fn value_fault(steps: &[u8; 1016], kind: usize, s: &[u8]) -> Fault
     requires { ⌜ kind < 9 ⌝ }
     ensures { λ r. ⌜ r ≡ kindScan kind (now (s .entry)) ⌝ }
 {
-    if quick::quick(kind, s) {
+    if kinds::quick(kind, s) {
         return Fault::Fits;
     }
     let first = scanner::start(kind);

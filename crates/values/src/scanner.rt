@@ -4,11 +4,11 @@ ghost use mathlib.Core.Bool.{true};
 ghost use Prim.Native.Nat.{_+_, _<_, _≤_};
 ghost use lib.ListN.{length, drop};
 ghost use Rattle.octets.specs.Counts.{allIn};
-ghost use Rattle.values.specs.Octets.{graphic, holds};
-ghost use Rattle.values.specs.Shapes.{faultFrom};
-ghost use Rattle.values.specs.Kinds.{shapeOf};
+ghost use Rattle.kinds.specs.Octets.{graphic, holds};
+ghost use Rattle.kinds.specs.Shapes.{faultFrom};
+ghost use Rattle.kinds.specs.Kinds.{shapeOf};
 ghost use Rattle.values.specs.States.{stateShape, Scanner, Next};
-use crate::Fault;
+use kinds::Fault;
 use octets::indices::wide;
 
 // The sort of each octet: 0 no printing one, 1 other printing, 2 other letter, 3 of MFOU, 4 N, 5 V, 6 C, 7 A, 8 R, 9 D, 10 other digit,
@@ -115,7 +115,7 @@ fn settled(n: u8, s: &[u8], i: usize) -> bool
         return false;
     }
     let a = i + 1;
-    crate::quick::printing(&s[a..])
+    kinds::printing(&s[a..])
 }
 
 // A place up to which all octets from `from` on leave the state as it is.

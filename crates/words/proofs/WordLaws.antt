@@ -12,8 +12,9 @@ use lib.ListN.{length, getD, take, drop, length-append, length-drop, drop-of-len
 use lib.Seq.{drop-cons, drop-drop, getD-append-seam, take-append-seam}
 use borrow.Author.Tests.{eq-eqb, ne-eqb, eqb-true}
 use Rattle.octets.specs.Classes.{run, more}
-use Rattle.words.proofs.ListLaws.{and-left, and-right}
-use Rattle.words.specs.Words.{all, other, nextOf, before, wordsOf, wordAt, joined, Follows, Starts, withoutCr}
+use Rattle.octets.proofs.Bools.{and-both}
+use Rattle.octets.specs.Counts.{allIn}
+use Rattle.words.specs.Words.{other, nextOf, before, wordsOf, wordAt, joined, Follows, Starts, withoutCr}
 
 -- the first word
 head-step : (t : Bool) (x : ℕ) (xs : List ℕ) (ws : List (List ℕ)) (n : ℕ) → getD ws 0 [] ≡ take n xs
@@ -130,46 +131,46 @@ words-joined [] = refl
 words-joined (x ∷ xs) = join-step (eqb x 32) x (wordsOf xs) xs (some-word xs) (eqb-true x 32) (words-joined xs)
 
 -- no word has a space
-taken-clean : (p : ℕ → Bool) (l : List ℕ) → all p (take (run p l) l) ≡ true
-unfolding all run
+taken-clean : (p : ℕ → Bool) (l : List ℕ) → allIn p (take (run p l) l) ≡ true
+unfolding allIn run
 taken-clean p [] = refl
 taken-clean p (x ∷ xs) = step (p x) refl (taken-clean p xs)
   where
-    step : (t : Bool) → p x ≡ t → all p (take (run p xs) xs) ≡ true → all p (take (more t (run p xs)) (x ∷ xs)) ≡ true
+    step : (t : Bool) → p x ≡ t → allIn p (take (run p xs) xs) ≡ true → allIn p (take (more t (run p xs)) (x ∷ xs)) ≡ true
     step true e h = rw e h
     step false e h = refl
 
-pub words-clean : (k : ℕ) (l : List ℕ) → all (other 32) (wordAt l k) ≡ true
+pub words-clean : (k : ℕ) (l : List ℕ) → allIn (other 32) (wordAt l k) ≡ true
 words-clean zero l = rw (first-word l) (taken-clean (other 32) l)
 words-clean (suc k) l = rw (later-words l k) (words-clean k (drop (suc (run (other 32) l)) l))
 
 -- words without spaces, joined by spaces, are the words of that line
 unfoldable pub clean : List (List ℕ) → Bool
 clean [] = true
-clean (w ∷ ws) = all (other 32) w && clean ws
+clean (w ∷ ws) = allIn (other 32) w && clean ws
 
 word-on : (t : Bool) (x : ℕ) (w : List ℕ) (ws : List (List ℕ)) → not t ≡ true → before t x (w ∷ ws) ≡ (x ∷ w) ∷ ws
 word-on true x w ws e = let z : _≡_ {A = ℕ} 0 1 = cc in absurd (omega arith)
 word-on false x w ws e = refl
 
-one-word : (w : List ℕ) → all (other 32) w ≡ true → wordsOf w ≡ w ∷ []
-unfolding wordsOf all
+one-word : (w : List ℕ) → allIn (other 32) w ≡ true → wordsOf w ≡ w ∷ []
+unfolding wordsOf allIn
 one-word [] h = refl
 one-word (x ∷ xs) h =
-    rw (one-word xs (and-right (other 32 x) (all (other 32) xs) h)) (word-on (eqb x 32) x xs [] (and-left (other 32 x) (all (other 32) xs) h))
+    rw (one-word xs (and-both (other 32 x) (allIn (other 32) xs) h .1)) (word-on (eqb x 32) x xs [] (and-both (other 32 x) (allIn (other 32) xs) h .0))
 
-more-words : (w l : List ℕ) → all (other 32) w ≡ true → wordsOf (w ++ 32 ∷ l) ≡ w ∷ wordsOf l
-unfolding wordsOf all
+more-words : (w l : List ℕ) → allIn (other 32) w ≡ true → wordsOf (w ++ 32 ∷ l) ≡ w ∷ wordsOf l
+unfolding wordsOf allIn
 more-words [] l h = refl
 more-words (x ∷ xs) l h =
-    rw (more-words xs l (and-right (other 32 x) (all (other 32) xs) h)) (word-on (eqb x 32) x xs (wordsOf l) (and-left (other 32 x) (all (other 32) xs) h))
+    rw (more-words xs l (and-both (other 32 x) (allIn (other 32) xs) h .1)) (word-on (eqb x 32) x xs (wordsOf l) (and-both (other 32 x) (allIn (other 32) xs) h .0))
 
 pub words-back : (w : List ℕ) (ws : List (List ℕ)) → clean (w ∷ ws) ≡ true → wordsOf (joined (w ∷ ws)) ≡ w ∷ ws
 unfolding joined clean
-words-back w [] h = one-word w (and-left (all (other 32) w) true h)
+words-back w [] h = one-word w (and-both (allIn (other 32) w) true h .0)
 words-back w (v ∷ ws) h =
-    more-words w (joined (v ∷ ws)) (and-left (all (other 32) w) (clean (v ∷ ws)) h)
-    ∙ ap (λ (vs : List (List ℕ)). w ∷ vs) (words-back v ws (and-right (all (other 32) w) (clean (v ∷ ws)) h))
+    more-words w (joined (v ∷ ws)) (and-both (allIn (other 32) w) (clean (v ∷ ws)) h .0)
+    ∙ ap (λ (vs : List (List ℕ)). w ∷ vs) (words-back v ws (and-both (allIn (other 32) w) (clean (v ∷ ws)) h .1))
 
 -- a CR at the end is taken off, and any other line stays as it is
 pub cr-off : (l : List ℕ) → withoutCr (l ++ 13 ∷ []) ≡ l

@@ -1,4 +1,2 @@
 -- The definitions that the contracts of `words` cite. Assumes nothing.
 pub mod Words
-pub mod Numbers
-pub mod Hex

@@ -1,24 +1,12 @@
 -- The words of a line, split by single spaces, and the line without a CR at its end. Assumes nothing.
 use Prim.Native.Nat.{ℕ, _+_, _-_, _≤_}
 use mathlib.Core.Path.{_≡_}
-use mathlib.Core.Bool.{Bool, true, false, not, _&&_}
+use mathlib.Core.Bool.{Bool, true, false, not}
 use mathlib.Core.List.{List, [], _∷_, _++_}
 use lib.Dec.{eqb}
 use lib.ListN.{length, getD, take, drop}
 use Rattle.octets.specs.Pick.{pick}
 use Rattle.octets.specs.Classes.{run}
-
--- every octet passes the test
-unfoldable pub all : (ℕ → Bool) → List ℕ → Bool
-all p [] = true
-all p (x ∷ xs) = p x && all p xs
-
--- the same octets
-unfoldable pub alike : List ℕ → List ℕ → Bool
-alike [] [] = true
-alike [] (y ∷ ys) = false
-alike (x ∷ xs) [] = false
-alike (x ∷ xs) (y ∷ ys) = eqb x y && alike xs ys
 
 abbrev pub other : ℕ → ℕ → Bool
 other b x = not (eqb x b)

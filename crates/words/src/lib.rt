@@ -1,7 +1,4 @@
-// The words of a line, split by single spaces, where a line ends, and what a word can be: a number, or octets.
-pub mod hex;
-pub mod numbers;
-
+// The words of a line, split by single spaces, and where a line ends.
 ghost use mathlib.Core.Path.{_≡_};
 ghost use Prim.Native.Nat.{_+_, _≤_};
 ghost use lib.ListN.{length};

@@ -2,7 +2,7 @@
 use mathlib.Core.Path.{sym, ap, _∙_}
 use mathlib.Core.List.{List}
 use Prim.Native.Nat.{ℕ, _+_}
-use Rattle.words.specs.Hex.{octetsOf}
+use Rattle.digits.specs.Hex.{octetsOf}
 use Rattle.words.specs.Words.{wordAt}
 use Rattle.requests.proofs.RequestLaws.{no-octets, the-octets}
 use borrow.Author.Needs.{needs}

@@ -1,6 +1,6 @@
 -- `requests::number` meets its contract. Assumes nothing.
 use mathlib.Core.Path.{sym, ap, _∙_}
-use Rattle.words.specs.Numbers.{numberOf}
+use Rattle.digits.specs.Numbers.{numberOf}
 use Rattle.words.specs.Words.{wordAt}
 use Rattle.requests.proofs.RequestLaws.{no-number, a-number}
 use borrow.Author.Needs.{needs}

@@ -6,10 +6,10 @@ use native.Mathlib.Omega.{arith}
 use lib.ListN.{length, length-set}
 use borrow.Author.Needs.{needs}
 use borrow.Author.Tests.{eq-eqb, ne-eqb, not-true, not-false}
-use Rattle.slots.specs.Search.{allAt}
+use Rattle.tickets.specs.Search.{allAt}
 use Rattle.slots.specs.Sound.{goodAt, bounds, sound}
 use Rattle.slots.specs.Slots.{lookOf}
-use Rattle.slots.proofs.Searches.{allAt-none, allAt-hit, allAt-miss}
+use Rattle.tickets.proofs.Searches.{allAt-none, allAt-hit, allAt-miss}
 use Rattle.slots.proofs.SoundLaws.{bounds-are, unfit, repeated, good}
 use Rattle.slots.proofs.SlotLaws.{Begun, begun-none, begun-more, begun-among, begun-first}
 use Rattle.slots.proofs.look.Statement.{statement}

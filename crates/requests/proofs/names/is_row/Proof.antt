@@ -1,13 +1,11 @@
 -- `requests::names::is_row` meets its contract. Assumes nothing.
 use mathlib.Core.Path.{sym, ap, _∙_}
-use Rattle.words.specs.Words.{alike}
-use Rattle.requests.specs.Names.{rowAt}
+use Rattle.digits.specs.Alike.{alike}
+use Rattle.requests.specs.Names.{rowAt, fits}
 use Rattle.requests.proofs.NameLaws.{listed, listed-length, spelt-part, fits-not, fits-name}
 use mathlib.Core.Path.{sym, _∙_}
 use native.Mathlib.Omega.{arith}
-use Rattle.requests.specs.Names.{rowAt, fits}
-use Rattle.words.proofs.ListLaws.{told}
-use Rattle.requests.proofs.NameLaws.{listed, listed-length}
+use Rattle.digits.proofs.ListLaws.{told}
 use borrow.Author.Needs.{needs}
 use Rattle.requests.proofs.names.is_row.Statement.{statement}
 use Rattle.requests.proofs.names.is_row.Tie as tie

@@ -2,7 +2,6 @@
 use Rattle.requests.proofs.NameLaws.{no-row, passed}
 use native.Mathlib.Omega.{arith}
 use Rattle.requests.specs.Names.{rows, rowAt}
-use Rattle.requests.proofs.NameLaws.{no-row}
 use Rattle.requests.proofs.names.name_at.Statement.{statement}
 use Rattle.requests.proofs.names.name_at.Tie as tie
 

@@ -4,10 +4,9 @@ use mathlib.Core.Path.{_≡_, sym, ap, _∙_}
 use Prim.Native.Nat.{ℕ, _≤_, _<_, _+_, _-_}
 use native.Mathlib.Omega.{arith}
 use lib.ListN.{length, drop}
-use Rattle.values.specs.Shapes.{faultFrom}
+use Rattle.kinds.specs.Shapes.{faultFrom}
 use Rattle.values.specs.States.{stateShape}
-use Rattle.values.proofs.QuietLaws.{quick-uri}
-use Rattle.values.proofs.StepLaws.{fault-stop, fault-step, fault-short, fault-none}
+use Rattle.values.proofs.StepLaws.{quick-uri, fault-stop, fault-step, fault-short, fault-none}
 use Rattle.values.proofs.scanner.scan.Statement.{statement}
 use Rattle.values.proofs.scanner.scan.Tie as tie
 

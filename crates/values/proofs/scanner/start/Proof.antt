@@ -2,7 +2,7 @@
 use mathlib.Core.Path.{_≡_}
 use Prim.Native.Nat.{ℕ, suc, _<_, _≤_}
 use native.Mathlib.Omega.{arith}
-use Rattle.values.specs.Kinds.{parts, shapeOf}
+use Rattle.kinds.specs.Kinds.{parts, shapeOf}
 use Rattle.values.specs.States.{states, stateShape}
 use Rattle.values.proofs.scanner.start.Statement.{statement}
 use Rattle.values.proofs.scanner.start.Tie as tie

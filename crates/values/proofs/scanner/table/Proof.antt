@@ -2,9 +2,9 @@
 use mathlib.Core.Path.{refl}
 use Rattle.octets.specs.Classes.{letter, digit}
 use Rattle.octets.specs.Cases.{lower}
-use Rattle.values.specs.Octets.{holds}
-use Rattle.values.specs.Shapes.{mayEnd, chain, isNever, fork, after}
-use Rattle.values.specs.Kinds.{text, texts, uri, component, parts, components, gender, pidmap, vcard, version}
+use Rattle.kinds.specs.Octets.{holds}
+use Rattle.kinds.specs.Shapes.{mayEnd, chain, isNever, fork, after}
+use Rattle.kinds.specs.Kinds.{text, texts, uri, component, parts, components, gender, pidmap, vcard, version}
 use Rattle.values.specs.States.{states, stateShape, speaker}
 use Rattle.octets.proofs.Upto.{upto, along}
 use Rattle.values.proofs.TableLaws.{marks, scanner}

@@ -1,0 +1,2 @@
+-- The definitions that the contracts of `tickets` cite. Assumes nothing.
+pub mod Search

@@ -1,0 +1,2 @@
+-- The definitions that the contracts of `walks` cite. Assumes nothing.
+pub mod Walk
