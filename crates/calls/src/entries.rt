@@ -2,7 +2,7 @@
 ghost use mathlib.Core.Path.{_≡_};
 ghost use Prim.Native.Nat.{_+_};
 ghost use Rattle.octets.specs.Room.{filled};
-ghost use Rattle.answers.specs.Output.{output, added};
+ghost use Rattle.pages.specs.Pages.{page, added};
 ghost use Rattle.calls.specs.Entries.{linesOf, count, numbersOf, copyLength, takenText, roomsText, readText, outcomeOf, leftText, judgeAnswer, readAnswer, writeAnswer};
 use crate::rooms;
 use octets::rooms::Written;
@@ -20,7 +20,7 @@ pub enum Writer {
 
 // `judge OCTETS`.
 pub fn judge(input: &[u8], out: &mut [u8], at: usize) -> usize
-    ensures { λ r. ⌜ output r (now (out .exit)) ≡ added (judgeAnswer (now (input .entry))) (output at (now (out .entry))) ⌝ }
+    ensures { λ r. ⌜ page r (now (out .exit)) ≡ added (judgeAnswer (now (input .entry))) (page at (now (out .entry))) ⌝ }
 {
     let end = answers::verdict(out, at, reader::judge(input));
     answers::ended(out, end)
@@ -66,7 +66,7 @@ fn copy_length(records: &[u32]) -> usize
 
 // The octets and numbers that the reader wrote, if it wrote any.
 fn put_taken(copy: &[u8], records: &[u32], out: &mut [u8], at: usize) -> usize
-    ensures { λ r. ⌜ output r (now (out .exit)) ≡ added (takenText (now (copy .entry)) (now (records .entry))) (output at (now (out .entry))) ⌝ }
+    ensures { λ r. ⌜ page r (now (out .exit)) ≡ added (takenText (now (copy .entry)) (now (records .entry))) (page at (now (out .entry))) ⌝ }
 {
     if records.len() == 0 {
         return at;
@@ -77,7 +77,7 @@ fn put_taken(copy: &[u8], records: &[u32], out: &mut [u8], at: usize) -> usize
 
 // What the reader left in its rooms, after the verdict.
 fn put_rooms(lines: usize, copy: &[u8], records: &[u32], out: &mut [u8], at: usize) -> usize
-    ensures { λ r. ⌜ output r (now (out .exit)) ≡ added (roomsText lines (now (copy .entry)) (now (records .entry))) (output at (now (out .entry))) ⌝ }
+    ensures { λ r. ⌜ page r (now (out .exit)) ≡ added (roomsText lines (now (copy .entry)) (now (records .entry))) (page at (now (out .entry))) ⌝ }
 {
     let k = numbers_of(lines, records.len());
     let taken = parts::numbers(records, k);
@@ -88,7 +88,7 @@ fn put_rooms(lines: usize, copy: &[u8], records: &[u32], out: &mut [u8], at: usi
 
 // The reader's answer with these rooms.
 fn read_to(input: &[u8], copy: &mut [u8], records: &mut [u32], out: &mut [u8], at: usize) -> usize
-    ensures { λ r. ⌜ output r (now (out .exit)) ≡ added (readText (now (input .entry)) (now (copy .entry)) (now (records .entry))) (output at (now (out .entry))) ⌝ }
+    ensures { λ r. ⌜ page r (now (out .exit)) ≡ added (readText (now (input .entry)) (now (copy .entry)) (now (records .entry))) (page at (now (out .entry))) ⌝ }
 {
     let v = reader::read(input, copy, records);
     let end = answers::verdict(out, at, v);
@@ -97,7 +97,7 @@ fn read_to(input: &[u8], copy: &mut [u8], records: &mut [u32], out: &mut [u8], a
 
 // `read COPYROOM RECORDROOM OCTETS`.
 pub fn read(r: usize, k: usize, input: &[u8], out: &mut [u8], at: usize) -> usize
-    ensures { λ q. ⌜ output q (now (out .exit)) ≡ added (readAnswer r k (now (input .entry))) (output at (now (out .entry))) ⌝ }
+    ensures { λ q. ⌜ page q (now (out .exit)) ≡ added (readAnswer r k (now (input .entry))) (page at (now (out .entry))) ⌝ }
 {
     if r > ROOM {
         return answers::bad(out, at);
@@ -133,7 +133,7 @@ fn count_of(w: Written) -> usize
 
 // The entry's answer with this room.
 fn write_to(entry: Writer, input: &[u8], room: &mut [u8], out: &mut [u8], at: usize) -> usize
-    ensures { λ r. ⌜ output r (now (out .exit)) ≡ added (leftText (outcomeOf entry (now (input .entry)) (now (room .entry)))) (output at (now (out .entry))) ⌝ }
+    ensures { λ r. ⌜ page r (now (out .exit)) ≡ added (leftText (outcomeOf entry (now (input .entry)) (now (room .entry)))) (page at (now (out .entry))) ⌝ }
 {
     let w = call(entry, input, room);
     let end = answers::written(out, at, w, room);
@@ -142,7 +142,7 @@ fn write_to(entry: Writer, input: &[u8], room: &mut [u8], out: &mut [u8], at: us
 
 // `fold ROOM OCTETS`, and the others that write octets to room.
 pub fn write(entry: Writer, r: usize, input: &[u8], out: &mut [u8], at: usize) -> usize
-    ensures { λ q. ⌜ output q (now (out .exit)) ≡ added (writeAnswer entry r (now (input .entry))) (output at (now (out .entry))) ⌝ }
+    ensures { λ q. ⌜ page q (now (out .exit)) ≡ added (writeAnswer entry r (now (input .entry))) (page at (now (out .entry))) ⌝ }
 {
     if r > ROOM {
         return answers::bad(out, at);

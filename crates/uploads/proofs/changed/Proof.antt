@@ -7,7 +7,7 @@ use native.Mathlib.Omega.{arith}
 use lib.ListN.{take, drop}
 use borrow.Author.Needs.{needs}
 use borrow.Author.Tests.{lt-ltb, le-ltb}
-use Rattle.answers.specs.Output.{output}
+use Rattle.pages.specs.Pages.{page}
 use Rattle.desk.specs.Steps.{Turned}
 use Rattle.uploads.specs.Uploads.{Told, told, kept, turnedTold, changeOf, over, change}
 use Rattle.calls.proofs.RoomLaws.{less-none, put-front}
@@ -67,7 +67,7 @@ returns-3 c =
     let q = c .before .before .before .before .before .before .call .last .1 .1 .1 .1 .0 in
     rw (le-ltb _ _ (c .before .before .before .before .before .before .before .before .before .if1 .left), le-ltb _ _ (c .before .before .before .before .before .before .before .before .if2 .left))
     (ap (λ (x : Told). kept x (q ++ drop (size - 0) p)) (c .before .before .turned .ensures)
-    ∙ ap (λ (l : List ℕ). kept (turnedTold (c .before .before .before .before .before .before .call .result) size (output (a .c .at) (now (a .out)))) l) (put-front p q size (omega arith) (c .before .before .before .before .before .before .call .kept .1 .1 .1 .1 .0))
+    ∙ ap (λ (l : List ℕ). kept (turnedTold (c .before .before .before .before .before .before .call .result) size (page (a .c .at) (now (a .out)))) l) (put-front p q size (omega arith) (c .before .before .before .before .before .before .call .kept .1 .1 .1 .1 .0))
     ∙ ap (λ (u : Turned). over u (told (a .c) (now (a .out))) p)
     (c .before .before .before .before .before .before .call .ensures ∙ ap (λ (m : ℕ). changeOf (a .which) (a .c .desk) (take m p) (a .n) (now (a .chunk))) (less-none size)))
 

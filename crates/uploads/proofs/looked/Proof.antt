@@ -6,9 +6,9 @@ use Prim.Native.Nat.{ℕ, _-_}
 use lib.ListN.{take}
 use borrow.Author.Needs.{needs}
 use borrow.Author.Tests.{lt-ltb, le-ltb}
-use Rattle.answers.specs.Output.{output, added}
+use Rattle.pages.specs.Pages.{page, added}
 use Rattle.answers.specs.Texts.{lineEnd}
-use Rattle.answers.proofs.Adding.{then}
+use Rattle.pages.proofs.PageLaws.{then}
 use Rattle.uploads.specs.declared.Console.{Console}
 use Rattle.uploads.specs.Uploads.{tell, told, lookText, look}
 use Rattle.calls.proofs.RoomLaws.{less-none}
@@ -65,7 +65,7 @@ returns-3 c =
     let a = c .before .before .before .before .before .before .before .before .before .before .before .before .before .before .args in
     let size = a .c .size in
     let p = now (a .pool) in
-    let o = output (a .c .at) (now (a .out)) in
+    let o = page (a .c .at) (now (a .out)) in
     rw (le-ltb _ _ (c .before .before .before .before .before .before .before .before .before .before .before .if1 .left), le-ltb _ _ (c .before .before .before .before .before .before .before .before .before .before .if2 .left))
     (ap (λ (x : Console). told x (c .before .before .before .ended .last .0)) (c .with-output .ensures)
     ∙ ap (tell (a .c .desk) size)

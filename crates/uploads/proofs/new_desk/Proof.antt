@@ -7,7 +7,7 @@ use native.Mathlib.Omega.{arith}
 use lib.ListN.{drop}
 use borrow.Author.Needs.{needs}
 use borrow.Author.Tests.{lt-ltb, le-ltb}
-use Rattle.answers.specs.Output.{output}
+use Rattle.pages.specs.Pages.{page}
 use Rattle.desk.specs.Steps.{newStep}
 use Rattle.desk.specs.declared.Turn.{Turn}
 use Rattle.uploads.specs.Uploads.{Told, kept, turnedTold, newDesk}
@@ -55,7 +55,7 @@ returns-2 c =
     let a = c .before .before .before .before .before .before .before .before .before .before .before .before .args in
     let p = now (a .pool) in
     let q = c .before .before .before .before .before .before .before .fill .last .0 in
-    let o = output (a .c .at) (now (a .out)) in
+    let o = page (a .c .at) (now (a .out)) in
     rw (le-ltb _ _ (c .before .before .before .before .before .before .before .before .before .if1 .left))
     (ap (λ (x : Told). kept x (q ++ drop (a .n - 0) p)) (c .before .before .turned .ensures)
     ∙ ap (λ (t : Turn). kept (turnedTold t (a .n) o) (q ++ drop (a .n - 0) p)) (c .before .before .before .before .new .ensures)

@@ -7,9 +7,9 @@ use native.Mathlib.Omega.{arith}
 use lib.ListN.{take, drop}
 use borrow.Author.Needs.{needs}
 use borrow.Author.Tests.{lt-ltb, le-ltb}
-use Rattle.answers.specs.Output.{output, added}
+use Rattle.pages.specs.Pages.{page, added}
 use Rattle.answers.specs.Texts.{lineEnd, octetsWord}
-use Rattle.answers.proofs.Adding.{then}
+use Rattle.pages.proofs.PageLaws.{then}
 use Rattle.uploads.specs.declared.Console.{Console}
 use Rattle.uploads.specs.Uploads.{tell, told, partOf, poolPart}
 use Rattle.calls.proofs.RoomLaws.{part-whole}
@@ -78,7 +78,7 @@ returns-3 c =
     let a = c .before .before .before .before .before .before .before .before .before .before .before .before .before .before .before .args in
     let s = now (c .before .before .before .before .before .before .before .before .before .before .before .before .part .result) in
     let e = a .from + a .count in
-    let o = output (a .c .at) (now (a .out)) in
+    let o = page (a .c .at) (now (a .out)) in
     rw (le-ltb _ _ (c .before .before .before .before .before .before .before .before .before .before .before .if1 .left), le-ltb _ _ (c .before .before .before .before .before .before .before .before .before .before .if2 .left))
     (ap (λ (x : Console). told x (c .before .before .before .ended .last .0)) (c .with-output .ensures)
     ∙ ap (tell (a .c .desk) (a .c .size))

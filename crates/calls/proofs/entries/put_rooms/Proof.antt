@@ -4,9 +4,9 @@ use mathlib.Core.Path.{ap, _∙_}
 use mathlib.Core.List.{List}
 use Prim.Native.Nat.{ℕ}
 use borrow.Author.Needs.{needs}
-use Rattle.answers.specs.Output.{output, added}
+use Rattle.pages.specs.Pages.{page, added}
 use Rattle.answers.specs.Texts.{roomEnd}
-use Rattle.answers.proofs.Adding.{then}
+use Rattle.pages.proofs.PageLaws.{then}
 use Rattle.calls.specs.Entries.{takenText}
 use Rattle.calls.proofs.RoomLaws.{rooms-text}
 use Rattle.calls.proofs.entries.put_rooms.Statement.{statement}
@@ -39,7 +39,7 @@ same-length c = search needs
 returns : tie.Need-returns
 returns c =
     let a = c .before .before .before .before .before .before .before .before .before .before .before .before .before .before .before .before .args in
-    let o = output (a .at) (now (a .out)) in
+    let o = page (a .at) (now (a .out)) in
     then (takenText (now (c .before .before .before .before .before .before .before .before .before .part .result)) (now (c .before .before .before .before .before .before .before .before .before .before .before .numbers .result))) (roomEnd (c .before .before .before .both-kept .result)) o (c .before .before .before .before .before .before .before .put-taken .ensures) (c .before .before .looked-at .ensures)
     ∙ ap (λ (t : List ℕ). added t o)
     (rooms-text (now (a .copy)) (now (a .records)) (now (c .before .before .before .before .before .before .before .before .before .part .result)) (now (c .before .before .before .before .before .before .before .before .before .before .before .numbers .result)) (a .lines) (c .before .before .before .before .before .before .before .before .before .before .copy-length .result) (c .before .before .before .before .before .before .before .before .before .before .before .before .numbers-of .result) (c .before .before .before .both-kept .result)

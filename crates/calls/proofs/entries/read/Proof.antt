@@ -7,7 +7,7 @@ use lib.ListN.{take, replicate}
 use borrow.Author.Needs.{needs}
 use native.Mathlib.Omega.{arith}
 use borrow.Author.Tests.{lt-ltb, le-ltb}
-use Rattle.answers.specs.Output.{output, added}
+use Rattle.pages.specs.Pages.{page, added}
 use Rattle.calls.specs.Rooms.{octetRoom}
 use Rattle.calls.specs.Entries.{readText, readAnswer}
 use Rattle.calls.proofs.RoomLaws.{room-part}
@@ -60,7 +60,7 @@ same-length-3 c = search needs
 
 returns-3 : tie.Need-returns-3
 unfolding readAnswer
-returns-3 c = rw (le-ltb _ _ (c .before .before .before .before .before .before .before .before .before .if1 .left), le-ltb _ _ (c .before .before .before .before .before .before .before .before .if2 .left)) (c .before .before .before .before .read-to .ensures ∙ ap (λ (l : List ℕ). added (readText (now (c .before .before .before .before .before .before .before .before .before .before .before .before .args .input)) l (take (c .before .before .before .before .before .before .before .before .before .before .before .before .args .k - 0) (replicate 70000 2779096485))) (output (c .before .before .before .before .before .before .before .before .before .before .before .before .args .at) (now (c .before .before .before .before .before .before .before .before .before .before .before .before .args .out)))) (room-part (c .before .before .before .before .before .before .before .before .before .before .before .before .args .r) 70000 165 (omega arith)) ∙ ap (λ (l : List ℕ). added (readText (now (c .before .before .before .before .before .before .before .before .before .before .before .before .args .input)) (octetRoom (c .before .before .before .before .before .before .before .before .before .before .before .before .args .r)) l) (output (c .before .before .before .before .before .before .before .before .before .before .before .before .args .at) (now (c .before .before .before .before .before .before .before .before .before .before .before .before .args .out)))) (room-part (c .before .before .before .before .before .before .before .before .before .before .before .before .args .k) 70000 2779096485 (omega arith)))
+returns-3 c = rw (le-ltb _ _ (c .before .before .before .before .before .before .before .before .before .if1 .left), le-ltb _ _ (c .before .before .before .before .before .before .before .before .if2 .left)) (c .before .before .before .before .read-to .ensures ∙ ap (λ (l : List ℕ). added (readText (now (c .before .before .before .before .before .before .before .before .before .before .before .before .args .input)) l (take (c .before .before .before .before .before .before .before .before .before .before .before .before .args .k - 0) (replicate 70000 2779096485))) (page (c .before .before .before .before .before .before .before .before .before .before .before .before .args .at) (now (c .before .before .before .before .before .before .before .before .before .before .before .before .args .out)))) (room-part (c .before .before .before .before .before .before .before .before .before .before .before .before .args .r) 70000 165 (omega arith)) ∙ ap (λ (l : List ℕ). added (readText (now (c .before .before .before .before .before .before .before .before .before .before .before .before .args .input)) (octetRoom (c .before .before .before .before .before .before .before .before .before .before .before .before .args .r)) l) (page (c .before .before .before .before .before .before .before .before .before .before .before .before .args .at) (now (c .before .before .before .before .before .before .before .before .before .before .before .before .args .out)))) (room-part (c .before .before .before .before .before .before .before .before .before .before .before .before .args .k) 70000 2779096485 (omega arith)))
 
 pub read-spec : {M : Type 1} → statement M
 read-spec =

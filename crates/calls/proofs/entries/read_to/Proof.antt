@@ -4,10 +4,10 @@ use mathlib.Core.Path.{ap, _∙_}
 use mathlib.Core.List.{_++_}
 use Prim.Native.Nat.{ℕ}
 use borrow.Author.Needs.{needs}
-use Rattle.answers.specs.Output.{output, added}
+use Rattle.pages.specs.Pages.{page, added}
 use Rattle.answers.specs.Texts.{verdictText}
 use Rattle.reader.specs.Outcome.{Taken}
-use Rattle.answers.proofs.Adding.{then}
+use Rattle.pages.proofs.PageLaws.{then}
 use Rattle.calls.specs.Entries.{roomsText, takenAnswer, readText}
 use Rattle.calls.proofs.entries.read_to.Statement.{statement}
 use Rattle.calls.proofs.entries.read_to.Tie as tie
@@ -37,7 +37,7 @@ returns : tie.Need-returns
 unfolding readText
 returns c =
     let a = c .before .before .before .before .before .before .before .before .before .before .before .before .before .before .before .before .before .before .before .before .before .before .args in
-    let o = output (a .at) (now (a .out)) in
+    let o = page (a .at) (now (a .out)) in
     let copy = c .before .before .before .before .before .before .before .before .before .before .before .before .before .before .before .read .last .1 .0 in
     let records = c .before .before .before .before .before .before .before .before .before .before .before .before .before .before .before .read .last .1 .1 .0 in
     then (verdictText (c .before .before .before .before .before .before .before .before .before .before .before .before .before .before .before .read .result)) (roomsText (c .before .before .before .before .before .before .lines-of .result) copy records) o (c .before .before .before .before .before .before .before .before .before .verdict .ensures) (c .before .before .put-rooms .ensures)

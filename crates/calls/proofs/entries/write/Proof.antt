@@ -6,7 +6,7 @@ use Prim.Native.Nat.{ℕ}
 use borrow.Author.Needs.{needs}
 use native.Mathlib.Omega.{arith}
 use borrow.Author.Tests.{lt-ltb, le-ltb}
-use Rattle.answers.specs.Output.{output, added}
+use Rattle.pages.specs.Pages.{page, added}
 use Rattle.calls.specs.Entries.{outcomeOf, leftText, writeAnswer}
 use Rattle.calls.proofs.RoomLaws.{room-part}
 use Rattle.calls.proofs.entries.write.Statement.{statement}
@@ -39,7 +39,7 @@ same-length-2 c = search needs
 
 returns-2 : tie.Need-returns-2
 unfolding writeAnswer
-returns-2 c = rw (le-ltb _ _ (c .before .before .before .before .before .before .if1 .left)) (c .before .before .before .write-to .ensures ∙ ap (λ (l : List ℕ). added (leftText (outcomeOf (c .before .before .before .before .before .before .before .before .before .args .entry) (now (c .before .before .before .before .before .before .before .before .before .args .input)) l)) (output (c .before .before .before .before .before .before .before .before .before .args .at) (now (c .before .before .before .before .before .before .before .before .before .args .out)))) (room-part (c .before .before .before .before .before .before .before .before .before .args .r) 70000 165 (omega arith)))
+returns-2 c = rw (le-ltb _ _ (c .before .before .before .before .before .before .if1 .left)) (c .before .before .before .write-to .ensures ∙ ap (λ (l : List ℕ). added (leftText (outcomeOf (c .before .before .before .before .before .before .before .before .before .args .entry) (now (c .before .before .before .before .before .before .before .before .before .args .input)) l)) (page (c .before .before .before .before .before .before .before .before .before .args .at) (now (c .before .before .before .before .before .before .before .before .before .args .out)))) (room-part (c .before .before .before .before .before .before .before .before .before .args .r) 70000 165 (omega arith)))
 
 pub write-spec : {M : Type 1} → statement M
 write-spec =
