@@ -1,8 +1,9 @@
 // The calls of reader, folder and text.
 ghost use mathlib.Core.Path.{_≡_};
-ghost use Prim.Native.Nat.{_+_};
+ghost use Prim.Native.Nat.{_+_, _≤_};
 ghost use Rattle.octets.specs.Room.{filled};
 ghost use Rattle.pages.specs.Pages.{page, added};
+ghost use Rattle.calls.specs.Rooms.{octetRoom, numberRoom};
 ghost use Rattle.calls.specs.Entries.{linesOf, count, numbersOf, copyLength, takenText, roomsText, readText, outcomeOf, leftText, judgeAnswer, readAnswer, writeAnswer};
 use crate::rooms;
 use octets::rooms::Written;
@@ -95,6 +96,16 @@ fn read_to(input: &[u8], copy: &mut [u8], records: &mut [u32], out: &mut [u8], a
     put_rooms(lines_of(v), copy, records, out, end)
 }
 
+// The reader's answer with fresh rooms of r octets and k numbers.
+fn read_in(r: usize, k: usize, input: &[u8], out: &mut [u8], at: usize) -> usize
+    requires { ⌜ (r ≤ 70000) × (k ≤ 70000) ⌝ }
+    ensures { λ q. ⌜ page q (now (out .exit)) ≡ added (readText (now (input .entry)) (octetRoom r) (numberRoom k)) (page at (now (out .entry))) ⌝ }
+{
+    let mut room = [rooms::OCTET; ROOM];
+    let mut records = [rooms::NUMBER; ROOM];
+    read_to(input, &mut room[0..r], &mut records[0..k], out, at)
+}
+
 // `read COPYROOM RECORDROOM OCTETS`.
 pub fn read(r: usize, k: usize, input: &[u8], out: &mut [u8], at: usize) -> usize
     ensures { λ q. ⌜ page q (now (out .exit)) ≡ added (readAnswer r k (now (input .entry))) (page at (now (out .entry))) ⌝ }
@@ -105,9 +116,7 @@ pub fn read(r: usize, k: usize, input: &[u8], out: &mut [u8], at: usize) -> usiz
     if k > ROOM {
         return answers::bad(out, at);
     }
-    let mut room = [rooms::OCTET; ROOM];
-    let mut records = [rooms::NUMBER; ROOM];
-    read_to(input, &mut room[0..r], &mut records[0..k], out, at)
+    read_in(r, k, input, out, at)
 }
 
 // What the entry writes to room.
@@ -140,6 +149,15 @@ fn write_to(entry: Writer, input: &[u8], room: &mut [u8], out: &mut [u8], at: us
     answers::looked_at(out, end, rooms::is_kept(room, count_of(w)))
 }
 
+// The entry's answer with a fresh room of r octets.
+fn write_in(entry: Writer, r: usize, input: &[u8], out: &mut [u8], at: usize) -> usize
+    requires { ⌜ r ≤ 70000 ⌝ }
+    ensures { λ q. ⌜ page q (now (out .exit)) ≡ added (leftText (outcomeOf entry (now (input .entry)) (octetRoom r))) (page at (now (out .entry))) ⌝ }
+{
+    let mut room = [rooms::OCTET; ROOM];
+    write_to(entry, input, &mut room[0..r], out, at)
+}
+
 // `fold ROOM OCTETS`, and the others that write octets to room.
 pub fn write(entry: Writer, r: usize, input: &[u8], out: &mut [u8], at: usize) -> usize
     ensures { λ q. ⌜ page q (now (out .exit)) ≡ added (writeAnswer entry r (now (input .entry))) (page at (now (out .entry))) ⌝ }
@@ -147,6 +165,5 @@ pub fn write(entry: Writer, r: usize, input: &[u8], out: &mut [u8], at: usize) -
     if r > ROOM {
         return answers::bad(out, at);
     }
-    let mut room = [rooms::OCTET; ROOM];
-    write_to(entry, input, &mut room[0..r], out, at)
+    write_in(entry, r, input, out, at)
 }
