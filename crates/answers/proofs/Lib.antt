@@ -1,4 +1,2 @@
--- The laws that the proofs of `answers` and of the crates above it cite. Assumes nothing.
-pub mod Adding
-pub mod Decimals
+-- The laws that the proofs of `answers` cite. Assumes nothing.
 pub mod Words

@@ -5,7 +5,8 @@ use Prim.Native.Nat.{ℕ}
 use native.Mathlib.Omega.{arith}
 use lib.ListN.{length, getD, drop}
 use Rattle.octets.specs.Ascii.{octets}
-use Rattle.answers.specs.Texts.{decimal, pair, pairs, octetsWord, further, others, joined}
+use Rattle.pages.specs.Digits.{decimal, pair}
+use Rattle.answers.specs.Texts.{pairs, octetsWord, further, others, joined}
 
 pub word-none : (s : List ℕ) → length s ≡ 0 → octetsWord s ≡ 45 ∷ []
 unfolding octetsWord octets

@@ -1,3 +1,2 @@
 -- The definitions that the contracts of `answers` cite. Assumes nothing.
-pub mod Output
 pub mod Texts

@@ -1,14 +1,13 @@
 -- The texts of the console's answers, from the page that describes it. Assumes nothing.
-use Prim.Native.Nat.{ℕ, zero, suc, _/_, _%_}
+use Prim.Native.Nat.{ℕ}
 use mathlib.Core.Bool.{Bool}
 use mathlib.Core.List.{List, [], _∷_, _++_}
-use lib.Dec.{ltb}
-use Rattle.io.specs.Digits.{glyph}
 use Rattle.octets.specs.Pick.{pick}
 use Rattle.octets.specs.Ascii.{octets}
 use Rattle.octets.specs.declared.rooms.Written.{Written}
 use Rattle.octets.specs.declared.rooms.Written.the-variants.{Wrote, Refused as Unwritten}
 use Rattle.parts.specs.Parts.{part}
+use Rattle.pages.specs.Digits.{decimal, pair}
 use Rattle.reader.specs.declared.Verdict.{Verdict}
 use Rattle.reader.specs.declared.Verdict.the-variants.{Accepted, Refused}
 use Rattle.desk.specs.declared.Answer.{Answer}
@@ -16,24 +15,12 @@ use Rattle.desk.specs.declared.Answer.the-variants.{Done, Refused as Denied}
 
 -- ---- words
 
--- the decimal digits of a number that has at most so many
-unfoldable pub decimalIn : ℕ → ℕ → List ℕ
-decimalIn zero n = []
-decimalIn (suc k) n = pick (ltb n 10) (glyph n ∷ []) (decimalIn k (n / 10) ++ (glyph (n % 10) ∷ []))
-
--- no number of 64 bits has over 20
-unfoldable pub decimal : ℕ → List ℕ
-decimal n = decimalIn 20 n
-
--- an octet's two hexadecimal digits
-abbrev pub pair : ℕ → List ℕ
-pair x = glyph (x / 16) ∷ glyph (x % 16) ∷ []
-
+-- octets in pairs of digits
 unfoldable pub pairs : List ℕ → List ℕ
 pairs [] = []
 pairs (x ∷ xs) = pair x ++ pairs xs
 
--- octets are pairs of digits, or `-` for none
+-- or `-` for none
 unfoldable pub octetsWord : List ℕ → List ℕ
 octetsWord [] = octets "-"
 octetsWord (x ∷ xs) = pairs (x ∷ xs)

@@ -1,53 +1,69 @@
-// The console's answers: the words of each, added to an output.
+// The console's answers: the words of each, added to the output, which is a lent page.
 ghost use mathlib.Core.Path.{_≡_};
-ghost use Rattle.answers.specs.Output.{output, added};
-ghost use Rattle.answers.specs.Texts.{lineEnd, badLine, refusalText, doneText, verdictText, writtenText, answerText, octetsWord, spaced, joined, roomEnd};
+ghost use Rattle.pages.specs.Pages.{page, added};
+ghost use Rattle.pages.specs.Digits.{decimal};
+ghost use Rattle.answers.specs.Texts.{lineEnd, badLine, refusalText, doneText, verdictText, writtenText, answerText, octetsWord, further, spaced, joined, roomEnd};
 use desk::Answer;
 use octets::rooms::Written;
 use reader::Verdict;
 
 pub mod hex;
-pub mod output;
 
 // The end of a line; LF.
 pub fn ended(out: &mut [u8], at: usize) -> usize
-    ensures { λ r. ⌜ output r (now (out .exit)) ≡ added lineEnd (output at (now (out .entry))) ⌝ }
+    ensures { λ r. ⌜ page r (now (out .exit)) ≡ added lineEnd (page at (now (out .entry))) ⌝ }
 {
-    output::put(out, at, 10)
+    pages::put(out, at, 10)
 }
 
 // `bad request`, a whole line.
 pub fn bad(out: &mut [u8], at: usize) -> usize
-    ensures { λ r. ⌜ output r (now (out .exit)) ≡ added badLine (output at (now (out .entry))) ⌝ }
+    ensures { λ r. ⌜ page r (now (out .exit)) ≡ added badLine (page at (now (out .entry))) ⌝ }
 {
-    output::put_all(out, at, b"bad request\n")
+    pages::put_all(out, at, b"bad request\n")
+}
+
+// Adds a space and a number.
+fn put_next(out: &mut [u8], at: usize, n: usize) -> usize
+    ensures { λ r. ⌜ page r (now (out .exit)) ≡ added (spaced (decimal n)) (page at (now (out .entry))) ⌝ }
+{
+    let end = pages::put(out, at, b' ');
+    pages::digits::put_number(out, end, n)
+}
+
+// Adds a comma and a number.
+fn put_further(out: &mut [u8], at: usize, n: u32) -> usize
+    ensures { λ r. ⌜ page r (now (out .exit)) ≡ added (further n) (page at (now (out .entry))) ⌝ }
+{
+    let end = pages::put(out, at, b',');
+    pages::digits::put_number(out, end, n as usize)
 }
 
 // `no NUMBER PLACE`.
 pub fn refusal(out: &mut [u8], at: usize, number: u32, place: usize) -> usize
-    ensures { λ r. ⌜ output r (now (out .exit)) ≡ added (refusalText number place) (output at (now (out .entry))) ⌝ }
+    ensures { λ r. ⌜ page r (now (out .exit)) ≡ added (refusalText number place) (page at (now (out .entry))) ⌝ }
 {
-    let word = output::put_all(out, at, b"no");
-    let end = output::put_next(out, word, number as usize);
-    output::put_next(out, end, place)
+    let word = pages::put_all(out, at, b"no");
+    let end = put_next(out, word, number as usize);
+    put_next(out, end, place)
 }
 
 // `ok NUMBER`.
 pub fn done(out: &mut [u8], at: usize, number: usize) -> usize
-    ensures { λ r. ⌜ output r (now (out .exit)) ≡ added (doneText number) (output at (now (out .entry))) ⌝ }
+    ensures { λ r. ⌜ page r (now (out .exit)) ≡ added (doneText number) (page at (now (out .entry))) ⌝ }
 {
-    let word = output::put_all(out, at, b"ok");
-    output::put_next(out, word, number)
+    let word = pages::put_all(out, at, b"ok");
+    put_next(out, word, number)
 }
 
 // `ok CARDS LINES`, or the refusal.
 pub fn verdict(out: &mut [u8], at: usize, v: Verdict) -> usize
-    ensures { λ r. ⌜ output r (now (out .exit)) ≡ added (verdictText v) (output at (now (out .entry))) ⌝ }
+    ensures { λ r. ⌜ page r (now (out .exit)) ≡ added (verdictText v) (page at (now (out .entry))) ⌝ }
 {
     match v {
         Verdict::Accepted(cards, lines) => {
             let end = done(out, at, cards);
-            output::put_next(out, end, lines)
+            put_next(out, end, lines)
         }
         Verdict::Refused(number, place) => refusal(out, at, number, place),
     }
@@ -55,7 +71,7 @@ pub fn verdict(out: &mut [u8], at: usize, v: Verdict) -> usize
 
 // `ok NUMBER`, or the refusal, of a call of the desk.
 pub fn answered(out: &mut [u8], at: usize, a: Answer) -> usize
-    ensures { λ r. ⌜ output r (now (out .exit)) ≡ added (answerText a) (output at (now (out .entry))) ⌝ }
+    ensures { λ r. ⌜ page r (now (out .exit)) ≡ added (answerText a) (page at (now (out .entry))) ⌝ }
 {
     match a {
         Answer::Done(n) => done(out, at, n),
@@ -65,7 +81,7 @@ pub fn answered(out: &mut [u8], at: usize, a: Answer) -> usize
 
 // `ok COUNT OCTETS` with the octets written to room, or the refusal.
 pub fn written(out: &mut [u8], at: usize, w: Written, room: &[u8]) -> usize
-    ensures { λ r. ⌜ output r (now (out .exit)) ≡ added (writtenText w (now (room .entry))) (output at (now (out .entry))) ⌝ }
+    ensures { λ r. ⌜ page r (now (out .exit)) ≡ added (writtenText w (now (room .entry))) (page at (now (out .entry))) ⌝ }
 {
     match w {
         Written::Wrote(count) => {
@@ -78,24 +94,24 @@ pub fn written(out: &mut [u8], at: usize, w: Written, room: &[u8]) -> usize
 
 // A space and octets.
 pub fn octets(out: &mut [u8], at: usize, s: &[u8]) -> usize
-    ensures { λ r. ⌜ output r (now (out .exit)) ≡ added (spaced (octetsWord (now (s .entry)))) (output at (now (out .entry))) ⌝ }
+    ensures { λ r. ⌜ page r (now (out .exit)) ≡ added (spaced (octetsWord (now (s .entry)))) (page at (now (out .entry))) ⌝ }
 {
-    let end = output::put(out, at, b' ');
+    let end = pages::put(out, at, b' ');
     hex::put_octets(out, end, s)
 }
 
 // A space and numbers joined by commas.
 pub fn numbers(out: &mut [u8], at: usize, s: &[u32]) -> usize
-    ensures { λ r. ⌜ output r (now (out .exit)) ≡ added (spaced (joined (now (s .entry)))) (output at (now (out .entry))) ⌝ }
+    ensures { λ r. ⌜ page r (now (out .exit)) ≡ added (spaced (joined (now (s .entry)))) (page at (now (out .entry))) ⌝ }
 {
-    let mut end = output::put(out, at, b' ');
+    let mut end = pages::put(out, at, b' ');
     if s.len() == 0 {
         return end;
     }
-    end = output::put_number(out, end, s[0] as usize);
+    end = pages::digits::put_number(out, end, s[0] as usize);
     let mut i: usize = 1;
     while i < s.len() {
-        end = output::put_further(out, end, s[i]);
+        end = put_further(out, end, s[i]);
         i += 1;
     }
     end
@@ -103,10 +119,10 @@ pub fn numbers(out: &mut [u8], at: usize, s: &[u32]) -> usize
 
 // The line's end, after the word for room that is not as it was.
 pub fn looked_at(out: &mut [u8], at: usize, kept: bool) -> usize
-    ensures { λ r. ⌜ output r (now (out .exit)) ≡ added (roomEnd kept) (output at (now (out .entry))) ⌝ }
+    ensures { λ r. ⌜ page r (now (out .exit)) ≡ added (roomEnd kept) (page at (now (out .entry))) ⌝ }
 {
     if kept {
         return ended(out, at);
     }
-    output::put_all(out, at, b" touched\n")
+    pages::put_all(out, at, b" touched\n")
 }

@@ -9,7 +9,7 @@ pub(crate) fn sent(to: i32, room: &[u8], n: usize) {
 // Text of up to 16,384 octets on standard output, with controls and octets of no character made visible.
 pub(crate) fn visible(text: &[u8]) {
     let mut room = io::large_buffer();
-    let n = pages::seen::put_visible(&mut room, 0, text);
+    let n = columns::seen::put_visible(&mut room, 0, text);
     sent(STDOUT_FILENO, &room, n);
 }
 

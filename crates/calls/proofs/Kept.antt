@@ -1,5 +1,5 @@
--- The laws of `all` at a place of a list. Assumes nothing.
-use mathlib.Core.Path.{_≡_}
+-- Whether all elements of a list from a place on are one value, found element by element. Assumes nothing.
+use mathlib.Core.Path.{_≡_, sym, _∙_}
 use mathlib.Core.Bool.{true, false}
 use mathlib.Core.List.{List}
 use Prim.Native.Nat.{ℕ, _+_, _≤_, _<_}
@@ -11,17 +11,18 @@ use borrow.Author.Tests.{eq-eqb, ne-eqb}
 use Rattle.octets.specs.Pick.{pick}
 use Rattle.calls.specs.Rooms.{all}
 
-module _ (v : ℕ) (s : List ℕ) (i : ℕ) where
+-- a search from a place of a list for an element other than v: those before i are v
+module _ (v : ℕ) (s : List ℕ) (from i : ℕ) (e : all v (drop from s) ≡ all v (drop i s)) where
   all-at : i < length s → all v (drop i s) ≡ pick (eqb (getD s i 0) v) (all v (drop (i + 1) s)) false
   unfolding all
   all-at h = rw (add-one, drop-cons s i 0)
 
-  pub all-next : i < length s → getD s i 0 ≡ v → all v (drop i s) ≡ all v (drop (i + 1) s)
-  all-next h e = rw (all-at h, eq-eqb (getD s i 0) v e)
+  pub all-next : i < length s → getD s i 0 ≡ v → all v (drop from s) ≡ all v (drop (i + 1) s)
+  all-next h x = e ∙ rw (all-at h, eq-eqb (getD s i 0) v x)
 
-  pub all-not : i < length s → (getD s i 0 ≡ v → ⊥) → all v (drop i s) ≡ false
-  all-not h n = rw (all-at h, ne-eqb (getD s i 0) v n)
+  pub all-not : i < length s → (getD s i 0 ≡ v → ⊥) → false ≡ all v (drop from s)
+  all-not h n = sym (e ∙ rw (all-at h, ne-eqb (getD s i 0) v n))
 
-  pub all-end : length s ≤ i → all v (drop i s) ≡ true
+  pub all-end : length s ≤ i → true ≡ all v (drop from s)
   unfolding all
-  all-end h = rw (drop-of-length-le s h)
+  all-end h = sym (e ∙ rw (drop-of-length-le s h))

@@ -10,9 +10,11 @@ use borrow.Author.Tests.{le-ltb}
 use Rattle.octets.proofs.Copies.{copy-step}
 use Rattle.octets.specs.Room.{overlay}
 use Rattle.parts.specs.Parts.{part}
+use Rattle.pages.specs.Pages.{Page, added}
 use Rattle.answers.specs.Texts.{roomEnd}
-use Rattle.calls.specs.Rooms.{octetRoom, bothKept}
-use Rattle.calls.specs.Entries.{numbersOf, copyLength, takenText, roomsText}
+use Rattle.calls.specs.Rooms.{octetRoom, numberRoom, bothKept}
+use Rattle.calls.specs.Entries.{numbersOf, copyLength, takenText, roomsText, readText, outcomeOf, leftText}
+use Rattle.calls.specs.declared.entries.Writer.{Writer}
 
 pub fill-step : (d e : List ℕ) (j : ℕ) → j < length d → e ≡ take j (octetRoom (length d)) ++ drop j d
     → set e j 165 ≡ take (j + 1) (octetRoom (length d)) ++ drop (j + 1) d
@@ -25,7 +27,7 @@ fill-done d e j h k p =
     p ∙ rw (q, drop-length, append-nil, take-all {A = ℕ} (length d) (octetRoom (length d)) (rw length-replicate (omega arith)))
 
 -- the first r of n equal elements
-pub take-replicate : (r n v : ℕ) → r ≤ n → take r (replicate n v) ≡ replicate r v
+take-replicate : (r n v : ℕ) → r ≤ n → take r (replicate n v) ≡ replicate r v
 take-replicate zero n v h = refl
 take-replicate (suc r) zero v h = absurd (omega arith)
 take-replicate (suc r) (suc n) v h = ap (λ (l : List ℕ). v ∷ l) (take-replicate r n v (omega arith))
@@ -34,8 +36,17 @@ pub less-none : (n : ℕ) → n - 0 ≡ n
 less-none n = omega arith
 
 -- the same as a slice's first r elements
-pub room-part : (r n v : ℕ) → r ≤ n → take (r - 0) (replicate n v) ≡ replicate r v
+room-part : (r n v : ℕ) → r ≤ n → take (r - 0) (replicate n v) ≡ replicate r v
 room-part r n v h = ap (λ (m : ℕ). take m (replicate n v)) (less-none r) ∙ take-replicate r n v h
+
+-- what is answered with the first elements of larger rooms
+module _ (i : List ℕ) (n r : ℕ) (p : Page) {q : Page} (h : r ≤ n) where
+  pub read-part : (k : ℕ) → k ≤ n → q ≡ added (readText i (take (r - 0) (replicate n 165)) (take (k - 0) (replicate n 2779096485))) p
+      → q ≡ added (readText i (octetRoom r) (numberRoom k)) p
+  read-part k l e = rw (room-part r n 165 h, room-part k n 2779096485 l) at e
+
+  pub write-part : (w : Writer) → q ≡ added (leftText (outcomeOf w i (take (r - 0) (replicate n 165)))) p → q ≡ added (leftText (outcomeOf w i (octetRoom r))) p
+  write-part w e = rw (room-part r n 165 h) at e
 
 -- a slice whose first n elements became those of e
 pub put-front : (p e : List ℕ) (n : ℕ) → n ≤ length p → length e ≡ length (take (n - 0) p) → e ++ drop (n - 0) p ≡ overlay e p

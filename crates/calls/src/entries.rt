@@ -1,8 +1,9 @@
 // The calls of reader, folder and text.
 ghost use mathlib.Core.Path.{_≡_};
-ghost use Prim.Native.Nat.{_+_};
+ghost use Prim.Native.Nat.{_+_, _≤_};
 ghost use Rattle.octets.specs.Room.{filled};
-ghost use Rattle.answers.specs.Output.{output, added};
+ghost use Rattle.pages.specs.Pages.{page, added};
+ghost use Rattle.calls.specs.Rooms.{octetRoom, numberRoom};
 ghost use Rattle.calls.specs.Entries.{linesOf, count, numbersOf, copyLength, takenText, roomsText, readText, outcomeOf, leftText, judgeAnswer, readAnswer, writeAnswer};
 use crate::rooms;
 use octets::rooms::Written;
@@ -20,7 +21,7 @@ pub enum Writer {
 
 // `judge OCTETS`.
 pub fn judge(input: &[u8], out: &mut [u8], at: usize) -> usize
-    ensures { λ r. ⌜ output r (now (out .exit)) ≡ added (judgeAnswer (now (input .entry))) (output at (now (out .entry))) ⌝ }
+    ensures { λ r. ⌜ page r (now (out .exit)) ≡ added (judgeAnswer (now (input .entry))) (page at (now (out .entry))) ⌝ }
 {
     let end = answers::verdict(out, at, reader::judge(input));
     answers::ended(out, end)
@@ -66,7 +67,7 @@ fn copy_length(records: &[u32]) -> usize
 
 // The octets and numbers that the reader wrote, if it wrote any.
 fn put_taken(copy: &[u8], records: &[u32], out: &mut [u8], at: usize) -> usize
-    ensures { λ r. ⌜ output r (now (out .exit)) ≡ added (takenText (now (copy .entry)) (now (records .entry))) (output at (now (out .entry))) ⌝ }
+    ensures { λ r. ⌜ page r (now (out .exit)) ≡ added (takenText (now (copy .entry)) (now (records .entry))) (page at (now (out .entry))) ⌝ }
 {
     if records.len() == 0 {
         return at;
@@ -77,7 +78,7 @@ fn put_taken(copy: &[u8], records: &[u32], out: &mut [u8], at: usize) -> usize
 
 // What the reader left in its rooms, after the verdict.
 fn put_rooms(lines: usize, copy: &[u8], records: &[u32], out: &mut [u8], at: usize) -> usize
-    ensures { λ r. ⌜ output r (now (out .exit)) ≡ added (roomsText lines (now (copy .entry)) (now (records .entry))) (output at (now (out .entry))) ⌝ }
+    ensures { λ r. ⌜ page r (now (out .exit)) ≡ added (roomsText lines (now (copy .entry)) (now (records .entry))) (page at (now (out .entry))) ⌝ }
 {
     let k = numbers_of(lines, records.len());
     let taken = parts::numbers(records, k);
@@ -88,16 +89,26 @@ fn put_rooms(lines: usize, copy: &[u8], records: &[u32], out: &mut [u8], at: usi
 
 // The reader's answer with these rooms.
 fn read_to(input: &[u8], copy: &mut [u8], records: &mut [u32], out: &mut [u8], at: usize) -> usize
-    ensures { λ r. ⌜ output r (now (out .exit)) ≡ added (readText (now (input .entry)) (now (copy .entry)) (now (records .entry))) (output at (now (out .entry))) ⌝ }
+    ensures { λ r. ⌜ page r (now (out .exit)) ≡ added (readText (now (input .entry)) (now (copy .entry)) (now (records .entry))) (page at (now (out .entry))) ⌝ }
 {
     let v = reader::read(input, copy, records);
     let end = answers::verdict(out, at, v);
     put_rooms(lines_of(v), copy, records, out, end)
 }
 
+// The reader's answer with fresh rooms of r octets and k numbers.
+fn read_in(r: usize, k: usize, input: &[u8], out: &mut [u8], at: usize) -> usize
+    requires { ⌜ (r ≤ 70000) × (k ≤ 70000) ⌝ }
+    ensures { λ q. ⌜ page q (now (out .exit)) ≡ added (readText (now (input .entry)) (octetRoom r) (numberRoom k)) (page at (now (out .entry))) ⌝ }
+{
+    let mut room = [rooms::OCTET; ROOM];
+    let mut records = [rooms::NUMBER; ROOM];
+    read_to(input, &mut room[0..r], &mut records[0..k], out, at)
+}
+
 // `read COPYROOM RECORDROOM OCTETS`.
 pub fn read(r: usize, k: usize, input: &[u8], out: &mut [u8], at: usize) -> usize
-    ensures { λ q. ⌜ output q (now (out .exit)) ≡ added (readAnswer r k (now (input .entry))) (output at (now (out .entry))) ⌝ }
+    ensures { λ q. ⌜ page q (now (out .exit)) ≡ added (readAnswer r k (now (input .entry))) (page at (now (out .entry))) ⌝ }
 {
     if r > ROOM {
         return answers::bad(out, at);
@@ -105,9 +116,7 @@ pub fn read(r: usize, k: usize, input: &[u8], out: &mut [u8], at: usize) -> usiz
     if k > ROOM {
         return answers::bad(out, at);
     }
-    let mut room = [rooms::OCTET; ROOM];
-    let mut records = [rooms::NUMBER; ROOM];
-    read_to(input, &mut room[0..r], &mut records[0..k], out, at)
+    read_in(r, k, input, out, at)
 }
 
 // What the entry writes to room.
@@ -133,20 +142,28 @@ fn count_of(w: Written) -> usize
 
 // The entry's answer with this room.
 fn write_to(entry: Writer, input: &[u8], room: &mut [u8], out: &mut [u8], at: usize) -> usize
-    ensures { λ r. ⌜ output r (now (out .exit)) ≡ added (leftText (outcomeOf entry (now (input .entry)) (now (room .entry)))) (output at (now (out .entry))) ⌝ }
+    ensures { λ r. ⌜ page r (now (out .exit)) ≡ added (leftText (outcomeOf entry (now (input .entry)) (now (room .entry)))) (page at (now (out .entry))) ⌝ }
 {
     let w = call(entry, input, room);
     let end = answers::written(out, at, w, room);
     answers::looked_at(out, end, rooms::is_kept(room, count_of(w)))
 }
 
+// The entry's answer with a fresh room of r octets.
+fn write_in(entry: Writer, r: usize, input: &[u8], out: &mut [u8], at: usize) -> usize
+    requires { ⌜ r ≤ 70000 ⌝ }
+    ensures { λ q. ⌜ page q (now (out .exit)) ≡ added (leftText (outcomeOf entry (now (input .entry)) (octetRoom r))) (page at (now (out .entry))) ⌝ }
+{
+    let mut room = [rooms::OCTET; ROOM];
+    write_to(entry, input, &mut room[0..r], out, at)
+}
+
 // `fold ROOM OCTETS`, and the others that write octets to room.
 pub fn write(entry: Writer, r: usize, input: &[u8], out: &mut [u8], at: usize) -> usize
-    ensures { λ q. ⌜ output q (now (out .exit)) ≡ added (writeAnswer entry r (now (input .entry))) (output at (now (out .entry))) ⌝ }
+    ensures { λ q. ⌜ page q (now (out .exit)) ≡ added (writeAnswer entry r (now (input .entry))) (page at (now (out .entry))) ⌝ }
 {
     if r > ROOM {
         return answers::bad(out, at);
     }
-    let mut room = [rooms::OCTET; ROOM];
-    write_to(entry, input, &mut room[0..r], out, at)
+    write_in(entry, r, input, out, at)
 }

@@ -2,11 +2,11 @@
 use mathlib.Core.Path.{_≡_, ap, _∙_}
 use mathlib.Core.List.{List}
 use Prim.Native.Nat.{ℕ}
-use Rattle.answers.specs.Output.{Output, output, added}
+use Rattle.pages.specs.Pages.{Page, page, added}
 use Rattle.uploads.specs.declared.Console.{Console}
 use Rattle.uploads.specs.Uploads.{tell, told, kept, moved, says}
 
-pub said : (c : Console) (pool out text : List ℕ) {after : List ℕ} {r : Console} {at : ℕ} → r ≡ moved c at → output at after ≡ added text (output (c .at) out)
+pub said : (c : Console) (pool out text : List ℕ) {after : List ℕ} {r : Console} {at : ℕ} → r ≡ moved c at → page at after ≡ added text (page (c .at) out)
     → kept (told r after) pool ≡ kept (says text (told c out)) pool
 said c pool out text {after} e f =
-    ap (λ (x : Console). kept (told x after) pool) e ∙ ap (λ (o : Output). kept (tell (c .desk) (c .size) o) pool) f
+    ap (λ (x : Console). kept (told x after) pool) e ∙ ap (λ (o : Page). kept (tell (c .desk) (c .size) o) pool) f

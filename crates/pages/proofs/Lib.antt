@@ -1,4 +1,3 @@
--- The laws that the proofs of `pages` cite. Assumes nothing.
+-- The laws that the proofs of `pages` and of the crates above it cite. Assumes nothing.
 pub mod PageLaws
-pub mod DigitLaws
-pub mod SeenLaws
+pub mod Decimals

@@ -26,14 +26,23 @@ unfolding added
 added-append [] b p = refl
 added-append (x ∷ xs) b p = added-append xs b (one x p)
 
--- the next octet of a text
-pub added-next : (s : List ℕ) (i : ℕ) (p : Page) → i < length s → added (drop i s) p ≡ added (drop (i + 1) s) (one (getD s i 0) p)
-unfolding added
-added-next s i p h = rw (add-one, drop-cons s i 0 h)
+pub then : (a b : List ℕ) (p : Page) {q r : Page} → q ≡ added a p → r ≡ added b q → r ≡ added (a ++ b) p
+then a b p e f = f ∙ ap (added b) e ∙ sym (added-append a b p)
 
-pub added-end : (s : List ℕ) (i : ℕ) (p : Page) → length s ≤ i → added (drop i s) p ≡ p
-unfolding added
-added-end s i p h = rw (drop-of-length-le s h)
+-- a piece of a text is added, and the rest is left
+pub added-piece : (whole a rest : List ℕ) (p q : Page) → whole ≡ a ++ rest → q ≡ added a p → added rest q ≡ added whole p
+added-piece whole a rest p q e f = then a rest p f refl ∙ ap (λ (t : List ℕ). added t p) (sym e)
+
+-- a loop that adds the text of each element of a list: f says an element's text, g that of those left
+module _ (f : ℕ → List ℕ) (g : List ℕ → List ℕ) where
+  pub turn : ((x : ℕ) (xs : List ℕ) → g (x ∷ xs) ≡ f x ++ g xs) → (s : List ℕ) (i : ℕ) → i < length s → (p : Page) {q : Page} → q ≡ added (f (getD s i 0)) p
+      → added (g (drop (i + 1) s)) q ≡ added (g (drop i s)) p
+  turn gives s i h p {q} e =
+      rw add-one (added-piece (g (drop i s)) (f (getD s i 0)) (g (drop (suc i) s)) p q (rw (drop-cons s i 0 h) (gives (getD s i 0) (drop (suc i) s))) e)
+
+  pub stop : g [] ≡ [] → (s : List ℕ) (i : ℕ) → length s ≤ i → (p : Page) → added (g (drop i s)) p ≡ p
+  unfolding added
+  stop none s i h p = rw (drop-of-length-le s h, none)
 
 -- the next of k octets that are alike
 pub added-like : (x k : ℕ) (p : Page) → 0 < k → added (replicate k x) p ≡ added (replicate (k - 1) x) (one x p)
@@ -48,10 +57,6 @@ unfolding added
 added-no-more x zero p h = refl
 added-no-more x (suc k) p h = absurd (omega arith)
 
--- a piece of a text is added, and the rest is left
-pub added-piece : (whole a rest : List ℕ) (p q : Page) → whole ≡ a ++ rest → q ≡ added a p → added rest q ≡ added whole p
-added-piece whole a rest p q e f = ap (added rest) f ∙ sym (added-append a rest p) ∙ ap (λ (t : List ℕ). added t p) (sym e)
-
 -- what was added to a page so far
 pub record Adds (a : List ℕ) (p q : Page) : Type 0 where
   pub sum : q ≡ added a p
@@ -62,7 +67,7 @@ nothing p = record { sum = refl }
 
 -- a piece after it
 pub piece : (b : List ℕ) {a : List ℕ} {p q r : Page} → Adds a p q → r ≡ added b q → Adds (a ++ b) p r
-piece b {a} {p} e f = record { sum = f ∙ ap (added b) (e .sum) ∙ sym (added-append a b p) }
+piece b {a} {p} e f = record { sum = then a b p (e .sum) f }
 
 -- the octets of a text, computed
 abbrev spelt : String → List ℕ

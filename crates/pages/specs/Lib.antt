@@ -1,4 +1,3 @@
 -- The definitions that the contracts of `pages` cite. Assumes nothing.
 pub mod Pages
 pub mod Digits
-pub mod Seen

@@ -1,7 +1,5 @@
 // Text made in a lent page: each piece goes after what is written, as far as there is room.
-pub mod columns;
 pub mod digits;
-pub mod seen;
 
 ghost use mathlib.Core.Path.{_≡_};
 ghost use mathlib.Core.List.{_∷_, []};

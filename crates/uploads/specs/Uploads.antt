@@ -9,7 +9,7 @@ use Rattle.parts.specs.Parts.{part}
 use Rattle.desk.specs.Steps.{Turned, newStep, openStep, addStep, releaseStep, showStep, heldStep, judgeStep}
 use Rattle.desk.specs.declared.Desk.{Desk}
 use Rattle.desk.specs.declared.Turn.{Turn}
-use Rattle.answers.specs.Output.{Output, output, added}
+use Rattle.pages.specs.Pages.{Page, page, added}
 use Rattle.answers.specs.Texts.{lineEnd, badLine, doneText, verdictText, answerText, octetsWord}
 use Rattle.calls.specs.Rooms.{octetRoom}
 use Rattle.uploads.specs.declared.Console.{Console}
@@ -22,13 +22,13 @@ use Rattle.uploads.specs.declared.Look.the-variants.{Check, Show, Held}
 pub record Told : Type 0 where
   pub desk : Desk
   pub size : ℕ
-  pub output : Output
+  pub output : Page
 
-abbrev pub tell : Desk → ℕ → Output → Told
+abbrev pub tell : Desk → ℕ → Page → Told
 tell d size o = record { desk = d; size = size; output = o }
 
 abbrev pub told : Console → List ℕ → Told
-told c out = tell (c .desk) (c .size) (output (c .at) out)
+told c out = tell (c .desk) (c .size) (page (c .at) out)
 
 -- the same, and the pool
 pub record Kept : Type 0 where
@@ -53,7 +53,7 @@ abbrev pub badTold : Told → Told
 badTold t = says badLine t
 
 -- a call's answer and the next desk
-abbrev pub turnedTold : Turn → ℕ → Output → Told
+abbrev pub turnedTold : Turn → ℕ → Page → Told
 turnedTold t size o = tell (t .desk) size (added (answerText (t .answer) ++ lineEnd) o)
 
 -- ---- desk, next

@@ -1,7 +1,7 @@
 // The calls of the desk, and what is kept from one to the next.
 ghost use mathlib.Core.Path.{_≡_};
 ghost use Rattle.desk.specs.Steps.{turned};
-ghost use Rattle.answers.specs.Output.{output, added};
+ghost use Rattle.pages.specs.Pages.{page, added};
 ghost use Rattle.uploads.specs.Uploads.{told, kept, first, moved, badTold, turnedTold, newDesk, nextTicket, changeOf, change, lookText, look, poolPart};
 use calls::rooms;
 use desk::Desk;
@@ -61,7 +61,7 @@ impl Console {
 
 // After a call that hands the next desk back, with its answer.
 fn turned(t: Turn, size: usize, out: &mut [u8], at: usize) -> Console
-    ensures { λ r. ⌜ told r (now (out .exit)) ≡ turnedTold t size (output at (now (out .entry))) ⌝ }
+    ensures { λ r. ⌜ told r (now (out .exit)) ≡ turnedTold t size (page at (now (out .entry))) ⌝ }
 {
     let a = t.answer;
     let d = t.desk;
@@ -140,7 +140,7 @@ pub fn changed(
 
 // What `check TICKET`, `show TICKET` or `held TICKET` answers, over the pool that is lent.
 fn seen(which: Look, d: Desk, t: u32, pool: &[u8], out: &mut [u8], at: usize) -> usize
-    ensures { λ r. ⌜ output r (now (out .exit)) ≡ added (lookText which d (now (pool .entry)) t) (output at (now (out .entry))) ⌝ }
+    ensures { λ r. ⌜ page r (now (out .exit)) ≡ added (lookText which d (now (pool .entry)) t) (page at (now (out .entry))) ⌝ }
 {
     match which {
         Look::Check => answers::verdict(out, at, d.judge(pool, t)),

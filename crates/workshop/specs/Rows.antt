@@ -6,7 +6,7 @@ use Rattle.octets.specs.Ascii.{octets}
 use Rattle.parts.specs.Parts.{part}
 use Rattle.places.specs.Places.{count, isLf}
 use Rattle.pages.specs.Digits.{decimal}
-use Rattle.pages.specs.Seen.{visible}
+use Rattle.columns.specs.Seen.{visible}
 use Rattle.workshop.specs.Sentences.{counted, refusal}
 use Rattle.workshop.specs.Words.{wordsOf}
 

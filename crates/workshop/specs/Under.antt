@@ -8,7 +8,7 @@ use Rattle.octets.specs.Ascii.{octets}
 use Rattle.folds.specs.Folds.{lineLength, unfolded}
 use Rattle.parts.specs.Parts.{part}
 use Rattle.places.specs.Places.{backTo, opens, starts}
-use Rattle.pages.specs.Seen.{visible}
+use Rattle.columns.specs.Seen.{visible}
 
 -- past a lone CR or LF, refusal 3, else at the end of the logical line
 abbrev pub shownEnd : List ℕ → ℕ → ℕ → ℕ → ℕ

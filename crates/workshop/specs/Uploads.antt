@@ -10,7 +10,7 @@ use Rattle.reader.specs.declared.Verdict.{Verdict}
 use Rattle.reader.specs.declared.Verdict.the-variants.{Accepted, Refused}
 use Rattle.places.specs.Places.{count, isFirst}
 use Rattle.pages.specs.Digits.{decimal}
-use Rattle.pages.specs.Seen.{visible}
+use Rattle.columns.specs.Seen.{visible}
 use Rattle.workshop.specs.Sentences.{counted, refusal}
 use Rattle.workshop.specs.Words.{wordsOf}
 

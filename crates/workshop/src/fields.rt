@@ -21,9 +21,9 @@ pub fn is_frame(number: u32) -> bool
 pub fn put_titles(room: &mut [u8], at: usize) -> usize
     ensures { λ r. ⌜ page r (now (room .exit)) ≡ added titleText (page at (now (room .entry))) ⌝ }
 {
-    let a = pages::columns::put_column(room, at, b"property", 14);
-    let b = pages::columns::put_column(room, a, b"group", 8);
-    let c = pages::columns::put_column(room, b, b"parameters", 26);
+    let a = columns::put_column(room, at, b"property", 14);
+    let b = columns::put_column(room, a, b"group", 8);
+    let c = columns::put_column(room, b, b"parameters", 26);
     pages::put_all(room, c, b"value\n")
 }
 
@@ -62,8 +62,8 @@ pub fn put_fields(
     let from = name_start(start, group);
     let past = from + name as usize;
     let group_end = start as usize + group as usize;
-    let a = pages::columns::put_column(room, at, parts::part(copy, from, past), 14);
-    let b = pages::columns::put_column(room, a, parts::part(copy, start as usize, group_end), 8);
+    let a = columns::put_column(room, at, parts::part(copy, from, past), 14);
+    let b = columns::put_column(room, a, parts::part(copy, start as usize, group_end), 8);
     let end = places::before(value as usize);
-    pages::columns::put_column(room, b, parts::part(copy, past + 1, end), 26)
+    columns::put_column(room, b, parts::part(copy, past + 1, end), 26)
 }

@@ -8,7 +8,7 @@ use crate::sentences;
 pub fn put_accepted(room: &mut [u8], at: usize, path: &[u8], cards: usize, lines: usize) -> usize
     ensures { λ r. ⌜ page r (now (room .exit)) ≡ added (acceptedRow (now (path .entry)) cards lines) (page at (now (room .entry))) ⌝ }
 {
-    let a = pages::seen::put_visible(room, at, path);
+    let a = columns::seen::put_visible(room, at, path);
     let b = pages::put_all(room, a, b": ");
     let c = sentences::put_count(room, b, cards, b" card");
     let d = pages::put_all(room, c, b", ");
@@ -46,7 +46,7 @@ pub fn put_refused(
 ) -> usize
     ensures { λ r. ⌜ page r (now (room .exit)) ≡ added (refusedRow (now (path .entry)) (now (s .entry)) number place) (page at (now (room .entry))) ⌝ }
 {
-    let a = pages::seen::put_visible(room, at, path);
+    let a = columns::seen::put_visible(room, at, path);
     let b = pages::put_all(room, a, b": ");
     let c = sentences::put_refusal(room, b, number, place);
     put_reason(room, c, s, number, place)

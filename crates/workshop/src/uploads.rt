@@ -10,7 +10,7 @@ use reader::Verdict;
 pub fn put_titles(room: &mut [u8], at: usize, width: usize) -> usize
     ensures { λ r. ⌜ page r (now (room .exit)) ≡ added (titles width) (page at (now (room .entry))) ⌝ }
 {
-    let a = pages::columns::put_column(room, at, b"tram", width);
+    let a = columns::put_column(room, at, b"tram", width);
     pages::put_all(room, a, b"ticket  octets  cards  verdict\n")
 }
 
@@ -20,7 +20,7 @@ fn put_verdict(room: &mut [u8], at: usize, v: Verdict) -> usize
 {
     match v {
         Verdict::Accepted(cards, _) => {
-            let a = pages::digits::put_right(room, at, cards, 5);
+            let a = columns::put_right(room, at, cards, 5);
             pages::put_all(room, a, b"  accepted")
         }
         Verdict::Refused(number, place) => {
@@ -46,9 +46,9 @@ fn put_sameness(room: &mut [u8], at: usize, same: bool) -> usize
 fn put_counts(room: &mut [u8], at: usize, ticket: usize, octets: usize) -> usize
     ensures { λ r. ⌜ page r (now (room .exit)) ≡ added (countsText ticket octets) (page at (now (room .entry))) ⌝ }
 {
-    let a = pages::digits::put_right(room, at, ticket, 6);
+    let a = columns::put_right(room, at, ticket, 6);
     let b = pages::put_all(room, a, b"  ");
-    let c = pages::digits::put_right(room, b, octets, 6);
+    let c = columns::put_right(room, b, octets, 6);
     pages::put_all(room, c, b"  ")
 }
 
@@ -65,7 +65,7 @@ pub fn put_upload(
 ) -> usize
     ensures { λ r. ⌜ page r (now (room .exit)) ≡ added (uploadRow (now (path .entry)) width ticket octets v same) (page at (now (room .entry))) ⌝ }
 {
-    let a = pages::columns::put_column(room, at, path, width);
+    let a = columns::put_column(room, at, path, width);
     let b = put_counts(room, a, ticket, octets);
     let c = put_verdict(room, b, v);
     put_sameness(room, c, same)

@@ -1,10 +1,11 @@
 -- `answers::done` meets its contract. Assumes nothing.
 use denote.Ref.{now}
 use borrow.Author.Needs.{needs}
-use Rattle.answers.specs.Output.{output}
+use Rattle.pages.specs.Pages.{page}
 use Rattle.octets.specs.Ascii.{octets}
-use Rattle.answers.specs.Texts.{decimal, spaced, doneText}
-use Rattle.answers.proofs.Adding.{then}
+use Rattle.pages.specs.Digits.{decimal}
+use Rattle.answers.specs.Texts.{spaced, doneText}
+use Rattle.pages.proofs.PageLaws.{then}
 use Rattle.answers.proofs.done.Statement.{statement}
 use Rattle.answers.proofs.done.Tie as tie
 
@@ -22,7 +23,11 @@ same-length c = search needs
 
 returns : tie.Need-returns
 unfolding doneText octets
-returns c = then (octets "ok") (spaced (decimal (c .before .before .before .before .before .before .before .before .before .before .args .number))) (output (c .before .before .before .before .before .before .before .before .before .before .args .at) (now (c .before .before .before .before .before .before .before .before .before .before .args .out))) (c .before .before .before .before .before .before .put-all .ensures) (c .before .before .put-next .ensures)
+returns c =
+    let put-next = c .before .before .put-next in
+    let put-all = c .before .before .before .before .before .before .put-all in
+    let a = c .before .before .before .before .before .before .before .before .before .before .args in
+    then (octets "ok") (spaced (decimal (a .number))) (page (a .at) (now (a .out))) (put-all .ensures) (put-next .ensures)
 
 pub done-spec : {M : Type 1} → statement M
 done-spec =

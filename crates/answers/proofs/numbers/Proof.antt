@@ -6,15 +6,16 @@ use mathlib.Core.List.{[], _∷_, _++_}
 use native.Mathlib.Omega.{arith}
 use lib.ListN.{length, getD, drop}
 use borrow.Author.Needs.{needs}
-use Rattle.answers.specs.Output.{output, added}
-use Rattle.answers.specs.Texts.{decimal, further, others}
-use Rattle.answers.proofs.Adding.{then, turn, stop}
+use Rattle.pages.specs.Pages.{page, added}
+use Rattle.pages.specs.Digits.{decimal}
+use Rattle.answers.specs.Texts.{further, others}
+use Rattle.pages.proofs.PageLaws.{then, turn, stop}
 use Rattle.answers.proofs.Words.{others-cons, others-nil, joined-none, joined-some}
 use Rattle.answers.proofs.numbers.Statement.{statement}
 use Rattle.answers.proofs.numbers.Tie as tie
 
 abbrev Inv-loop : tie.InvT-loop
-Inv-loop out₀ at s end₀ i₀ out end i = (length out ≡ length out₀) × (added (others (drop i s)) (output end out) ≡ added (others (drop 1 s)) (output end₀ out₀))
+Inv-loop out₀ at s end₀ i₀ out end i = (length out ≡ length out₀) × (added (others (drop i s)) (page end out) ≡ added (others (drop 1 s)) (page end₀ out₀))
 
 abbrev μ-loop : tie.MeasureT-loop
 μ-loop out₀ at s end₀ i₀ out end i = length s - i
@@ -26,7 +27,10 @@ same-length : tie.Need-same-length Inv-loop μ-loop
 same-length c = search needs
 
 returns : tie.Need-returns Inv-loop μ-loop
-returns c = rw (joined-none (now (c .before .before .before .before .before .before .before .args .s)) (omega arith)) (c .before .before .before .put .ensures)
+returns c =
+    let put = c .before .before .before .put in
+    let a = c .before .before .before .before .before .before .before .args in
+    rw (joined-none (now (a .s)) (omega arith)) (put .ensures)
 
 shared-slice-read-put-number : tie.Need-shared-slice-read-put-number Inv-loop μ-loop
 shared-slice-read-put-number c = omega arith
@@ -57,9 +61,11 @@ loop-less c = omega arith
 
 loop-again : tie.Need-loop-again Inv-loop μ-loop
 loop-again c =
+    let put-further = c .before .before .put-further in
+    let a = c .before .before .before .before .before .before .before .before .before .before .before .before .before .before .before .before .before .before .before .args in
     let l = c .before .before .before .before .before .before .loop in (
       omega arith,
-      turn further others others-cons (now (c .before .before .before .before .before .before .before .before .before .before .before .before .before .before .before .before .before .before .before .args .s)) (l .i) (omega arith) (output (l .end) (l .out)) (c .before .before .put-further .ensures) ∙ l .inv .1,
+      turn further others others-cons (now (a .s)) (l .i) (omega arith) (page (l .end) (l .out)) (put-further .ensures) ∙ l .inv .1,
     )
 
 same-length-2 : tie.Need-same-length-2 Inv-loop μ-loop
@@ -67,14 +73,18 @@ same-length-2 c = omega arith
 
 returns-2 : tie.Need-returns-2 Inv-loop μ-loop
 returns-2 c =
-    let s = now (c .before .before .before .before .before .before .before .before .before .before .before .before .before .before .args .s) in
+    let put-number = c .before .before .before .before .put-number in
+    let if1 = c .before .before .before .before .before .before .before .if1 in
+    let put = c .before .before .before .before .before .before .before .before .before .before .put in
+    let a = c .before .before .before .before .before .before .before .before .before .before .before .before .before .before .args in
+    let s = now (a .s) in
     let l = c .before .loop in
     let rest = others (drop 1 s) in
     let first = decimal (getD s 0 0) in
-    rw (joined-some s (c .before .before .before .before .before .before .before .if1 .left))
-    (sym (stop further others others-nil s (l .i) (omega arith) (output (l .end) (l .out))) ∙ l .inv .1
-    ∙ then (32 ∷ []) (first ++ rest) (output (c .before .before .before .before .before .before .before .before .before .before .before .before .before .before .args .at) (now (c .before .before .before .before .before .before .before .before .before .before .before .before .before .before .args .out))) (c .before .before .before .before .before .before .before .before .before .before .put .ensures)
-    (then first rest (output (c .before .before .before .before .before .before .before .before .before .before .put .result) (c .before .before .before .before .before .before .before .before .before .before .put .last .0)) (c .before .before .before .before .put-number .ensures) refl))
+    rw (joined-some s (if1 .left))
+    (sym (stop further others others-nil s (l .i) (omega arith) (page (l .end) (l .out))) ∙ l .inv .1
+    ∙ then (32 ∷ []) (first ++ rest) (page (a .at) (now (a .out))) (put .ensures)
+    (then first rest (page (put .result) (put .last .0)) (put-number .ensures) refl))
 
 pub numbers-spec : {M : Type 1} → statement M
 numbers-spec =

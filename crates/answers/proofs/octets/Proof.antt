@@ -2,9 +2,9 @@
 use denote.Ref.{now}
 use mathlib.Core.List.{[], _∷_}
 use borrow.Author.Needs.{needs}
-use Rattle.answers.specs.Output.{output}
+use Rattle.pages.specs.Pages.{page}
 use Rattle.answers.specs.Texts.{octetsWord}
-use Rattle.answers.proofs.Adding.{then}
+use Rattle.pages.proofs.PageLaws.{then}
 use Rattle.answers.proofs.octets.Statement.{statement}
 use Rattle.answers.proofs.octets.Tie as tie
 
@@ -18,7 +18,11 @@ same-length : tie.Need-same-length
 same-length c = search needs
 
 returns : tie.Need-returns
-returns c = then (32 ∷ []) (octetsWord (now (c .before .before .before .before .before .before .before .before .before .before .args .s))) (output (c .before .before .before .before .before .before .before .before .before .before .args .at) (now (c .before .before .before .before .before .before .before .before .before .before .args .out))) (c .before .before .before .before .before .before .put .ensures) (c .before .before .put-octets .ensures)
+returns c =
+    let put-octets = c .before .before .put-octets in
+    let put = c .before .before .before .before .before .before .put in
+    let a = c .before .before .before .before .before .before .before .before .before .before .args in
+    then (32 ∷ []) (octetsWord (now (a .s))) (page (a .at) (now (a .out))) (put .ensures) (put-octets .ensures)
 
 pub octets-spec : {M : Type 1} → statement M
 octets-spec = tie.close (tie.spec put-requires put-octets-requires same-length returns)

@@ -1,11 +1,12 @@
 -- `answers::refusal` meets its contract. Assumes nothing.
 use denote.Ref.{now}
 use borrow.Author.Needs.{needs}
-use Rattle.answers.specs.Output.{output}
+use Rattle.pages.specs.Pages.{page}
 use mathlib.Core.List.{_++_}
 use Rattle.octets.specs.Ascii.{octets}
-use Rattle.answers.specs.Texts.{decimal, spaced, refusalText}
-use Rattle.answers.proofs.Adding.{then}
+use Rattle.pages.specs.Digits.{decimal}
+use Rattle.answers.specs.Texts.{spaced, refusalText}
+use Rattle.pages.proofs.PageLaws.{then}
 use Rattle.answers.proofs.refusal.Statement.{statement}
 use Rattle.answers.proofs.refusal.Tie as tie
 
@@ -27,9 +28,12 @@ same-length c = search needs
 returns : tie.Need-returns
 unfolding refusalText octets
 returns c =
+    let put-next2 = c .before .before .put-next2 in
+    let put-next = c .before .before .before .before .before .before .put-next in
+    let put-all = c .before .before .before .before .before .before .before .before .before .before .put-all in
     let a = c .before .before .before .before .before .before .before .before .before .before .before .before .before .before .args in
-    then (octets "no") (spaced (decimal (a .number)) ++ spaced (decimal (a .place))) (output (a .at) (now (a .out))) (c .before .before .before .before .before .before .before .before .before .before .put-all .ensures)
-    (then (spaced (decimal (a .number))) (spaced (decimal (a .place))) (output (c .before .before .before .before .before .before .before .before .before .before .put-all .result) (c .before .before .before .before .before .before .before .before .before .before .put-all .last .0)) (c .before .before .before .before .before .before .put-next .ensures) (c .before .before .put-next2 .ensures))
+    then (octets "no") (spaced (decimal (a .number)) ++ spaced (decimal (a .place))) (page (a .at) (now (a .out))) (put-all .ensures)
+    (then (spaced (decimal (a .number))) (spaced (decimal (a .place))) (page (put-all .result) (put-all .last .0)) (put-next .ensures) (put-next2 .ensures))
 
 pub refusal-spec : {M : Type 1} → statement M
 refusal-spec =

@@ -1,7 +1,7 @@
 -- `answers::verdict` meets its contract. Assumes nothing.
 use borrow.Author.Needs.{needs}
 use Rattle.answers.specs.Texts.{verdictText}
-use Rattle.answers.proofs.Adding.{then}
+use Rattle.pages.proofs.PageLaws.{then}
 use Rattle.answers.proofs.verdict.Statement.{statement}
 use Rattle.answers.proofs.verdict.Tie as tie
 
@@ -25,7 +25,11 @@ same-length c = search needs
 
 returns : tie.Need-returns
 unfolding verdictText
-returns c = rw (c .before .before .before .before .before .before .before .before .before .v .given .1) (then _ _ _ (c .before .before .before .before .before .before .done .ensures) (c .before .before .put-next .ensures))
+returns c =
+    let put-next = c .before .before .put-next in
+    let done = c .before .before .before .before .before .before .done in
+    let v = c .before .before .before .before .before .before .before .before .before .v in
+    rw (v .given .1) (then _ _ _ (done .ensures) (put-next .ensures))
 
 same-length-2 : tie.Need-same-length-2
 same-length-2 c = search needs

@@ -2,7 +2,7 @@
 use mathlib.Core.Path.{sym}
 use borrow.Author.Needs.{needs}
 use Rattle.answers.specs.Texts.{writtenText}
-use Rattle.answers.proofs.Adding.{then}
+use Rattle.pages.proofs.PageLaws.{then}
 use Rattle.answers.proofs.written.Statement.{statement}
 use Rattle.answers.proofs.written.Tie as tie
 
@@ -29,7 +29,12 @@ same-length c = search needs
 
 returns : tie.Need-returns
 unfolding writtenText
-returns c = rw (c .before .before .before .before .before .before .before .before .before .before .w .given .1, sym (c .before .before .before .part .ensures)) (then _ _ _ (c .before .before .before .before .before .before .before .done .ensures) (c .before .before .octets .ensures))
+returns c =
+    let octets = c .before .before .octets in
+    let part = c .before .before .before .part in
+    let done = c .before .before .before .before .before .before .before .done in
+    let w = c .before .before .before .before .before .before .before .before .before .before .w in
+    rw (w .given .1, sym (part .ensures)) (then _ _ _ (done .ensures) (octets .ensures))
 
 same-length-2 : tie.Need-same-length-2
 same-length-2 c = search needs

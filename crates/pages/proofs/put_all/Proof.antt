@@ -1,9 +1,10 @@
 -- `pages::put_all` meets its contract. Assumes nothing.
-use mathlib.Core.Path.{_≡_, refl, sym, ap, _∙_}
-use Prim.Native.Nat.{_+_, _-_}
+use mathlib.Core.Path.{_≡_, refl, sym, _∙_}
+use mathlib.Core.List.{List, [], _∷_}
+use Prim.Native.Nat.{ℕ, _-_}
 use lib.ListN.{length, drop}
 use Rattle.pages.specs.Pages.{page, added}
-use Rattle.pages.proofs.PageLaws.{added-next, added-end}
+use Rattle.pages.proofs.PageLaws.{turn, stop}
 use borrow.Author.Needs.{needs}
 use Rattle.pages.proofs.put_all.Statement.{statement}
 use Rattle.pages.proofs.put_all.Tie as tie
@@ -31,19 +32,20 @@ loop-less : tie.Need-loop-less Inv-loop μ-loop
 loop-less c = search needs
 
 loop-again : tie.Need-loop-again Inv-loop μ-loop
-unfolding added
 loop-again c =
-    let l = c .before .before .before .before .before .before .loop in
-    let s = c .before .before .before .before .before .before .before .before .before .args .text .now in
-    (search needs, ap (added (drop (l .i + 1) s)) (c .before .before .put .ensures) ∙ sym (added-next s (l .i) (page (l .next) (l .room)) (c .before .before .before .before .before .loop-test .taken)) ∙ l .inv .1)
+    let d = c .before .before in
+    let t = d .before .before .before .before in
+    let l = t .loop in
+    (search needs, turn (λ (x : ℕ). x ∷ []) (λ (r : List ℕ). r) (λ x xs. refl) (t .before .before .before .args .text .now) (l .i) (d .before .before .before .loop-test .taken) (page (l .next) (l .room)) (d .put .ensures) ∙ l .inv .1)
 
 same-length : tie.Need-same-length Inv-loop μ-loop
 same-length c = search needs
 
 returns : tie.Need-returns Inv-loop μ-loop
 returns c =
-    let l = c .before .loop in
-    sym (added-end (c .before .before .before .before .args .text .now) (l .i) (page (l .next) (l .room)) (c .loop-test .left)) ∙ l .inv .1
+    let d = c .before in
+    let l = d .loop in
+    sym (stop (λ (x : ℕ). x ∷ []) (λ (r : List ℕ). r) refl (d .before .before .before .args .text .now) (l .i) (c .loop-test .left) (page (l .next) (l .room))) ∙ l .inv .1
 
 pub put-all-spec : {M : Type 1} → statement M
 put-all-spec =

@@ -7,7 +7,7 @@ use native.Mathlib.Omega.{arith}
 use lib.ListN.{take, drop}
 use borrow.Author.Needs.{needs}
 use borrow.Author.Tests.{lt-ltb, le-ltb}
-use Rattle.answers.specs.Output.{output}
+use Rattle.pages.specs.Pages.{page}
 use Rattle.desk.specs.Steps.{Turned}
 use Rattle.uploads.specs.Uploads.{Told, told, kept, turnedTold, changeOf, over, change}
 use Rattle.calls.proofs.RoomLaws.{less-none, put-front}
@@ -22,7 +22,11 @@ same-length c = search needs
 
 returns : tie.Need-returns
 unfolding change
-returns c = rw (lt-ltb _ _ (c .before .before .before .before .if1 .taken)) (ap (λ (x : Told). kept x (now (c .before .before .before .before .before .before .before .before .args .pool))) (c .before .before .refused .ensures))
+returns c =
+    let refused = c .before .before .refused in
+    let if1 = c .before .before .before .before .if1 in
+    let a = c .before .before .before .before .before .before .before .before .args in
+    rw (lt-ltb _ _ (if1 .taken)) (ap (λ (x : Told). kept x (now (a .pool))) (refused .ensures))
 
 refused-requires-2 : tie.Need-refused-requires-2
 refused-requires-2 c κs = search needs
@@ -32,7 +36,12 @@ same-length-2 c = search needs
 
 returns-2 : tie.Need-returns-2
 unfolding change
-returns-2 c = rw (le-ltb _ _ (c .before .before .before .before .before .if1 .left), lt-ltb _ _ (c .before .before .before .before .if2 .taken)) (ap (λ (x : Told). kept x (now (c .before .before .before .before .before .before .before .before .before .args .pool))) (c .before .before .refused2 .ensures))
+returns-2 c =
+    let refused2 = c .before .before .refused2 in
+    let if2 = c .before .before .before .before .if2 in
+    let if1 = c .before .before .before .before .before .if1 in
+    let a = c .before .before .before .before .before .before .before .before .before .args in
+    rw (le-ltb _ _ (if1 .left), lt-ltb _ _ (if2 .taken)) (ap (λ (x : Told). kept x (now (a .pool))) (refused2 .ensures))
 
 cast-call : tie.Need-cast-call
 cast-call c = search needs
@@ -61,15 +70,19 @@ same-length-4 c = search needs
 returns-3 : tie.Need-returns-3
 unfolding change
 returns-3 c =
+    let turned = c .before .before .turned in
+    let call = c .before .before .before .before .before .before .call in
+    let if2 = c .before .before .before .before .before .before .before .before .if2 in
+    let if1 = c .before .before .before .before .before .before .before .before .before .if1 in
     let a = c .before .before .before .before .before .before .before .before .before .before .before .before .before .args in
     let size = a .c .size in
     let p = now (a .pool) in
-    let q = c .before .before .before .before .before .before .call .last .1 .1 .1 .1 .0 in
-    rw (le-ltb _ _ (c .before .before .before .before .before .before .before .before .before .if1 .left), le-ltb _ _ (c .before .before .before .before .before .before .before .before .if2 .left))
-    (ap (λ (x : Told). kept x (q ++ drop (size - 0) p)) (c .before .before .turned .ensures)
-    ∙ ap (λ (l : List ℕ). kept (turnedTold (c .before .before .before .before .before .before .call .result) size (output (a .c .at) (now (a .out)))) l) (put-front p q size (omega arith) (c .before .before .before .before .before .before .call .kept .1 .1 .1 .1 .0))
+    let q = call .last .1 .1 .1 .1 .0 in
+    rw (le-ltb _ _ (if1 .left), le-ltb _ _ (if2 .left))
+    (ap (λ (x : Told). kept x (q ++ drop (size - 0) p)) (turned .ensures)
+    ∙ ap (λ (l : List ℕ). kept (turnedTold (call .result) size (page (a .c .at) (now (a .out)))) l) (put-front p q size (omega arith) (call .kept .1 .1 .1 .1 .0))
     ∙ ap (λ (u : Turned). over u (told (a .c) (now (a .out))) p)
-    (c .before .before .before .before .before .before .call .ensures ∙ ap (λ (m : ℕ). changeOf (a .which) (a .c .desk) (take m p) (a .n) (now (a .chunk))) (less-none size)))
+    (call .ensures ∙ ap (λ (m : ℕ). changeOf (a .which) (a .c .desk) (take m p) (a .n) (now (a .chunk))) (less-none size)))
 
 pub changed-spec : {M : Type 1} → statement M
 changed-spec =

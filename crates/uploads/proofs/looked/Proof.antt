@@ -6,9 +6,9 @@ use Prim.Native.Nat.{ℕ, _-_}
 use lib.ListN.{take}
 use borrow.Author.Needs.{needs}
 use borrow.Author.Tests.{lt-ltb, le-ltb}
-use Rattle.answers.specs.Output.{output, added}
+use Rattle.pages.specs.Pages.{page, added}
 use Rattle.answers.specs.Texts.{lineEnd}
-use Rattle.answers.proofs.Adding.{then}
+use Rattle.pages.proofs.PageLaws.{then}
 use Rattle.uploads.specs.declared.Console.{Console}
 use Rattle.uploads.specs.Uploads.{tell, told, lookText, look}
 use Rattle.calls.proofs.RoomLaws.{less-none}
@@ -33,7 +33,11 @@ same-length-2 c = search needs
 
 returns-2 : tie.Need-returns-2
 unfolding look
-returns-2 c = rw (le-ltb _ _ (c .before .before .before .before .before .if1 .left), lt-ltb _ _ (c .before .before .before .before .if2 .taken)) (c .before .before .refused2 .ensures)
+returns-2 c =
+    let refused2 = c .before .before .refused2 in
+    let if2 = c .before .before .before .before .if2 in
+    let if1 = c .before .before .before .before .before .if1 in
+    rw (le-ltb _ _ (if1 .left), lt-ltb _ _ (if2 .taken)) (refused2 .ensures)
 
 cast-seen : tie.Need-cast-seen
 cast-seen c = search needs
@@ -62,14 +66,18 @@ same-length-3 c = search needs
 returns-3 : tie.Need-returns-3
 unfolding look
 returns-3 c =
+    let ended = c .before .before .before .ended in
+    let seen = c .before .before .before .before .before .before .before .seen in
+    let if2 = c .before .before .before .before .before .before .before .before .before .before .if2 in
+    let if1 = c .before .before .before .before .before .before .before .before .before .before .before .if1 in
     let a = c .before .before .before .before .before .before .before .before .before .before .before .before .before .before .args in
     let size = a .c .size in
     let p = now (a .pool) in
-    let o = output (a .c .at) (now (a .out)) in
-    rw (le-ltb _ _ (c .before .before .before .before .before .before .before .before .before .before .before .if1 .left), le-ltb _ _ (c .before .before .before .before .before .before .before .before .before .before .if2 .left))
-    (ap (λ (x : Console). told x (c .before .before .before .ended .last .0)) (c .with-output .ensures)
+    let o = page (a .c .at) (now (a .out)) in
+    rw (le-ltb _ _ (if1 .left), le-ltb _ _ (if2 .left))
+    (ap (λ (x : Console). told x (ended .last .0)) (c .with-output .ensures)
     ∙ ap (tell (a .c .desk) size)
-    (then (lookText (a .which) (a .c .desk) (take (size - 0) p) (a .n)) lineEnd o (c .before .before .before .before .before .before .before .seen .ensures) (c .before .before .before .ended .ensures)
+    (then (lookText (a .which) (a .c .desk) (take (size - 0) p) (a .n)) lineEnd o (seen .ensures) (ended .ensures)
     ∙ ap (λ (m : ℕ). added (lookText (a .which) (a .c .desk) (take m p) (a .n) ++ lineEnd) o) (less-none size)))
 
 pub looked-spec : {M : Type 1} → statement M

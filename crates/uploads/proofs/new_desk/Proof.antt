@@ -7,7 +7,7 @@ use native.Mathlib.Omega.{arith}
 use lib.ListN.{drop}
 use borrow.Author.Needs.{needs}
 use borrow.Author.Tests.{lt-ltb, le-ltb}
-use Rattle.answers.specs.Output.{output}
+use Rattle.pages.specs.Pages.{page}
 use Rattle.desk.specs.Steps.{newStep}
 use Rattle.desk.specs.declared.Turn.{Turn}
 use Rattle.uploads.specs.Uploads.{Told, kept, turnedTold, newDesk}
@@ -23,7 +23,11 @@ same-length c = search needs
 
 returns : tie.Need-returns
 unfolding newDesk
-returns c = rw (lt-ltb _ _ (c .before .before .before .before .if1 .taken)) (ap (λ (x : Told). kept x (now (c .before .before .before .before .before .before .before .args .pool))) (c .before .before .refused .ensures))
+returns c =
+    let refused = c .before .before .refused in
+    let if1 = c .before .before .before .before .if1 in
+    let a = c .before .before .before .before .before .before .before .args in
+    rw (lt-ltb _ _ (if1 .taken)) (ap (λ (x : Told). kept x (now (a .pool))) (refused .ensures))
 
 sub-fill : tie.Need-sub-fill
 sub-fill c = search needs
@@ -52,14 +56,18 @@ same-length-3 c = search needs
 returns-2 : tie.Need-returns-2
 unfolding newDesk
 returns-2 c =
+    let turned = c .before .before .turned in
+    let new = c .before .before .before .before .new in
+    let fill = c .before .before .before .before .before .before .before .fill in
+    let if1 = c .before .before .before .before .before .before .before .before .before .if1 in
     let a = c .before .before .before .before .before .before .before .before .before .before .before .before .args in
     let p = now (a .pool) in
-    let q = c .before .before .before .before .before .before .before .fill .last .0 in
-    let o = output (a .c .at) (now (a .out)) in
-    rw (le-ltb _ _ (c .before .before .before .before .before .before .before .before .before .if1 .left))
-    (ap (λ (x : Told). kept x (q ++ drop (a .n - 0) p)) (c .before .before .turned .ensures)
-    ∙ ap (λ (t : Turn). kept (turnedTold t (a .n) o) (q ++ drop (a .n - 0) p)) (c .before .before .before .before .new .ensures)
-    ∙ ap (λ (l : List ℕ). kept (turnedTold (newStep (a .slots)) (a .n) o) l) (fill-front p q (a .n) (omega arith) (c .before .before .before .before .before .before .before .fill .ensures)))
+    let q = fill .last .0 in
+    let o = page (a .c .at) (now (a .out)) in
+    rw (le-ltb _ _ (if1 .left))
+    (ap (λ (x : Told). kept x (q ++ drop (a .n - 0) p)) (turned .ensures)
+    ∙ ap (λ (t : Turn). kept (turnedTold t (a .n) o) (q ++ drop (a .n - 0) p)) (new .ensures)
+    ∙ ap (λ (l : List ℕ). kept (turnedTold (newStep (a .slots)) (a .n) o) l) (fill-front p q (a .n) (omega arith) (fill .ensures)))
 
 pub new-desk-spec : {M : Type 1} → statement M
 new-desk-spec =

@@ -3,9 +3,9 @@ use denote.Ref.{now}
 use mathlib.Core.Path.{ap}
 use borrow.Author.Needs.{needs}
 use borrow.Author.Tests.{lt-ltb, le-ltb}
-use Rattle.answers.specs.Output.{output}
+use Rattle.pages.specs.Pages.{page}
 use Rattle.answers.specs.Texts.{lineEnd, doneText}
-use Rattle.answers.proofs.Adding.{then}
+use Rattle.pages.proofs.PageLaws.{then}
 use Rattle.uploads.specs.Uploads.{tell, withNext, nextTicket}
 use Rattle.uploads.proofs.next_ticket.Statement.{statement}
 use Rattle.uploads.proofs.next_ticket.Tie as tie
@@ -35,9 +35,12 @@ same-length-2 c = search needs
 returns-2 : tie.Need-returns-2
 unfolding nextTicket
 returns-2 c =
+    let ended = c .before .before .ended in
+    let done = c .before .before .before .before .before .before .done in
+    let if1 = c .before .before .before .before .before .before .before .before .before .before .if1 in
     let a = c .before .before .before .before .before .before .before .before .before .before .before .before .args in
-    rw (le-ltb _ _ (c .before .before .before .before .before .before .before .before .before .before .if1 .left))
-    (ap (tell (withNext (a .c .desk) (a .ticket)) (a .c .size)) (then (doneText (a .ticket)) lineEnd (output (a .c .at) (now (a .out))) (c .before .before .before .before .before .before .done .ensures) (c .before .before .ended .ensures)))
+    rw (le-ltb _ _ (if1 .left))
+    (ap (tell (withNext (a .c .desk) (a .ticket)) (a .c .size)) (then (doneText (a .ticket)) lineEnd (page (a .c .at) (now (a .out))) (done .ensures) (ended .ensures)))
 
 pub next-ticket-spec : {M : Type 1} → statement M
 next-ticket-spec =

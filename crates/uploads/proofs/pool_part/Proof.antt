@@ -7,9 +7,9 @@ use native.Mathlib.Omega.{arith}
 use lib.ListN.{take, drop}
 use borrow.Author.Needs.{needs}
 use borrow.Author.Tests.{lt-ltb, le-ltb}
-use Rattle.answers.specs.Output.{output, added}
+use Rattle.pages.specs.Pages.{page, added}
 use Rattle.answers.specs.Texts.{lineEnd, octetsWord}
-use Rattle.answers.proofs.Adding.{then}
+use Rattle.pages.proofs.PageLaws.{then}
 use Rattle.uploads.specs.declared.Console.{Console}
 use Rattle.uploads.specs.Uploads.{tell, told, partOf, poolPart}
 use Rattle.calls.proofs.RoomLaws.{part-whole}
@@ -28,9 +28,12 @@ same-length c = search needs
 returns : tie.Need-returns
 unfolding poolPart
 returns c =
+    let refused = c .before .before .refused in
+    let if1 = c .before .before .before .before .if1 in
+    let part = c .before .before .before .before .before .part in
     let a = c .before .before .before .before .before .before .before .before .args in
-    rw (lt-ltb _ _ (c .before .before .before .before .if1 .taken)) (c .before .before .refused .ensures)
-    ∙ ap (λ (l : List ℕ). partOf (a .from) (a .count) (told (a .c) (now (a .out))) l) (c .before .before .before .before .before .part .ensures)
+    rw (lt-ltb _ _ (if1 .taken)) (refused .ensures)
+    ∙ ap (λ (l : List ℕ). partOf (a .from) (a .count) (told (a .c) (now (a .out))) l) (part .ensures)
 
 sub-if2 : tie.Need-sub-if2
 sub-if2 c = search needs
@@ -44,9 +47,13 @@ same-length-2 c = search needs
 returns-2 : tie.Need-returns-2
 unfolding poolPart
 returns-2 c =
+    let refused2 = c .before .before .refused2 in
+    let if2 = c .before .before .before .before .if2 in
+    let if1 = c .before .before .before .before .before .if1 in
+    let part = c .before .before .before .before .before .before .part in
     let a = c .before .before .before .before .before .before .before .before .before .args in
-    rw (le-ltb _ _ (c .before .before .before .before .before .if1 .left), lt-ltb _ _ (c .before .before .before .before .if2 .taken)) (c .before .before .refused2 .ensures)
-    ∙ ap (λ (l : List ℕ). partOf (a .from) (a .count) (told (a .c) (now (a .out))) l) (c .before .before .before .before .before .before .part .ensures)
+    rw (le-ltb _ _ (if1 .left), lt-ltb _ _ (if2 .taken)) (refused2 .ensures)
+    ∙ ap (λ (l : List ℕ). partOf (a .from) (a .count) (told (a .c) (now (a .out))) l) (part .ensures)
 
 add-put-octets : tie.Need-add-put-octets
 add-put-octets c = search needs
@@ -75,16 +82,21 @@ same-length-3 c = search needs
 returns-3 : tie.Need-returns-3
 unfolding poolPart
 returns-3 c =
+    let ended = c .before .before .before .ended in
+    let put-octets = c .before .before .before .before .before .before .before .put-octets in
+    let if2 = c .before .before .before .before .before .before .before .before .before .before .if2 in
+    let if1 = c .before .before .before .before .before .before .before .before .before .before .before .if1 in
+    let part = c .before .before .before .before .before .before .before .before .before .before .before .before .part in
     let a = c .before .before .before .before .before .before .before .before .before .before .before .before .before .before .before .args in
-    let s = now (c .before .before .before .before .before .before .before .before .before .before .before .before .part .result) in
+    let s = now (part .result) in
     let e = a .from + a .count in
-    let o = output (a .c .at) (now (a .out)) in
-    rw (le-ltb _ _ (c .before .before .before .before .before .before .before .before .before .before .before .if1 .left), le-ltb _ _ (c .before .before .before .before .before .before .before .before .before .before .if2 .left))
-    (ap (λ (x : Console). told x (c .before .before .before .ended .last .0)) (c .with-output .ensures)
+    let o = page (a .c .at) (now (a .out)) in
+    rw (le-ltb _ _ (if1 .left), le-ltb _ _ (if2 .left))
+    (ap (λ (x : Console). told x (ended .last .0)) (c .with-output .ensures)
     ∙ ap (tell (a .c .desk) (a .c .size))
-    (then (octetsWord (take (e - a .from) (drop (a .from) s))) lineEnd o (c .before .before .before .before .before .before .before .put-octets .ensures) (c .before .before .before .ended .ensures)
+    (then (octetsWord (take (e - a .from) (drop (a .from) s))) lineEnd o (put-octets .ensures) (ended .ensures)
     ∙ ap (λ (l : List ℕ). added (octetsWord l ++ lineEnd) o) (sym (part-whole s (a .from) e (omega arith) (omega arith)))))
-    ∙ ap (λ (l : List ℕ). partOf (a .from) (a .count) (told (a .c) (now (a .out))) l) (c .before .before .before .before .before .before .before .before .before .before .before .before .part .ensures)
+    ∙ ap (λ (l : List ℕ). partOf (a .from) (a .count) (told (a .c) (now (a .out))) l) (part .ensures)
 
 pub pool-part-spec : {M : Type 1} → statement M
 pool-part-spec =

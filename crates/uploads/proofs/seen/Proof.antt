@@ -4,7 +4,7 @@ use mathlib.Core.Path.{ap, _∙_}
 use mathlib.Core.List.{List}
 use Prim.Native.Nat.{ℕ}
 use borrow.Author.Needs.{needs}
-use Rattle.answers.specs.Output.{output, added}
+use Rattle.pages.specs.Pages.{page, added}
 use Rattle.answers.specs.Texts.{verdictText, answerText, octetsWord}
 use Rattle.reader.specs.declared.Verdict.{Verdict}
 use Rattle.desk.specs.declared.Answer.{Answer}
@@ -44,21 +44,36 @@ same-length c = search needs
 
 returns : tie.Need-returns
 unfolding lookText
-returns c = rw (c .before .before .before .before .before .enum-told .given .1) (c .before .before .verdict .ensures ∙ ap (λ (v : Verdict). added (verdictText v) (output (c .before .before .before .before .before .before .before .before .before .args .at) (now (c .before .before .before .before .before .before .before .before .before .args .out)))) (c .before .before .before .judge .ensures))
+returns c =
+    let verdict = c .before .before .verdict in
+    let judge = c .before .before .before .judge in
+    let enum-told1 = c .before .before .before .before .before .enum-told in
+    let a = c .before .before .before .before .before .before .before .before .before .args in
+    rw (enum-told1 .given .1) (verdict .ensures ∙ ap (λ (v : Verdict). added (verdictText v) (page (a .at) (now (a .out)))) (judge .ensures))
 
 same-length-2 : tie.Need-same-length-2
 same-length-2 c = search needs
 
 returns-2 : tie.Need-returns-2
 unfolding lookText
-returns-2 c = rw (c .before .before .before .before .before .enum-told2 .given .1) (c .before .before .put-octets .ensures ∙ ap (λ (l : List ℕ). added (octetsWord l) (output (c .before .before .before .before .before .before .before .before .before .args .at) (now (c .before .before .before .before .before .before .before .before .before .args .out)))) (c .before .before .before .show .ensures .octets))
+returns-2 c =
+    let put-octets = c .before .before .put-octets in
+    let show = c .before .before .before .show in
+    let enum-told2 = c .before .before .before .before .before .enum-told2 in
+    let a = c .before .before .before .before .before .before .before .before .before .args in
+    rw (enum-told2 .given .1) (put-octets .ensures ∙ ap (λ (l : List ℕ). added (octetsWord l) (page (a .at) (now (a .out)))) (show .ensures .octets))
 
 same-length-3 : tie.Need-same-length-3
 same-length-3 c = search needs
 
 returns-3 : tie.Need-returns-3
 unfolding lookText
-returns-3 c = rw (c .before .before .before .before .before .enum-told3 .given .1) (c .before .before .answered .ensures ∙ ap (λ (x : Answer). added (answerText x) (output (c .before .before .before .before .before .before .before .before .before .args .at) (now (c .before .before .before .before .before .before .before .before .before .args .out)))) (c .before .before .before .held .ensures))
+returns-3 c =
+    let answered = c .before .before .answered in
+    let held = c .before .before .before .held in
+    let enum-told3 = c .before .before .before .before .before .enum-told3 in
+    let a = c .before .before .before .before .before .before .before .before .before .args in
+    rw (enum-told3 .given .1) (answered .ensures ∙ ap (λ (x : Answer). added (answerText x) (page (a .at) (now (a .out)))) (held .ensures))
 
 pub seen-spec : {M : Type 1} → statement M
 seen-spec =

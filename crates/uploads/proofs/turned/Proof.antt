@@ -2,9 +2,9 @@
 use denote.Ref.{now}
 use mathlib.Core.Path.{ap}
 use borrow.Author.Needs.{needs}
-use Rattle.answers.specs.Output.{output}
+use Rattle.pages.specs.Pages.{page}
 use Rattle.answers.specs.Texts.{lineEnd, answerText}
-use Rattle.answers.proofs.Adding.{then}
+use Rattle.pages.proofs.PageLaws.{then}
 use Rattle.uploads.specs.Uploads.{tell}
 use Rattle.uploads.proofs.turned.Statement.{statement}
 use Rattle.uploads.proofs.turned.Tie as tie
@@ -20,8 +20,10 @@ same-length c = search needs
 
 returns : tie.Need-returns
 returns c =
+    let ended = c .before .before .ended in
+    let answered = c .before .before .before .before .before .before .answered in
     let a = c .before .before .before .before .before .before .before .before .before .before .args in
-    ap (tell (a .t .desk) (a .size)) (then (answerText (a .t .answer)) lineEnd (output (a .at) (now (a .out))) (c .before .before .before .before .before .before .answered .ensures) (c .before .before .ended .ensures))
+    ap (tell (a .t .desk) (a .size)) (then (answerText (a .t .answer)) lineEnd (page (a .at) (now (a .out))) (answered .ensures) (ended .ensures))
 
 pub turned-spec : {M : Type 1} → statement M
 turned-spec = tie.close (tie.spec answered-requires ended-requires same-length returns)

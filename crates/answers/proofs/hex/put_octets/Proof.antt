@@ -5,15 +5,16 @@ use mathlib.Core.Path.{_≡_, refl, sym, _∙_}
 use native.Mathlib.Omega.{arith}
 use lib.ListN.{length, drop}
 use borrow.Author.Needs.{needs}
-use Rattle.answers.specs.Output.{output, added}
-use Rattle.answers.specs.Texts.{pair, pairs, octetsWord}
-use Rattle.answers.proofs.Adding.{turn, stop}
+use Rattle.pages.specs.Pages.{page, added}
+use Rattle.pages.specs.Digits.{pair}
+use Rattle.answers.specs.Texts.{pairs, octetsWord}
+use Rattle.pages.proofs.PageLaws.{turn, stop}
 use Rattle.answers.proofs.Words.{word-none, word-some, pairs-cons, pairs-nil}
 use Rattle.answers.proofs.hex.put_octets.Statement.{statement}
 use Rattle.answers.proofs.hex.put_octets.Tie as tie
 
 abbrev Inv-loop : tie.InvT-loop
-Inv-loop out₀ at octets end₀ i₀ out end i = (length out ≡ length out₀) × (added (pairs (drop i octets)) (output end out) ≡ added (octetsWord octets) (output at out₀))
+Inv-loop out₀ at octets end₀ i₀ out end i = (length out ≡ length out₀) × (added (pairs (drop i octets)) (page end out) ≡ added (octetsWord octets) (page at out₀))
 
 abbrev μ-loop : tie.MeasureT-loop
 μ-loop out₀ at octets end₀ i₀ out end i = length octets - i
@@ -25,7 +26,10 @@ same-length : tie.Need-same-length Inv-loop μ-loop
 same-length c = search needs
 
 returns : tie.Need-returns Inv-loop μ-loop
-returns c = rw (word-none (now (c .before .before .before .before .before .before .before .args .octets)) (omega arith)) (c .before .before .put .ensures)
+returns c =
+    let put = c .before .before .put in
+    let a = c .before .before .before .before .before .before .before .args in
+    rw (word-none (now (a .octets)) (omega arith)) (put .ensures)
 
 loop-holds : tie.Need-loop-holds Inv-loop μ-loop
 loop-holds c = (refl, sym (rw (word-some (now (c .before .before .before .args .octets)) (c .if1 .left))))
@@ -44,10 +48,11 @@ loop-less c = omega arith
 
 loop-again : tie.Need-loop-again Inv-loop μ-loop
 loop-again c =
+    let put-pair = c .before .before .put-pair in
     let a = c .before .before .before .before .before .before .before .before .before .before .args in
     let l = c .before .before .before .before .before .before .loop in (
       omega arith,
-      turn pair pairs pairs-cons (now (a .octets)) (l .i) (omega arith) (output (l .end) (l .out)) (c .before .before .put-pair .ensures)
+      turn pair pairs pairs-cons (now (a .octets)) (l .i) (omega arith) (page (l .end) (l .out)) (put-pair .ensures)
           ∙ l .inv .1,
     )
 
@@ -58,7 +63,7 @@ returns-2 : tie.Need-returns-2 Inv-loop μ-loop
 returns-2 c =
     let a = c .before .before .before .before .before .args in
     let l = c .before .loop in
-    sym (stop pair pairs pairs-nil (now (a .octets)) (l .i) (omega arith) (output (l .end) (l .out))) ∙ l .inv .1
+    sym (stop pair pairs pairs-nil (now (a .octets)) (l .i) (omega arith) (page (l .end) (l .out))) ∙ l .inv .1
 
 pub put-octets-spec : {M : Type 1} → statement M
 put-octets-spec =

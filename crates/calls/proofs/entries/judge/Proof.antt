@@ -2,10 +2,10 @@
 use denote.Ref.{now}
 use mathlib.Core.Path.{ap, _∙_}
 use borrow.Author.Needs.{needs}
-use Rattle.answers.specs.Output.{output, added}
+use Rattle.pages.specs.Pages.{page, added}
 use Rattle.answers.specs.Texts.{lineEnd, verdictText}
 use Rattle.reader.specs.declared.Verdict.{Verdict}
-use Rattle.answers.proofs.Adding.{then}
+use Rattle.pages.proofs.PageLaws.{then}
 use Rattle.calls.specs.Entries.{judgeAnswer}
 use mathlib.Core.List.{_++_}
 use Rattle.calls.proofs.entries.judge.Statement.{statement}
@@ -26,9 +26,13 @@ same-length c = search needs
 returns : tie.Need-returns
 unfolding judgeAnswer
 returns c =
-    let o = output (c .before .before .before .before .before .before .before .before .before .before .before .args .at) (now (c .before .before .before .before .before .before .before .before .before .before .before .args .out)) in
-    then (verdictText (c .before .before .before .before .before .before .before .judge .result)) lineEnd o (c .before .before .before .before .before .before .verdict .ensures) (c .before .before .ended .ensures)
-    ∙ ap (λ (v : Verdict). added (verdictText v ++ lineEnd) o) (c .before .before .before .before .before .before .before .judge .ensures)
+    let ended = c .before .before .ended in
+    let verdict = c .before .before .before .before .before .before .verdict in
+    let judge = c .before .before .before .before .before .before .before .judge in
+    let a = c .before .before .before .before .before .before .before .before .before .before .before .args in
+    let o = page (a .at) (now (a .out)) in
+    then (verdictText (judge .result)) lineEnd o (verdict .ensures) (ended .ensures)
+    ∙ ap (λ (v : Verdict). added (verdictText v ++ lineEnd) o) (judge .ensures)
 
 pub judge-spec : {M : Type 1} → statement M
 judge-spec =

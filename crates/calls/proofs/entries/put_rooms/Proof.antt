@@ -4,9 +4,9 @@ use mathlib.Core.Path.{ap, _∙_}
 use mathlib.Core.List.{List}
 use Prim.Native.Nat.{ℕ}
 use borrow.Author.Needs.{needs}
-use Rattle.answers.specs.Output.{output, added}
+use Rattle.pages.specs.Pages.{page, added}
 use Rattle.answers.specs.Texts.{roomEnd}
-use Rattle.answers.proofs.Adding.{then}
+use Rattle.pages.proofs.PageLaws.{then}
 use Rattle.calls.specs.Entries.{takenText}
 use Rattle.calls.proofs.RoomLaws.{rooms-text}
 use Rattle.calls.proofs.entries.put_rooms.Statement.{statement}
@@ -38,12 +38,19 @@ same-length c = search needs
 
 returns : tie.Need-returns
 returns c =
+    let looked-at = c .before .before .looked-at in
+    let both-kept = c .before .before .before .both-kept in
+    let put-taken = c .before .before .before .before .before .before .before .put-taken in
+    let part = c .before .before .before .before .before .before .before .before .before .part in
+    let copy-length = c .before .before .before .before .before .before .before .before .before .before .copy-length in
+    let numbers = c .before .before .before .before .before .before .before .before .before .before .before .numbers in
+    let numbers-of = c .before .before .before .before .before .before .before .before .before .before .before .before .numbers-of in
     let a = c .before .before .before .before .before .before .before .before .before .before .before .before .before .before .before .before .args in
-    let o = output (a .at) (now (a .out)) in
-    then (takenText (now (c .before .before .before .before .before .before .before .before .before .part .result)) (now (c .before .before .before .before .before .before .before .before .before .before .before .numbers .result))) (roomEnd (c .before .before .before .both-kept .result)) o (c .before .before .before .before .before .before .before .put-taken .ensures) (c .before .before .looked-at .ensures)
+    let o = page (a .at) (now (a .out)) in
+    then (takenText (now (part .result)) (now (numbers .result))) (roomEnd (both-kept .result)) o (put-taken .ensures) (looked-at .ensures)
     ∙ ap (λ (t : List ℕ). added t o)
-    (rooms-text (now (a .copy)) (now (a .records)) (now (c .before .before .before .before .before .before .before .before .before .part .result)) (now (c .before .before .before .before .before .before .before .before .before .before .before .numbers .result)) (a .lines) (c .before .before .before .before .before .before .before .before .before .before .copy-length .result) (c .before .before .before .before .before .before .before .before .before .before .before .before .numbers-of .result) (c .before .before .before .both-kept .result)
-    (c .before .before .before .before .before .before .before .before .before .before .before .before .numbers-of .ensures) (c .before .before .before .before .before .before .before .before .before .before .before .numbers .ensures) (c .before .before .before .before .before .before .before .before .before .before .copy-length .ensures) (c .before .before .before .before .before .before .before .before .before .part .ensures) (c .before .before .before .both-kept .ensures))
+    (rooms-text (now (a .copy)) (now (a .records)) (now (part .result)) (now (numbers .result)) (a .lines) (copy-length .result) (numbers-of .result) (both-kept .result)
+    (numbers-of .ensures) (numbers .ensures) (copy-length .ensures) (part .ensures) (both-kept .ensures))
 
 pub put-rooms-spec : {M : Type 1} → statement M
 put-rooms-spec =

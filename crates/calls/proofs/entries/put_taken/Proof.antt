@@ -2,9 +2,9 @@
 use denote.Ref.{now}
 use borrow.Author.Needs.{needs}
 use borrow.Author.Tests.{eq-eqb, ne-eqb}
-use Rattle.answers.specs.Output.{output, added}
+use Rattle.pages.specs.Pages.{page, added}
 use Rattle.answers.specs.Texts.{octetsWord, joined, spaced}
-use Rattle.answers.proofs.Adding.{then}
+use Rattle.pages.proofs.PageLaws.{then}
 use Rattle.calls.specs.Entries.{takenText}
 use Rattle.calls.proofs.entries.put_taken.Statement.{statement}
 use Rattle.calls.proofs.entries.put_taken.Tie as tie
@@ -25,9 +25,12 @@ same-length c = search needs
 returns-2 : tie.Need-returns-2
 unfolding takenText
 returns-2 c =
+    let numbers = c .before .before .numbers in
+    let octets = c .before .before .before .before .before .before .octets in
+    let if1 = c .before .before .before .before .before .before .before .before .if1 in
     let a = c .before .before .before .before .before .before .before .before .before .before .before .before .args in
-    rw (ne-eqb _ _ (c .before .before .before .before .before .before .before .before .if1 .left))
-    (then (spaced (octetsWord (now (a .copy)))) (spaced (joined (now (a .records)))) (output (a .at) (now (a .out))) (c .before .before .before .before .before .before .octets .ensures) (c .before .before .numbers .ensures))
+    rw (ne-eqb _ _ (if1 .left))
+    (then (spaced (octetsWord (now (a .copy)))) (spaced (joined (now (a .records)))) (page (a .at) (now (a .out))) (octets .ensures) (numbers .ensures))
 
 pub put-taken-spec : {M : Type 1} → statement M
 put-taken-spec =

@@ -4,10 +4,10 @@ use mathlib.Core.Path.{ap, _∙_}
 use mathlib.Core.List.{_++_}
 use Prim.Native.Nat.{ℕ}
 use borrow.Author.Needs.{needs}
-use Rattle.answers.specs.Output.{output, added}
+use Rattle.pages.specs.Pages.{page, added}
 use Rattle.answers.specs.Texts.{verdictText}
 use Rattle.reader.specs.Outcome.{Taken}
-use Rattle.answers.proofs.Adding.{then}
+use Rattle.pages.proofs.PageLaws.{then}
 use Rattle.calls.specs.Entries.{roomsText, takenAnswer, readText}
 use Rattle.calls.proofs.entries.read_to.Statement.{statement}
 use Rattle.calls.proofs.entries.read_to.Tie as tie
@@ -36,13 +36,17 @@ same-length-3 c = search needs
 returns : tie.Need-returns
 unfolding readText
 returns c =
+    let put-rooms = c .before .before .put-rooms in
+    let lines-of = c .before .before .before .before .before .before .lines-of in
+    let verdict = c .before .before .before .before .before .before .before .before .before .verdict in
+    let read = c .before .before .before .before .before .before .before .before .before .before .before .before .before .before .before .read in
     let a = c .before .before .before .before .before .before .before .before .before .before .before .before .before .before .before .before .before .before .before .before .before .before .args in
-    let o = output (a .at) (now (a .out)) in
-    let copy = c .before .before .before .before .before .before .before .before .before .before .before .before .before .before .before .read .last .1 .0 in
-    let records = c .before .before .before .before .before .before .before .before .before .before .before .before .before .before .before .read .last .1 .1 .0 in
-    then (verdictText (c .before .before .before .before .before .before .before .before .before .before .before .before .before .before .before .read .result)) (roomsText (c .before .before .before .before .before .before .lines-of .result) copy records) o (c .before .before .before .before .before .before .before .before .before .verdict .ensures) (c .before .before .put-rooms .ensures)
-    ∙ ap (λ (n : ℕ). added (verdictText (c .before .before .before .before .before .before .before .before .before .before .before .before .before .before .before .read .result) ++ roomsText n copy records) o) (c .before .before .before .before .before .before .lines-of .ensures)
-    ∙ ap (λ (t : Taken). added (takenAnswer t) o) (c .before .before .before .before .before .before .before .before .before .before .before .before .before .before .before .read .ensures)
+    let o = page (a .at) (now (a .out)) in
+    let copy = read .last .1 .0 in
+    let records = read .last .1 .1 .0 in
+    then (verdictText (read .result)) (roomsText (lines-of .result) copy records) o (verdict .ensures) (put-rooms .ensures)
+    ∙ ap (λ (n : ℕ). added (verdictText (read .result) ++ roomsText n copy records) o) (lines-of .ensures)
+    ∙ ap (λ (t : Taken). added (takenAnswer t) o) (read .ensures)
 
 pub read-to-spec : {M : Type 1} → statement M
 read-to-spec =

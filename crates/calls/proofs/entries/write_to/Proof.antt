@@ -6,10 +6,10 @@ use mathlib.Core.List.{_++_}
 use Prim.Native.Nat.{ℕ}
 use lib.ListN.{drop}
 use borrow.Author.Needs.{needs}
-use Rattle.answers.specs.Output.{output, added}
+use Rattle.pages.specs.Pages.{page, added}
 use Rattle.answers.specs.Texts.{writtenText, roomEnd}
 use Rattle.octets.specs.Room.{Filled}
-use Rattle.answers.proofs.Adding.{then}
+use Rattle.pages.proofs.PageLaws.{then}
 use Rattle.calls.specs.Rooms.{all}
 use Rattle.calls.specs.Entries.{leftText}
 use Rattle.calls.proofs.entries.write_to.Statement.{statement}
@@ -39,12 +39,18 @@ same-length-2 c = search needs
 returns : tie.Need-returns
 unfolding leftText
 returns c =
-    let o = output (c .before .before .before .before .before .before .before .before .before .before .before .before .before .before .before .before .before .before .before .args .at) (now (c .before .before .before .before .before .before .before .before .before .before .before .before .before .before .before .before .before .before .before .args .out)) in
-    let room = c .before .before .before .before .before .before .before .before .before .before .before .before .before .before .call .last .1 .1 .0 in
-    then (writtenText (c .before .before .before .before .before .before .before .before .before .before .before .before .before .before .call .result) room) (roomEnd (c .before .before .before .is-kept .result)) o (c .before .before .before .before .before .before .before .before .before .written .ensures) (c .before .before .looked-at .ensures)
-    ∙ ap (λ (b : Bool). added (writtenText (c .before .before .before .before .before .before .before .before .before .before .before .before .before .before .call .result) room ++ roomEnd b) o) (c .before .before .before .is-kept .ensures)
-    ∙ ap (λ (n : ℕ). added (writtenText (c .before .before .before .before .before .before .before .before .before .before .before .before .before .before .call .result) room ++ roomEnd (all 165 (drop n room))) o) (c .before .before .before .before .count-of .ensures)
-    ∙ ap (λ (f : Filled). added (leftText f) o) (c .before .before .before .before .before .before .before .before .before .before .before .before .before .before .call .ensures)
+    let looked-at = c .before .before .looked-at in
+    let is-kept = c .before .before .before .is-kept in
+    let count-of = c .before .before .before .before .count-of in
+    let written = c .before .before .before .before .before .before .before .before .before .written in
+    let call = c .before .before .before .before .before .before .before .before .before .before .before .before .before .before .call in
+    let a = c .before .before .before .before .before .before .before .before .before .before .before .before .before .before .before .before .before .before .before .args in
+    let o = page (a .at) (now (a .out)) in
+    let room = call .last .1 .1 .0 in
+    then (writtenText (call .result) room) (roomEnd (is-kept .result)) o (written .ensures) (looked-at .ensures)
+    ∙ ap (λ (b : Bool). added (writtenText (call .result) room ++ roomEnd b) o) (is-kept .ensures)
+    ∙ ap (λ (n : ℕ). added (writtenText (call .result) room ++ roomEnd (all 165 (drop n room))) o) (count-of .ensures)
+    ∙ ap (λ (f : Filled). added (leftText f) o) (call .ensures)
 
 pub write-to-spec : {M : Type 1} → statement M
 write-to-spec =

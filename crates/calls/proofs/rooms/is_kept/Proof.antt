@@ -1,6 +1,6 @@
 -- `calls::rooms::is_kept` meets its contract. Assumes nothing.
 use Prim.Native.Nat.{_-_}
-use mathlib.Core.Path.{_≡_, refl, sym, _∙_}
+use mathlib.Core.Path.{_≡_, refl}
 use native.Mathlib.Omega.{arith}
 use lib.ListN.{length, drop}
 use Rattle.calls.specs.Rooms.{all}
@@ -21,8 +21,10 @@ shared-slice-read-if1 : tie.Need-shared-slice-read-if1 Inv-loop μ-loop
 shared-slice-read-if1 c = omega arith
 
 returns : tie.Need-returns Inv-loop μ-loop
-returns c = let l = c .before .before .before .loop in
-    sym (l .inv ∙ all-not 165 (c .before .before .before .before .args .room .now) (l .i) (omega arith) (c .if1 .taken))
+returns c =
+    let t = c .before .before .before in
+    let a = t .before .args in
+    all-not 165 (a .room .now) (a .from) (t .loop .i) (t .loop .inv) (omega arith) (c .if1 .taken)
 
 add-i : tie.Need-add-i Inv-loop μ-loop
 add-i c = omega arith
@@ -31,12 +33,16 @@ loop-less : tie.Need-loop-less Inv-loop μ-loop
 loop-less c = omega arith
 
 loop-again : tie.Need-loop-again Inv-loop μ-loop
-loop-again c = let l = c .before .before .before .loop in
-    l .inv ∙ all-next 165 (c .before .before .before .before .args .room .now) (l .i) (omega arith) (c .if1 .left)
+loop-again c =
+    let t = c .before .before .before in
+    let a = t .before .args in
+    all-next 165 (a .room .now) (a .from) (t .loop .i) (t .loop .inv) (omega arith) (c .if1 .left)
 
 returns-2 : tie.Need-returns-2 Inv-loop μ-loop
-returns-2 c = let l = c .before .loop in
-    sym (l .inv ∙ all-end 165 (c .before .before .args .room .now) (l .i) (omega arith))
+returns-2 c =
+    let t = c .before in
+    let a = t .before .args in
+    all-end 165 (a .room .now) (a .from) (t .loop .i) (t .loop .inv) (omega arith)
 
 pub is-kept-spec : {M : Type 1} → statement M
 is-kept-spec =

@@ -1,30 +1,23 @@
 -- `pages::digits::put_number` meets its contract. Assumes nothing.
-use mathlib.Core.Path.{ap, _∙_}
-use mathlib.Core.List.{List}
-use Prim.Native.Nat.{ℕ}
 use denote.Ref.{now}
-use Rattle.pages.specs.Pages.{page, added}
-use Rattle.pages.proofs.DigitLaws.{the-digits}
-use native.Mathlib.Omega.{arith}
+use mathlib.Core.Path.{ap, _∙_}
 use borrow.Author.Needs.{needs}
+use mathlib.Core.List.{List}
+use native.Mathlib.Omega.{arith}
+use Prim.Native.Nat.{ℕ}
+use Rattle.pages.specs.Pages.{page, added}
+use Rattle.pages.proofs.Decimals.{decimal-is}
 use Rattle.pages.proofs.digits.put_number.Statement.{statement}
 use Rattle.pages.proofs.digits.put_number.Tie as tie
 
-slice-aggregate-spell : tie.Need-slice-aggregate-spell
-slice-aggregate-spell c = search needs
+decimal-requires : tie.Need-decimal-requires
+decimal-requires c κs = search needs
 
-spell-requires : tie.Need-spell-requires
-spell-requires c κs = search needs
+array-share-prefix-digits : tie.Need-array-share-prefix-digits
+array-share-prefix-digits c = search needs
 
-sub-put-all : tie.Need-sub-put-all
-sub-put-all c = search needs
-
-part-put-all-start : tie.Need-part-put-all-start
-part-put-all-start c = search needs
-
-part-put-all-end : tie.Need-part-put-all-end
-part-put-all-end c =
-    omega arith
+slice-aggregate-put-all : tie.Need-slice-aggregate-put-all
+slice-aggregate-put-all c = search needs
 
 put-all-requires : tie.Need-put-all-requires
 put-all-requires c κs = search needs
@@ -34,19 +27,19 @@ same-length c = search needs
 
 returns : tie.Need-returns
 returns c =
-    let a = c .before .before .before .before .before .before .before .before .before .before .args in
-    let e = c .before .before .before .before .before .before .before .spell .ensures in
-    c .before .before .put-all .ensures ∙ ap (λ (t : List ℕ). added t (page (a .at) (a .room .now))) (the-digits (c .before .before .before .before .before .before .before .spell .last .1 .0) (c .before .before .before .before .before .before .before .spell .result) (a .n) (e .2) (e .1) (e .0))
+    let d = c .before .before in
+    let t = d .before .before .before in
+    let a = t .before .before .before .args in
+    let e = t .decimal .ensures in
+    d .put-all .ensures ∙ ap (λ (l : List ℕ). added l (page (a .at) (now (a .room)))) (e .1 .1 ∙ decimal-is (a .n) (t .decimal .result) (e .1 .0) (omega arith))
 
 pub put-number-spec : {M : Type 1} → statement M
 put-number-spec =
     tie.close
     (tie.spec
-    slice-aggregate-spell
-    spell-requires
-    sub-put-all
-    part-put-all-start
-    part-put-all-end
+    decimal-requires
+    array-share-prefix-digits
+    slice-aggregate-put-all
     put-all-requires
     same-length
     returns)

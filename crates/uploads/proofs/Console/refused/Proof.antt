@@ -16,7 +16,10 @@ same-length : tie.Need-same-length
 same-length c = search needs
 
 returns : tie.Need-returns
-returns c = ap (λ (x : Console). told x (c .before .before .before .bad .last .0)) (c .with-output .ensures) ∙ ap (tell (c .before .before .before .before .before .before .args .self .desk) (c .before .before .before .before .before .before .args .self .size)) (c .before .before .before .bad .ensures)
+returns c =
+    let bad = c .before .before .before .bad in
+    let a = c .before .before .before .before .before .before .args in
+    ap (λ (x : Console). told x (bad .last .0)) (c .with-output .ensures) ∙ ap (tell (a .self .desk) (a .self .size)) (bad .ensures)
 
 pub refused-spec : {M : Type 1} → statement M
 refused-spec = tie.close (tie.spec bad-requires with-output-requires same-length returns)

@@ -7,7 +7,7 @@ use borrow.Author.Tests.{eq-eqb, ne-eqb}
 use Rattle.octets.specs.Ascii.{octets}
 use Rattle.parts.specs.Parts.{part}
 use Rattle.pages.specs.Pages.{page, added}
-use Rattle.pages.specs.Seen.{visible}
+use Rattle.columns.specs.Seen.{visible}
 use Rattle.pages.proofs.PageLaws.{nothing, piece, pause}
 use Rattle.workshop.specs.Under.{cutAt}
 use borrow.Author.Needs.{needs}

@@ -1,0 +1,2 @@
+-- The laws that the proofs of `columns` cite. Assumes nothing.
+pub mod SeenLaws

@@ -1,0 +1,38 @@
+-- `columns::put_column` meets its contract. Assumes nothing.
+use Rattle.pages.proofs.PageLaws.{added-append}
+use borrow.Author.Needs.{needs}
+use Rattle.columns.proofs.put_column.Statement.{statement}
+use Rattle.columns.proofs.put_column.Tie as tie
+
+put-visible-requires : tie.Need-put-visible-requires
+put-visible-requires c κs = search needs
+
+characters-requires : tie.Need-characters-requires
+characters-requires c κs = search needs
+
+put-gap-requires : tie.Need-put-gap-requires
+put-gap-requires c κs = search needs
+
+put-spaces-requires : tie.Need-put-spaces-requires
+put-spaces-requires c κs = search needs
+
+same-length : tie.Need-same-length
+same-length c = search needs
+
+returns : tie.Need-returns
+returns c =
+    let d = c .before .before in
+    let g = d .before .before .before .before in
+    let v = g .before .before .before .before .before in
+    simp added-append (cc (g .before .characters .ensures, v .put-visible .ensures, g .put-gap .ensures, d .put-spaces .ensures))
+
+pub put-column-spec : {M : Type 1} → statement M
+put-column-spec =
+    tie.close
+    (tie.spec
+    put-visible-requires
+    characters-requires
+    put-gap-requires
+    put-spaces-requires
+    same-length
+    returns)

@@ -1,0 +1,47 @@
+-- `columns::put_right` meets its contract. Assumes nothing.
+use mathlib.Core.Path.{_∙_}
+use native.Mathlib.Omega.{arith}
+use Rattle.pages.proofs.PageLaws.{added-append}
+use Rattle.pages.proofs.Decimals.{decimal-is}
+use borrow.Author.Needs.{needs}
+use Rattle.columns.proofs.put_right.Statement.{statement}
+use Rattle.columns.proofs.put_right.Tie as tie
+
+decimal-requires : tie.Need-decimal-requires
+decimal-requires c κs = search needs
+
+array-share-prefix-digits : tie.Need-array-share-prefix-digits
+array-share-prefix-digits c = search needs
+
+slice-aggregate-text : tie.Need-slice-aggregate-text
+slice-aggregate-text c = search needs
+
+put-gap-requires : tie.Need-put-gap-requires
+put-gap-requires c κs = search needs
+
+put-all-requires : tie.Need-put-all-requires
+put-all-requires c κs = search needs
+
+same-length : tie.Need-same-length
+same-length c = search needs
+
+returns : tie.Need-returns
+returns c =
+    let d = c .before .before in
+    let g = d .before .before .before .before in
+    let t = g .before .before .before in
+    let e = t .decimal .ensures in
+    let spelled = e .1 .1 ∙ decimal-is (t .before .before .before .args .n) (t .decimal .result) (e .1 .0) (omega arith) in
+    simp added-append (cc (d .put-all .ensures, g .put-gap .ensures, spelled))
+
+pub put-right-spec : {M : Type 1} → statement M
+put-right-spec =
+    tie.close
+    (tie.spec
+    decimal-requires
+    array-share-prefix-digits
+    slice-aggregate-text
+    put-gap-requires
+    put-all-requires
+    same-length
+    returns)

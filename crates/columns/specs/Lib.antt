@@ -1,0 +1,2 @@
+-- The definitions that the contracts of `columns` cite. Assumes nothing.
+pub mod Seen

@@ -1,0 +1,41 @@
+// Text in columns of a lent page.
+pub mod seen;
+
+ghost use mathlib.Core.Path.{_≡_};
+ghost use mathlib.Core.List.{_++_, _∷_, []};
+ghost use Prim.Native.Nat.{_-_};
+ghost use lib.ListN.{length, replicate};
+ghost use Rattle.places.specs.Places.{count, isFirst};
+ghost use Rattle.pages.specs.Pages.{page, added};
+ghost use Rattle.pages.specs.Digits.{decimal};
+ghost use Rattle.columns.specs.Seen.{visible};
+
+// Adds the spaces that a column of so many characters has beside so many others.
+pub fn put_gap(room: &mut [u8], at: usize, used: usize, width: usize) -> usize
+    ensures { λ r. ⌜ page r (now (room .exit)) ≡ added (replicate (width - used) 32) (page at (now (room .entry))) ⌝ }
+{
+    if used >= width {
+        return at;
+    }
+    pages::put_spaces(room, at, width - used)
+}
+
+// Adds a text in a column of so many characters, and a space.
+pub fn put_column(room: &mut [u8], at: usize, text: &[u8], width: usize) -> usize
+    ensures { λ r. ⌜ page r (now (room .exit)) ≡ added (visible (now (text .entry)) ++ replicate (width - count isFirst (now (text .entry))) 32 ++ (32 ∷ [])) (page at (now (room .entry))) ⌝ }
+{
+    let past = seen::put_visible(room, at, text);
+    let next = put_gap(room, past, places::characters(text), width);
+    pages::put_spaces(room, next, 1)
+}
+
+// Adds a number at the right of a column of so many characters.
+pub fn put_right(room: &mut [u8], at: usize, n: usize, width: usize) -> usize
+    ensures { λ r. ⌜ page r (now (room .exit)) ≡ added (replicate (width - length (decimal n)) 32 ++ decimal n) (page at (now (room .entry))) ⌝ }
+{
+    let mut digits = [0u8; 20];
+    let k = io::decimal(n as u64, &mut digits);
+    let text = &digits[..k];
+    let next = put_gap(room, at, text.len(), width);
+    pages::put_all(room, next, text)
+}
