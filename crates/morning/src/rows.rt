@@ -2,7 +2,7 @@
 ghost use Prim.Native.Nat.{_≤_};
 use libc::STDOUT_FILENO;
 use reader::Verdict;
-use workshop::uploads;
+use tables::uploads;
 
 // Writes the first n octets of a page.
 fn sent(room: &[u8], n: usize) {

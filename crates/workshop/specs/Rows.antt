@@ -5,21 +5,24 @@ use lib.ListN.{length}
 use Rattle.octets.specs.Ascii.{octets}
 use Rattle.parts.specs.Parts.{part}
 use Rattle.places.specs.Places.{count, isLf}
-use Rattle.pages.specs.Digits.{decimal}
 use Rattle.columns.specs.Seen.{visible}
-use Rattle.workshop.specs.Sentences.{counted, refusal}
-use Rattle.workshop.specs.Words.{wordsOf}
+use Rattle.refusals.specs.Sentences.{amount, counted, refusal}
+use Rattle.refusals.specs.Words.{wordsOf}
+
+-- the start of a row: the file's name
+abbrev pub named : List ℕ → List ℕ
+named path = visible path ++ octets ": "
 
 abbrev pub acceptedRow : List ℕ → ℕ → ℕ → List ℕ
 acceptedRow path cards lines =
-    visible path ++ octets ": " ++ counted cards (octets " card") ++ octets ", " ++ counted lines (octets " line") ++ octets "\n"
+    named path ++ counted cards (octets " card") ++ octets ", " ++ counted lines (octets " line") ++ octets "\n"
 
 -- the number of the line that is reached after the octets before a place: 1, and 1 more for each LF
 abbrev pub lineOf : List ℕ → ℕ → ℕ
 lineOf s place = 1 + count isLf (part s 0 (min place (length s)))
 
 abbrev pub reason : List ℕ → ℕ → ℕ → List ℕ
-reason s number place = octets ", line " ++ decimal (lineOf s place) ++ octets ": " ++ wordsOf number ++ octets "\n"
+reason s number place = octets ", line " ++ amount (lineOf s place) (octets ": ") ++ wordsOf number ++ octets "\n"
 
 abbrev pub refusedRow : List ℕ → List ℕ → ℕ → ℕ → List ℕ
-refusedRow path s number place = visible path ++ octets ": " ++ refusal number place ++ reason s number place
+refusedRow path s number place = named path ++ refusal number place ++ reason s number place

@@ -1,8 +1,4 @@
-// What the workshop reads and types: the words of refusals, rows for files, cards and uploads, and the numbers of options.
-pub mod fields;
+// What the workshop reads and types of a file: its row, the logical line under a refusal, and the numbers of options.
 pub mod options;
 pub mod rows;
-pub mod sentences;
 pub mod under;
-pub mod uploads;
-pub mod words;

@@ -1,19 +1,26 @@
 // The row of a file: what it holds, or why it is refused.
 ghost use mathlib.Core.Path.{_≡_};
 ghost use Rattle.pages.specs.Pages.{page, added};
-ghost use Rattle.workshop.specs.Rows.{acceptedRow, lineOf, reason, refusedRow};
-use crate::sentences;
+ghost use Rattle.workshop.specs.Rows.{named, acceptedRow, lineOf, reason, refusedRow};
+use refusals::sentences;
+
+// Adds the start of a file's row, its name.
+fn put_name(room: &mut [u8], at: usize, path: &[u8]) -> usize
+    ensures { λ r. ⌜ page r (now (room .exit)) ≡ added (named (now (path .entry))) (page at (now (room .entry))) ⌝ }
+{
+    let a = columns::seen::put_visible(room, at, path);
+    pages::put_all(room, a, b": ")
+}
 
 // Adds the row of a file with so many cards and lines.
 pub fn put_accepted(room: &mut [u8], at: usize, path: &[u8], cards: usize, lines: usize) -> usize
     ensures { λ r. ⌜ page r (now (room .exit)) ≡ added (acceptedRow (now (path .entry)) cards lines) (page at (now (room .entry))) ⌝ }
 {
-    let a = columns::seen::put_visible(room, at, path);
-    let b = pages::put_all(room, a, b": ");
-    let c = sentences::put_count(room, b, cards, b" card");
-    let d = pages::put_all(room, c, b", ");
-    let e = sentences::put_count(room, d, lines, b" line");
-    pages::put_all(room, e, b"\n")
+    let a = put_name(room, at, path);
+    let b = sentences::put_count(room, a, cards, b" card");
+    let c = pages::put_all(room, b, b", ");
+    let d = sentences::put_count(room, c, lines, b" line");
+    pages::put_all(room, d, b"\n")
 }
 
 // The number of the line in which a place lies; of the last line where the place is past the end.
@@ -29,10 +36,9 @@ fn put_reason(room: &mut [u8], at: usize, s: &[u8], number: u32, place: usize) -
     ensures { λ r. ⌜ page r (now (room .exit)) ≡ added (reason (now (s .entry)) number place) (page at (now (room .entry))) ⌝ }
 {
     let a = pages::put_all(room, at, b", line ");
-    let b = pages::digits::put_number(room, a, line_of(s, place));
-    let c = pages::put_all(room, b, b": ");
-    let d = crate::words::put_words(room, c, number);
-    pages::put_all(room, d, b"\n")
+    let b = sentences::put_amount(room, a, line_of(s, place), b": ");
+    let c = refusals::words::put_words(room, b, number);
+    pages::put_all(room, c, b"\n")
 }
 
 // Adds the row of a file with these octets that is refused.
@@ -46,8 +52,7 @@ pub fn put_refused(
 ) -> usize
     ensures { λ r. ⌜ page r (now (room .exit)) ≡ added (refusedRow (now (path .entry)) (now (s .entry)) number place) (page at (now (room .entry))) ⌝ }
 {
-    let a = columns::seen::put_visible(room, at, path);
-    let b = pages::put_all(room, a, b": ");
-    let c = sentences::put_refusal(room, b, number, place);
-    put_reason(room, c, s, number, place)
+    let a = put_name(room, at, path);
+    let b = sentences::put_refusal(room, a, number, place);
+    put_reason(room, b, s, number, place)
 }

@@ -25,15 +25,20 @@ shared-slice-read-octet c = search needs
 
 returns : tie.Need-returns Inv-loop μ-loop
 returns c =
-    let l = c .before .before .before .loop in
-    let s = c .before .before .before .before .before .args .word .now in
-    sym (sym (l .inv .1) ∙ size-low s (l .i) (l .n) (c .before .before .loop-test .taken) (c .if1 .taken))
+    let at-loop-test = c .before .before in
+    let at-loop = at-loop-test .before in
+    let l = at-loop .loop in
+    let s = at-loop .before .before .args .word .now in
+    sym (sym (l .inv .1) ∙ size-low s (l .i) (l .n) (at-loop-test .loop-test .taken) (c .if1 .taken))
 
 returns-2 : tie.Need-returns-2 Inv-loop μ-loop
 returns-2 c =
-    let l = c .before .before .before .before .loop in
-    let s = c .before .before .before .before .before .before .args .word .now in
-    sym (sym (l .inv .1) ∙ size-high s (l .i) (l .n) (c .before .before .before .loop-test .taken) (c .before .if1 .left) (c .if2 .taken))
+    let at-if1 = c .before in
+    let at-loop-test = at-if1 .before .before in
+    let at-loop = at-loop-test .before in
+    let l = at-loop .loop in
+    let s = at-loop .before .before .args .word .now in
+    sym (sym (l .inv .1) ∙ size-high s (l .i) (l .n) (at-loop-test .loop-test .taken) (at-if1 .if1 .left) (c .if2 .taken))
 
 mul-n : tie.Need-mul-n Inv-loop μ-loop
 mul-n c = search needs
@@ -46,9 +51,14 @@ add-n c = search needs
 
 returns-3 : tie.Need-returns-3 Inv-loop μ-loop
 returns-3 c =
-    let l = c .before .before .before .before .before .before .loop in
-    let s = c .before .before .before .before .before .before .before .before .args .word .now in
-    sym (sym (l .inv .1) ∙ size-over s (l .i) (l .n) (c .before .before .before .before .before .loop-test .taken) _ (ap (λ (d : ℕ). l .n * 10 + d) (c .before .digit .ensures)) (c .before .before .before .if1 .left) (c .before .before .if2 .left) (c .if3 .taken))
+    let at-digit = c .before in
+    let at-if2 = at-digit .before in
+    let at-if1 = at-if2 .before in
+    let at-loop-test = at-if1 .before .before in
+    let at-loop = at-loop-test .before in
+    let l = at-loop .loop in
+    let s = at-loop .before .before .args .word .now in
+    sym (sym (l .inv .1) ∙ size-over s (l .i) (l .n) (at-loop-test .loop-test .taken) _ (ap (λ (d : ℕ). l .n * 10 + d) (at-digit .digit .ensures)) (at-if1 .if1 .left) (at-if2 .if2 .left) (c .if3 .taken))
 
 add-i : tie.Need-add-i Inv-loop μ-loop
 add-i c = search needs
@@ -58,14 +68,20 @@ loop-less c = search needs
 
 loop-again : tie.Need-loop-again Inv-loop μ-loop
 loop-again c =
-    let l = c .before .before .before .before .before .before .loop in
-    let s = c .before .before .before .before .before .before .before .before .args .word .now in
-    (omega arith, sym (size-next s (l .i) (l .n) (c .before .before .before .before .before .loop-test .taken) _ (ap (λ (d : ℕ). l .n * 10 + d) (c .before .digit .ensures)) (c .before .before .before .if1 .left) (c .before .before .if2 .left) (c .if3 .left)) ∙ l .inv .1)
+    let at-digit = c .before in
+    let at-if2 = at-digit .before in
+    let at-if1 = at-if2 .before in
+    let at-loop-test = at-if1 .before .before in
+    let at-loop = at-loop-test .before in
+    let l = at-loop .loop in
+    let s = at-loop .before .before .args .word .now in
+    (omega arith, sym (size-next s (l .i) (l .n) (at-loop-test .loop-test .taken) _ (ap (λ (d : ℕ). l .n * 10 + d) (at-digit .digit .ensures)) (at-if1 .if1 .left) (at-if2 .if2 .left) (c .if3 .left)) ∙ l .inv .1)
 
 returns-4 : tie.Need-returns-4 Inv-loop μ-loop
 returns-4 c =
-    let l = c .before .loop in
-    sym (size-end (c .before .before .before .args .word .now) (l .i) (l .n) (c .loop-test .left)) ∙ l .inv .1
+    let at-loop = c .before in
+    let l = at-loop .loop in
+    sym (size-end (at-loop .before .before .args .word .now) (l .i) (l .n) (c .loop-test .left)) ∙ l .inv .1
 
 pub size-of-spec : {M : Type 1} → statement M
 size-of-spec =

@@ -6,14 +6,8 @@ use borrow.Author.Needs.{needs}
 use Rattle.workshop.proofs.rows.put_accepted.Statement.{statement}
 use Rattle.workshop.proofs.rows.put_accepted.Tie as tie
 
-put-visible-requires : tie.Need-put-visible-requires
-put-visible-requires c κs = search needs
-
-slice-aggregate-put-all : tie.Need-slice-aggregate-put-all
-slice-aggregate-put-all c = search needs
-
-put-all-requires : tie.Need-put-all-requires
-put-all-requires c κs = search needs
+put-name-requires : tie.Need-put-name-requires
+put-name-requires c κs = search needs
 
 slice-aggregate-put-count : tie.Need-slice-aggregate-put-count
 slice-aggregate-put-count c = search needs
@@ -21,11 +15,11 @@ slice-aggregate-put-count c = search needs
 put-count-requires : tie.Need-put-count-requires
 put-count-requires c κs = search needs
 
-slice-aggregate-put-all-2 : tie.Need-slice-aggregate-put-all-2
-slice-aggregate-put-all-2 c = search needs
+slice-aggregate-put-all : tie.Need-slice-aggregate-put-all
+slice-aggregate-put-all c = search needs
 
-put-all-requires-2 : tie.Need-put-all-requires-2
-put-all-requires-2 c κs = search needs
+put-all-requires : tie.Need-put-all-requires
+put-all-requires c κs = search needs
 
 slice-aggregate-put-count-2 : tie.Need-slice-aggregate-put-count-2
 slice-aggregate-put-count-2 c = search needs
@@ -33,11 +27,11 @@ slice-aggregate-put-count-2 c = search needs
 put-count-requires-2 : tie.Need-put-count-requires-2
 put-count-requires-2 c κs = search needs
 
-slice-aggregate-put-all-3 : tie.Need-slice-aggregate-put-all-3
-slice-aggregate-put-all-3 c = search needs
+slice-aggregate-put-all-2 : tie.Need-slice-aggregate-put-all-2
+slice-aggregate-put-all-2 c = search needs
 
-put-all-requires-3 : tie.Need-put-all-requires-3
-put-all-requires-3 c κs = search needs
+put-all-requires-2 : tie.Need-put-all-requires-2
+put-all-requires-2 c κs = search needs
 
 same-length : tie.Need-same-length
 same-length c = search needs
@@ -45,23 +39,26 @@ same-length c = search needs
 returns : tie.Need-returns
 unfolding octets
 returns c =
-    let a = c .before .before .before .before .before .before .before .before .before .before .before .before .before .before .before .before .before .before .before .before .before .before .before .before .before .before .before .before .before .before .before .args in
-    (piece _ (piece _ (piece _ (piece _ (piece _ (piece _ (nothing (page (a .at) (a .room .now))) (c .before .before .before .before .before .before .before .before .before .before .before .before .before .before .before .before .before .before .before .before .before .before .before .before .before .before .before .put-visible .ensures)) (c .before .before .before .before .before .before .before .before .before .before .before .before .before .before .before .before .before .before .before .before .before .before .put-all .ensures)) (c .before .before .before .before .before .before .before .before .before .before .before .before .before .before .before .before .before .put-count .ensures)) (c .before .before .before .before .before .before .before .before .before .before .before .before .put-all2 .ensures)) (c .before .before .before .before .before .before .before .put-count2 .ensures)) (c .before .before .put-all3 .ensures)) .sum
+    let at-put-all2 = c .before .before in
+    let at-put-count2 = at-put-all2 .before .before .before .before .before in
+    let at-put-all = at-put-count2 .before .before .before .before .before in
+    let at-put-count = at-put-all .before .before .before .before .before in
+    let at-put-name = at-put-count .before .before .before .before .before in
+    let a = at-put-name .before .before .before .before .args in
+    (piece _ (piece _ (piece _ (piece _ (piece _ (nothing (page (a .at) (a .room .now))) (at-put-name .put-name .ensures)) (at-put-count .put-count .ensures)) (at-put-all .put-all .ensures)) (at-put-count2 .put-count2 .ensures)) (at-put-all2 .put-all2 .ensures)) .sum
 
 pub put-accepted-spec : {M : Type 1} → statement M
 put-accepted-spec =
     tie.close
     (tie.spec
-    put-visible-requires
-    slice-aggregate-put-all
-    put-all-requires
+    put-name-requires
     slice-aggregate-put-count
     put-count-requires
-    slice-aggregate-put-all-2
-    put-all-requires-2
+    slice-aggregate-put-all
+    put-all-requires
     slice-aggregate-put-count-2
     put-count-requires-2
-    slice-aggregate-put-all-3
-    put-all-requires-3
+    slice-aggregate-put-all-2
+    put-all-requires-2
     same-length
     returns)

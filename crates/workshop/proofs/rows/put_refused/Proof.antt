@@ -1,19 +1,12 @@
 -- `workshop::rows::put_refused` meets its contract. Assumes nothing.
-use Rattle.octets.specs.Ascii.{octets}
 use Rattle.pages.specs.Pages.{page}
 use Rattle.pages.proofs.PageLaws.{nothing, piece}
 use borrow.Author.Needs.{needs}
 use Rattle.workshop.proofs.rows.put_refused.Statement.{statement}
 use Rattle.workshop.proofs.rows.put_refused.Tie as tie
 
-put-visible-requires : tie.Need-put-visible-requires
-put-visible-requires c κs = search needs
-
-slice-aggregate-put-all : tie.Need-slice-aggregate-put-all
-slice-aggregate-put-all c = search needs
-
-put-all-requires : tie.Need-put-all-requires
-put-all-requires c κs = search needs
+put-name-requires : tie.Need-put-name-requires
+put-name-requires c κs = search needs
 
 put-refusal-requires : tie.Need-put-refusal-requires
 put-refusal-requires c κs = search needs
@@ -25,19 +18,14 @@ same-length : tie.Need-same-length
 same-length c = search needs
 
 returns : tie.Need-returns
-unfolding octets
 returns c =
-    let a = c .before .before .before .before .before .before .before .before .before .before .before .before .before .before .before .before .before .before .before .before .args in
-    (piece _ (piece _ (piece _ (piece _ (nothing (page (a .at) (a .room .now))) (c .before .before .before .before .before .before .before .before .before .before .before .before .before .before .before .put-visible .ensures)) (c .before .before .before .before .before .before .before .before .before .before .put-all .ensures)) (c .before .before .before .before .before .before .put-refusal .ensures)) (c .before .before .put-reason .ensures)) .sum
+    let at-put-reason = c .before .before in
+    let at-put-refusal = at-put-reason .before .before .before .before in
+    let at-put-name = at-put-refusal .before .before .before .before in
+    let a = at-put-name .before .before .before .before .before .args in
+    (piece _ (piece _ (piece _ (nothing (page (a .at) (a .room .now))) (at-put-name .put-name .ensures)) (at-put-refusal .put-refusal .ensures)) (at-put-reason .put-reason .ensures)) .sum
 
 pub put-refused-spec : {M : Type 1} → statement M
 put-refused-spec =
     tie.close
-    (tie.spec
-    put-visible-requires
-    slice-aggregate-put-all
-    put-all-requires
-    put-refusal-requires
-    put-reason-requires
-    same-length
-    returns)
+    (tie.spec put-name-requires put-refusal-requires put-reason-requires same-length returns)

@@ -29,11 +29,14 @@ same-length c = search needs
 returns : tie.Need-returns
 unfolding octets
 returns c =
-    let a = c .before .before .before .before .before .before .before .before .before .args in
+    let at-put-visible = c .before .before .before in
+    let at-part = at-put-visible .before in
+    let at-character-start = at-part .before .before in
+    let a = at-character-start .before .before .before .args in
     let l = a .line .now in
-    let e = c .before .before .before .before .before .before .character-start .ensures .0 in
+    let e = at-character-start .character-start .ensures .0 in
     let p = page (a .at) (a .room .now) in
-    let f = c .before .before .before .put-visible .ensures ∙ ap (λ (t : List ℕ). added (visible t) p) (c .before .before .before .before .part .ensures ∙ ap (part l 0) e) in
+    let f = at-put-visible .put-visible .ensures ∙ ap (λ (t : List ℕ). added (visible t) p) (at-part .part .ensures ∙ ap (part l 0) e) in
     rw (eq-eqb (cutAt l) (length l) (sym e ∙ c .if1 .taken)) ((pause (piece (visible (part l 0 (cutAt l))) (nothing p) f)) .sum)
 
 slice-aggregate-put-all : tie.Need-slice-aggregate-put-all
@@ -48,12 +51,17 @@ same-length-2 c = search needs
 returns-2 : tie.Need-returns-2
 unfolding octets
 returns-2 c =
-    let a = c .before .before .before .before .before .before .before .before .before .before .before .before .before .before .args in
+    let at-put-all = c .before .before in
+    let at-if1 = at-put-all .before .before .before in
+    let at-put-visible = at-if1 .before .before .before in
+    let at-part = at-put-visible .before in
+    let at-character-start = at-part .before .before in
+    let a = at-character-start .before .before .before .args in
     let l = a .line .now in
-    let e = c .before .before .before .before .before .before .before .before .before .before .before .character-start .ensures .0 in
+    let e = at-character-start .character-start .ensures .0 in
     let p = page (a .at) (a .room .now) in
-    let f = c .before .before .before .before .before .before .before .before .put-visible .ensures ∙ ap (λ (t : List ℕ). added (visible t) p) (c .before .before .before .before .before .before .before .before .before .part .ensures ∙ ap (part l 0) e) in
-    rw (ne-eqb (cutAt l) (length l) (λ q. c .before .before .before .before .before .if1 .left (e ∙ q))) ((piece _ (piece (visible (part l 0 (cutAt l))) (nothing p) f) (c .before .before .put-all .ensures)) .sum)
+    let f = at-put-visible .put-visible .ensures ∙ ap (λ (t : List ℕ). added (visible t) p) (at-part .part .ensures ∙ ap (part l 0) e) in
+    rw (ne-eqb (cutAt l) (length l) (λ q. at-if1 .if1 .left (e ∙ q))) ((piece _ (piece (visible (part l 0 (cutAt l))) (nothing p) f) (at-put-all .put-all .ensures)) .sum)
 
 pub put-cut-spec : {M : Type 1} → statement M
 put-cut-spec =

@@ -55,12 +55,18 @@ same-length c = search needs
 returns-2 : tie.Need-returns-2
 unfolding octets
 returns-2 c =
-    let a = c .before .before .before .before .before .before .before .before .before .before .before .before .before .before .before .before .before .before .before .before .before .before .args in
+    let at-put-all2 = c .before .before in
+    let at-put-cut = at-put-all2 .before .before .before .before .before in
+    let at-part = at-put-cut .before in
+    let at-put-all = at-part .before .before .before .before .before in
+    let at-unfold = at-put-all .before .before .before .before in
+    let at-if1 = at-unfold .before .before in
+    let a = at-if1 .before .before .before .args in
     let l = a .line .now in
-    let e = c .before .before .before .before .before .before .before .before .before .before .before .before .before .before .before .before .before .«unfold» .ensures in
-    let q = c .before .before .before .before .before .before .before .before .part .ensures ∙ part-front (unfolded l) _ _ (c .before .before .before .before .before .before .before .before .before .before .before .before .before .before .before .before .before .«unfold» .result) (e .0) (e .1) in
-    let f = c .before .before .before .before .before .before .before .put-cut .ensures ∙ ap (λ (t : List ℕ). added (cut t) (page (c .before .before .before .before .before .before .before .before .before .before .before .before .before .put-all .result) (c .before .before .before .before .before .before .before .before .before .before .before .before .before .put-all .last .0))) q in
-    rw (le-ltb 16385 (length l) (c .before .before .before .before .before .before .before .before .before .before .before .before .before .before .before .before .before .before .before .if1 .left)) ((piece _ (piece (cut (unfolded l)) (piece _ (nothing (page (a .at) (a .room .now))) (c .before .before .before .before .before .before .before .before .before .before .before .before .before .put-all .ensures)) f) (c .before .before .put-all2 .ensures)) .sum)
+    let e = at-unfold .«unfold» .ensures in
+    let q = at-part .part .ensures ∙ part-front (unfolded l) _ _ (at-unfold .«unfold» .result) (e .0) (e .1) in
+    let f = at-put-cut .put-cut .ensures ∙ ap (λ (t : List ℕ). added (cut t) (page (at-put-all .put-all .result) (at-put-all .put-all .last .0))) q in
+    rw (le-ltb 16385 (length l) (at-if1 .if1 .left)) ((piece _ (piece (cut (unfolded l)) (piece _ (nothing (page (a .at) (a .room .now))) (at-put-all .put-all .ensures)) f) (at-put-all2 .put-all2 .ensures)) .sum)
 
 pub put-under-spec : {M : Type 1} → statement M
 put-under-spec =

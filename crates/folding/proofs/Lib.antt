@@ -1,0 +1,2 @@
+-- The laws that the proofs of `folding` cite. Assumes nothing.
+pub mod TextLaws

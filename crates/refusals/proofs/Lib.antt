@@ -1,0 +1,2 @@
+-- The laws that the proofs of `refusals` cite. Assumes nothing.
+pub mod WordLaws

@@ -1,0 +1,3 @@
+-- The definitions that the contracts of `refusals` cite. Assumes nothing.
+pub mod Words
+pub mod Sentences

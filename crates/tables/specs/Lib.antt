@@ -1,0 +1,4 @@
+-- The definitions that the contracts of `tables` cite. Assumes nothing.
+pub mod Columns
+pub mod Fields
+pub mod Uploads

@@ -1,2 +1,0 @@
--- The laws that the proofs of `texts` cite. Assumes nothing.
-pub mod TextLaws
