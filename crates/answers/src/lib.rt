@@ -1,8 +1,9 @@
 // The console's answers: the words of each, added to the output, which is a lent page.
 ghost use mathlib.Core.Path.{_≡_};
+ghost use mathlib.Core.List.{_∷_};
 ghost use Rattle.pages.specs.Pages.{page, added};
 ghost use Rattle.pages.specs.Digits.{decimal};
-ghost use Rattle.answers.specs.Texts.{lineEnd, badLine, refusalText, doneText, verdictText, writtenText, answerText, octetsWord, further, spaced, joined, roomEnd};
+ghost use Rattle.answers.specs.Texts.{lineEnd, badLine, refusalText, doneText, verdictText, writtenText, answerText, octetsWord, spaced, joined, roomEnd};
 use desk::Answer;
 use octets::rooms::Written;
 use reader::Verdict;
@@ -23,20 +24,12 @@ pub fn bad(out: &mut [u8], at: usize) -> usize
     pages::put_all(out, at, b"bad request\n")
 }
 
-// Adds a space and a number.
-fn put_next(out: &mut [u8], at: usize, n: usize) -> usize
-    ensures { λ r. ⌜ page r (now (out .exit)) ≡ added (spaced (decimal n)) (page at (now (out .entry))) ⌝ }
+// Adds a mark and a number.
+fn put_after(out: &mut [u8], at: usize, mark: u8, n: usize) -> usize
+    ensures { λ r. ⌜ page r (now (out .exit)) ≡ added (mark ∷ decimal n) (page at (now (out .entry))) ⌝ }
 {
-    let end = pages::put(out, at, b' ');
+    let end = pages::put(out, at, mark);
     pages::digits::put_number(out, end, n)
-}
-
-// Adds a comma and a number.
-fn put_further(out: &mut [u8], at: usize, n: u32) -> usize
-    ensures { λ r. ⌜ page r (now (out .exit)) ≡ added (further n) (page at (now (out .entry))) ⌝ }
-{
-    let end = pages::put(out, at, b',');
-    pages::digits::put_number(out, end, n as usize)
 }
 
 // `no NUMBER PLACE`.
@@ -44,8 +37,8 @@ pub fn refusal(out: &mut [u8], at: usize, number: u32, place: usize) -> usize
     ensures { λ r. ⌜ page r (now (out .exit)) ≡ added (refusalText number place) (page at (now (out .entry))) ⌝ }
 {
     let word = pages::put_all(out, at, b"no");
-    let end = put_next(out, word, number as usize);
-    put_next(out, end, place)
+    let end = put_after(out, word, b' ', number as usize);
+    put_after(out, end, b' ', place)
 }
 
 // `ok NUMBER`.
@@ -53,7 +46,7 @@ pub fn done(out: &mut [u8], at: usize, number: usize) -> usize
     ensures { λ r. ⌜ page r (now (out .exit)) ≡ added (doneText number) (page at (now (out .entry))) ⌝ }
 {
     let word = pages::put_all(out, at, b"ok");
-    put_next(out, word, number)
+    put_after(out, word, b' ', number)
 }
 
 // `ok CARDS LINES`, or the refusal.
@@ -63,7 +56,7 @@ pub fn verdict(out: &mut [u8], at: usize, v: Verdict) -> usize
     match v {
         Verdict::Accepted(cards, lines) => {
             let end = done(out, at, cards);
-            put_next(out, end, lines)
+            put_after(out, end, b' ', lines)
         }
         Verdict::Refused(number, place) => refusal(out, at, number, place),
     }
@@ -111,7 +104,7 @@ pub fn numbers(out: &mut [u8], at: usize, s: &[u32]) -> usize
     end = pages::digits::put_number(out, end, s[0] as usize);
     let mut i: usize = 1;
     while i < s.len() {
-        end = put_further(out, end, s[i]);
+        end = put_after(out, end, b',', s[i] as usize);
         i += 1;
     }
     end

@@ -15,8 +15,8 @@ slice-aggregate-put-all c = search needs
 put-all-requires : tie.Need-put-all-requires
 put-all-requires c κs = search needs
 
-put-next-requires : tie.Need-put-next-requires
-put-next-requires c κs = search needs
+put-after-requires : tie.Need-put-after-requires
+put-after-requires c κs = search needs
 
 same-length : tie.Need-same-length
 same-length c = search needs
@@ -24,12 +24,12 @@ same-length c = search needs
 returns : tie.Need-returns
 unfolding doneText octets
 returns c =
-    let put-next = c .before .before .put-next in
+    let put-after = c .before .before .put-after in
     let put-all = c .before .before .before .before .before .before .put-all in
     let a = c .before .before .before .before .before .before .before .before .before .before .args in
-    then (octets "ok") (spaced (decimal (a .number))) (page (a .at) (now (a .out))) (put-all .ensures) (put-next .ensures)
+    then (octets "ok") (spaced (decimal (a .number))) (page (a .at) (now (a .out))) (put-all .ensures) (put-after .ensures)
 
 pub done-spec : {M : Type 1} → statement M
 done-spec =
     tie.close
-    (tie.spec slice-aggregate-put-all put-all-requires put-next-requires same-length returns)
+    (tie.spec slice-aggregate-put-all put-all-requires put-after-requires same-length returns)

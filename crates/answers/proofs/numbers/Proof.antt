@@ -44,14 +44,17 @@ put-number-requires c κs = tt
 loop-holds : tie.Need-loop-holds Inv-loop μ-loop
 loop-holds c = (refl, refl)
 
-mul-put-further : tie.Need-mul-put-further Inv-loop μ-loop
-mul-put-further c = omega arith
+mul-put-after : tie.Need-mul-put-after Inv-loop μ-loop
+mul-put-after c = omega arith
 
-shared-slice-read-put-further : tie.Need-shared-slice-read-put-further Inv-loop μ-loop
-shared-slice-read-put-further c = omega arith
+shared-slice-read-put-after : tie.Need-shared-slice-read-put-after Inv-loop μ-loop
+shared-slice-read-put-after c = omega arith
 
-put-further-requires : tie.Need-put-further-requires Inv-loop μ-loop
-put-further-requires c κs = tt
+cast-put-after : tie.Need-cast-put-after Inv-loop μ-loop
+cast-put-after c = omega (arith, c .shared-slice-known3 .given (c .before .before .before .loop .i))
+
+put-after-requires : tie.Need-put-after-requires Inv-loop μ-loop
+put-after-requires c κs = tt
 
 add-i : tie.Need-add-i Inv-loop μ-loop
 add-i c = omega arith
@@ -61,11 +64,11 @@ loop-less c = omega arith
 
 loop-again : tie.Need-loop-again Inv-loop μ-loop
 loop-again c =
-    let put-further = c .before .before .put-further in
+    let put-after = c .before .before .put-after in
     let a = c .before .before .before .before .before .before .before .before .before .before .before .before .before .before .before .before .before .before .before .args in
     let l = c .before .before .before .before .before .before .loop in (
       omega arith,
-      turn further others others-cons (now (a .s)) (l .i) (omega arith) (page (l .end) (l .out)) (put-further .ensures) ∙ l .inv .1,
+      turn further others others-cons (now (a .s)) (l .i) (omega arith) (page (l .end) (l .out)) (put-after .ensures) ∙ l .inv .1,
     )
 
 same-length-2 : tie.Need-same-length-2 Inv-loop μ-loop
@@ -99,9 +102,10 @@ numbers-spec =
     cast-put-number
     put-number-requires
     loop-holds
-    mul-put-further
-    shared-slice-read-put-further
-    put-further-requires
+    mul-put-after
+    shared-slice-read-put-after
+    cast-put-after
+    put-after-requires
     add-i
     loop-less
     loop-again

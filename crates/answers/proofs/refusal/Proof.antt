@@ -16,11 +16,11 @@ slice-aggregate-put-all c = search needs
 put-all-requires : tie.Need-put-all-requires
 put-all-requires c κs = search needs
 
-put-next-requires : tie.Need-put-next-requires
-put-next-requires c κs = search needs
+put-after-requires : tie.Need-put-after-requires
+put-after-requires c κs = search needs
 
-put-next-requires-2 : tie.Need-put-next-requires-2
-put-next-requires-2 c κs = search needs
+put-after-requires-2 : tie.Need-put-after-requires-2
+put-after-requires-2 c κs = search needs
 
 same-length : tie.Need-same-length
 same-length c = search needs
@@ -28,12 +28,12 @@ same-length c = search needs
 returns : tie.Need-returns
 unfolding refusalText octets
 returns c =
-    let put-next2 = c .before .before .put-next2 in
-    let put-next = c .before .before .before .before .before .before .put-next in
+    let put-after2 = c .before .before .put-after2 in
+    let put-after = c .before .before .before .before .before .before .put-after in
     let put-all = c .before .before .before .before .before .before .before .before .before .before .put-all in
     let a = c .before .before .before .before .before .before .before .before .before .before .before .before .before .before .args in
     then (octets "no") (spaced (decimal (a .number)) ++ spaced (decimal (a .place))) (page (a .at) (now (a .out))) (put-all .ensures)
-    (then (spaced (decimal (a .number))) (spaced (decimal (a .place))) (page (put-all .result) (put-all .last .0)) (put-next .ensures) (put-next2 .ensures))
+    (then (spaced (decimal (a .number))) (spaced (decimal (a .place))) (page (put-all .result) (put-all .last .0)) (put-after .ensures) (put-after2 .ensures))
 
 pub refusal-spec : {M : Type 1} → statement M
 refusal-spec =
@@ -41,7 +41,7 @@ refusal-spec =
     (tie.spec
     slice-aggregate-put-all
     put-all-requires
-    put-next-requires
-    put-next-requires-2
+    put-after-requires
+    put-after-requires-2
     same-length
     returns)

@@ -11,8 +11,8 @@ enum-known-v c = search needs
 done-requires : tie.Need-done-requires
 done-requires c κs = search needs
 
-put-next-requires : tie.Need-put-next-requires
-put-next-requires c κs = search needs
+put-after-requires : tie.Need-put-after-requires
+put-after-requires c κs = search needs
 
 enum-known-v-2 : tie.Need-enum-known-v-2
 enum-known-v-2 c = search needs
@@ -26,10 +26,10 @@ same-length c = search needs
 returns : tie.Need-returns
 unfolding verdictText
 returns c =
-    let put-next = c .before .before .put-next in
+    let put-after = c .before .before .put-after in
     let done = c .before .before .before .before .before .before .done in
     let v = c .before .before .before .before .before .before .before .before .before .v in
-    rw (v .given .1) (then _ _ _ (done .ensures) (put-next .ensures))
+    rw (v .given .1) (then _ _ _ (done .ensures) (put-after .ensures))
 
 same-length-2 : tie.Need-same-length-2
 same-length-2 c = search needs
@@ -44,7 +44,7 @@ verdict-spec =
     (tie.spec
     enum-known-v
     done-requires
-    put-next-requires
+    put-after-requires
     enum-known-v-2
     refusal-requires
     same-length

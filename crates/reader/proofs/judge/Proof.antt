@@ -53,13 +53,9 @@ returns-5 : tie.Need-returns-5
 unfolding judgeOf
 returns-5 c =
     let c8 = c .before .before .before .before .before .before .before .before in
-    let c9 = c8 .before in
-    let c10 = c9 .before in
-    let c11 = c10 .before in
-    let c12 = c11 .before in
-    let c13 = c12 .before in
-    let e = c11 .first-lone .ensures in
-    c .concluded .ensures ∙ ap (verdictOf _) (c .before .walk .ensures) ∙ sym (simp (le-ltb _ _ (c13 .if1 .left), ne-eqb _ _ (c12 .if2 .left), le-ltb _ _ (rw e at (c10 .if3 .left)), sym (c9 .ends-cr-lf .ensures) ∙ not-false _ (c8 .if4 .left)))
+    let c13 = c8 .before .before .before .before .before in
+    let e = c8 .before .before .before .first-lone .ensures in
+    c .concluded .ensures ∙ ap (verdictOf _) (c .before .walk .ensures) ∙ sym (simp (le-ltb _ _ (c13 .if1 .left), ne-eqb _ _ (c8 .before .before .before .before .if2 .left), le-ltb _ _ (rw e at (c8 .before .before .if3 .left)), sym (c8 .before .ends-cr-lf .ensures) ∙ not-false _ (c8 .if4 .left)))
 
 pub judge-spec : {M : Type 1} → statement M
 judge-spec =

@@ -61,19 +61,14 @@ table-requires-2 c κs = search needs
 
 write-lines-requires : tie.Need-write-lines-requires
 write-lines-requires c κs =
-    let c4 = c .before .before .before .before in
-    let c5 = c4 .before in
-    let c6 = c5 .before in
-    let c7 = c6 .before in
-    let c8 = c7 .before in
-    let c10 = c8 .before .before in
-    let c12 = c10 .before .before in
-    let c16 = c12 .before .before .before .before in
+    let c5 = c .before .before .before .before .before in
+    let c8 = c5 .before .before .before in
+    let c16 = c8 .before .before .before .before .before .before .before .before in
     let a = c16 .args in
     let i = a .input .now in
-    let e = sym (c12 .judge .ensures) ∙ c10 .v .given .1 in
+    let e = sym (c8 .before .before .before .before .judge .ensures) ∙ c8 .before .before .v .given .1 in
     let r = numbers-counted i (a .copy .now) (a .records .now) _ _ _ e (size (a .input .now) _ _ e (c8 .unfolded-length .ensures)) in
-    (c5 .table .ensures, (c4 .table2 .ensures, (accepting i _ _ e .short, (omega (arith, c8 .unfolded-length .ensures, c7 .if1 .left), rw (recorded i _ _ e) (omega (arith, r, c6 .if2 .left))))))
+    (c5 .table .ensures, (c .before .before .before .before .table2 .ensures, (accepting i _ _ e .short, (omega (arith, c8 .unfolded-length .ensures, c5 .before .before .if1 .left), rw (recorded i _ _ e) (omega (arith, r, c5 .before .if2 .left))))))
 
 same-length : tie.Need-same-length
 same-length c = search needs
@@ -83,18 +78,13 @@ same-length-2 c = search needs
 
 returns-4 : tie.Need-returns-4
 returns-4 c =
-    let c4 = c .before .before .before .before in
-    let c11 = c4 .before .before .before .before .before .before .before in
-    let c12 = c11 .before in
-    let c13 = c12 .before in
-    let c15 = c13 .before .before in
-    let c17 = c15 .before .before in
-    let c21 = c17 .before .before .before .before in
-    let a = c21 .args in
+    let c11 = c .before .before .before .before .before .before .before .before .before .before .before in
+    let c17 = c11 .before .before .before .before .before .before in
+    let a = c17 .before .before .before .before .args in
     let i = a .input .now in
-    let e = sym (c17 .judge .ensures) ∙ c15 .v .given .1 in
-    let w = c4 .write-lines .ensures in
-    read-written i (a .copy .now) (a .records .now) _ _ _ e (size (a .input .now) _ _ e (c13 .unfolded-length .ensures)) (c12 .if1 .left) (c11 .if2 .left) _ _
+    let e = sym (c17 .judge .ensures) ∙ c11 .before .before .before .before .v .given .1 in
+    let w = c .before .before .before .before .write-lines .ensures in
+    read-written i (a .copy .now) (a .records .now) _ _ _ e (size (a .input .now) _ _ e (c11 .before .before .unfolded-length .ensures)) (c11 .before .if1 .left) (c11 .if2 .left) _ _
     (w .0 ∙ ap (λ (l : List ℕ). overlay l (a .copy .now)) (copied i _ _ e)) (w .1 ∙ ap (λ (l : List ℕ). overlay l (a .records .now)) (recorded i _ _ e))
 
 pub read-spec : {M : Type 1} → statement M

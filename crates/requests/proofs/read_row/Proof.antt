@@ -72,19 +72,14 @@ same-length c = search needs
 returns-3 : tie.Need-returns-3
 returns-3 c =
     let c5 = c .before .before .before .before .before in
-    let c7 = c5 .before .before in
-    let c9 = c7 .before .before in
-    let c11 = c9 .before .before in
-    let c13 = c11 .before .before in
-    let c15 = c13 .before .before in
-    let c16 = c15 .before in
-    let c20 = c16 .before .before .before .before in
-    let a = c20 .args in
+    let c11 = c5 .before .before .before .before .before .before in
+    let c16 = c11 .before .before .before .before .before in
+    let a = c16 .before .before .before .before .args in
     let n = c16 .numbers-at in
-    let o = c7 .octets-at in
-    let x = c15 .number in
+    let o = c5 .before .before .octets-at in
+    let x = c11 .before .before .before .before .number in
     let y = c11 .number2 in
-    let e = octets-bad (rowAt (a .row)) (a .line .now) (a .out .now) (n .result) (n .ensures .0) (x .result) (x .ensures) (y .result) (y .ensures) _ (c13 .first .given .1) _ (o .result) (c9 .second .given .1) (o .ensures .0) (c5 .last .result) _ (c5 .last .ensures) (c .before .enum-told3 .given .1) in
+    let e = octets-bad (rowAt (a .row)) (a .line .now) (a .out .now) (n .result) (n .ensures .0) (x .result) (x .ensures) (y .result) (y .ensures) _ (c11 .before .before .first .given .1) _ (o .result) (c5 .before .before .before .before .second .given .1) (o .ensures .0) (c5 .last .result) _ (c5 .last .ensures) (c .before .enum-told3 .given .1) in
     rw (c .none3 .ensures) (sym e)
 
 name-at-requires : tie.Need-name-at-requires
@@ -95,21 +90,15 @@ same-length-2 c = search needs
 
 returns-4 : tie.Need-returns-4
 returns-4 c =
-    let c2 = c .before .before in
-    let c6 = c2 .before .before .before .before in
-    let c8 = c6 .before .before in
-    let c10 = c8 .before .before in
-    let c12 = c10 .before .before in
-    let c14 = c12 .before .before in
-    let c16 = c14 .before .before in
-    let c17 = c16 .before in
-    let c21 = c17 .before .before .before .before in
-    let a = c21 .args in
+    let c6 = c .before .before .before .before .before .before in
+    let c12 = c6 .before .before .before .before .before .before in
+    let c17 = c12 .before .before .before .before .before in
+    let a = c17 .before .before .before .before .args in
     let n = c17 .numbers-at in
-    let o = c8 .octets-at in
-    let x = c16 .number in
+    let o = c6 .before .before .octets-at in
+    let x = c12 .before .before .before .before .number in
     let y = c12 .number2 in
-    let e = all-read (rowAt (a .row)) (a .line .now) (a .out .now) (n .result) (n .ensures .0) (x .result) (x .ensures) (y .result) (y .ensures) _ (c14 .first .given .1) _ (o .result) (c10 .second .given .1) (o .ensures .0) (c6 .last .result) _ (c6 .last .ensures) _ (c2 .count .given .1) in
+    let e = all-read (rowAt (a .row)) (a .line .now) (a .out .now) (n .result) (n .ensures .0) (x .result) (x .ensures) (y .result) (y .ensures) _ (c12 .before .before .first .given .1) _ (o .result) (c6 .before .before .before .before .second .given .1) (o .ensures .0) (c6 .last .result) _ (c6 .last .ensures) _ (c .before .before .count .given .1) in
     rw (c .name-at .ensures) (sym e)
 
 pub read-row-spec : {M : Type 1} → statement M

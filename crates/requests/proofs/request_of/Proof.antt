@@ -31,13 +31,10 @@ same-length c = search needs
 
 returns : tie.Need-returns
 returns c =
-    let c2 = c .before .before in
-    let c5 = c2 .before .before .before in
-    let c6 = c5 .before in
-    let c7 = c6 .before in
-    let c12 = c7 .before .before .before .before .before in
+    let c5 = c .before .before .before .before .before in
+    let c12 = c5 .before .before .before .before .before .before .before in
     let a = c12 .args in
-    c2 .read-row .ensures ∙ sym (of-row (a .line .now) (a .out .now) _ (c5 .row-of .result) (c6 .spaces .result) (c7 .word .ensures) (c6 .spaces .ensures) (c5 .row-of .ensures .0))
+    c .before .before .read-row .ensures ∙ sym (of-row (a .line .now) (a .out .now) _ (c5 .row-of .result) (c5 .before .spaces .result) (c5 .before .before .word .ensures) (c5 .before .spaces .ensures) (c5 .row-of .ensures .0))
 
 pub request-of-spec : {M : Type 1} → statement M
 request-of-spec =

@@ -66,11 +66,13 @@ same-length-3 c = search needs
 returns-3 : tie.Need-returns-3
 unfolding look
 returns-3 c =
+    let c7 = c .before .before .before .before .before .before .before in
+    let c14 = c7 .before .before .before .before .before .before .before in
     let ended = c .before .before .before .ended in
-    let seen = c .before .before .before .before .before .before .before .seen in
-    let if2 = c .before .before .before .before .before .before .before .before .before .before .if2 in
-    let if1 = c .before .before .before .before .before .before .before .before .before .before .before .if1 in
-    let a = c .before .before .before .before .before .before .before .before .before .before .before .before .before .before .args in
+    let seen = c7 .seen in
+    let if2 = c7 .before .before .before .if2 in
+    let if1 = c7 .before .before .before .before .if1 in
+    let a = c14 .args in
     let size = a .c .size in
     let p = now (a .pool) in
     let o = page (a .c .at) (now (a .out)) in

@@ -82,12 +82,14 @@ same-length-3 c = search needs
 returns-3 : tie.Need-returns-3
 unfolding poolPart
 returns-3 c =
+    let c7 = c .before .before .before .before .before .before .before in
+    let c12 = c7 .before .before .before .before .before in
     let ended = c .before .before .before .ended in
-    let put-octets = c .before .before .before .before .before .before .before .put-octets in
-    let if2 = c .before .before .before .before .before .before .before .before .before .before .if2 in
-    let if1 = c .before .before .before .before .before .before .before .before .before .before .before .if1 in
-    let part = c .before .before .before .before .before .before .before .before .before .before .before .before .part in
-    let a = c .before .before .before .before .before .before .before .before .before .before .before .before .before .before .before .args in
+    let put-octets = c7 .put-octets in
+    let if2 = c7 .before .before .before .if2 in
+    let if1 = c7 .before .before .before .before .if1 in
+    let part = c12 .part in
+    let a = c12 .before .before .before .args in
     let s = now (part .result) in
     let e = a .from + a .count in
     let o = page (a .c .at) (now (a .out)) in

@@ -38,14 +38,16 @@ same-length c = search needs
 
 returns : tie.Need-returns
 returns c =
+    let c7 = c .before .before .before .before .before .before .before in
+    let c12 = c7 .before .before .before .before .before in
     let looked-at = c .before .before .looked-at in
     let both-kept = c .before .before .before .both-kept in
-    let put-taken = c .before .before .before .before .before .before .before .put-taken in
-    let part = c .before .before .before .before .before .before .before .before .before .part in
-    let copy-length = c .before .before .before .before .before .before .before .before .before .before .copy-length in
-    let numbers = c .before .before .before .before .before .before .before .before .before .before .before .numbers in
-    let numbers-of = c .before .before .before .before .before .before .before .before .before .before .before .before .numbers-of in
-    let a = c .before .before .before .before .before .before .before .before .before .before .before .before .before .before .before .before .args in
+    let put-taken = c7 .put-taken in
+    let part = c7 .before .before .part in
+    let copy-length = c7 .before .before .before .copy-length in
+    let numbers = c7 .before .before .before .before .numbers in
+    let numbers-of = c12 .numbers-of in
+    let a = c12 .before .before .before .before .args in
     let o = page (a .at) (now (a .out)) in
     then (takenText (now (part .result)) (now (numbers .result))) (roomEnd (both-kept .result)) o (put-taken .ensures) (looked-at .ensures)
     ∙ ap (λ (t : List ℕ). added t o)

@@ -36,11 +36,14 @@ same-length-3 c = search needs
 returns : tie.Need-returns
 unfolding readText
 returns c =
+    let c6 = c .before .before .before .before .before .before in
+    let c15 = c6 .before .before .before .before .before .before .before .before .before in
+    let c22 = c15 .before .before .before .before .before .before .before in
     let put-rooms = c .before .before .put-rooms in
-    let lines-of = c .before .before .before .before .before .before .lines-of in
-    let verdict = c .before .before .before .before .before .before .before .before .before .verdict in
-    let read = c .before .before .before .before .before .before .before .before .before .before .before .before .before .before .before .read in
-    let a = c .before .before .before .before .before .before .before .before .before .before .before .before .before .before .before .before .before .before .before .before .before .before .args in
+    let lines-of = c6 .lines-of in
+    let verdict = c6 .before .before .before .verdict in
+    let read = c15 .read in
+    let a = c22 .args in
     let o = page (a .at) (now (a .out)) in
     let copy = read .last .1 .0 in
     let records = read .last .1 .1 .0 in

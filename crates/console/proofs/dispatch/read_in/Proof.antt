@@ -31,11 +31,14 @@ same-length-3 c = search needs
 returns : tie.Need-returns
 unfolding answerIn
 returns c =
-    let t = told (c .before .before .before .before .before .before .before .before .before .before .before .before .before .before .before .before .before .args .c) (now (c .before .before .before .before .before .before .before .before .before .before .before .before .before .before .before .before .before .args .out)) in
-    let p = now (c .before .before .before .before .before .before .before .before .before .before .before .before .before .before .before .before .before .args .pool) in
+    let c7 = c .before .before .before .before .before .before .before in
+    let c11 = c7 .before .before .before .before in
+    let a = c11 .before .before .before .before .before .before .args in
+    let t = told (a .c) (now (a .out)) in
+    let p = now (a .pool) in
     c .before .before .before .before .answered .ensures
-    ∙ ap (λ (l : List ℕ). answerTo (c .before .before .before .before .before .before .before .before .before .before .before .request-of .result) l t p) (c .before .before .before .before .before .before .before .part .ensures)
-    ∙ ap (λ (x : Requested). answerFrom x t p) (c .before .before .before .before .before .before .before .before .before .before .before .request-of .ensures)
+    ∙ ap (λ (l : List ℕ). answerTo (c11 .request-of .result) l t p) (c7 .part .ensures)
+    ∙ ap (λ (x : Requested). answerFrom x t p) (c11 .request-of .ensures)
 
 pub read-in-spec : {M : Type 1} → statement M
 read-in-spec =

@@ -1,12 +1,12 @@
--- `answers::put_further` meets its contract. Assumes nothing.
+-- `answers::put_after` meets its contract. Assumes nothing.
 use denote.Ref.{now}
 use mathlib.Core.List.{[], _∷_}
 use borrow.Author.Needs.{needs}
 use Rattle.pages.specs.Pages.{page}
 use Rattle.pages.specs.Digits.{decimal}
 use Rattle.pages.proofs.PageLaws.{then}
-use Rattle.answers.proofs.put_further.Statement.{statement}
-use Rattle.answers.proofs.put_further.Tie as tie
+use Rattle.answers.proofs.put_after.Statement.{statement}
+use Rattle.answers.proofs.put_after.Tie as tie
 
 put-requires : tie.Need-put-requires
 put-requires c κs = search needs
@@ -22,7 +22,7 @@ returns c =
     let put-number = c .before .before .put-number in
     let put = c .before .before .before .before .before .before .put in
     let a = c .before .before .before .before .before .before .before .before .before .args in
-    then (44 ∷ []) (decimal (a .n)) (page (a .at) (now (a .out))) (put .ensures) (put-number .ensures)
+    then (a .mark ∷ []) (decimal (a .n)) (page (a .at) (now (a .out))) (put .ensures) (put-number .ensures)
 
-pub put-further-spec : {M : Type 1} → statement M
-put-further-spec = tie.close (tie.spec put-requires put-number-requires same-length returns)
+pub put-after-spec : {M : Type 1} → statement M
+put-after-spec = tie.close (tie.spec put-requires put-number-requires same-length returns)
