@@ -1,6 +1,6 @@
 // Files: one is opened by its name, `-` for standard input, and its octets are read.
 ghost use lib.ListN.{length};
-ghost use Rattle.files.specs.Inputs.{within};
+ghost use Rattle.files.specs.Inputs.{within, descriptor};
 use libc::STDERR_FILENO;
 use libc::STDIN_FILENO;
 use octets::cases::same_name;
@@ -24,7 +24,7 @@ fn complain(path: &[u8]) {
     os::fail(b": can't be read");
 }
 
-// Reads to the start of the room until that is full or the file ends.
+// Reads to the start of the room until that is full or the file ends. What the room holds afterwards is free, as after `libc::read`.
 pub fn fetch(fd: i32, path: &[u8], room: &mut [u8]) -> Input
     ensures { λ r. ⌜ within r (length (now (room .entry))) ⌝ }
 {
@@ -60,12 +60,15 @@ pub fn read(path: &[u8], room: &mut [u8]) -> Input
 }
 
 // Opens the file that argument i names, and answers its descriptor, or -1 after saying why it can't be read.
-pub fn open_argument(i: usize) -> i32 {
+pub fn open_argument(i: usize) -> i32
+    ensures { λ r. ⌜ descriptor r ⌝ }
+{
     let mut path = io::buffer();
     let n = os::arg(i, &mut path);
     let fd = os::open_read(&path[..n]);
     if fd < 0 {
         complain(&path[..n]);
+        return -1;
     }
     fd
 }
