@@ -20,7 +20,7 @@ unfoldable pub pairs : List ℕ → List ℕ
 pairs [] = []
 pairs (x ∷ xs) = pair x ++ pairs xs
 
--- or `-` for none
+-- octets as a word: those pairs, or `-` for none
 unfoldable pub octetsWord : List ℕ → List ℕ
 octetsWord [] = octets "-"
 octetsWord (x ∷ xs) = pairs (x ∷ xs)

@@ -1,5 +1,12 @@
 -- `columns::put_column` meets its contract. Assumes nothing.
-use Rattle.pages.proofs.PageLaws.{added-append}
+use denote.Ref.{now}
+use mathlib.Core.Path.{ap, _∙_}
+use mathlib.Core.List.{[], _∷_, _++_}
+use Prim.Native.Nat.{ℕ, _-_}
+use lib.ListN.{replicate}
+use Rattle.pages.specs.Pages.{page, added}
+use Rattle.pages.proofs.PageLaws.{then}
+use Rattle.columns.specs.Seen.{visible}
 use borrow.Author.Needs.{needs}
 use Rattle.columns.proofs.put_column.Statement.{statement}
 use Rattle.columns.proofs.put_column.Tie as tie
@@ -24,7 +31,10 @@ returns c =
     let d = c .before .before in
     let g = d .before .before .before .before in
     let v = g .before .before .before .before .before in
-    simp added-append (cc (g .before .characters .ensures, v .put-visible .ensures, g .put-gap .ensures, d .put-spaces .ensures))
+    let a = v .before .before .before .before .args in
+    let p = page (a .at) (now (a .room)) in
+    then _ _ p (then _ _ p (v .put-visible .ensures) (g .put-gap .ensures)) (d .put-spaces .ensures)
+    ∙ ap (λ (n : ℕ). added (visible (now (a .text)) ++ replicate (a .width - n) 32 ++ (32 ∷ [])) p) (g .before .characters .ensures)
 
 pub put-column-spec : {M : Type 1} → statement M
 put-column-spec =

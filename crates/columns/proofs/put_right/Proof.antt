@@ -1,7 +1,12 @@
 -- `columns::put_right` meets its contract. Assumes nothing.
-use mathlib.Core.Path.{_∙_}
+use denote.Ref.{now}
+use mathlib.Core.Path.{ap, _∙_}
+use mathlib.Core.List.{List, _++_}
+use Prim.Native.Nat.{ℕ, _-_}
 use native.Mathlib.Omega.{arith}
-use Rattle.pages.proofs.PageLaws.{added-append}
+use lib.ListN.{length, replicate}
+use Rattle.pages.specs.Pages.{page, added}
+use Rattle.pages.proofs.PageLaws.{then}
 use Rattle.pages.proofs.Decimals.{decimal-is}
 use borrow.Author.Needs.{needs}
 use Rattle.columns.proofs.put_right.Statement.{statement}
@@ -30,9 +35,11 @@ returns c =
     let d = c .before .before in
     let g = d .before .before .before .before in
     let t = g .before .before .before in
+    let a = t .before .before .before .args in
+    let p = page (a .at) (now (a .room)) in
     let e = t .decimal .ensures in
-    let spelled = e .1 .1 ∙ decimal-is (t .before .before .before .args .n) (t .decimal .result) (e .1 .0) (omega arith) in
-    simp added-append (cc (d .put-all .ensures, g .put-gap .ensures, spelled))
+    then _ _ p (g .put-gap .ensures) (d .put-all .ensures)
+    ∙ ap (λ (l : List ℕ). added (replicate (a .width - length l) 32 ++ l) p) (e .1 .1 ∙ decimal-is (a .n) (t .decimal .result) (e .1 .0) (omega arith))
 
 pub put-right-spec : {M : Type 1} → statement M
 put-right-spec =
