@@ -1,5 +1,9 @@
 // The depot in the morning: the desk, the places at it, and what is counted.
+ghost use mathlib.Core.Path.{_≡_};
 ghost use Prim.Native.Nat.{_<_};
+ghost use lib.ListN.{getD};
+ghost use Rattle.desk.specs.Steps.{releaseStep};
+ghost use Rattle.morning.specs.Depot.{oneMore, asTicket, freePlace, freshMorning, leftAt};
 use desk::Desk;
 use reader::Verdict;
 
@@ -26,7 +30,9 @@ pub struct Morning {
 }
 
 // One more, as far as numbers go.
-pub(crate) fn more(n: usize) -> usize {
+pub(crate) fn more(n: usize) -> usize
+    ensures { λ r. ⌜ r ≡ oneMore n ⌝ }
+{
     if n == usize::MAX {
         return n;
     }
@@ -34,14 +40,18 @@ pub(crate) fn more(n: usize) -> usize {
 }
 
 // A ticket from an answer.
-pub(crate) fn ticket_of(n: usize) -> u32 {
+pub(crate) fn ticket_of(n: usize) -> u32
+    ensures { λ r. ⌜ r ≡ asTicket n ⌝ }
+{
     if n > 4294967295 {
         return 0;
     }
     n as u32
 }
 
-fn nobody() -> Place {
+fn nobody() -> Place
+    ensures { λ r. ⌜ r ≡ freePlace ⌝ }
+{
     Place {
         file: 0,
         fd: 0,
@@ -50,7 +60,9 @@ fn nobody() -> Place {
 }
 
 // Before the first upload.
-pub(crate) fn fresh(next: usize, count: usize, chunk: usize, width: usize) -> Morning {
+pub(crate) fn fresh(next: usize, count: usize, chunk: usize, width: usize) -> Morning
+    ensures { λ r. ⌜ r ≡ freshMorning next count chunk width ⌝ }
+{
     let t = Desk::new(40);
     let d = t.desk;
     let none = nobody();
@@ -73,6 +85,8 @@ pub(crate) fn fresh(next: usize, count: usize, chunk: usize, width: usize) -> Mo
 // The place is free again: the upload is released and its file closed.
 pub(crate) fn left(mut m: Morning, k: usize, pool: &mut [u8]) -> Morning
     requires { ⌜ k < 40 ⌝ }
+    ensures { λ r. ⌜ r ≡ leftAt k (releaseStep (m .desk) (now (pool .entry)) (getD (m .places) k freePlace .ticket) .desk) m ⌝ }
+    ensures { λ r. ⌜ now (pool .exit) ≡ releaseStep (m .desk) (now (pool .entry)) (getD (m .places) k freePlace .ticket) .pool ⌝ }
 {
     let p = m.places[k];
     let d = m.desk;

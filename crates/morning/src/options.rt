@@ -1,5 +1,6 @@
 // The options of `morning`: the chunks' size, and how wide the column of names has to be.
 ghost use Prim.Native.Nat.{_≤_};
+ghost use Rattle.morning.specs.Options.{Chosen};
 use octets::cases::same_name;
 
 // The size of a chunk, 0 where it is not one, and the argument that names the first file.
@@ -12,7 +13,9 @@ pub struct Options {
 const WIDEST: usize = 40;
 
 // The size that argument i gives.
-fn size_at(i: usize) -> usize {
+fn size_at(i: usize) -> usize
+    ensures { λ r. ⌜ r ≤ 16384 ⌝ }
+{
     let mut word = [0u8; 16];
     let n = os::arg(i, &mut word);
     workshop::options::size_of(&word[..n])
@@ -20,7 +23,7 @@ fn size_at(i: usize) -> usize {
 
 // `--chunk N` if it stands before the files, else 512.
 pub fn read(count: usize) -> Options
-    ensures { λ r. ⌜ r .first ≤ 4 ⌝ }
+    ensures { λ r. ⌜ Chosen r ⌝ }
 {
     let mut word = [0u8; 16];
     let n = os::arg(2, &mut word);
@@ -45,7 +48,7 @@ fn width_of(i: usize) -> usize {
 
 // The most characters that an argument from `first` on has, from 4 to the widest that the column gets.
 pub fn widest(first: usize, count: usize) -> usize
-    ensures { λ r. ⌜ r ≤ 40 ⌝ }
+    ensures { λ r. ⌜ (4 ≤ r) × (r ≤ 40) ⌝ }
 {
     let mut width: usize = 4;
     let mut i = first;

@@ -1,5 +1,7 @@
 // The rows of a morning, on standard output.
+ghost use mathlib.Core.Path.{_≡_};
 ghost use Prim.Native.Nat.{_≤_};
+ghost use Rattle.tables.specs.Uploads.{statusOf};
 use libc::STDOUT_FILENO;
 use reader::Verdict;
 use tables::uploads;
@@ -36,6 +38,7 @@ pub(crate) fn row(i: usize, width: usize, ticket: u32, octets: usize, v: Verdict
 
 // The last line, with the counts; answers the exit status.
 pub fn summary(accepted: usize, refused: usize, unread: usize, differing: usize) -> u8
+    ensures { λ r. ⌜ r ≡ statusOf refused differing unread ⌝ }
     ensures { λ r. ⌜ r ≤ 2 ⌝ }
 {
     let mut room = io::buffer();

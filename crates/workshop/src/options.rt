@@ -14,6 +14,7 @@ fn digit(octet: u8) -> usize
 // The size of a chunk, from 1 to 16,384 in decimal digits; 0 for any other word.
 pub fn size_of(word: &[u8]) -> usize
     ensures { λ r. ⌜ r ≡ sizeOf (now (word .entry)) ⌝ }
+    ensures { λ r. ⌜ r ≤ 16384 ⌝ }
 {
     let mut n: usize = 0;
     let mut i: usize = 0;

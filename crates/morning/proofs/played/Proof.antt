@@ -24,7 +24,7 @@ summary-requires : tie.Need-summary-requires
 summary-requires c κs = tt
 
 returns : tie.Need-returns
-returns c = c .summary .ensures
+returns c = c .summary .ensures .1
 
 pub played-spec : {M : Type 1} → statement M
 played-spec =

@@ -7,7 +7,7 @@ use Rattle.morning.proofs.options.widest.Statement.{statement}
 use Rattle.morning.proofs.options.widest.Tie as tie
 
 abbrev Inv-loop : tie.InvT-loop
-Inv-loop first count width₀ i₀ width i = width ≤ 40
+Inv-loop first count width₀ i₀ width i = (4 ≤ width) × (width ≤ 40)
 
 abbrev μ-loop : tie.MeasureT-loop
 μ-loop first count width₀ i₀ width i = count - i
@@ -28,7 +28,7 @@ loop-less : tie.Need-loop-less Inv-loop μ-loop
 loop-less c = search needs
 
 loop-again : tie.Need-loop-again Inv-loop μ-loop
-loop-again c = ⊎-elim (λ w. omega arith) (λ w. omega arith) (c .if1 .came)
+loop-again c = ⊎-elim (λ w. (omega arith, omega arith)) (λ w. (omega arith, omega arith)) (c .if1 .came)
 
 returns : tie.Need-returns Inv-loop μ-loop
 returns c = search needs

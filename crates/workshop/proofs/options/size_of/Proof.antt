@@ -29,7 +29,7 @@ returns c =
     let at-loop = at-loop-test .before in
     let l = at-loop .loop in
     let s = at-loop .before .before .args .word .now in
-    sym (sym (l .inv .1) ∙ size-low s (l .i) (l .n) (at-loop-test .loop-test .taken) (c .if1 .taken))
+    (sym (sym (l .inv .1) ∙ size-low s (l .i) (l .n) (at-loop-test .loop-test .taken) (c .if1 .taken)), omega arith)
 
 returns-2 : tie.Need-returns-2 Inv-loop μ-loop
 returns-2 c =
@@ -38,7 +38,7 @@ returns-2 c =
     let at-loop = at-loop-test .before in
     let l = at-loop .loop in
     let s = at-loop .before .before .args .word .now in
-    sym (sym (l .inv .1) ∙ size-high s (l .i) (l .n) (at-loop-test .loop-test .taken) (at-if1 .if1 .left) (c .if2 .taken))
+    (sym (sym (l .inv .1) ∙ size-high s (l .i) (l .n) (at-loop-test .loop-test .taken) (at-if1 .if1 .left) (c .if2 .taken)), omega arith)
 
 mul-n : tie.Need-mul-n Inv-loop μ-loop
 mul-n c = search needs
@@ -58,7 +58,7 @@ returns-3 c =
     let at-loop = at-loop-test .before in
     let l = at-loop .loop in
     let s = at-loop .before .before .args .word .now in
-    sym (sym (l .inv .1) ∙ size-over s (l .i) (l .n) (at-loop-test .loop-test .taken) _ (ap (λ (d : ℕ). l .n * 10 + d) (at-digit .digit .ensures)) (at-if1 .if1 .left) (at-if2 .if2 .left) (c .if3 .taken))
+    (sym (sym (l .inv .1) ∙ size-over s (l .i) (l .n) (at-loop-test .loop-test .taken) _ (ap (λ (d : ℕ). l .n * 10 + d) (at-digit .digit .ensures)) (at-if1 .if1 .left) (at-if2 .if2 .left) (c .if3 .taken)), omega arith)
 
 add-i : tie.Need-add-i Inv-loop μ-loop
 add-i c = search needs
@@ -81,7 +81,7 @@ returns-4 : tie.Need-returns-4 Inv-loop μ-loop
 returns-4 c =
     let at-loop = c .before in
     let l = at-loop .loop in
-    sym (size-end (at-loop .before .before .args .word .now) (l .i) (l .n) (c .loop-test .left)) ∙ l .inv .1
+    (sym (size-end (at-loop .before .before .args .word .now) (l .i) (l .n) (c .loop-test .left)) ∙ l .inv .1, l .inv .0)
 
 pub size-of-spec : {M : Type 1} → statement M
 size-of-spec =
