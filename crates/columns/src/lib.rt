@@ -2,13 +2,10 @@
 pub mod seen;
 
 ghost use mathlib.Core.Path.{_≡_};
-ghost use mathlib.Core.List.{_++_, _∷_, []};
 ghost use Prim.Native.Nat.{_-_};
-ghost use lib.ListN.{length, replicate};
-ghost use Rattle.places.specs.Places.{count, isFirst};
+ghost use lib.ListN.{replicate};
 ghost use Rattle.pages.specs.Pages.{page, added};
-ghost use Rattle.pages.specs.Digits.{decimal};
-ghost use Rattle.columns.specs.Seen.{visible};
+ghost use Rattle.columns.specs.Columns.{atLeft, atRight};
 
 // Adds the spaces that a column of so many characters has beside so many others.
 pub fn put_gap(room: &mut [u8], at: usize, used: usize, width: usize) -> usize
@@ -22,7 +19,7 @@ pub fn put_gap(room: &mut [u8], at: usize, used: usize, width: usize) -> usize
 
 // Adds a text in a column of so many characters, and a space.
 pub fn put_column(room: &mut [u8], at: usize, text: &[u8], width: usize) -> usize
-    ensures { λ r. ⌜ page r (now (room .exit)) ≡ added (visible (now (text .entry)) ++ replicate (width - count isFirst (now (text .entry))) 32 ++ (32 ∷ [])) (page at (now (room .entry))) ⌝ }
+    ensures { λ r. ⌜ page r (now (room .exit)) ≡ added (atLeft (now (text .entry)) width) (page at (now (room .entry))) ⌝ }
 {
     let past = seen::put_visible(room, at, text);
     let next = put_gap(room, past, places::characters(text), width);
@@ -31,7 +28,7 @@ pub fn put_column(room: &mut [u8], at: usize, text: &[u8], width: usize) -> usiz
 
 // Adds a number at the right of a column of so many characters.
 pub fn put_right(room: &mut [u8], at: usize, n: usize, width: usize) -> usize
-    ensures { λ r. ⌜ page r (now (room .exit)) ≡ added (replicate (width - length (decimal n)) 32 ++ decimal n) (page at (now (room .entry))) ⌝ }
+    ensures { λ r. ⌜ page r (now (room .exit)) ≡ added (atRight n width) (page at (now (room .entry))) ⌝ }
 {
     let mut digits = [0u8; 20];
     let k = io::decimal(n as u64, &mut digits);

@@ -7,7 +7,7 @@ use Rattle.octets.specs.Pick.{pick}
 use Rattle.octets.specs.Ascii.{octets}
 use Rattle.parts.specs.Parts.{part}
 use Rattle.refusals.specs.Sentences.{amount}
-use Rattle.tables.specs.Columns.{atLeft}
+use Rattle.columns.specs.Columns.{atLeft}
 
 -- 1 BEGIN, 2 END and 34 VERSION
 abbrev pub framed : ℕ → Bool

@@ -1,4 +1,3 @@
 -- The definitions that the contracts of `tables` cite. Assumes nothing.
-pub mod Columns
 pub mod Fields
 pub mod Uploads

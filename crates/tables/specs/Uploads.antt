@@ -9,7 +9,7 @@ use Rattle.reader.specs.declared.Verdict.{Verdict}
 use Rattle.reader.specs.declared.Verdict.the-variants.{Accepted, Refused}
 use Rattle.refusals.specs.Sentences.{amount, counted, refusal}
 use Rattle.refusals.specs.Words.{wordsOf}
-use Rattle.tables.specs.Columns.{atLeft, atRight}
+use Rattle.columns.specs.Columns.{atLeft, atRight}
 
 abbrev pub titles : ℕ → List ℕ
 titles width = atLeft (octets "tram") width ++ octets "ticket  octets  cards  verdict\n"

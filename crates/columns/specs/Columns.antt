@@ -1,10 +1,10 @@
--- Columns of a row. Assumes nothing.
+-- Text and numbers in columns. Assumes nothing.
 use Prim.Native.Nat.{ℕ, _-_}
 use mathlib.Core.List.{List, [], _∷_, _++_}
 use lib.ListN.{length, replicate}
 use Rattle.places.specs.Places.{count, isFirst}
 use Rattle.pages.specs.Digits.{decimal}
 use Rattle.columns.specs.Seen.{visible}
 
 -- a text at the left of a column of so many characters, and a space
 abbrev pub atLeft : List ℕ → ℕ → List ℕ
