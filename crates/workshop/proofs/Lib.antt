@@ -1,3 +1,2 @@
 -- The laws that the proofs of `workshop` cite. Assumes nothing.
-pub mod OptionLaws
 pub mod PartLaws

@@ -1,15 +1,17 @@
 -- The numbers of options. Assumes nothing.
-use Prim.Native.Nat.{ℕ, _+_, _*_, _-_}
-use mathlib.Core.List.{List, [], _∷_}
+use Prim.Native.Nat.{ℕ}
+use mathlib.Core.List.{List}
 use lib.Dec.{ltb}
 use Rattle.octets.specs.Pick.{pick}
+use Rattle.digits.specs.Numbers.{numberOf}
+use Rattle.digits.specs.declared.numbers.Number.{Number}
+use Rattle.digits.specs.declared.numbers.Number.the-variants.{Is, Bad}
 
--- the number that digits continue, or 0 where it gets over 16,384 or another octet stands there
-unfoldable pub sizeFrom : ℕ → List ℕ → ℕ
-sizeFrom n [] = n
-sizeFrom n (x ∷ xs) =
-    pick (ltb x 48) 0 (pick (ltb 57 x) 0 (pick (ltb 16384 (n * 10 + (x - 48))) 0 (sizeFrom (n * 10 + (x - 48)) xs)))
+-- a number up to 16,384, and 0 for any other and for none
+abbrev pub upTo16384 : Number → ℕ
+upTo16384 (Is n) = pick (ltb 16384 n) 0 n
+upTo16384 Bad = 0
 
 -- a number from 1 to 16,384 in decimal digits, 0 for any other word
 unfoldable pub sizeOf : List ℕ → ℕ
-sizeOf word = sizeFrom 0 word
+sizeOf word = upTo16384 (numberOf word)
