@@ -7,7 +7,7 @@ use reader::Verdict;
 // The row of a file with so many cards and lines.
 fn accepted(path: &[u8], cards: usize, lines: usize) {
     let mut room = io::large_buffer();
-    let n = workshop::rows::put_accepted(&mut room, 0, path, cards, lines);
+    let n = cabbook_rows::rows::put_accepted(&mut room, 0, path, cards, lines);
     print::sent(STDOUT_FILENO, &room, n);
 }
 
@@ -16,13 +16,13 @@ fn under(s: &[u8], number: u32, place: usize) {
     if number < 3 {
         return;
     }
-    let line = workshop::under::offending(s, number, place);
+    let line = cabbook_rows::under::offending(s, number, place);
     if line.len() == 0 {
         io::write_all(STDOUT_FILENO, b"    (the end of the file)\n");
         return;
     }
     let mut room = io::buffer();
-    let n = workshop::under::put_under(&mut room, 0, line);
+    let n = cabbook_rows::under::put_under(&mut room, 0, line);
     print::sent(STDOUT_FILENO, &room, n);
 }
 

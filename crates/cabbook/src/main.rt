@@ -7,9 +7,9 @@ mod usage;
 mod writing;
 
 ghost use Rattle.cabbook.specs.Numbers.{Status};
-use files::Input;
-use morning::Ending;
+use cabbook_morning::Ending;
 use octets::cases::same_name;
+use program_files::Input;
 use writing::Form;
 
 // The descriptor to which the exit status goes, one digit, at the end.
@@ -38,11 +38,11 @@ fn named(command: Command, path: &[u8]) -> u8
     ensures { λ r. ⌜ Status r ⌝ }
 {
     let mut octets = [0u8; 16385];
-    let got = files::read(path, &mut octets);
+    let got = program_files::read(path, &mut octets);
     let Input::Octets(n) = got else {
         return 2;
     };
-    let count = parts::least(n, 16385);
+    let count = octets_slices::least(n, 16385);
     done(command, path, &octets[0..count])
 }
 
@@ -98,7 +98,7 @@ fn one_or_input(command: Command, count: usize) -> u8 {
 fn played(count: usize) -> u8
     ensures { λ r. ⌜ Status r ⌝ }
 {
-    let p = morning::play(count);
+    let p = cabbook_morning::play(count);
     match p {
         Ending::NoSize => usage::wrong(b"--chunk takes a number from 1 to 16384"),
         Ending::NoFile => usage::wrong(b"morning needs a FILE"),

@@ -3,19 +3,19 @@ use libc::STDOUT_FILENO;
 
 // Writes the first n octets of a page.
 pub(crate) fn sent(to: i32, room: &[u8], n: usize) {
-    io::write_all(to, parts::part(room, 0, n));
+    io::write_all(to, octets_slices::part(room, 0, n));
 }
 
 // Text of up to 16,384 octets on standard output, with controls and octets of no character made visible.
 pub(crate) fn visible(text: &[u8]) {
     let mut room = io::large_buffer();
-    let n = columns::seen::put_visible(&mut room, 0, text);
+    let n = cabbook_columns::seen::put_visible(&mut room, 0, text);
     sent(STDOUT_FILENO, &room, n);
 }
 
 // The row of a file with these octets that is refused.
 pub(crate) fn refused(to: i32, path: &[u8], s: &[u8], number: u32, place: usize) {
     let mut room = io::large_buffer();
-    let n = workshop::rows::put_refused(&mut room, 0, path, s, number, place);
+    let n = cabbook_rows::rows::put_refused(&mut room, 0, path, s, number, place);
     sent(to, &room, n);
 }

@@ -11,8 +11,8 @@ const INDENT: usize = 51;
 // Goes to the next line, to the value's column.
 fn indent() {
     let mut room = [0u8; 64];
-    let a = pages::put_all(&mut room, 0, b"\n");
-    let n = pages::put_spaces(&mut room, a, INDENT);
+    let a = program_output::put_all(&mut room, 0, b"\n");
+    let n = program_output::put_spaces(&mut room, a, INDENT);
     print::sent(STDOUT_FILENO, &room, n);
 }
 
@@ -35,7 +35,7 @@ fn plain(s: &[u8]) {
     let w = text::unescape(s, &mut room);
     match w {
         Written::Wrote(n) => {
-            let count = parts::least(n, 16384);
+            let count = octets_slices::least(n, 16384);
             paragraphs(&room[0..count]);
         }
         Written::Refused(_, _) => print::visible(s),
@@ -47,7 +47,7 @@ fn component_end(s: &[u8], from: usize, semicolons: bool) -> usize
     requires { ⌜ from ≤ length (now s) ⌝ }
     ensures { λ r. ⌜ (from ≤ r) × (r ≤ length (now (s .entry))) ⌝ }
 {
-    let n = places::component(parts::part(s, from, s.len()), semicolons);
+    let n = cabbook_positions::component(octets_slices::part(s, from, s.len()), semicolons);
     if n > s.len() - from {
         return s.len();
     }

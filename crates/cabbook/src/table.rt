@@ -17,7 +17,7 @@ fn wide(n: u32) -> usize
 // The columns before the value, of a line that starts and has a group, a name and a value so.
 fn fields(copy: &[u8], start: u32, group: u32, name: u32, value: u32) {
     let mut room = io::large_buffer();
-    let n = tables::fields::put_fields(&mut room, 0, copy, start, group, name, value);
+    let n = cabbook_tables::fields::put_fields(&mut room, 0, copy, start, group, name, value);
     print::sent(STDOUT_FILENO, &room, n);
 }
 
@@ -26,12 +26,12 @@ fn row(copy: &[u8], r: &[u32]) {
     if r.len() < 8 {
         return;
     }
-    if tables::fields::is_frame(r[0]) {
+    if cabbook_tables::fields::is_frame(r[0]) {
         return;
     }
     fields(copy, r[1], r[3], r[4], r[6]);
     let end = wide(r[1]) + wide(r[2]);
-    shown::value(parts::part(copy, wide(r[6]), end), r[7]);
+    shown::value(octets_slices::part(copy, wide(r[6]), end), r[7]);
     io::write_all(STDOUT_FILENO, b"\n");
 }
 
@@ -44,7 +44,7 @@ fn headed(number: u32, cards: usize) -> usize
         return cards;
     }
     let mut room = [0u8; 32];
-    let n = tables::fields::put_card(&mut room, 0, cards + 1);
+    let n = cabbook_tables::fields::put_card(&mut room, 0, cards + 1);
     print::sent(STDOUT_FILENO, &room, n);
     cards + 1
 }
@@ -66,7 +66,7 @@ fn rows(copy: &[u8], records: &[u32])
 // The names of the columns.
 fn titles() {
     let mut room = io::buffer();
-    let n = tables::fields::put_titles(&mut room, 0);
+    let n = cabbook_tables::fields::put_titles(&mut room, 0);
     print::sent(STDOUT_FILENO, &room, n);
 }
 
@@ -80,7 +80,7 @@ pub fn shown(path: &[u8], s: &[u8]) -> u8
     match v {
         Verdict::Accepted(_, lines) => {
             titles();
-            let n = parts::least(lines, 4096) * 8;
+            let n = octets_slices::least(lines, 4096) * 8;
             rows(&copy, &records[0..n]);
             0
         }

@@ -40,7 +40,7 @@ pub fn delivered(form: Form, path: &[u8], s: &[u8]) -> u8
     let w = written(form, s, &mut room);
     match w {
         Written::Wrote(n) => {
-            let count = parts::least(n, 16384);
+            let count = octets_slices::least(n, 16384);
             sent(&room[0..count])
         }
         Written::Refused(number, place) => {

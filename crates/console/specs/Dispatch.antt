@@ -4,16 +4,16 @@ use mathlib.Core.List.{List}
 use lib.Dec.{ltb}
 use lib.ListN.{length, replicate}
 use Rattle.octets.specs.Pick.{pick}
-use Rattle.parts.specs.Parts.{part}
-use Rattle.requests.specs.Requests.{Requested, requestOf}
-use Rattle.requests.specs.declared.Request.{Request}
-use Rattle.requests.specs.declared.Name.{Name}
-use Rattle.requests.specs.declared.Name.the-variants.{Judge, Read, Fold, Escape, Unescape, Desk, Open, Add, Check, Show, Held, Release, Pool, Next, Bad}
-use Rattle.calls.specs.Entries.{judgeAnswer, readAnswer, writeAnswer}
-use Rattle.uploads.specs.Uploads.{Told, Kept, kept, says, badTold, newDesk, nextTicket, change, look, poolPart}
-use Rattle.calls.specs.declared.entries.Writer.the-variants.{Fold as toFold, Escape as toEscape, Unescape as toUnescape}
-use Rattle.uploads.specs.declared.Change.the-variants.{Open as toOpen, Add as toAdd, Release as toRelease}
-use Rattle.uploads.specs.declared.Look.the-variants.{Check as toCheck, Show as toShow, Held as toHeld}
+use Rattle.octets_slices.specs.Parts.{part}
+use Rattle.console_requests.specs.Requests.{Requested, requestOf}
+use Rattle.console_requests.specs.declared.Request.{Request}
+use Rattle.console_requests.specs.declared.Name.{Name}
+use Rattle.console_requests.specs.declared.Name.the-variants.{Judge, Read, Fold, Escape, Unescape, Desk, Open, Add, Check, Show, Held, Release, Pool, Next, Bad}
+use Rattle.console_entries.specs.Entries.{judgeAnswer, readAnswer, writeAnswer}
+use Rattle.console_desk.specs.Uploads.{Told, Kept, kept, says, badTold, newDesk, nextTicket, change, look, poolPart}
+use Rattle.console_entries.specs.declared.entries.Writer.the-variants.{Fold as toFold, Escape as toEscape, Unescape as toUnescape}
+use Rattle.console_desk.specs.declared.Change.the-variants.{Open as toOpen, Add as toAdd, Release as toRelease}
+use Rattle.console_desk.specs.declared.Look.the-variants.{Check as toCheck, Show as toShow, Held as toHeld}
 
 -- each request, with its numbers and the octets that it sends
 unfoldable pub answerBy : Name → ℕ → ℕ → List ℕ → Told → List ℕ → Kept

@@ -1,14 +1,14 @@
 // The answer to a line: its request, handed to the call that it names.
 ghost use mathlib.Core.Path.{_≡_};
-ghost use Rattle.uploads.specs.Uploads.{told, kept};
+ghost use Rattle.console_desk.specs.Uploads.{told, kept};
 ghost use Rattle.console.specs.Dispatch.{answerTo, answerIn, answerLine};
-use calls::entries;
-use calls::entries::Writer;
-use requests::Name;
-use requests::Request;
-use uploads::Change;
-use uploads::Console;
-use uploads::Look;
+use console_desk::Change;
+use console_desk::Console;
+use console_desk::Look;
+use console_entries::entries;
+use console_entries::entries::Writer;
+use console_requests::Name;
+use console_requests::Request;
 
 // The most octets of a line, its LF and a CR before it not counted.
 const LINE: usize = 140000;
@@ -29,15 +29,15 @@ fn answered(q: Request, c: Console, sent: &[u8], pool: &mut [u8], out: &mut [u8]
         Name::Fold => c.with_output(entries::write(Writer::Fold, n, sent, out, c.at)),
         Name::Escape => c.with_output(entries::write(Writer::Escape, n, sent, out, c.at)),
         Name::Unescape => c.with_output(entries::write(Writer::Unescape, n, sent, out, c.at)),
-        Name::Desk => uploads::new_desk(c, n, k, pool, out),
-        Name::Open => uploads::changed(Change::Open, c, n, sent, pool, out),
-        Name::Add => uploads::changed(Change::Add, c, n, sent, pool, out),
-        Name::Check => uploads::looked(Look::Check, c, n, pool, out),
-        Name::Show => uploads::looked(Look::Show, c, n, pool, out),
-        Name::Held => uploads::looked(Look::Held, c, n, pool, out),
-        Name::Release => uploads::changed(Change::Release, c, n, sent, pool, out),
-        Name::Pool => uploads::pool_part(c, n, k, pool, out),
-        Name::Next => uploads::next_ticket(c, n, out),
+        Name::Desk => console_desk::new_desk(c, n, k, pool, out),
+        Name::Open => console_desk::changed(Change::Open, c, n, sent, pool, out),
+        Name::Add => console_desk::changed(Change::Add, c, n, sent, pool, out),
+        Name::Check => console_desk::looked(Look::Check, c, n, pool, out),
+        Name::Show => console_desk::looked(Look::Show, c, n, pool, out),
+        Name::Held => console_desk::looked(Look::Held, c, n, pool, out),
+        Name::Release => console_desk::changed(Change::Release, c, n, sent, pool, out),
+        Name::Pool => console_desk::pool_part(c, n, k, pool, out),
+        Name::Next => console_desk::next_ticket(c, n, out),
         Name::Bad => c.refused(out),
     }
 }
@@ -46,8 +46,8 @@ fn answered(q: Request, c: Console, sent: &[u8], pool: &mut [u8], out: &mut [u8]
 fn read_in(c: Console, line: &[u8], room: &mut [u8], pool: &mut [u8], out: &mut [u8]) -> Console
     ensures { λ r. ⌜ kept (told r (now (out .exit))) (now (pool .exit)) ≡ answerIn (now (line .entry)) (now (room .entry)) (told c (now (out .entry))) (now (pool .entry)) ⌝ }
 {
-    let q = requests::request_of(line, room);
-    answered(q, c, parts::part(room, 0, q.count), pool, out)
+    let q = console_requests::request_of(line, room);
+    answered(q, c, octets_slices::part(room, 0, q.count), pool, out)
 }
 
 // The answer to a line without its end.

@@ -2,18 +2,18 @@
 mod dispatch;
 mod input;
 
+use console_desk::Console;
 use input::Input;
 use input::Line;
 use libc::STDIN_FILENO;
 use libc::STDOUT_FILENO;
-use uploads::Console;
 
 // The most octets of an answer: all of the pool that 40 slots have, two digits an octet, and LF.
 const ANSWER: usize = 1310721;
 
 // Sends on what waits, and answers that nothing waits any more.
 fn sent(out: &[u8], at: usize) -> usize {
-    io::write_all(STDOUT_FILENO, parts::part(out, 0, at));
+    io::write_all(STDOUT_FILENO, octets_slices::part(out, 0, at));
     0
 }
 
@@ -45,7 +45,7 @@ fn answered(
     if long {
         return ready.refused(out);
     }
-    let text = words::without_cr(parts::part(buffer, line.from, line.to));
+    let text = console_words::without_cr(octets_slices::part(buffer, line.from, line.to));
     dispatch::answer(ready, text, pool, out)
 }
 

@@ -12,11 +12,11 @@ use Rattle.reader.specs.declared.Verdict.{Verdict}
 use Rattle.reader.specs.declared.Verdict.the-variants.{Accepted, Refused}
 use Rattle.reader.proofs.ReadLaws.{read-refused, numbers-counted, read-13, read-14}
 use Rattle.folder.specs.Outcome.{foldBy, foldOutcome}
-use Rattle.grammar.specs.Inputs.{InputOf}
-use Rattle.grammar.specs.Refusals.{RefusedBy}
-use Rattle.grammar.proofs.Accepted.{lines-law, accepted-law}
-use Rattle.grammar.proofs.RecordLaws.{copy-law}
-use Rattle.grammar.proofs.Refused.{refused-law}
+use Rattle.reader_grammar.specs.Inputs.{InputOf}
+use Rattle.reader_grammar.specs.Refusals.{RefusedBy}
+use Rattle.reader_grammar.proofs.Accepted.{lines-law, accepted-law}
+use Rattle.reader_grammar.proofs.RecordLaws.{copy-law}
+use Rattle.reader_grammar.proofs.Refused.{refused-law}
 use Rattle.demands.specs.Demand1.{Exactly, Filling, copied, folded, ReadBy, unread, copy-room, record-room, FoldBy, not-read, fold-over, fold-room}
 use Rattle.demands.proofs.Refusing.{clash, Telling, itself, first}
 use Rattle.demands.proofs.Texts.{written-tells, bounded-told, over-so, short-so, within-so}

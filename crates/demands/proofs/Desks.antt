@@ -11,27 +11,27 @@ use borrow.Author.Tests.{ltb-true, ltb-false, lt-ltb, eqb-true, eqb-false, eq-eq
 use Rattle.octets.specs.Pick.{pick}
 use Rattle.reader.specs.declared.Verdict.{Verdict}
 use Rattle.reader.specs.declared.Verdict.the-variants.{Refused as Unread}
-use Rattle.tickets.specs.Search.{firstAt}
-use Rattle.slots.specs.Sound.{stateAt, bounds}
-use Rattle.slots.specs.Slots.{isFree, openAt, freeAt, inPlace}
+use Rattle.desk_tickets.specs.Search.{firstAt}
+use Rattle.desk_slots.specs.Sound.{stateAt, bounds}
+use Rattle.desk_slots.specs.Slots.{isFree, openAt, freeAt, inPlace}
 use Rattle.desk.specs.Steps.{Sound, sound, Turned, refuse, refused, freshDesk, newStep, slotOf, openIn, openStep, addIn, addStep, releaseIn, releaseStep, octetsIn, showStep, heldIn, heldStep, judgeIn, judgeStep}
-use Rattle.tickets.specs.declared.Place.{Place}
-use Rattle.tickets.specs.declared.Place.the-variants.{At, Nowhere, Barred}
-use Rattle.sessions.specs.declared.Session.{Session}
-use Rattle.sessions.specs.declared.State.{State}
-use Rattle.sessions.specs.declared.State.the-variants.{Free, Open}
-use Rattle.slots.specs.declared.Slot.{Slot}
-use Rattle.slots.specs.declared.Slot.the-variants.{Held, No}
+use Rattle.desk_tickets.specs.declared.Place.{Place}
+use Rattle.desk_tickets.specs.declared.Place.the-variants.{At, Nowhere, Barred}
+use Rattle.desk_sessions.specs.declared.Session.{Session}
+use Rattle.desk_sessions.specs.declared.State.{State}
+use Rattle.desk_sessions.specs.declared.State.the-variants.{Free, Open}
+use Rattle.desk_slots.specs.declared.Slot.{Slot}
+use Rattle.desk_slots.specs.declared.Slot.the-variants.{Held, No}
 use Rattle.desk.specs.declared.Desk.{Desk}
 use Rattle.desk.specs.declared.Turn.{Turn}
 use Rattle.desk.specs.declared.Answer.{Answer}
 use Rattle.desk.specs.declared.Answer.the-variants.{Done, Refused}
-use Rattle.tickets.proofs.Searches.{firstAt-is, firstAt-not, unbarred}
-use Rattle.slots.proofs.SoundLaws.{bounds-are, in-bounds}
-use Rattle.slots.proofs.SlotLaws.{slot-inside}
+use Rattle.desk_tickets.proofs.Searches.{firstAt-is, firstAt-not, unbarred}
+use Rattle.desk_slots.proofs.SoundLaws.{bounds-are, in-bounds}
+use Rattle.desk_slots.proofs.SlotLaws.{slot-inside}
 use Rattle.desk.proofs.DeskLaws.{sound-is, is-sound, granted}
-use Rattle.apart.specs.Demand.{OpenOn}
-use Rattle.grammar.proofs.Refused.{refused-law}
+use Rattle.desk_laws.specs.Demand.{OpenOn}
+use Rattle.reader_grammar.proofs.Refused.{refused-law}
 use Rattle.demands.specs.Demand1.{Exactly, Turning, Ready, unsound, other-size, TicketBy, unready, closed, Holds, NewBy, range, OpenBy, no-desk, used-up, full, AddBy, no-upload, too-much, JudgeBy, nothing, octets}
 use Rattle.demands.proofs.Refusing.{clash, not-true, Telling, itself, first, last}
 use Rattle.demands.proofs.Cards.{verdict-tells}
@@ -140,7 +140,7 @@ module _ (d : Desk) (p : List ℕ) where
     -- ---- 25, 24, 22
 
     slot-told : (n : ℕ) → slotOf d (length p) t ≡ No n → TicketBy d p t n 0
-    unfolding Rattle.slots.specs.Slots.slotOf
+    unfolding Rattle.desk_slots.specs.Slots.slotOf
     slot-told n e = go (sound d) refl (eqb (length p) (d .slots * 16384)) refl e
       where
         same : (m : ℕ) → No m ≡ No n → TicketBy d p t m 0 → TicketBy d p t n 0
@@ -167,7 +167,7 @@ module _ (d : Desk) (p : List ℕ) where
         go true a true q e = found (ready a q) (firstAt (openAt (d .entries) t) 0 40) refl e
 
     slot-so : (n q : ℕ) → TicketBy d p t n q → (slotOf d (length p) t ≡ No n) × (q ≡ 0)
-    unfolding Rattle.slots.specs.Slots.slotOf
+    unfolding Rattle.desk_slots.specs.Slots.slotOf
     slot-so n q (unready (unsound h)) = (rw (not-true (sound d) (λ e. h (sound-is d e))), refl)
     slot-so n q (unready (other-size s h)) = (rw (is-sound d s, ne-eqb (length p) (d .slots * 16384) h), refl)
     slot-so n q (closed r h) =

@@ -10,34 +10,34 @@ use lib.ListN.{length, drop, length-append}
 use lib.Seq.{take-at, drop-at}
 use borrow.Author.Tests.{ltb-true, ltb-false, le-ltb}
 use Rattle.octets.specs.Pick.{pick}
-use Rattle.characters.specs.Characters.{allowed, firstBad}
+use Rattle.utf8.specs.Characters.{allowed, firstBad}
 use Rattle.octets.specs.Room.{Filled, filled, refuse, overlay, fill, fillBounded}
 use Rattle.octets.specs.declared.rooms.Written.the-variants.{Wrote}
-use Rattle.octet_laws.proofs.Utf8.{allowed-only}
-use Rattle.escaping.specs.Escaped.{escaped}
-use Rattle.unescaping.specs.Unescaped.{firstFault, unescaped}
+use Rattle.utf8_laws.proofs.Utf8.{allowed-only}
+use Rattle.text_escaping.specs.Escaped.{escaped}
+use Rattle.text_unescaping.specs.Unescaped.{firstFault, unescaped}
 use Rattle.text.specs.Outcomes.{checked, faultless, escapeOutcome, unescapeOutcome}
 use Rattle.text_laws.specs.Stands.{Stands, none, itself, escape}
 use Rattle.text_laws.proofs.StandsLaws.{stands-exactly}
 use Rattle.text_laws.proofs.BackLaws.{round-trip}
-use Rattle.lines.specs.Grammar.{Line, render}
+use Rattle.line_parser.specs.Grammar.{Line, render}
 use Rattle.reader.specs.Outcome.{judgeOf, copyOf, recordsOf, Taken, took, readOutcome}
 use Rattle.reader.specs.declared.Verdict.{Verdict}
 use Rattle.reader.specs.declared.Verdict.the-variants.{Accepted, Refused}
 use Rattle.reader.proofs.AcceptLaws.{lines-few, lines-counted}
 use Rattle.reader.proofs.ReadLaws.{read-refused, numbers-counted, read-written, read-13, read-14}
-use Rattle.cuts.specs.Pieces.{pieces, first, later, Clean}
+use Rattle.folder_line.specs.Pieces.{pieces, first, later, Clean}
 use Rattle.folder.specs.Outcome.{foldOutcome}
-use Rattle.fold_laws.specs.Cuttings.{Cutting}
-use Rattle.fold_laws.proofs.CutLaws.{cutting}
-use Rattle.fold_laws.proofs.Greedy.{only as no-other}
-use Rattle.fold_laws.proofs.WrittenLaws.{wrote as written, wrote-accepted, fold-written}
-use Rattle.fold_laws.proofs.Again.{read-again}
+use Rattle.folder_laws.specs.Cuttings.{Cutting}
+use Rattle.folder_laws.proofs.CutLaws.{cutting}
+use Rattle.folder_laws.proofs.Greedy.{only as no-other}
+use Rattle.folder_laws.proofs.WrittenLaws.{wrote as written, wrote-accepted, fold-written}
+use Rattle.folder_laws.proofs.Again.{read-again}
 use Rattle.firmware.specs.Word.{wordOutcome}
-use Rattle.grammar.specs.Cards.{Readable, card, Cards, none as no-cards, more}
-use Rattle.grammar.specs.Inputs.{InputOf}
-use Rattle.grammar.proofs.Accepted.{accepted-law, one-reading}
-use Rattle.grammar.proofs.RecordLaws.{copy-law, records-law}
+use Rattle.reader_grammar.specs.Cards.{Readable, card, Cards, none as no-cards, more}
+use Rattle.reader_grammar.specs.Inputs.{InputOf}
+use Rattle.reader_grammar.proofs.Accepted.{accepted-law, one-reading}
+use Rattle.reader_grammar.proofs.RecordLaws.{copy-law, records-law}
 use Rattle.demands.specs.Demand1.{folded, Fair}
 use Rattle.demands.specs.Demand2.{Roomy, ReadAs, wrote, Demand2}
 use Rattle.demands.proofs.Texts.{wrote-no, checked-fair, within-so, fault-le}

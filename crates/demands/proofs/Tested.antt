@@ -7,7 +7,7 @@ use native.Mathlib.Omega.{arith}
 use lib.Dec.{eqb, leb}
 use lib.ListN.{replicate, length-replicate}
 use borrow.Author.Tests.{eqb-true, leb-true}
-use Rattle.lines.specs.Grammar.{Each}
+use Rattle.line_parser.specs.Grammar.{Each}
 use Rattle.octets.specs.Room.{Filled, filled}
 use Rattle.octets.specs.declared.rooms.Written.{Written}
 use Rattle.octets.specs.declared.rooms.Written.the-variants.{Wrote, Refused as Unwritten}
@@ -16,15 +16,15 @@ use Rattle.reader.specs.Outcome.{Taken, took, readOutcome}
 use Rattle.reader.specs.declared.Verdict.{Verdict}
 use Rattle.reader.specs.declared.Verdict.the-variants.{Accepted, Refused}
 use Rattle.folder.specs.Outcome.{foldOutcome}
-use Rattle.slots.specs.Sound.{stateAt, bounds}
+use Rattle.desk_slots.specs.Sound.{stateAt, bounds}
 use Rattle.desk.specs.Steps.{newStep}
-use Rattle.sessions.specs.declared.Session.{Session}
-use Rattle.sessions.specs.declared.State.{State}
-use Rattle.sessions.specs.declared.State.the-variants.{Free, Open}
-use Rattle.apart.specs.Ledger.{Call, Reply, refused, told, counts, part, ledgerStep, freshLedger, run}
-use Rattle.apart.specs.Demand.{Proper, world}
-use Rattle.apart.proofs.Claim.{demand3}
-use Rattle.apart.proofs.Blind.{same-desk}
+use Rattle.desk_sessions.specs.declared.Session.{Session}
+use Rattle.desk_sessions.specs.declared.State.{State}
+use Rattle.desk_sessions.specs.declared.State.the-variants.{Free, Open}
+use Rattle.desk_laws.specs.Ledger.{Call, Reply, refused, told, counts, part, ledgerStep, freshLedger, run}
+use Rattle.desk_laws.specs.Demand.{Proper, world}
+use Rattle.desk_laws.proofs.Claim.{demand3}
+use Rattle.desk_laws.proofs.Blind.{same-desk}
 use Rattle.demands.specs.Cases.{Case, reads, folds, unescapes, turns, Turns, Holds}
 
 -- ---- the tests

@@ -8,14 +8,14 @@ use lib.Dec.{ltb}
 use lib.ListN.{length, take, drop, take-append-drop}
 use lib.Seq.{length-take-le}
 use borrow.Author.Tests.{ltb-true, ltb-false, lt-ltb, le-ltb}
-use Rattle.characters.specs.Characters.{allowed, firstBad}
+use Rattle.utf8.specs.Characters.{allowed, firstBad}
 use Rattle.octets.specs.Room.{Filled, refuse, fill, fillBounded}
 use Rattle.octets.specs.declared.rooms.Written.the-variants.{Wrote, Refused}
-use Rattle.characters.proofs.Chars.{bad-le}
+use Rattle.utf8.proofs.Chars.{bad-le}
 use Rattle.octets.proofs.Scans.{scan-le}
-use Rattle.octet_laws.proofs.Utf8.{bad-place, bad-nowhere}
-use Rattle.escaping.specs.Escaped.{escaped}
-use Rattle.unescaping.specs.Unescaped.{textStep, firstFault, unescaped}
+use Rattle.utf8_laws.proofs.Utf8.{bad-place, bad-nowhere}
+use Rattle.text_escaping.specs.Escaped.{escaped}
+use Rattle.text_unescaping.specs.Unescaped.{textStep, firstFault, unescaped}
 use Rattle.text.specs.Outcomes.{checked, faultless, escapeOutcome, unescapeOutcome}
 use Rattle.text_laws.specs.Stands.{Stands, Faulty}
 use Rattle.text_laws.proofs.StandsLaws.{stands-exactly, fault-found, fault-first}

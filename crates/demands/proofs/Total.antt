@@ -8,8 +8,8 @@ use Rattle.reader.specs.Outcome.{judgeOf}
 use Rattle.firmware.specs.Word.{verdictWord, Low, wordOutcome}
 use Rattle.firmware.proofs.Places.{place-low}
 use Rattle.firmware.proofs.Lows.{low-unescape, low-fold}
-use Rattle.grammar.specs.Refusals.{RefusedBy}
-use Rattle.grammar.proofs.Refused.{refused-law}
+use Rattle.reader_grammar.specs.Refusals.{RefusedBy}
+use Rattle.reader_grammar.proofs.Refused.{refused-law}
 use Rattle.demands.specs.Demand1.{Halves, Demand1}
 use Rattle.demands.proofs.Texts.{escape-exactly, unescape-exactly}
 use Rattle.demands.proofs.Cards.{judge-exactly, read-exactly, fold-exactly}

@@ -6,30 +6,30 @@ use mathlib.Core.Bool.{Bool, true, false}
 use mathlib.Core.List.{List, [], map}
 use mathlib.Core.Logic.{_⊎_}
 use lib.ListN.{length, take, drop}
-use Rattle.characters.specs.Characters.{allowed}
+use Rattle.utf8.specs.Characters.{allowed}
 use Rattle.octets.specs.Room.{Filled, refuse}
-use Rattle.octet_laws.specs.Texts.{Text, Stops}
-use Rattle.escaping.specs.Escaped.{escaped}
+use Rattle.utf8_laws.specs.Texts.{Text, Stops}
+use Rattle.text_escaping.specs.Escaped.{escaped}
 use Rattle.text.specs.Outcomes.{escapeOutcome, unescapeOutcome}
 use Rattle.text_laws.specs.Stands.{Stands, Faulty}
-use Rattle.lines.specs.Grammar.{render}
+use Rattle.line_parser.specs.Grammar.{render}
 use Rattle.reader.specs.Outcome.{judgeOf, ended, Taken, took, readOutcome}
 use Rattle.reader.specs.declared.Verdict.{Verdict}
 use Rattle.reader.specs.declared.Verdict.the-variants.{Refused as Unread}
-use Rattle.cuts.specs.Pieces.{foldedLines}
+use Rattle.folder_line.specs.Pieces.{foldedLines}
 use Rattle.folder.specs.Outcome.{foldOutcome}
-use Rattle.slots.specs.Sound.{stateAt}
+use Rattle.desk_slots.specs.Sound.{stateAt}
 use Rattle.desk.specs.Steps.{Sound, Turned, refuse as refuseNew, refused, freshDesk, newStep, openStep, addStep, releaseStep, octetsIn, showStep, heldStep, judgeStep}
-use Rattle.sessions.specs.declared.Session.{Session}
-use Rattle.sessions.specs.declared.State.the-variants.{Free, Open}
+use Rattle.desk_sessions.specs.declared.Session.{Session}
+use Rattle.desk_sessions.specs.declared.State.the-variants.{Free, Open}
 use Rattle.desk.specs.declared.Desk.{Desk}
 use Rattle.desk.specs.declared.Turn.{Turn}
 use Rattle.desk.specs.declared.Answer.{Answer}
 use Rattle.desk.specs.declared.Answer.the-variants.{Refused}
 use Rattle.firmware.specs.Word.{verdictWord, wordOutcome}
-use Rattle.apart.specs.Demand.{OpenOn}
-use Rattle.grammar.specs.Inputs.{InputOf}
-use Rattle.grammar.specs.Refusals.{RefusedBy}
+use Rattle.desk_laws.specs.Demand.{OpenOn}
+use Rattle.reader_grammar.specs.Inputs.{InputOf}
+use Rattle.reader_grammar.specs.Refusals.{RefusedBy}
 
 -- an outcome answers a refusal only where `By` has its number and place; and there the whole outcome, lent memory too, is that refusal's
 pub record Exactly {A B : Type 0} (answer : A → B) (outcome : A) (refusal : ℕ → ℕ → A) (By : ℕ → ℕ → Type 0) : Type 0 where

@@ -8,21 +8,21 @@ use mathlib.Core.Logic.{_↔_}
 use lib.ListN.{length, take, drop}
 use Rattle.octets.specs.Room.{Filled, filled, overlay}
 use Rattle.octets.specs.declared.rooms.Written.the-variants.{Wrote}
-use Rattle.escaping.specs.Escaped.{escaped}
+use Rattle.text_escaping.specs.Escaped.{escaped}
 use Rattle.text.specs.Outcomes.{escapeOutcome, unescapeOutcome}
 use Rattle.text_laws.specs.Stands.{Stands}
-use Rattle.lines.specs.Grammar.{Line, render}
+use Rattle.line_parser.specs.Grammar.{Line, render}
 use Rattle.reader.specs.Outcome.{judgeOf, Taken, readOutcome}
-use Rattle.folds.specs.Logical.{logicalLines}
+use Rattle.line_folds.specs.Logical.{logicalLines}
 use Rattle.reader.specs.declared.Verdict.the-variants.{Accepted}
-use Rattle.cuts.specs.Pieces.{pieces}
+use Rattle.folder_line.specs.Pieces.{pieces}
 use Rattle.folder.specs.Outcome.{foldOutcome}
-use Rattle.fold_laws.specs.Cuttings.{Cutting}
-use Rattle.fold_laws.specs.Written.{Folds}
+use Rattle.folder_laws.specs.Cuttings.{Cutting}
+use Rattle.folder_laws.specs.Written.{Folds}
 use Rattle.firmware.specs.Word.{verdictWord, worded, wordOutcome}
-use Rattle.grammar.specs.Cards.{Readable}
-use Rattle.grammar.specs.Inputs.{InputOf}
-use Rattle.grammar.specs.Records.{Records}
+use Rattle.reader_grammar.specs.Cards.{Readable}
+use Rattle.reader_grammar.specs.Inputs.{InputOf}
+use Rattle.reader_grammar.specs.Records.{Records}
 use Rattle.demands.specs.Demand1.{copied, folded, Fair}
 
 -- both rooms hold what reading the input writes

@@ -1,6 +1,6 @@
 -- The three demands and the marked examples, side by side. Assumes nothing.
-use Rattle.lines.specs.Grammar.{Each}
-use Rattle.apart.specs.Demand.{Demand3}
+use Rattle.line_parser.specs.Grammar.{Each}
+use Rattle.desk_laws.specs.Demand.{Demand3}
 use Rattle.demands.specs.Cases.{Holds, cases}
 use Rattle.demands.specs.Demand1.{Demand1}
 use Rattle.demands.specs.Demand2.{Demand2}

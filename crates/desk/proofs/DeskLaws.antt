@@ -7,18 +7,18 @@ use lib.Dec.{eqb}
 use lib.ListN.{length}
 use borrow.Author.Tests.{lt-ltb, le-ltb}
 use Rattle.octets.specs.Pick.{pick}
-use Rattle.tickets.specs.Search.{firstAt}
-use Rattle.slots.specs.Slots.{freeAt, lookOf}
-use Rattle.tickets.proofs.Searches.{unbarred}
-use Rattle.slots.proofs.SoundLaws.{sound-is as soundness, is-sound as tested}
-use Rattle.slots.proofs.SlotLaws.{Granted as GrantedIn, granted as grantedIn, free-look}
-use Rattle.tickets.specs.declared.Place.{Place}
-use Rattle.tickets.specs.declared.Place.the-variants.{At, Nowhere, Barred}
-use Rattle.sessions.specs.declared.Session.{Session}
-use Rattle.sessions.specs.declared.State.the-variants.{Free, Open}
-use Rattle.slots.specs.declared.Slot.{Slot}
-use Rattle.slots.specs.declared.Slot.the-variants.{Held, No}
-use Rattle.pools.specs.Pools.{patch, zeros}
+use Rattle.desk_tickets.specs.Search.{firstAt}
+use Rattle.desk_slots.specs.Slots.{freeAt, lookOf}
+use Rattle.desk_tickets.proofs.Searches.{unbarred}
+use Rattle.desk_slots.proofs.SoundLaws.{sound-is as soundness, is-sound as tested}
+use Rattle.desk_slots.proofs.SlotLaws.{Granted as GrantedIn, granted as grantedIn, free-look}
+use Rattle.desk_tickets.specs.declared.Place.{Place}
+use Rattle.desk_tickets.specs.declared.Place.the-variants.{At, Nowhere, Barred}
+use Rattle.desk_sessions.specs.declared.Session.{Session}
+use Rattle.desk_sessions.specs.declared.State.the-variants.{Free, Open}
+use Rattle.desk_slots.specs.declared.Slot.{Slot}
+use Rattle.desk_slots.specs.declared.Slot.the-variants.{Held, No}
+use Rattle.desk_pool.specs.Pools.{patch, zeros}
 use Rattle.desk.specs.Steps.{Sound, sound, slotOf, Turned, turned, refuse, refused, grant, openIn, openStep, grown, addIn, addStep, releaseIn, releaseStep}
 use Rattle.desk.specs.declared.Desk.{Desk}
 use Rattle.desk.specs.declared.Turn.{Turn}

@@ -1,15 +1,15 @@
 // The upload desk: 1 to 40 slots of 16,384 octets in a lent pool, and a session in each open one.
-use pools::SLOT_SIZE;
+use desk_pool::SLOT_SIZE;
+use desk_sessions::Entry;
+use desk_sessions::Session;
+use desk_sessions::State;
+use desk_slots::SLOTS;
+use desk_slots::Slot;
+use desk_tickets::Place;
 use reader::Verdict;
-use sessions::Entry;
-use sessions::Session;
-use sessions::State;
-use slots::SLOTS;
-use slots::Slot;
-use tickets::Place;
 ghost use mathlib.Core.Path.{_≡_};
 ghost use Prim.Native.Nat.{_<_};
-ghost use Rattle.pools.specs.Pools.{Lies};
+ghost use Rattle.desk_pool.specs.Pools.{Lies};
 ghost use Rattle.desk.specs.Steps.{refuse, grant, slotOf, turned, newStep, openStep, addStep, releaseStep, heldStep, judgeStep, showStep};
 
 // The next ticket once all are used up.
@@ -37,7 +37,7 @@ impl Desk {
         ensures { λ r. ⌜ r ≡ newStep slots ⌝ }
     {
         let es = [Entry { state: State::Free }; SLOTS];
-        if !slots::in_bounds(slots, 1) {
+        if !desk_slots::in_bounds(slots, 1) {
             return Turn {
                 answer: Answer::Refused(26, 0),
                 desk: Desk {
@@ -84,7 +84,7 @@ impl Desk {
         ensures { λ r. ⌜ r ≡ slotOf self size t ⌝ }
     {
         let es = self.entries;
-        slots::at_ticket(es, self.slots, self.next, size, t)
+        desk_slots::at_ticket(es, self.slots, self.next, size, t)
     }
 
     pub fn open(mut self, pool: &[u8], tram: u32) -> Turn
@@ -92,7 +92,7 @@ impl Desk {
     {
         let t = self.next;
         let es = self.entries;
-        let p = slots::look(es, self.slots, t, pool.len(), 0);
+        let p = desk_slots::look(es, self.slots, t, pool.len(), 0);
         match p {
             Place::Barred(r) => self.refused(r, 0),
             Place::Nowhere => {
@@ -127,7 +127,7 @@ impl Desk {
                 if chunk.len() > SLOT_SIZE - h {
                     return self.refused(23, h);
                 }
-                pools::put(pool, i, h, chunk);
+                desk_pool::put(pool, i, h, chunk);
                 let m = h + chunk.len();
                 let s = State::Open(Session {
                     ticket: o.ticket,
@@ -146,7 +146,7 @@ impl Desk {
         match slot {
             Slot::No(r) => self.refused(r, 0),
             Slot::Held(i, o) => {
-                pools::clear(pool, i);
+                desk_pool::clear(pool, i);
                 self.granted(i, State::Free, 0)
             }
         }
@@ -161,7 +161,7 @@ impl Desk {
             Slot::No(r) => &pool[0..0],
             Slot::Held(i, o) => {
                 let held = o.held as usize;
-                pools::part(pool, i, held)
+                desk_pool::part(pool, i, held)
             }
         }
     }
@@ -186,7 +186,7 @@ impl Desk {
             Slot::No(r) => Verdict::Refused(r, 0),
             Slot::Held(i, o) => {
                 let held = o.held as usize;
-                reader::judge(pools::part(pool, i, held))
+                reader::judge(desk_pool::part(pool, i, held))
             }
         }
     }

@@ -4,10 +4,10 @@ use Prim.Native.Nat.{ℕ}
 use mathlib.Core.List.{List}
 use Rattle.octets.specs.Room.{Filled, refuse, fillBounded}
 use Rattle.reader.specs.Outcome.{judgeOf}
-use Rattle.folds.specs.Logical.{logicalLines}
+use Rattle.line_folds.specs.Logical.{logicalLines}
 use Rattle.reader.specs.declared.Verdict.{Verdict}
 use Rattle.reader.specs.declared.Verdict.the-variants.{Accepted, Refused}
-use Rattle.cuts.specs.Pieces.{foldedLines}
+use Rattle.folder_line.specs.Pieces.{foldedLines}
 
 -- by the reader's verdict on the input i
 unfoldable pub foldBy : Verdict → List ℕ → List ℕ → Filled

@@ -11,7 +11,7 @@ pub fn fold(input: &[u8], out: &mut [u8]) -> Written
 {
     let v = reader::judge(input);
     match v {
-        Verdict::Accepted(cards, lines) => folding::fold_text(input, out),
+        Verdict::Accepted(cards, lines) => folder_text::fold_text(input, out),
         Verdict::Refused(n, p) => Written::Refused(n, p),
     }
 }

@@ -5,13 +5,13 @@ use lib.Dec.{eqb, ltb}
 use lib.ListN.{length}
 use Rattle.octets.specs.Pick.{pick}
 use Rattle.octets.specs.Room.{overlay}
-use Rattle.folds.specs.Logical.{rawLines, logicalLines}
-use Rattle.walks.specs.Walk.{judgeLines}
-use Rattle.records.specs.Records.{recordsFrom}
+use Rattle.line_folds.specs.Logical.{rawLines, logicalLines}
+use Rattle.reader_walk.specs.Walk.{judgeLines}
+use Rattle.reader_records.specs.Records.{recordsFrom}
 use Rattle.card_state.specs.State.{freshCard}
 use Rattle.card_state.specs.declared.Step.{Step}
 use Rattle.card_state.specs.declared.Step.the-variants.{Next, Refused as Halted}
-use Rattle.ends.specs.Lone.{firstLone, endsCrLf}
+use Rattle.line_breaks.specs.Lone.{firstLone, endsCrLf}
 use Rattle.reader.specs.declared.Verdict.{Verdict}
 use Rattle.reader.specs.declared.Verdict.the-variants.{Accepted, Refused}
 

@@ -34,18 +34,18 @@ pub fn judge(input: &[u8]) -> Verdict
     if input.len() == 0 {
         return Verdict::Refused(2, 0);
     }
-    let lone = ends::first_lone(input);
+    let lone = line_breaks::first_lone(input);
     if lone < input.len() {
         return Verdict::Refused(3, lone);
     }
-    let ended = ends::ends_cr_lf(input);
+    let ended = line_breaks::ends_cr_lf(input);
     if !ended {
         return Verdict::Refused(4, input.len());
     }
     let t = octets::classes::table();
-    let rows = properties::table();
-    let steps = values::scanner::table();
-    let last = walks::walk(&t, &rows, &steps, input);
+    let rows = property_table::table();
+    let steps = value_automaton::scanner::table();
+    let last = reader_walk::walk(&t, &rows, &steps, input);
     concluded(input.len(), last)
 }
 
@@ -58,7 +58,7 @@ pub fn read(input: &[u8], copy: &mut [u8], records: &mut [u32]) -> Verdict
     let Verdict::Accepted(cards, lines) = v else {
         return v;
     };
-    let octets = unfolding::unfolded_length(input);
+    let octets = line_unfolding::unfolded_length(input);
     if copy.len() < octets {
         return Verdict::Refused(13, octets);
     }
@@ -67,7 +67,7 @@ pub fn read(input: &[u8], copy: &mut [u8], records: &mut [u32]) -> Verdict
         return Verdict::Refused(14, numbers);
     }
     let t = octets::classes::table();
-    let rows = properties::table();
-    records::write_lines(&t, &rows, input, copy, records);
+    let rows = property_table::table();
+    reader_records::write_lines(&t, &rows, input, copy, records);
     Verdict::Accepted(cards, lines)
 }

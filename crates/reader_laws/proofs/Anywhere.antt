@@ -8,14 +8,14 @@ use lib.Dec.{eqb}
 use lib.ListN.{length}
 use borrow.Author.Tests.{le-ltb}
 use Rattle.octets.specs.Pick.{pick}
-use Rattle.characters.specs.Characters.{allowed, firstBad}
-use Rattle.properties.specs.Rows.{isGroup}
+use Rattle.utf8.specs.Characters.{allowed, firstBad}
+use Rattle.property_table.specs.Rows.{isGroup}
 use Rattle.card_state.specs.State.{onceBit, isSeen, noted, closed}
-use Rattle.content.specs.Parts.{rowOfLine}
-use Rattle.cards.specs.Judge.{entered, judgeParts, judgeLine}
+use Rattle.card_line.specs.Parts.{rowOfLine}
+use Rattle.card_judge.specs.Judge.{entered, judgeParts, judgeLine}
 use Rattle.card_state.specs.declared.Card.{Card}
 use Rattle.card_state.specs.declared.Step.the-variants.{Next}
-use Rattle.cards.proofs.CardLaws.{unless, only, passed}
+use Rattle.card_judge.proofs.CardLaws.{unless, only, passed}
 
 module _ (c c′ : Card) (p q : ℕ) where
   closed-anywhere : closed c p ≡ Next c′ → closed c q ≡ Next c′

@@ -10,24 +10,24 @@ use borrow.Author.Tests.{eqb-true, leb-true, eq-eqb, ne-eqb}
 use Rattle.octets.specs.Pick.{pick}
 use Rattle.octets.specs.Room.{overlay}
 use Rattle.octets.specs.Scan.{scan}
-use Rattle.slots.specs.Sound.{bounds}
+use Rattle.desk_slots.specs.Sound.{bounds}
 use Rattle.desk.specs.Steps.{refuse, freshDesk, newStep}
 use Rattle.desk.specs.declared.Desk.{Desk}
 use Rattle.desk.specs.declared.Answer.the-variants.{Done, Refused as No}
 use Rattle.desk.specs.declared.Turn.{Turn}
-use Rattle.slots.proofs.SoundLaws.{bounds-are}
-use Rattle.apart.specs.Ledger.{Reply, ledgerStep, freshLedger, run, after}
-use Rattle.apart.specs.Desks.{World, deskStep}
-use Rattle.apart.specs.Demand.{Proper, world}
-use Rattle.apart.proofs.Claim.{demand3}
-use Rattle.scripts.specs.Scripts.{width, callsIn, Decoded, calls, broken, decode}
-use Rattle.scripts.specs.Counts.{shown, counted}
-use Rattle.logs.specs.Logs.{written, Put, roomFor}
-use Rattle.runs.specs.Stepped.{worldOf}
+use Rattle.desk_slots.proofs.SoundLaws.{bounds-are}
+use Rattle.desk_laws.specs.Ledger.{Reply, ledgerStep, freshLedger, run, after}
+use Rattle.desk_laws.specs.Desks.{World, deskStep}
+use Rattle.desk_laws.specs.Demand.{Proper, world}
+use Rattle.desk_laws.proofs.Claim.{demand3}
+use Rattle.replay_script.specs.Scripts.{width, callsIn, Decoded, calls, broken, decode}
+use Rattle.replay_script.specs.Counts.{shown, counted}
+use Rattle.replay_log.specs.Logs.{written, Put, roomFor}
+use Rattle.replay_call.specs.Stepped.{worldOf}
 use Rattle.replay.specs.Outcome.{replayed, played, replayOutcome}
-use Rattle.scripts.specs.declared.Counted.the-variants.{Calls, Broken}
+use Rattle.replay_script.specs.declared.Counted.the-variants.{Calls, Broken}
 use Rattle.replay.specs.declared.Replayed.the-variants.{Ran, Refused}
-use Rattle.logs.proofs.LogLaws.{room-is}
+use Rattle.replay_log.proofs.LogLaws.{room-is}
 use Rattle.replay.proofs.RunLaws.{room-enough}
 
 -- ---- what was counted

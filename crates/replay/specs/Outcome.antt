@@ -5,11 +5,11 @@ use lib.Dec.{leb, eqb}
 use lib.ListN.{length}
 use Rattle.octets.specs.Pick.{pick}
 use Rattle.octets.specs.Room.{overlay}
-use Rattle.slots.specs.Sound.{bounds}
-use Rattle.apart.specs.Ledger.{Call, ledgerStep, freshLedger, run}
-use Rattle.apart.specs.Demand.{world}
-use Rattle.scripts.specs.Scripts.{Decoded, calls, broken, decode}
-use Rattle.logs.specs.Logs.{written, roomFor}
+use Rattle.desk_slots.specs.Sound.{bounds}
+use Rattle.desk_laws.specs.Ledger.{Call, ledgerStep, freshLedger, run}
+use Rattle.desk_laws.specs.Demand.{world}
+use Rattle.replay_script.specs.Scripts.{Decoded, calls, broken, decode}
+use Rattle.replay_log.specs.Logs.{written, roomFor}
 use Rattle.replay.specs.declared.Replayed.{Replayed}
 use Rattle.replay.specs.declared.Replayed.the-variants.{Ran, Refused}
 

@@ -1,19 +1,19 @@
 // Replaying a record of calls: a script of them is run on a fresh desk, and the answers are written to a log.
 use desk::Answer;
 use desk::Desk;
-use scripts::Counted;
+use replay_script::Counted;
 ghost use mathlib.Core.Path.{_≡_};
 ghost use mathlib.Core.Bool.{true};
 ghost use Prim.Native.Nat.{_≤_};
 ghost use lib.ListN.{length};
 ghost use Rattle.octets.specs.Scan.{scan};
-ghost use Rattle.slots.specs.Sound.{bounds};
+ghost use Rattle.desk_slots.specs.Sound.{bounds};
 ghost use Rattle.desk.specs.Steps.{newStep};
-ghost use Rattle.apart.specs.Ledger.{run, after};
-ghost use Rattle.apart.specs.Desks.{deskStep};
-ghost use Rattle.scripts.specs.Scripts.{width, callsIn, decode};
-ghost use Rattle.logs.specs.Logs.{written, Put};
-ghost use Rattle.runs.specs.Stepped.{worldOf};
+ghost use Rattle.desk_laws.specs.Ledger.{run, after};
+ghost use Rattle.desk_laws.specs.Desks.{deskStep};
+ghost use Rattle.replay_script.specs.Scripts.{width, callsIn, decode};
+ghost use Rattle.replay_log.specs.Logs.{written, Put};
+ghost use Rattle.replay_call.specs.Stepped.{worldOf};
 ghost use Rattle.replay.specs.Outcome.{replayed, played, replayOutcome};
 
 // How many calls were run and how many octets of the log are written, or a refusal's number and place.
@@ -33,8 +33,8 @@ fn run_all(desk: Desk, script: &[u8], pool: &mut [u8], log: &mut [u8]) -> usize
     let mut at: usize = 0;
     let mut to: usize = 0;
     while at < script.len() {
-        let w = scripts::width(&script[at..]);
-        let r = runs::run_call(d, &script[at..], pool, &mut log[to..]);
+        let w = replay_script::width(&script[at..]);
+        let r = replay_call::run_call(d, &script[at..], pool, &mut log[to..]);
         let next = r.desk;
         d = next;
         to += r.wrote;
@@ -48,7 +48,7 @@ fn play(slots: usize, desk: Desk, script: &[u8], pool: &mut [u8], log: &mut [u8]
     requires { ⌜ (bounds slots 1 ≡ true) × (desk ≡ newStep slots .desk) ⌝ }
     ensures { λ r. ⌜ replayed r (now (pool .exit)) (now (log .exit)) ≡ played slots (now (pool .entry)) (now (log .entry)) (decode (now (script .entry))) ⌝ }
 {
-    let counted = scripts::count(script);
+    let counted = replay_script::count(script);
     match counted {
         Counted::Broken(at) => Replayed::Refused(90, at),
         Counted::Calls(calls, shows) => {
@@ -57,7 +57,7 @@ fn play(slots: usize, desk: Desk, script: &[u8], pool: &mut [u8], log: &mut [u8]
                 return Replayed::Refused(91, size);
             }
             let room = log.len();
-            if !logs::has_room(calls, shows, room) {
+            if !replay_log::has_room(calls, shows, room) {
                 return Replayed::Refused(92, room);
             }
             let wrote = run_all(desk, script, pool, log);

@@ -10,10 +10,10 @@ use lib.Seq.{take-append-seam}
 use Rattle.octets.specs.Pick.{pick}
 use Rattle.octets.specs.Room.{overlay}
 use Rattle.octets.specs.Scan.{scan}
-use Rattle.slots.specs.Sound.{bounds}
-use Rattle.apart.specs.Demand.{world}
-use Rattle.scripts.specs.Scripts.{width, callsIn, calls, broken, decode}
-use Rattle.logs.specs.Logs.{written, roomFor}
+use Rattle.desk_slots.specs.Sound.{bounds}
+use Rattle.desk_laws.specs.Demand.{world}
+use Rattle.replay_script.specs.Scripts.{width, callsIn, calls, broken, decode}
+use Rattle.replay_log.specs.Logs.{written, roomFor}
 use Rattle.replay.specs.Outcome.{Replay, replayed, ledgerLog, played, replayOutcome}
 use Rattle.replay.specs.declared.Replayed.the-variants.{Ran, Refused}
 use Rattle.replay_laws.specs.Tells.{answersTo, Tells}

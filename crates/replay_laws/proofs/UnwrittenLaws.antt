@@ -5,12 +5,12 @@ use mathlib.Core.List.{List, [], _∷_, _++_}
 use native.Mathlib.Omega.{arith}
 use lib.ListN.{length, getD, take, drop, length-append}
 use lib.Seq.{take-append-seam, drop-append-seam}
-use Rattle.apart.specs.Ledger.{Reply, refused, told, counts, part}
-use Rattle.scripts.specs.Words.{halfOctets, wordOctets}
-use Rattle.logs.specs.Logs.{entry, written}
+use Rattle.desk_laws.specs.Ledger.{Reply, refused, told, counts, part}
+use Rattle.replay_script.specs.Words.{halfOctets, wordOctets}
+use Rattle.replay_log.specs.Logs.{entry, written}
 use Rattle.replay_laws.specs.Tells.{Small, AllSmall}
-use Rattle.scripts.proofs.WordLaws.{word-value}
-use Rattle.logs.proofs.LogLaws.{told-length, refused-length, counts-length, part-length}
+use Rattle.replay_script.proofs.WordLaws.{word-value}
+use Rattle.replay_log.proofs.LogLaws.{told-length, refused-length, counts-length, part-length}
 
 word-same : (n m : ℕ) → n < 4294967296 → m < 4294967296 → n / 65536 / 256 % 256 ≡ m / 65536 / 256 % 256 → n / 65536 % 256 ≡ m / 65536 % 256
     → n / 256 % 256 ≡ m / 256 % 256 → n % 256 ≡ m % 256 → n ≡ m

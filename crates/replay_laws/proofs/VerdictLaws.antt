@@ -4,24 +4,24 @@ use mathlib.Core.Path.{_≡_, refl, ap}
 use mathlib.Core.List.{List, [], _∷_}
 use native.Mathlib.Omega.{arith}
 use lib.ListN.{length}
-use Rattle.lines.specs.Grammar.{Line}
-use Rattle.folds.specs.Folds.{unfolded}
-use Rattle.folds.specs.Logical.{rawLines}
+use Rattle.line_parser.specs.Grammar.{Line}
+use Rattle.line_folds.specs.Folds.{unfolded}
+use Rattle.line_folds.specs.Logical.{rawLines}
 use Rattle.card_state.specs.State.{freshCard}
-use Rattle.cards.specs.Judge.{judgeLine}
-use Rattle.cards.proofs.CardLaws.{one-more}
+use Rattle.card_judge.specs.Judge.{judgeLine}
+use Rattle.card_judge.proofs.CardLaws.{one-more}
 use Rattle.card_state.specs.declared.Card.{Card}
 use Rattle.card_state.specs.declared.Step.the-variants.{Next}
-use Rattle.walks.specs.Walk.{judgeLines}
+use Rattle.reader_walk.specs.Walk.{judgeLines}
 use Rattle.reader.specs.Outcome.{judgeOf}
-use Rattle.walks.proofs.WalkLaws.{onward-next}
+use Rattle.reader_walk.proofs.WalkLaws.{onward-next}
 use Rattle.reader.proofs.AcceptLaws.{lines-few, accepting, lines-counted}
 use Rattle.reader.specs.declared.Verdict.{Verdict}
 use Rattle.reader.specs.declared.Verdict.the-variants.{Accepted, Refused}
 use Rattle.firmware.proofs.Places.{place-low}
-use Rattle.grammar.specs.Refusals.{LineRefused, octet, rule, order, laden, value, second, nameless, no-group, RefusedBy, long, empty, lone, unended, line, unfinished}
-use Rattle.grammar.proofs.Refused.{refused-law}
-use Rattle.apart.specs.Ledger.{verdict}
+use Rattle.reader_grammar.specs.Refusals.{LineRefused, octet, rule, order, laden, value, second, nameless, no-group, RefusedBy, long, empty, lone, unended, line, unfinished}
+use Rattle.reader_grammar.proofs.Refused.{refused-law}
+use Rattle.desk_laws.specs.Ledger.{verdict}
 use Rattle.replay_laws.specs.Tells.{Small}
 
 -- a line that is judged closes at most one card

@@ -3,9 +3,9 @@ use Prim.Native.Nat.{ℕ, _<_, _≤_}
 use mathlib.Core.Path.{_≡_}
 use mathlib.Core.List.{List, [], _∷_, _++_}
 use lib.ListN.{length}
-use Rattle.apart.specs.Ledger.{Deed, adds, judges, shows, asks, releases, Call, opens, on}
-use Rattle.scripts.specs.Words.{halfOctets, wordOctets}
-use Rattle.scripts.specs.Scripts.{calls, decode}
+use Rattle.desk_laws.specs.Ledger.{Deed, adds, judges, shows, asks, releases, Call, opens, on}
+use Rattle.replay_script.specs.Words.{halfOctets, wordOctets}
+use Rattle.replay_script.specs.Scripts.{calls, decode}
 
 abbrev pub encodeDeed : ℕ → Deed → List ℕ
 encodeDeed t (adds q) = 2 ∷ wordOctets t ++ halfOctets (length q) ++ q

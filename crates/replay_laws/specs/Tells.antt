@@ -4,9 +4,9 @@ use Prim.Native.Nat.{ℕ, _<_}
 use mathlib.Core.Path.{_≡_}
 use mathlib.Core.List.{List, [], _∷_}
 use lib.ListN.{length, take}
-use Rattle.apart.specs.Ledger.{Call, Reply, refused, told, counts, part, ledgerStep, freshLedger, run}
-use Rattle.scripts.specs.Scripts.{callsIn}
-use Rattle.logs.specs.Logs.{written}
+use Rattle.desk_laws.specs.Ledger.{Call, Reply, refused, told, counts, part, ledgerStep, freshLedger, run}
+use Rattle.replay_script.specs.Scripts.{callsIn}
+use Rattle.replay_log.specs.Logs.{written}
 use Rattle.replay.specs.Outcome.{replayOutcome}
 use Rattle.replay.specs.declared.Replayed.the-variants.{Ran}
 

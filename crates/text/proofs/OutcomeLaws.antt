@@ -9,17 +9,17 @@ use lib.Dec.{ltb}
 use borrow.Author.Tests.{lt-ltb, le-ltb, ltb-false}
 use Rattle.octets.specs.Room.{Filled, refuse, fill, fillBounded}
 use Rattle.octets.specs.Pick.{pick}
-use Rattle.characters.specs.Characters.{allowed, firstBad}
-use Rattle.escaping.specs.Escaped.{escaped}
-use Rattle.unescaping.specs.Unescaped.{firstFault, unescaped}
+use Rattle.utf8.specs.Characters.{allowed, firstBad}
+use Rattle.text_escaping.specs.Escaped.{escaped}
+use Rattle.text_unescaping.specs.Unescaped.{firstFault, unescaped}
 use Rattle.octets.specs.Counts.{any}
-use Rattle.looks.specs.Looks.{held, seen}
+use Rattle.text_marks.specs.Looks.{held, seen}
 use Rattle.text.specs.declared.Screened.the-variants.{Saw, Refused}
 use Rattle.text.specs.Screened.{screened}
 use Rattle.text.specs.Outcomes.{checked, faultless}
 use Rattle.octets.proofs.RoomLaws.{within-bound}
-use Rattle.escaping.proofs.LengthLaws.{same-unmarked}
-use Rattle.unescaping.proofs.BareLaws.{bare}
+use Rattle.text_escaping.proofs.LengthLaws.{same-unmarked}
+use Rattle.text_unescaping.proofs.BareLaws.{bare}
 
 -- by what screening answers: its refusal, or the outcome that is left
 module _ (lf : Bool) (x y : ℕ) (t room : List ℕ) (left : Filled) where

@@ -7,9 +7,9 @@ use lib.Dec.{ltb}
 use lib.ListN.{length}
 use Rattle.octets.specs.Pick.{pick}
 use Rattle.octets.specs.Room.{Filled, refuse, fill, fillBounded}
-use Rattle.characters.specs.Characters.{allowed, firstBad}
-use Rattle.escaping.specs.Escaped.{escaped}
-use Rattle.unescaping.specs.Unescaped.{firstFault, unescaped}
+use Rattle.utf8.specs.Characters.{allowed, firstBad}
+use Rattle.text_escaping.specs.Escaped.{escaped}
+use Rattle.text_unescaping.specs.Unescaped.{firstFault, unescaped}
 
 -- 1 over 16,384 octets, then 31 where an octet is not allowed or starts no character, then the outcome that is left
 unfoldable pub checked : (ℕ → Bool) → List ℕ → List ℕ → Filled → Filled

@@ -5,8 +5,8 @@ use mathlib.Core.List.{List}
 use lib.Dec.{ltb}
 use lib.ListN.{length}
 use Rattle.octets.specs.Pick.{pick}
-use Rattle.characters.specs.Characters.{allowed, firstBad}
-use Rattle.looks.specs.Looks.{seen}
+use Rattle.utf8.specs.Characters.{allowed, firstBad}
+use Rattle.text_marks.specs.Looks.{seen}
 use Rattle.text.specs.declared.Screened.{Screened}
 use Rattle.text.specs.declared.Screened.the-variants.{Saw, Refused}
 

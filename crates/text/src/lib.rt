@@ -3,11 +3,11 @@ ghost use mathlib.Core.Path.{_≡_};
 ghost use mathlib.Core.Bool.{false};
 ghost use Prim.Native.Nat.{_≤_};
 ghost use lib.ListN.{length};
-ghost use Rattle.characters.specs.Characters.{allowed, firstBad};
-ghost use Rattle.screening.specs.Plain.{odd};
+ghost use Rattle.utf8.specs.Characters.{allowed, firstBad};
+ghost use Rattle.utf8_screening.specs.Plain.{odd};
 ghost use Rattle.octets.specs.Room.{filled, fill, fillBounded};
-ghost use Rattle.escaping.specs.Escaped.{escaped};
-ghost use Rattle.unescaping.specs.Unescaped.{unescaped};
+ghost use Rattle.text_escaping.specs.Escaped.{escaped};
+ghost use Rattle.text_unescaping.specs.Unescaped.{unescaped};
 ghost use Rattle.octets.specs.Counts.{any};
 ghost use Rattle.text.specs.Screened.{screened};
 ghost use Rattle.text.specs.Outcomes.{faultless, escapeOutcome, unescapeOutcome};
@@ -24,7 +24,7 @@ fn bad_octet(text: &[u8], look: u8, lf: bool) -> usize
     if look == 2 {
         return text.len();
     }
-    screening::texts::first_bad(text, lf)
+    utf8_screening::texts::first_bad(text, lf)
 }
 
 // What screening a text answers: what the look at it saw, or a refusal's number and place.
@@ -40,7 +40,7 @@ fn screen(text: &[u8], x: u8, y: u8, lf: bool) -> Screened
     if 16384 < text.len() {
         return Screened::Refused(1, 16384);
     }
-    let look = looks::look(text, x, y);
+    let look = text_marks::look(text, x, y);
     let bad = bad_octet(text, look, lf);
     if bad < text.len() {
         return Screened::Refused(31, bad);
@@ -64,15 +64,15 @@ fn escape_each(text: &[u8], out: &mut [u8]) -> Written
     requires { ⌜ length (now text) ≤ 16384 ⌝ }
     ensures { λ r. ⌜ filled r (now (out .exit)) ≡ fillBounded (escaped (now (text .entry))) (now (out .entry)) ⌝ }
 {
-    let n = text.len() + looks::counts::marks(text);
+    let n = text.len() + text_marks::counts::marks(text);
     if 16384 < n {
         return Written::Refused(16, 16384);
     }
     if out.len() < n {
         return Written::Refused(15, n);
     }
-    let t = escaping::letters();
-    escaping::write(&t, text, out);
+    let t = text_escaping::letters();
+    text_escaping::write(&t, text, out);
     Written::Wrote(n)
 }
 
@@ -97,7 +97,7 @@ fn unescape_each(text: &[u8], out: &mut [u8]) -> Written
     requires { ⌜ length (now text) ≤ 16384 ⌝ }
     ensures { λ r. ⌜ filled r (now (out .exit)) ≡ faultless (now (text .entry)) (now (out .entry)) (fill (unescaped (now (text .entry))) (now (out .entry))) ⌝ }
 {
-    let m = unescaping::measure(text);
+    let m = text_unescaping::measure(text);
     let fault = m.fault;
     if fault < text.len() {
         return Written::Refused(30, fault);
@@ -106,7 +106,7 @@ fn unescape_each(text: &[u8], out: &mut [u8]) -> Written
     if out.len() < kept {
         return Written::Refused(15, kept);
     }
-    unescaping::write(text, out);
+    text_unescaping::write(text, out);
     Written::Wrote(kept)
 }
 

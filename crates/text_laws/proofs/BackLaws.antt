@@ -11,11 +11,11 @@ use borrow.Author.Tests.{eqb-true, ltb-false, le-ltb}
 use Rattle.octets.specs.Pick.{pick}
 use Rattle.octets.specs.Room.{Filled, filled, refuse, overlay, fill, fillBounded}
 use Rattle.octets.specs.declared.rooms.Written.the-variants.{Wrote, Refused}
-use Rattle.characters.specs.Characters.{allowed, firstBad}
-use Rattle.characters.proofs.Chars.{bad-le}
-use Rattle.looks.specs.Marks.{special, marked}
-use Rattle.escaping.specs.Escaped.{letter, inEscape, escaped}
-use Rattle.unescaping.specs.Unescaped.{firstFault, unescaped}
+use Rattle.utf8.specs.Characters.{allowed, firstBad}
+use Rattle.utf8.proofs.Chars.{bad-le}
+use Rattle.text_marks.specs.Marks.{special, marked}
+use Rattle.text_escaping.specs.Escaped.{letter, inEscape, escaped}
+use Rattle.text_unescaping.specs.Unescaped.{firstFault, unescaped}
 use Rattle.text.specs.Outcomes.{checked, faultless, escapeOutcome, unescapeOutcome}
 use Rattle.text_laws.specs.Stands.{Escape, backslash, comma, semicolon, small-n, Stands, none, itself, escape}
 use Rattle.text.proofs.OutcomeLaws.{no-fault}

@@ -6,7 +6,7 @@ use native.Mathlib.Omega.{arith}
 use lib.Dec.{leb}
 use lib.ListN.{length}
 use borrow.Author.Tests.{not-true, not-false}
-use Rattle.slots.proofs.SoundLaws.{bounds-are}
+use Rattle.desk_slots.proofs.SoundLaws.{bounds-are}
 use Rattle.replay.proofs.OutcomeLaws.{Decodes, decodes, log-fits, played-broken, played-pool, played-short, played-ran}
 use borrow.Author.Needs.{needs}
 use Rattle.replay.proofs.play.Statement.{statement}

@@ -2,8 +2,8 @@
 use mathlib.Core.Path.{sym, _∙_}
 use mathlib.Core.Bool.{true}
 use Rattle.octets.specs.Room.{fillBounded}
-use Rattle.escaping.specs.Escaped.{escaped}
-use Rattle.looks.proofs.LookLaws.{seen-low}
+use Rattle.text_escaping.specs.Escaped.{escaped}
+use Rattle.text_marks.proofs.LookLaws.{seen-low}
 use Rattle.text.specs.Outcomes.{escapeOutcome}
 use Rattle.text.proofs.OutcomeLaws.{refused-by, left-by, escape-same}
 use borrow.Author.Needs.{needs}

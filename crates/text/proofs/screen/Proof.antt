@@ -3,7 +3,7 @@ use mathlib.Core.Path.{sym}
 use lib.ListN.{length}
 use borrow.Author.Needs.{needs}
 use borrow.Author.Tests.{lt-ltb, le-ltb}
-use Rattle.looks.proofs.LookLaws.{seen-plain}
+use Rattle.text_marks.proofs.LookLaws.{seen-plain}
 use Rattle.text.specs.Screened.{screened}
 use Rattle.text.proofs.screen.Statement.{statement}
 use Rattle.text.proofs.screen.Tie as tie

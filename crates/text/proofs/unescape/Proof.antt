@@ -2,8 +2,8 @@
 use mathlib.Core.Path.{sym, _∙_}
 use mathlib.Core.Bool.{false}
 use Rattle.octets.specs.Room.{fill}
-use Rattle.unescaping.specs.Unescaped.{unescaped}
-use Rattle.looks.proofs.LookLaws.{seen-low}
+use Rattle.text_unescaping.specs.Unescaped.{unescaped}
+use Rattle.text_marks.proofs.LookLaws.{seen-low}
 use Rattle.text.specs.Outcomes.{faultless, unescapeOutcome}
 use Rattle.text.proofs.OutcomeLaws.{refused-by, left-by, unescape-same}
 use borrow.Author.Needs.{needs}

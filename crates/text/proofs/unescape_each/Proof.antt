@@ -6,8 +6,8 @@ use native.Mathlib.Omega.{arith}
 use lib.ListN.{length, drop}
 use Rattle.octets.specs.Room.{fill}
 use Rattle.octets.proofs.RoomLaws.{fill-short, fill-fits}
-use Rattle.unescaping.specs.Unescaped.{unescaped}
-use Rattle.unescaping.proofs.UnescapeLaws.{fault-le}
+use Rattle.text_unescaping.specs.Unescaped.{unescaped}
+use Rattle.text_unescaping.proofs.UnescapeLaws.{fault-le}
 use Rattle.text.proofs.OutcomeLaws.{a-fault, no-fault}
 use borrow.Author.Needs.{needs}
 use Rattle.text.proofs.unescape_each.Statement.{statement}

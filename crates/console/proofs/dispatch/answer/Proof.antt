@@ -3,7 +3,7 @@ use denote.Ref.{now}
 use mathlib.Core.Path.{ap}
 use borrow.Author.Needs.{needs}
 use borrow.Author.Tests.{lt-ltb, le-ltb}
-use Rattle.uploads.specs.Uploads.{Told, kept}
+use Rattle.console_desk.specs.Uploads.{Told, kept}
 use Rattle.console.specs.Dispatch.{answerLine}
 use Rattle.console.proofs.dispatch.answer.Statement.{statement}
 use Rattle.console.proofs.dispatch.answer.Tie as tie

@@ -2,9 +2,9 @@
 use denote.Ref.{now}
 use mathlib.Core.Path.{ap}
 use borrow.Author.Needs.{needs}
-use Rattle.calls.specs.Entries.{judgeAnswer, readAnswer, writeAnswer}
-use Rattle.uploads.specs.Uploads.{Told, kept}
-use Rattle.calls.specs.declared.entries.Writer.the-variants.{Fold, Escape, Unescape}
+use Rattle.console_entries.specs.Entries.{judgeAnswer, readAnswer, writeAnswer}
+use Rattle.console_desk.specs.Uploads.{Told, kept}
+use Rattle.console_entries.specs.declared.entries.Writer.the-variants.{Fold, Escape, Unescape}
 use Rattle.console.specs.Dispatch.{answerBy}
 use Rattle.console.proofs.Said.{said}
 use Rattle.console.proofs.dispatch.answered.Statement.{statement}

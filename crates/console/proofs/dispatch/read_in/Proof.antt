@@ -4,8 +4,8 @@ use mathlib.Core.Path.{ap, _∙_}
 use mathlib.Core.List.{List}
 use Prim.Native.Nat.{ℕ}
 use borrow.Author.Needs.{needs}
-use Rattle.uploads.specs.Uploads.{told}
-use Rattle.requests.specs.Requests.{Requested}
+use Rattle.console_desk.specs.Uploads.{told}
+use Rattle.console_requests.specs.Requests.{Requested}
 use Rattle.console.specs.Dispatch.{answerTo, answerFrom, answerIn}
 use Rattle.console.proofs.dispatch.read_in.Statement.{statement}
 use Rattle.console.proofs.dispatch.read_in.Tie as tie

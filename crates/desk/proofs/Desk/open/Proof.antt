@@ -4,7 +4,7 @@ use mathlib.Core.Path.{sym, ap, _∙_}
 use lib.ListN.{length}
 use borrow.Author.Tests.{eq-eqb, ne-eqb}
 use borrow.Author.Needs.{needs}
-use Rattle.slots.proofs.SlotLaws.{look-place}
+use Rattle.desk_slots.proofs.SlotLaws.{look-place}
 use Rattle.desk.specs.Steps.{turned}
 use Rattle.desk.specs.declared.Turn.{Turn}
 use Rattle.desk.proofs.DeskLaws.{open-look}

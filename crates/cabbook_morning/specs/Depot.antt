@@ -1,0 +1,56 @@
+-- The depot: its numbers, its places, and what is left of it where an upload ends. Assumes nothing.
+use Prim.Native.Nat.{ℕ, _+_, _-_}
+use lib.Dec.{eqb, ltb}
+use lib.IntN.{pos}
+use lib.ListN.{set, replicate}
+use Rattle.octets.specs.Pick.{pick}
+use Rattle.desk.specs.declared.Desk.{Desk}
+use Rattle.desk.specs.Steps.{freshDesk}
+use Rattle.cabbook_morning.specs.declared.depot.Place.{Place}
+use Rattle.cabbook_morning.specs.declared.depot.Morning.{Morning}
+
+-- one more, as far as numbers of 64 bits go
+abbrev pub oneMore : ℕ → ℕ
+oneMore n = pick (eqb n 18446744073709551615) n (n + 1)
+
+-- a number as a ticket, 0 where it has more than 32 bits
+abbrev pub asTicket : ℕ → ℕ
+asTicket n = pick (ltb 4294967295 n) 0 n
+
+-- a place that no file has
+abbrev pub freePlace : Place
+freePlace = record { file = 0; fd = pos 0; ticket = 0 }
+
+-- before the first upload: a desk of 40 slots, and nothing counted
+abbrev pub freshMorning : ℕ → ℕ → ℕ → ℕ → Morning
+freshMorning next count chunk width =
+    record {
+      desk = freshDesk 40;
+      places = replicate 40 freePlace;
+      next = next;
+      count = count;
+      used = 0;
+      chunk = chunk;
+      width = width;
+      accepted = 0;
+      refused = 0;
+      unread = 0;
+      differing = 0;
+    }
+
+-- with a place free again, and the desk as it is then
+abbrev pub leftAt : ℕ → Desk → Morning → Morning
+leftAt k d m =
+    record {
+      desk = d;
+      places = set (m .places) k freePlace;
+      next = m .next;
+      count = m .count;
+      used = m .used - 1;
+      chunk = m .chunk;
+      width = m .width;
+      accepted = m .accepted;
+      refused = m .refused;
+      unread = m .unread;
+      differing = m .differing;
+    }

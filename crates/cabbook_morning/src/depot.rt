@@ -1,0 +1,116 @@
+// The depot in the morning: the desk, the places at it, and what is counted.
+ghost use mathlib.Core.Path.{_≡_};
+ghost use Prim.Native.Nat.{_<_};
+ghost use lib.ListN.{getD};
+ghost use Rattle.desk.specs.Steps.{releaseStep};
+ghost use Rattle.cabbook_morning.specs.Depot.{oneMore, asTicket, freePlace, freshMorning, leftAt};
+use desk::Desk;
+use reader::Verdict;
+
+// A place in the depot: the argument that names its file, 0 where there is none, the file's descriptor, and the upload's ticket.
+pub struct Place {
+    pub file: usize,
+    pub fd: i32,
+    pub ticket: u32,
+}
+
+// The desk and the places at it, the next argument and the last, how many places are in use, the chunks' size, and what was counted.
+pub struct Morning {
+    pub desk: Desk,
+    pub places: [Place; 40],
+    pub next: usize,
+    pub count: usize,
+    pub used: usize,
+    pub chunk: usize,
+    pub width: usize,
+    pub accepted: usize,
+    pub refused: usize,
+    pub unread: usize,
+    pub differing: usize,
+}
+
+// One more, as far as numbers go.
+pub(crate) fn more(n: usize) -> usize
+    ensures { λ r. ⌜ r ≡ oneMore n ⌝ }
+{
+    if n == usize::MAX {
+        return n;
+    }
+    n + 1
+}
+
+// A ticket from an answer.
+pub(crate) fn ticket_of(n: usize) -> u32
+    ensures { λ r. ⌜ r ≡ asTicket n ⌝ }
+{
+    if n > 4294967295 {
+        return 0;
+    }
+    n as u32
+}
+
+fn nobody() -> Place
+    ensures { λ r. ⌜ r ≡ freePlace ⌝ }
+{
+    Place {
+        file: 0,
+        fd: 0,
+        ticket: 0,
+    }
+}
+
+// Before the first upload.
+pub(crate) fn fresh(next: usize, count: usize, chunk: usize, width: usize) -> Morning
+    ensures { λ r. ⌜ r ≡ freshMorning next count chunk width ⌝ }
+{
+    let t = Desk::new(40);
+    let d = t.desk;
+    let none = nobody();
+    let places = [none; 40];
+    Morning {
+        desk: d,
+        places: places,
+        next: next,
+        count: count,
+        used: 0,
+        chunk: chunk,
+        width: width,
+        accepted: 0,
+        refused: 0,
+        unread: 0,
+        differing: 0,
+    }
+}
+
+// The place is free again: the upload is released and its file closed.
+pub(crate) fn left(mut m: Morning, k: usize, pool: &mut [u8]) -> Morning
+    requires { ⌜ k < 40 ⌝ }
+    ensures { λ r. ⌜ r ≡ leftAt k (releaseStep (m .desk) (now (pool .entry)) (getD (m .places) k freePlace .ticket) .desk) m ⌝ }
+    ensures { λ r. ⌜ now (pool .exit) ≡ releaseStep (m .desk) (now (pool .entry)) (getD (m .places) k freePlace .ticket) .pool ⌝ }
+{
+    let p = m.places[k];
+    let d = m.desk;
+    let t = d.release(pool, p.ticket);
+    let next = t.desk;
+    m.desk = next;
+    libc::close(p.fd);
+    m.places[k] = nobody();
+    m.used = cabbook_positions::before(m.used);
+    m
+}
+
+// Counts a verdict.
+pub(crate) fn counted(mut m: Morning, v: Verdict, same: bool) -> Morning {
+    if !same {
+        m.differing = more(m.differing);
+    }
+    match v {
+        Verdict::Accepted(_, _) => {
+            m.accepted = more(m.accepted);
+        }
+        Verdict::Refused(_, _) => {
+            m.refused = more(m.refused);
+        }
+    }
+    m
+}

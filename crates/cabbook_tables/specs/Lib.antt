@@ -1,0 +1,3 @@
+-- The definitions that the contracts of `cabbook_tables` cite. Assumes nothing.
+pub mod Fields
+pub mod Uploads

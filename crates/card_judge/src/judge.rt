@@ -1,0 +1,137 @@
+// The judgement of one logical line within its card: document 01's refusals 5 to 12 in their order.
+ghost use mathlib.Core.Path.{_≡_};
+ghost use mathlib.Core.Bool.{false};
+ghost use Prim.Native.Nat.{_≤_, _<_};
+ghost use lib.ListN.{length};
+ghost use Rattle.octets.specs.Classes.{Classes};
+ghost use Rattle.property_table.specs.Rows.{Lists};
+ghost use Rattle.value_automaton.specs.States.{Scanner};
+ghost use Rattle.value_kinds.specs.Kinds.{valueScan};
+ghost use Rattle.card_state.specs.State.{inOrder, onceBit, isSeen};
+ghost use Rattle.card_judge.specs.Judge.{framing, laden, broken, entered, judgeParts, judgeLine};
+use card_line::Parts;
+use card_line::Told;
+use card_state::Card;
+use card_state::Step;
+use value_kinds::Fault;
+
+// Whether a line of the row may stand here.
+fn in_order(phase: u32, row: usize) -> bool
+    ensures { λ r. ⌜ r ≡ inOrder phase row ⌝ }
+{
+    if phase == 0 {
+        return row == 1;
+    }
+    if phase == 1 {
+        return row == 34;
+    }
+    if row == 1 {
+        return false;
+    }
+    row != 34
+}
+
+// BEGIN, VERSION and END frame a card.
+fn is_framing(row: usize) -> bool
+    ensures { λ r. ⌜ r ≡ framing row ⌝ }
+{
+    if row == 1 {
+        return true;
+    }
+    if row == 34 {
+        return true;
+    }
+    row == 2
+}
+
+// Whether a framing line has a group or a parameter.
+fn is_laden(x: Parts) -> bool
+    ensures { λ r. ⌜ r ≡ laden (x .row) (x .group) (x .params) ⌝ }
+{
+    if !is_framing(x.row) {
+        return false;
+    }
+    if x.group != 0 {
+        return true;
+    }
+    x.params != 0
+}
+
+// Whether a value breaks its kind.
+fn breaks_kind(steps: &[u8; 1016], row: usize, kind: usize, value: &[u8]) -> bool
+    requires { ⌜ Scanner (now steps) ⌝ }
+    requires { ⌜ kind < 9 ⌝ }
+    ensures { λ r. ⌜ r ≡ broken (valueScan row kind (now (value .entry))) ⌝ }
+{
+    let f = value_automaton::judge_value(steps, row, kind, value);
+    let Fault::Fits = f else {
+        return true;
+    };
+    false
+}
+
+// A line that fits: the end of a card, or one more line of it.
+fn enter(c: Card, at: usize, row: usize, value: &[u8]) -> Step
+    requires { ⌜ (c .cards ≤ c .lines) × (c .lines < 65536) ⌝ }
+    requires { ⌜ isSeen (onceBit row) (c .seen) ≡ false ⌝ }
+    ensures { λ r. ⌜ r ≡ entered c at row (now (value .entry)) ⌝ }
+{
+    if row == 2 {
+        return card_state::close(c, at);
+    }
+    let group = property_table::is_group(value);
+    Step::Next(card_state::note(c, row, group))
+}
+
+// The checks of a line whose parts are known: 9, 8, 7, 10, and at END those of the card.
+fn judge_parts(steps: &[u8; 1016], x: Parts, value: &[u8], at: usize, c: Card) -> Step
+    requires { ⌜ Scanner (now steps) ⌝ }
+    requires { ⌜ x .kind < 9 ⌝ }
+    requires { ⌜ (c .cards ≤ c .lines) × (c .lines < 65536) ⌝ }
+    ensures { λ r. ⌜ r ≡ judgeParts c at (x .row) (x .group) (x .params) (x .kind) (now (value .entry)) ⌝ }
+{
+    let misplaced = !in_order(c.phase, x.row);
+    let laden = is_laden(x);
+    let broken = breaks_kind(steps, x.row, x.kind, value);
+    let again = card_state::is_again(c.seen, x.row);
+    if misplaced {
+        return Step::Refused(9, at);
+    }
+    if laden {
+        return Step::Refused(8, at);
+    }
+    if broken {
+        return Step::Refused(7, at);
+    }
+    if again {
+        return Step::Refused(10, at);
+    }
+    enter(c, at, x.row, value)
+}
+
+// Judges the line s, which starts at `at` in the input.
+pub fn judge_line(
+    t: &[u8; 256],
+    rows: &[u8; 624],
+    steps: &[u8; 1016],
+    s: &[u8],
+    at: usize,
+    c: Card,
+) -> Step
+    requires { ⌜ Classes (now t) ⌝ }
+    requires { ⌜ Lists (now rows) ⌝ }
+    requires { ⌜ Scanner (now steps) ⌝ }
+    requires { ⌜ length (now s) ≤ 16384 ⌝ }
+    requires { ⌜ (c .cards ≤ c .lines) × (c .lines < 65536) ⌝ }
+    ensures { λ r. ⌜ r ≡ judgeLine c at (now (s .entry)) ⌝ }
+{
+    if utf8_screening::units::first_bad(t, s, false) < s.len() {
+        return Step::Refused(5, at);
+    }
+    let p = card_line::parts_of(t, rows, s);
+    let Told::Line(x) = p else {
+        return Step::Refused(6, at);
+    };
+    let value = x.value;
+    judge_parts(steps, x, &s[value..], at, c)
+}

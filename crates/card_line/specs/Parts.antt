@@ -1,0 +1,69 @@
+-- The parts of a content line, as the card layer and the records need them. Assumes nothing.
+use Prim.Native.Nat.{ℕ}
+use mathlib.Core.Path.{_≡_}
+use mathlib.Core.List.{List}
+use mathlib.Core.Option.{Option, none, some}
+use lib.ListN.{length}
+use Rattle.line_parser.specs.Parse.{Parse, got, bad}
+use Rattle.line_parser.specs.Grammar.{Value, Line, nameEnd}
+use Rattle.line_parser.specs.Rule.{parseLine}
+use Rattle.line_parameters.specs.First.{firstNamed, valueOctets}
+use Rattle.line_parser.specs.declared.rule.Part.{Part}
+use Rattle.line_parser.specs.declared.rule.Part.the-variants.{Upto, Named, Listed, Parsed, Fault}
+use Rattle.property_table.specs.Rows.{rowOf, lineKind, valueName}
+use Rattle.card_line.specs.declared.Told.{Told}
+use Rattle.card_line.specs.declared.Told.the-variants.{Line as line, Fault as fault}
+
+-- the first value of the first VALUE parameter, quotes taken off
+abbrev pub octetsOf : Option Value → Option (List ℕ)
+octetsOf none = none
+octetsOf (some v) = some (valueOctets v)
+
+unfoldable pub valueParam : Line → Option (List ℕ)
+valueParam x = octetsOf (firstNamed valueName (x .params))
+
+-- the row of a line, and the kind of its value by row and VALUE
+unfoldable pub rowOfLine : Line → ℕ
+rowOfLine x = rowOf (x .name)
+
+unfoldable pub kindOfLine : Line → ℕ
+kindOfLine x = lineKind (rowOfLine x) (valueParam x)
+
+-- what is told of a reading
+abbrev pub told : Parse Line → Told
+told (got x k) =
+    line (record {
+      row = rowOfLine x;
+      group = length (x .group);
+      name = nameEnd x;
+      params = length (x .params);
+      value = k;
+      kind = kindOfLine x;
+    })
+told (bad e) = fault e
+
+unfoldable pub toldOf : List ℕ → Told
+toldOf l = told (parseLine l)
+
+-- the fault of a part that was refused
+abbrev pub faultOf : Part → ℕ
+faultOf (Upto e) = 0
+faultOf (Named g n) = 0
+faultOf (Listed c e) = 0
+faultOf (Parsed g n c v) = 0
+faultOf (Fault e) = e
+
+-- the line rule accepts the line, and its name ends there
+pub record Accepted (l : List ℕ) (name : ℕ) : Type 0 where
+  pub parts : Line
+  pub start : ℕ
+  pub parsed : parseLine l ≡ got parts start
+  pub ends : name ≡ nameEnd parts
+
+abbrev pub ofParse : Parse Line → Option (List ℕ)
+ofParse (got x k) = valueParam x
+ofParse (bad e) = none
+
+-- the same of a line's octets
+unfoldable pub firstValue : List ℕ → Option (List ℕ)
+firstValue l = ofParse (parseLine l)

@@ -1,0 +1,180 @@
+// The calls of the desk, and what is kept from one to the next.
+ghost use mathlib.Core.Path.{_≡_};
+ghost use Rattle.desk.specs.Steps.{turned};
+ghost use Rattle.program_output.specs.Pages.{page, added};
+ghost use Rattle.console_desk.specs.Uploads.{told, kept, first, moved, badTold, turnedTold, newDesk, nextTicket, changeOf, change, lookText, look, poolPart};
+use console_entries::rooms;
+use desk::Desk;
+use desk::Turn;
+
+// What is kept from request to request: the desk, how many octets of pool are lent to it, and where the output stands.
+pub struct Console {
+    pub desk: Desk,
+    pub size: usize,
+    pub at: usize,
+}
+
+// The calls that hand the next desk back.
+pub enum Change {
+    Open,
+    Add,
+    Release,
+}
+
+// The calls that leave the desk as it is.
+pub enum Look {
+    Check,
+    Show,
+    Held,
+}
+
+impl Console {
+    // A refused desk and an empty pool.
+    pub fn new() -> Console
+        ensures { λ r. ⌜ r ≡ first ⌝ }
+    {
+        let t = Desk::new(0);
+        let d = t.desk;
+        Console {
+            desk: d,
+            size: 0,
+            at: 0,
+        }
+    }
+
+    // After the output was added to or sent on.
+    pub fn with_output(mut self, at: usize) -> Console
+        ensures { λ r. ⌜ r ≡ moved self at ⌝ }
+    {
+        self.at = at;
+        self
+    }
+
+    // `bad request`.
+    pub fn refused(self, out: &mut [u8]) -> Console
+        ensures { λ r. ⌜ told r (now (out .exit)) ≡ badTold (told self (now (out .entry))) ⌝ }
+    {
+        let at = console_answers::bad(out, self.at);
+        self.with_output(at)
+    }
+}
+
+// After a call that hands the next desk back, with its answer.
+fn turned(t: Turn, size: usize, out: &mut [u8], at: usize) -> Console
+    ensures { λ r. ⌜ told r (now (out .exit)) ≡ turnedTold t size (page at (now (out .entry))) ⌝ }
+{
+    let a = t.answer;
+    let d = t.desk;
+    let end = console_answers::answered(out, at, a);
+    Console {
+        desk: d,
+        size: size,
+        at: console_answers::ended(out, end),
+    }
+}
+
+// `desk SLOTS POOL`.
+pub fn new_desk(c: Console, slots: usize, n: usize, pool: &mut [u8], out: &mut [u8]) -> Console
+    ensures { λ r. ⌜ kept (told r (now (out .exit))) (now (pool .exit)) ≡ newDesk slots n (told c (now (out .entry))) (now (pool .entry)) ⌝ }
+{
+    if n > pool.len() {
+        return c.refused(out);
+    }
+    rooms::fill(&mut pool[0..n]);
+    turned(Desk::new(slots), n, out, c.at)
+}
+
+// `next TICKET`: no entry; the desk is as one that has given out all tickets before it.
+pub fn next_ticket(c: Console, ticket: usize, out: &mut [u8]) -> Console
+    ensures { λ r. ⌜ told r (now (out .exit)) ≡ nextTicket ticket (told c (now (out .entry))) ⌝ }
+{
+    if ticket > 4294967295 {
+        return c.refused(out);
+    }
+    let d = c.desk;
+    let es = d.entries;
+    let end = console_answers::done(out, c.at, ticket);
+    Console {
+        desk: Desk {
+            entries: es,
+            slots: d.slots,
+            next: ticket as u32,
+        },
+        size: c.size,
+        at: console_answers::ended(out, end),
+    }
+}
+
+// `open TRAM`, `add TICKET OCTETS` or `release TICKET`, over the pool that is lent.
+fn call(which: Change, d: Desk, t: u32, chunk: &[u8], pool: &mut [u8]) -> Turn
+    ensures { λ r. ⌜ turned r (now (pool .exit)) ≡ changeOf which d (now (pool .entry)) t (now (chunk .entry)) ⌝ }
+{
+    match which {
+        Change::Open => d.open(pool, t),
+        Change::Add => d.add(pool, t, chunk),
+        Change::Release => d.release(pool, t),
+    }
+}
+
+// The answer to such a request; its number is a ticket or a tram's identifier.
+pub fn changed(
+    which: Change,
+    c: Console,
+    n: usize,
+    chunk: &[u8],
+    pool: &mut [u8],
+    out: &mut [u8],
+) -> Console
+    ensures { λ r. ⌜ kept (told r (now (out .exit))) (now (pool .exit)) ≡ change which n (now (chunk .entry)) (told c (now (out .entry))) (now (pool .entry)) ⌝ }
+{
+    let size = c.size;
+    if n > 4294967295 {
+        return c.refused(out);
+    }
+    if size > pool.len() {
+        return c.refused(out);
+    }
+    let t = call(which, c.desk, n as u32, chunk, &mut pool[0..size]);
+    turned(t, size, out, c.at)
+}
+
+// What `check TICKET`, `show TICKET` or `held TICKET` answers, over the pool that is lent.
+fn seen(which: Look, d: Desk, t: u32, pool: &[u8], out: &mut [u8], at: usize) -> usize
+    ensures { λ r. ⌜ page r (now (out .exit)) ≡ added (lookText which d (now (pool .entry)) t) (page at (now (out .entry))) ⌝ }
+{
+    match which {
+        Look::Check => console_answers::verdict(out, at, d.judge(pool, t)),
+        Look::Show => console_answers::hex::put_octets(out, at, d.show(pool, t)),
+        Look::Held => console_answers::answered(out, at, d.held(pool, t)),
+    }
+}
+
+// The answer to such a request.
+pub fn looked(which: Look, c: Console, n: usize, pool: &[u8], out: &mut [u8]) -> Console
+    ensures { λ r. ⌜ told r (now (out .exit)) ≡ look which n (told c (now (out .entry))) (now (pool .entry)) ⌝ }
+{
+    let size = c.size;
+    if n > 4294967295 {
+        return c.refused(out);
+    }
+    if size > pool.len() {
+        return c.refused(out);
+    }
+    let end = seen(which, c.desk, n as u32, &pool[0..size], out, c.at);
+    c.with_output(console_answers::ended(out, end))
+}
+
+// `pool FROM COUNT`: no entry; that part of the pool that is lent.
+pub fn pool_part(c: Console, from: usize, count: usize, pool: &[u8], out: &mut [u8]) -> Console
+    ensures { λ r. ⌜ told r (now (out .exit)) ≡ poolPart from count (told c (now (out .entry))) (now (pool .entry)) ⌝ }
+{
+    let lent = octets_slices::part(pool, 0, c.size);
+    if from > lent.len() {
+        return c.refused(out);
+    }
+    if count > lent.len() - from {
+        return c.refused(out);
+    }
+    let end = console_answers::hex::put_octets(out, c.at, &lent[from..from + count]);
+    c.with_output(console_answers::ended(out, end))
+}

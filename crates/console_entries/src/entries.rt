@@ -1,0 +1,169 @@
+// The calls of reader, folder and text.
+ghost use mathlib.Core.Path.{_≡_};
+ghost use Prim.Native.Nat.{_+_, _≤_};
+ghost use Rattle.octets.specs.Room.{filled};
+ghost use Rattle.program_output.specs.Pages.{page, added};
+ghost use Rattle.console_entries.specs.Rooms.{octetRoom, numberRoom};
+ghost use Rattle.console_entries.specs.Entries.{linesOf, count, numbersOf, copyLength, takenText, roomsText, readText, outcomeOf, leftText, judgeAnswer, readAnswer, writeAnswer};
+use crate::rooms;
+use octets::rooms::Written;
+use reader::Verdict;
+
+// The most octets or numbers of room.
+const ROOM: usize = 70000;
+
+// The entries that write octets to room.
+pub enum Writer {
+    Fold,
+    Escape,
+    Unescape,
+}
+
+// `judge OCTETS`.
+pub fn judge(input: &[u8], out: &mut [u8], at: usize) -> usize
+    ensures { λ r. ⌜ page r (now (out .exit)) ≡ added (judgeAnswer (now (input .entry))) (page at (now (out .entry))) ⌝ }
+{
+    let end = console_answers::verdict(out, at, reader::judge(input));
+    console_answers::ended(out, end)
+}
+
+// How many lines the reader accepted; 0 on a refusal.
+fn lines_of(v: Verdict) -> usize
+    ensures { λ r. ⌜ r ≡ linesOf v ⌝ }
+{
+    match v {
+        Verdict::Accepted(_, lines) => lines,
+        Verdict::Refused(_, _) => 0,
+    }
+}
+
+// How many numbers so many records have, of at most so many.
+fn numbers_of(lines: usize, most: usize) -> usize
+    ensures { λ r. ⌜ r ≡ numbersOf lines most ⌝ }
+{
+    if lines > most / 8 {
+        return most;
+    }
+    lines * 8
+}
+
+// Where a line that starts and is so long ends, CR LF and all.
+fn past_line(start: u32, length: u32) -> usize
+    ensures { λ r. ⌜ r ≡ start + length + 2 ⌝ }
+{
+    start as usize + length as usize + 2
+}
+
+// How long the copy is: the last record says where its last line ends.
+fn copy_length(records: &[u32]) -> usize
+    ensures { λ r. ⌜ r ≡ copyLength (now (records .entry)) ⌝ }
+{
+    let n = records.len();
+    if n < 8 {
+        return 0;
+    }
+    past_line(records[n - 7], records[n - 6])
+}
+
+// The octets and numbers that the reader wrote, if it wrote any.
+fn put_taken(copy: &[u8], records: &[u32], out: &mut [u8], at: usize) -> usize
+    ensures { λ r. ⌜ page r (now (out .exit)) ≡ added (takenText (now (copy .entry)) (now (records .entry))) (page at (now (out .entry))) ⌝ }
+{
+    if records.len() == 0 {
+        return at;
+    }
+    let end = console_answers::octets(out, at, copy);
+    console_answers::numbers(out, end, records)
+}
+
+// What the reader left in its rooms, after the verdict.
+fn put_rooms(lines: usize, copy: &[u8], records: &[u32], out: &mut [u8], at: usize) -> usize
+    ensures { λ r. ⌜ page r (now (out .exit)) ≡ added (roomsText lines (now (copy .entry)) (now (records .entry))) (page at (now (out .entry))) ⌝ }
+{
+    let k = numbers_of(lines, records.len());
+    let taken = octets_slices::numbers(records, k);
+    let n = copy_length(taken);
+    let end = put_taken(octets_slices::part(copy, 0, n), taken, out, at);
+    console_answers::looked_at(out, end, rooms::both_kept(copy, n, records, k))
+}
+
+// The reader's answer with these rooms.
+fn read_to(input: &[u8], copy: &mut [u8], records: &mut [u32], out: &mut [u8], at: usize) -> usize
+    ensures { λ r. ⌜ page r (now (out .exit)) ≡ added (readText (now (input .entry)) (now (copy .entry)) (now (records .entry))) (page at (now (out .entry))) ⌝ }
+{
+    let v = reader::read(input, copy, records);
+    let end = console_answers::verdict(out, at, v);
+    put_rooms(lines_of(v), copy, records, out, end)
+}
+
+// The reader's answer with fresh rooms of r octets and k numbers.
+fn read_in(r: usize, k: usize, input: &[u8], out: &mut [u8], at: usize) -> usize
+    requires { ⌜ (r ≤ 70000) × (k ≤ 70000) ⌝ }
+    ensures { λ q. ⌜ page q (now (out .exit)) ≡ added (readText (now (input .entry)) (octetRoom r) (numberRoom k)) (page at (now (out .entry))) ⌝ }
+{
+    let mut room = [rooms::OCTET; ROOM];
+    let mut records = [rooms::NUMBER; ROOM];
+    read_to(input, &mut room[0..r], &mut records[0..k], out, at)
+}
+
+// `read COPYROOM RECORDROOM OCTETS`.
+pub fn read(r: usize, k: usize, input: &[u8], out: &mut [u8], at: usize) -> usize
+    ensures { λ q. ⌜ page q (now (out .exit)) ≡ added (readAnswer r k (now (input .entry))) (page at (now (out .entry))) ⌝ }
+{
+    if r > ROOM {
+        return console_answers::bad(out, at);
+    }
+    if k > ROOM {
+        return console_answers::bad(out, at);
+    }
+    read_in(r, k, input, out, at)
+}
+
+// What the entry writes to room.
+fn call(entry: Writer, input: &[u8], room: &mut [u8]) -> Written
+    ensures { λ r. ⌜ filled r (now (room .exit)) ≡ outcomeOf entry (now (input .entry)) (now (room .entry)) ⌝ }
+{
+    match entry {
+        Writer::Fold => folder::fold(input, room),
+        Writer::Escape => text::escape(input, room),
+        Writer::Unescape => text::unescape(input, room),
+    }
+}
+
+// How many octets an entry wrote; 0 on a refusal.
+fn count_of(w: Written) -> usize
+    ensures { λ r. ⌜ r ≡ count w ⌝ }
+{
+    match w {
+        Written::Wrote(count) => count,
+        Written::Refused(_, _) => 0,
+    }
+}
+
+// The entry's answer with this room.
+fn write_to(entry: Writer, input: &[u8], room: &mut [u8], out: &mut [u8], at: usize) -> usize
+    ensures { λ r. ⌜ page r (now (out .exit)) ≡ added (leftText (outcomeOf entry (now (input .entry)) (now (room .entry)))) (page at (now (out .entry))) ⌝ }
+{
+    let w = call(entry, input, room);
+    let end = console_answers::written(out, at, w, room);
+    console_answers::looked_at(out, end, rooms::is_kept(room, count_of(w)))
+}
+
+// The entry's answer with a fresh room of r octets.
+fn write_in(entry: Writer, r: usize, input: &[u8], out: &mut [u8], at: usize) -> usize
+    requires { ⌜ r ≤ 70000 ⌝ }
+    ensures { λ q. ⌜ page q (now (out .exit)) ≡ added (leftText (outcomeOf entry (now (input .entry)) (octetRoom r))) (page at (now (out .entry))) ⌝ }
+{
+    let mut room = [rooms::OCTET; ROOM];
+    write_to(entry, input, &mut room[0..r], out, at)
+}
+
+// `fold ROOM OCTETS`, and the others that write octets to room.
+pub fn write(entry: Writer, r: usize, input: &[u8], out: &mut [u8], at: usize) -> usize
+    ensures { λ q. ⌜ page q (now (out .exit)) ≡ added (writeAnswer entry r (now (input .entry))) (page at (now (out .entry))) ⌝ }
+{
+    if r > ROOM {
+        return console_answers::bad(out, at);
+    }
+    write_in(entry, r, input, out, at)
+}

@@ -1,0 +1,51 @@
+-- The slot of a ticket and the lowest free slot, with the refusals 25, 24 and 22, for all entries of a desk, its slot count and its next
+-- ticket, every size of the pool and every ticket. Assumes nothing.
+use Prim.Native.Nat.{ℕ, _*_}
+use mathlib.Core.Bool.{Bool, true, false}
+use mathlib.Core.List.{List}
+use lib.Dec.{eqb}
+use Rattle.octets.specs.Pick.{pick}
+use Rattle.desk_tickets.specs.Search.{firstAt, sameAs}
+use Rattle.desk_slots.specs.Sound.{stateAt, ticketAt, sound}
+use Rattle.desk_tickets.specs.declared.Place.{Place}
+use Rattle.desk_tickets.specs.declared.Place.the-variants.{At, Nowhere, Barred}
+use Rattle.desk_sessions.specs.declared.State.{State}
+use Rattle.desk_sessions.specs.declared.State.the-variants.{Free, Open}
+use Rattle.desk_sessions.specs.declared.Entry.{Entry}
+use Rattle.desk_slots.specs.declared.Slot.{Slot}
+use Rattle.desk_slots.specs.declared.Slot.the-variants.{Held, No}
+
+-- 25 where the desk is not sound, then 24 where the pool has another size, else a
+abbrev pub guarded : {A : Type 0} → List Entry → ℕ → ℕ → ℕ → (ℕ → A) → A → A
+guarded es slots next size bar a = pick (sound es slots next) (pick (eqb size (slots * 16384)) a (bar 24)) (bar 25)
+
+abbrev pub isFree : State → Bool
+isFree Free = true
+isFree (Open s) = false
+
+abbrev pub hasTicket : ℕ → State → Bool
+hasTicket t Free = false
+hasTicket t (Open s) = eqb (s .ticket) t
+
+abbrev pub freeAt : List Entry → ℕ → Bool
+freeAt es i = isFree (stateAt es i)
+
+abbrev pub openAt : List Entry → ℕ → ℕ → Bool
+openAt es t i = hasTicket t (stateAt es i)
+
+abbrev pub inState : ℕ → State → Slot
+inState i Free = No 22
+inState i (Open s) = Held i s
+
+abbrev pub inPlace : List Entry → Place → Slot
+inPlace es Nowhere = No 22
+inPlace es (At i) = inState i (stateAt es i)
+inPlace es (Barred n) = No n
+
+-- 25, 24, or the first slot that has a ticket; a free one has 0
+unfoldable pub lookOf : List Entry → ℕ → ℕ → ℕ → ℕ → Place
+lookOf es slots next size t = guarded es slots next size Barred (firstAt (sameAs (ticketAt es) t) 0 slots)
+
+-- 25, 24, 22, or the slot of a ticket with its session
+unfoldable pub slotOf : List Entry → ℕ → ℕ → ℕ → ℕ → Slot
+slotOf es slots next size t = guarded es slots next size No (inPlace es (firstAt (openAt es t) 0 40))

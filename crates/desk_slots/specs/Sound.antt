@@ -1,0 +1,53 @@
+-- A sound desk by its entries, slot count and next ticket, in document 01's words and as a test. Assumes nothing.
+use Prim.Native.Nat.{ℕ, _<_, _≤_}
+use mathlib.Core.Path.{_≡_}
+use mathlib.Core.Bool.{Bool, false, not}
+use mathlib.Core.List.{List}
+use lib.Dec.{leb}
+use lib.ListN.{getD}
+use Rattle.octets.specs.Pick.{pick}
+use Rattle.desk_sessions.specs.Entries.{ticketOf, fits}
+use Rattle.desk_tickets.specs.Search.{allAt, among}
+use Rattle.desk_sessions.specs.declared.Session.{Session}
+use Rattle.desk_sessions.specs.declared.State.{State}
+use Rattle.desk_sessions.specs.declared.State.the-variants.{Free, Open}
+use Rattle.desk_sessions.specs.declared.Entry.{Entry}
+
+abbrev pub none : Entry
+none = record { state = Free }
+
+-- the state of entry i
+abbrev pub stateAt : List Entry → ℕ → State
+stateAt es i = getD es i none .state
+
+-- what a session has to be where the next ticket is this
+pub record Fit (next : ℕ) (s : Session) : Type 0 where
+  pub low : 1 ≤ s .ticket
+  pub high : s .ticket < next
+  pub room : s .held ≤ 16384
+
+-- slot count in range; entries past it free; open tickets distinct, at least 1 and below the next ticket; octets held at most 16,384;
+-- next ticket at least 1
+pub record Sound (es : List Entry) (slots next : ℕ) : Type 0 where
+  pub some : 1 ≤ slots
+  pub most : slots ≤ 40
+  pub first : 1 ≤ next
+  pub past : (i : ℕ) → slots ≤ i → i < 40 → stateAt es i ≡ Free
+  pub each : (i : ℕ) → i < 40 → (s : Session) → stateAt es i ≡ Open s → Fit next s
+  pub distinct : (i j : ℕ) → i < 40 → j < 40 → (s u : Session) → stateAt es i ≡ Open s → stateAt es j ≡ Open u → s .ticket ≡ u .ticket → i ≡ j
+
+abbrev pub ticketAt : List Entry → ℕ → ℕ
+ticketAt es i = ticketOf (stateAt es i)
+
+abbrev pub fitsAt : List Entry → ℕ → ℕ → ℕ → Bool
+fitsAt es slots next i = fits slots next i (stateAt es i)
+
+-- entry i fits, and no entry before it has its ticket
+unfoldable pub goodAt : List Entry → ℕ → ℕ → ℕ → Bool
+goodAt es slots next i = pick (fitsAt es slots next i) (not (among (ticketAt es) (ticketAt es i) i)) false
+
+unfoldable pub bounds : ℕ → ℕ → Bool
+bounds slots next = pick (leb 1 slots) (pick (leb slots 40) (leb 1 next) false) false
+
+unfoldable pub sound : List Entry → ℕ → ℕ → Bool
+sound es slots next = pick (bounds slots next) (allAt (goodAt es slots next) 0 40) false

@@ -1,0 +1,75 @@
+// A look along the entries of a desk: whether the desk is sound, and the slot of a ticket or the lowest free one.
+use desk_sessions::Entry;
+use desk_sessions::Session;
+use desk_sessions::State;
+use desk_tickets::Place;
+ghost use mathlib.Core.Path.{_≡_};
+ghost use Rattle.desk_slots.specs.Sound.{bounds};
+ghost use Rattle.desk_slots.specs.Slots.{lookOf, slotOf};
+
+pub const SLOTS: usize = 40;
+
+// The slot of a ticket with its session, or a refusal.
+pub enum Slot {
+    Held(usize, Session),
+    No(u32),
+}
+
+// Whether the slot count is in range and the next ticket at least 1.
+pub fn in_bounds(slots: usize, next: u32) -> bool
+    ensures { λ r. ⌜ r ≡ bounds slots next ⌝ }
+{
+    if slots < 1 {
+        return false;
+    }
+    if slots > SLOTS {
+        return false;
+    }
+    next >= 1
+}
+
+// 25, 24 by the pool's size, or the first slot that has a ticket; a free one has 0.
+pub fn look(entries: [Entry; SLOTS], slots: usize, next: u32, size: usize, t: u32) -> Place
+    ensures { λ r. ⌜ r ≡ lookOf entries slots next size t ⌝ }
+{
+    if !in_bounds(slots, next) {
+        return Place::Barred(25);
+    }
+    let mut ts = [0u32; SLOTS];
+    let mut i: usize = 0;
+    while i < SLOTS {
+        let e = entries[i];
+        if !desk_sessions::fits(e, i, slots, next) {
+            return Place::Barred(25);
+        }
+        let u = desk_sessions::ticket_of(e);
+        if desk_tickets::stands(&ts, u, i) {
+            return Place::Barred(25);
+        }
+        ts[i] = u;
+        i += 1;
+    }
+    if size != slots * 16384 {
+        return Place::Barred(24);
+    }
+    desk_tickets::find(&ts, t, slots)
+}
+
+// 25, 24, 22, or the slot of a ticket.
+pub fn at_ticket(entries: [Entry; SLOTS], slots: usize, next: u32, size: usize, t: u32) -> Slot
+    ensures { λ r. ⌜ r ≡ slotOf entries slots next size t ⌝ }
+{
+    let p = look(entries, slots, next, size, t);
+    match p {
+        Place::Barred(r) => Slot::No(r),
+        Place::Nowhere => Slot::No(22),
+        Place::At(i) => {
+            let e = entries[i];
+            let s = e.state;
+            match s {
+                State::Free => Slot::No(22),
+                State::Open(o) => Slot::Held(i, o),
+            }
+        }
+    }
+}

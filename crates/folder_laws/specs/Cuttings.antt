@@ -1,0 +1,34 @@
+-- What a greedy cutting of a logical line is, by document 01's words, whatever finds it. Assumes nothing.
+use Prim.Native.Nat.{ℕ, _+_, _<_, _≤_}
+use mathlib.Core.Path.{_≡_}
+use mathlib.Core.List.{List, [], _∷_, flatten}
+use lib.ListN.{length}
+use Rattle.utf8.specs.Characters.{charLength}
+use Rattle.folder_line.specs.Pieces.{Clean, All}
+
+-- a line of at most n octets
+abbrev pub UpTo : ℕ → List ℕ → Type 0
+UpTo n l = length l ≤ n
+
+-- p has room for r octets, and is cut at the last character boundary that fits: the first character behind it does not fit
+abbrev pub Full : ℕ → List ℕ → List (List ℕ) → Type 0
+Full r p [] = Unit {0}
+Full r p (q ∷ qs) = r < length p + charLength q
+
+-- each of the later pieces is cut so
+unfoldable pub AllFull : List (List ℕ) → Type 0
+AllFull [] = Unit {0}
+AllFull (p ∷ ps) = Full 74 p ps × AllFull ps
+
+-- the first piece p of a line, and the later ones ps
+pub record Cutting (l p : List ℕ) (ps : List (List ℕ)) : Type 0 where
+  -- no octet is lost, none is added
+  pub whole : flatten (p ∷ ps) ≡ l
+  -- every cut is at a character boundary
+  pub clean : All Clean (p ∷ ps)
+  -- the first physical line has up to 75 octets, each later one up to 74 behind its space
+  pub start : UpTo 75 p
+  pub others : All (UpTo 74) ps
+  -- every cut is at the last boundary that fits
+  pub full : Full 75 p ps
+  pub fulls : AllFull ps

@@ -1,0 +1,20 @@
+-- What holds of octets that are the folded form of logical lines. Assumes nothing.
+use Prim.Native.Nat.{ℕ}
+use mathlib.Core.Path.{_≡_}
+use mathlib.Core.List.{List, map}
+use Rattle.line_folds.specs.Folds.{unfolded}
+use Rattle.line_folds.specs.Logical.{rawLines}
+use Rattle.folder_line.specs.Pieces.{foldedLines, Clean, All}
+use Rattle.folder_laws.specs.Cuttings.{UpTo}
+use Rattle.folder_laws.specs.Physical.{physical}
+
+-- t are the octets, ls the logical lines
+pub record Folds (ls : List (List ℕ)) (t : List ℕ) : Type 0 where
+  -- each physical line has at most 75 octets
+  pub short : All (UpTo 75) (physical t)
+  -- each is whole characters, so that every cut is at a character boundary
+  pub whole : All Clean (physical t)
+  -- read again, the octets have the same logical lines
+  pub back : map unfolded (rawLines t) ≡ ls
+  -- folded again, they are the same octets
+  pub again : foldedLines (map unfolded (rawLines t)) ≡ t

@@ -1,0 +1,2 @@
+-- The laws that the proofs of `folder_text` cite. Assumes nothing.
+pub mod TextLaws

@@ -1,0 +1,51 @@
+// The next CR, sixteen octets at a look.
+ghost use mathlib.Core.Path.{_≡_};
+ghost use mathlib.Core.Bool.{false};
+ghost use Prim.Native.Nat.{ℕ, _+_, _<_, _≤_};
+ghost use lib.ListN.{length, drop, getD};
+ghost use Rattle.octets.specs.Classes.{run};
+ghost use Rattle.line_folds.specs.Folds.{notCr};
+
+// False only where none of the sixteen octets from i is CR.
+fn near(s: &[u8], i: usize) -> bool
+    requires { ⌜ i + 16 ≤ length (now s) ⌝ }
+    ensures { λ r. ⌜ (r ≡ false → (k : ℕ) → k < 16 → getD (now (s .entry)) (i + k) 0 ≡ 13 → ⊥) ⌝ }
+{
+    let mut hit: u8 = 0;
+    let mut k: usize = 0;
+    while k < 16 {
+        hit = hit | (s[i + k] == 13) as u8;
+        k += 1;
+    }
+    hit != 0
+}
+
+// A place up to which no octet from `from` on is CR.
+fn hop(s: &[u8], from: usize) -> usize
+    requires { ⌜ from ≤ length (now s) ⌝ }
+    ensures { λ r. ⌜ (r ≤ length (now (s .entry))) × (from + run notCr (drop from (now (s .entry))) ≡ r + run notCr (drop r (now (s .entry)))) ⌝ }
+{
+    let mut i = from;
+    while 16 <= s.len() - i {
+        if near(s, i) {
+            return i;
+        }
+        i += 16;
+    }
+    i
+}
+
+// The first CR from `from` on, or the end.
+pub fn next_cr(s: &[u8], from: usize) -> usize
+    requires { ⌜ from ≤ length (now s) ⌝ }
+    ensures { λ r. ⌜ (r ≤ length (now (s .entry))) × (r ≡ from + run notCr (drop from (now (s .entry)))) ⌝ }
+{
+    let mut i = hop(s, from);
+    while i < s.len() {
+        if s[i] == 13 {
+            return i;
+        }
+        i += 1;
+    }
+    i
+}

@@ -1,0 +1,2 @@
+-- The definitions that the contracts of `line_parameters` cite. Assumes nothing.
+pub mod First

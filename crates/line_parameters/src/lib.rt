@@ -1,0 +1,54 @@
+// The first value of a parameter, by its name.
+ghost use mathlib.Core.Path.{_≡_};
+ghost use Prim.Native.Nat.{suc, _≤_};
+ghost use lib.ListN.{length, drop};
+ghost use Rattle.octets.specs.Classes.{Classes};
+ghost use Rattle.line_parameters.specs.First.{spanned, firstOf};
+use line_parser::rule::Part;
+
+// Where the octets of a parameter's value stand in a line, or that there is no such parameter.
+pub enum First {
+    Between(usize, usize),
+    Nothing,
+}
+
+// Where the octets of a good value stand, quotes taken off.
+fn value_span(t: &[u8; 256], s: &[u8], at: usize) -> First
+    requires { ⌜ Classes (now t) ⌝ }
+    requires { ⌜ at ≤ length (now s) ⌝ }
+    ensures { λ r. ⌜ r ≡ spanned at (drop at (now (s .entry))) ⌝ }
+{
+    if s.len() <= at {
+        return First::Between(at, at);
+    }
+    if s[at] != 34 {
+        let end = octets::classes::span(t, s, at, 8);
+        return First::Between(at, end);
+    }
+    let end = octets::classes::span(t, s, at + 1, 16);
+    First::Between(at + 1, end)
+}
+
+// The first value of the first parameter of that name, without case, from the end of the line's name on.
+pub fn param_first(t: &[u8; 256], s: &[u8], from: usize, name: &[u8]) -> First
+    requires { ⌜ Classes (now t) ⌝ }
+    ensures { λ r. ⌜ r ≡ firstOf (now (name .entry)) from (suc (length (drop from (now (s .entry))))) (drop from (now (s .entry))) ⌝ }
+{
+    let mut at = from;
+    while at < s.len() {
+        if s[at] != 59 {
+            return First::Nothing;
+        }
+        let start = at + 1;
+        let p = line_parser::rule::read_param(t, s, start);
+        let Part::Upto(e) = p else {
+            return First::Nothing;
+        };
+        let end = octets::classes::span(t, s, start, 7);
+        if octets::cases::same_name(&s[start..end], name) {
+            return value_span(t, s, end + 1);
+        }
+        at = e;
+    }
+    First::Nothing
+}

@@ -1,0 +1,171 @@
+// The line rule: one unfolded logical line taken apart. The table of classes is lent, and places are offsets in the line.
+ghost use mathlib.Core.Path.{_≡_};
+ghost use Prim.Native.Nat.{suc, _≤_};
+ghost use lib.ListN.{length, drop};
+ghost use Rattle.octets.specs.Classes.{Classes};
+ghost use Rattle.line_parser.specs.Rule.{word, value, values, param, params, head, parseLine};
+ghost use Rattle.line_parser.specs.Places.{place, listed, headed, outcome};
+
+// What reading a part answers; a fault is handed up unchanged.
+pub enum Part {
+    // The part ends here.
+    Upto(usize),
+    // How long the group is, and where the name ends.
+    Named(usize, usize),
+    // How many parameters there are, and where they end.
+    Listed(usize, usize),
+    // Group length, end of the name, number of parameters, start of the value.
+    Parsed(usize, usize, usize, usize),
+    // 40 no name, or a bad name or group; 41 a bad parameter; 42 a bad quote; 43 no colon.
+    Fault(u32),
+}
+
+// One or more letters, digits or hyphens.
+fn read_word(t: &[u8; 256], s: &[u8], at: usize, fault: u32) -> Part
+    requires { ⌜ Classes (now t) ⌝ }
+    requires { ⌜ at ≤ length (now s) ⌝ }
+    ensures { λ r. ⌜ r ≡ place at (word fault (drop at (now (s .entry)))) ⌝ }
+{
+    let e = octets::classes::span(t, s, at, 7);
+    if e == at {
+        return Part::Fault(fault);
+    }
+    Part::Upto(e)
+}
+
+// A quoted value with its quote marks, or a bare one, which may be empty.
+fn read_value(t: &[u8; 256], s: &[u8], at: usize) -> Part
+    requires { ⌜ Classes (now t) ⌝ }
+    requires { ⌜ at ≤ length (now s) ⌝ }
+    ensures { λ r. ⌜ r ≡ place at (value (drop at (now (s .entry)))) ⌝ }
+{
+    if s.len() <= at {
+        return Part::Upto(at);
+    }
+    if s[at] != 34 {
+        let e = octets::classes::span(t, s, at, 8);
+        return Part::Upto(e);
+    }
+    let e = octets::classes::span(t, s, at + 1, 16);
+    if s.len() <= e {
+        return Part::Fault(42);
+    }
+    if s[e] != 34 {
+        return Part::Fault(42);
+    }
+    Part::Upto(e + 1)
+}
+
+// One or more values split by commas, and then a `;` or a `:`.
+fn read_values(t: &[u8; 256], s: &[u8], from: usize) -> Part
+    requires { ⌜ Classes (now t) ⌝ }
+    requires { ⌜ from ≤ length (now s) ⌝ }
+    ensures { λ r. ⌜ r ≡ place from (values (drop from (now (s .entry)))) ⌝ }
+{
+    let first = read_value(t, s, from);
+    let Part::Upto(start) = first else {
+        return first;
+    };
+    let mut at = start;
+    while at < s.len() {
+        let b = s[at];
+        if b != 44 {
+            if b == 59 {
+                return Part::Upto(at);
+            }
+            if b == 58 {
+                return Part::Upto(at);
+            }
+            return Part::Fault(42);
+        }
+        let v = read_value(t, s, at + 1);
+        let Part::Upto(e) = v else {
+            return v;
+        };
+        at = e;
+    }
+    Part::Fault(43)
+}
+
+// A name, `=` and the values.
+pub fn read_param(t: &[u8; 256], s: &[u8], at: usize) -> Part
+    requires { ⌜ Classes (now t) ⌝ }
+    requires { ⌜ at ≤ length (now s) ⌝ }
+    ensures { λ r. ⌜ r ≡ place at (param (drop at (now (s .entry)))) ⌝ }
+{
+    let name = read_word(t, s, at, 41);
+    let Part::Upto(n) = name else {
+        return name;
+    };
+    if s.len() <= n {
+        return Part::Fault(41);
+    }
+    if s[n] != 61 {
+        return Part::Fault(41);
+    }
+    read_values(t, s, n + 1)
+}
+
+// Any number of parameters, each after a semicolon, and then a colon.
+fn read_params(t: &[u8; 256], s: &[u8], from: usize) -> Part
+    requires { ⌜ Classes (now t) ⌝ }
+    ensures { λ r. ⌜ r ≡ listed 0 from (params (suc (length (drop from (now (s .entry))))) (drop from (now (s .entry)))) ⌝ }
+{
+    let mut at = from;
+    let mut count: usize = 0;
+    while at < s.len() {
+        let b = s[at];
+        if b != 59 {
+            if b == 58 {
+                return Part::Listed(count, at);
+            }
+            return Part::Fault(40);
+        }
+        let p = read_param(t, s, at + 1);
+        let Part::Upto(e) = p else {
+            return p;
+        };
+        at = e;
+        count += 1;
+    }
+    Part::Fault(43)
+}
+
+// The group and its dot, if there is one, and the name.
+fn read_head(t: &[u8; 256], s: &[u8]) -> Part
+    requires { ⌜ Classes (now t) ⌝ }
+    ensures { λ r. ⌜ r ≡ headed (head (now (s .entry))) ⌝ }
+{
+    let first = read_word(t, s, 0, 40);
+    let Part::Upto(n) = first else {
+        return first;
+    };
+    if s.len() <= n {
+        return Part::Named(0, n);
+    }
+    if s[n] != 46 {
+        return Part::Named(0, n);
+    }
+    let start = n + 1;
+    let second = read_word(t, s, start, 40);
+    let Part::Upto(e) = second else {
+        return second;
+    };
+    Part::Named(n, e)
+}
+
+// A whole line.
+pub fn read_line(t: &[u8; 256], s: &[u8]) -> Part
+    requires { ⌜ Classes (now t) ⌝ }
+    ensures { λ r. ⌜ r ≡ outcome (parseLine (now (s .entry))) ⌝ }
+{
+    let first = read_head(t, s);
+    let Part::Named(group, n) = first else {
+        return first;
+    };
+    let rest = read_params(t, s, n);
+    let Part::Listed(count, e) = rest else {
+        return rest;
+    };
+    Part::Parsed(group, n, count, e + 1)
+}

@@ -1,0 +1,34 @@
+// Numbers in decimal digits, and an octet in two hexadecimal ones.
+ghost use mathlib.Core.Path.{_≡_};
+ghost use Prim.Native.Nat.{_<_};
+ghost use Rattle.io.specs.Digits.{glyph};
+ghost use Rattle.program_output.specs.Pages.{page, added};
+ghost use Rattle.program_output.specs.Digits.{decimal, pair};
+
+// Adds a number.
+pub fn put_number(room: &mut [u8], at: usize, n: usize) -> usize
+    ensures { λ r. ⌜ page r (now (room .exit)) ≡ added (decimal n) (page at (now (room .entry))) ⌝ }
+{
+    let mut digits = [0u8; 20];
+    let k = io::decimal(n as u64, &mut digits);
+    crate::put_all(room, at, &digits[..k])
+}
+
+// The digit of a number below 16.
+fn hex_digit(n: u8) -> u8
+    requires { ⌜ n < 16 ⌝ }
+    ensures { λ r. ⌜ r ≡ glyph n ⌝ }
+{
+    if n < 10 {
+        return 48 + n;
+    }
+    87 + n
+}
+
+// Adds an octet's two digits.
+pub fn put_pair(room: &mut [u8], at: usize, octet: u8) -> usize
+    ensures { λ r. ⌜ page r (now (room .exit)) ≡ added (pair octet) (page at (now (room .entry))) ⌝ }
+{
+    let next = crate::put(room, at, hex_digit(octet / 16));
+    crate::put(room, next, hex_digit(octet % 16))
+}

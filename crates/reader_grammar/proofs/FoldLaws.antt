@@ -1,0 +1,302 @@
+-- Lines with folds in them, each ended by CR LF: what the walk over an input finds of them, and that it finds such lines in each input
+-- without lone CR or LF that ends in CR LF. Assumes nothing.
+use mathlib.Core.Path.{_≡_, refl, sym, ap, subst, _∙_}
+use mathlib.Core.Bool.{Bool, true, false, not, false≢true}
+use mathlib.Core.List.{List, [], _∷_, _++_, map, append-assoc}
+use mathlib.Core.Logic.{_⊎_, inl, inr, _↔_}
+use Prim.Native.Nat.{ℕ, zero, suc, _+_, _-_, _<_, _≤_}
+use native.Mathlib.Nat.{zero-add}
+use native.Mathlib.Omega.{arith}
+use lib.Dec.{eqb, ltb}
+use lib.ListN.{length, getD, take, drop, length-append, drop-of-length-le}
+use lib.Seq.{take-append-seam, drop-append-add, drop-cons, split-at, getD-at, getD-append-add}
+use borrow.Author.Tests.{eqb-true, eqb-false, ne-eqb, le-ltb, ltb-false, not-true}
+use Rattle.octets.specs.Scan.{scan, gather}
+use Rattle.octets.specs.Classes.{valued}
+use Rattle.utf8.specs.Characters.{allowed}
+use Rattle.utf8_laws.specs.Texts.{Each as EachOctet}
+use Rattle.line_parser.specs.Parse.{hd}
+use Rattle.line_folds.specs.Folds.{foldAt, lineStep, lineLength, passed, kept, unfolded}
+use Rattle.line_folds.specs.Logical.{linesBy, rawLines}
+use Rattle.line_parser.specs.Grammar.{Line, Each, front, render}
+use Rattle.line_folds.proofs.LineLaws.{lines-step}
+use Rattle.line_laws.proofs.Law.{line-law}
+use Rattle.line_laws.proofs.PlacesLaw.{accepted-starts}
+use Rattle.octets.proofs.Bools.{by, and-both}
+use Rattle.line_breaks.specs.Lone.{loneStep, firstLone, endsCrLf}
+use Rattle.reader.specs.Outcome.{ended}
+use Rattle.reader_grammar.specs.Cards.{Readable}
+use Rattle.reader_grammar.specs.Inputs.{Blank, Folded, end, octet, fold, Written, none, more}
+use Rattle.reader_grammar.specs.Refusals.{EndsCrLf}
+
+-- neither CR nor LF
+abbrev Unbroken : ℕ → Type 0
+Unbroken b = (b ≡ 13 → ⊥) × (b ≡ 10 → ⊥)
+
+clean-inner : (l : List ℕ) → EachOctet (allowed false) l → Each Unbroken l
+unfolding EachOctet Each allowed valued
+clean-inner [] h = tt
+clean-inner (b ∷ l) h = (
+  (λ e. false≢true (subst (λ (x : ℕ). allowed false x ≡ true) e (h .0)), λ e. false≢true (subst (λ (x : ℕ). allowed false x ≡ true) e (h .0))),
+  clean-inner l (h .1),
+)
+
+blank-inner : (b : ℕ) → Blank b → Unbroken b
+blank-inner b (inl e) = (λ q. omega arith, λ q. omega arith)
+blank-inner b (inr e) = (λ q. omega arith, λ q. omega arith)
+
+-- the check for a lone CR or LF
+lone-inner : (b : ℕ) (s : List ℕ) → Unbroken b → scan loneStep (b ∷ s) 0 ≡ suc (scan loneStep s 0)
+unfolding scan loneStep
+lone-inner b s h = rw (ne-eqb b 10 (h .1), ne-eqb b 13 (h .0))
+
+lone-pair : (s : List ℕ) → scan loneStep (13 ∷ 10 ∷ s) 0 ≡ suc (suc (scan loneStep s 0))
+unfolding scan loneStep
+lone-pair s = refl
+
+folded-lone : {l r : List ℕ} → Folded l r → Each Unbroken l → (t : List ℕ) → scan loneStep t 0 ≡ length t → scan loneStep (r ++ t) 0 ≡ length (r ++ t)
+unfolding Each
+folded-lone end h t e = e
+folded-lone (octet {b = b} {r = r} f) h t e = lone-inner b (r ++ t) (h .0) ∙ ap suc (folded-lone f (h .1) t e)
+folded-lone (fold {b = b} {r = r} w f) h t e =
+    lone-pair (b ∷ (r ++ t)) ∙ ap (λ (n : ℕ). suc (suc n)) (lone-inner b (r ++ t) (blank-inner b w) ∙ ap suc (folded-lone f h t e))
+
+-- the next line starts with neither space nor tab
+abbrev Unled : List ℕ → Type 0
+Unled i = (hd i ≡ 32 → ⊥) × (hd i ≡ 9 → ⊥)
+
+fold-here : (b : ℕ) (s : List ℕ) → Blank b → foldAt (13 ∷ 10 ∷ b ∷ s) ≡ true
+unfolding foldAt
+fold-here b s (inl e) = rw e
+fold-here b s (inr e) = rw e
+
+no-fold-here : (i : List ℕ) → Unled i → foldAt (13 ∷ 10 ∷ i) ≡ false
+unfolding foldAt
+no-fold-here i h = rw (ne-eqb (hd i) 32 (h .0), ne-eqb (hd i) 9 (h .1))
+
+inner-fold : (b : ℕ) (s : List ℕ) → Unbroken b → foldAt (b ∷ s) ≡ false
+unfolding foldAt
+inner-fold b s h = rw (ne-eqb b 13 (h .0))
+
+-- a line ends before its CR LF
+folded-length : {l r : List ℕ} → Folded l r → Each Unbroken l → (i : List ℕ) → Unled i → scan lineStep (r ++ (13 ∷ 10 ∷ i)) 0 ≡ length r
+unfolding Each scan lineStep
+folded-length end h i u = rw (no-fold-here i u)
+folded-length (octet {b = b} {r = r} f) h i u =
+    rw (inner-fold b (r ++ (13 ∷ 10 ∷ i)) (h .0), ne-eqb b 13 (h .0 .0)) (ap suc (folded-length f (h .1) i u))
+folded-length (fold {b = b} {r = r} w f) h i u =
+    rw (fold-here b (r ++ (13 ∷ 10 ∷ i)) w) (ap (λ (n : ℕ). suc (suc (suc n))) (folded-length f h i u))
+
+-- and unfolds to itself without its folds
+folded-unfolds : {l r : List ℕ} → Folded l r → Each Unbroken l → unfolded r ≡ l
+unfolding Each unfolded gather passed kept
+folded-unfolds end h = refl
+folded-unfolds (octet {b = b} {r = r} f) h = rw (inner-fold b r (h .0)) (ap (λ (l : List ℕ). b ∷ l) (folded-unfolds f (h .1)))
+folded-unfolds (fold {b = b} {r = r} w f) h = rw (fold-here b r w) (folded-unfolds f h)
+
+-- it is the first raw line
+first-raw : (r i : List ℕ) → scan lineStep (r ++ (13 ∷ 10 ∷ i)) 0 ≡ length r → rawLines (r ++ (13 ∷ 10 ∷ i)) ≡ r ∷ rawLines i
+unfolding lineLength
+first-raw r i e =
+    let s : List ℕ = r ++ (13 ∷ 10 ∷ i) in
+    let n : 0 < length s = omega (arith, length-append r (13 ∷ 10 ∷ i)) in
+    lines-step s 0 n (length r) (sym e)
+    ∙ ap (λ (x : List ℕ). x ∷ rawLines (drop (0 + (length r + 2)) s)) (take-append-seam r (13 ∷ 10 ∷ i))
+    ∙ ap (λ (m : ℕ). r ∷ rawLines (drop m s)) (zero-add (length r + 2))
+    ∙ ap (λ (x : List ℕ). r ∷ rawLines x) (drop-append-add r (13 ∷ 10 ∷ i) 2)
+
+folded-first : {l r : List ℕ} → Folded l r → (t : List ℕ) → Unled l → 0 < length l → Unled (r ++ t)
+folded-first end t u h = absurd (omega arith)
+folded-first (octet f) t u h = u
+folded-first (fold w f) t u h = (λ e. omega arith, λ e. omega arith)
+
+readable-inner : (x : Line) → Readable x → Each Unbroken (render x)
+readable-inner x r = clean-inner (render x) (r .clean .octets)
+
+written-unled : {xs : List Line} {i : List ℕ} → Written xs i → Each Readable xs → Unled i
+unfolding Each
+written-unled none h = (λ e. omega arith, λ e. omega arith)
+written-unled (more {x = x} {i = i} f w) h =
+    let s = accepted-starts (render x) x (length (front x)) (line-law (render x) x (length (front x)) .1 (h .0 .formed, refl, refl)) in
+    folded-first f (13 ∷ 10 ∷ i) (s .no-space, s .no-tab) (s .some)
+
+-- the logical lines of lines that are written so are the lines
+pub written-lines : {xs : List Line} {i : List ℕ} → Written xs i → Each Readable xs → map unfolded (rawLines i) ≡ map render xs
+unfolding Each rawLines linesBy
+written-lines none h = refl
+written-lines (more {x = x} {xs = xs} {r = r} {i = i} f w) h =
+    let n = readable-inner x (h .0) in
+    ap (map unfolded) (first-raw r i (folded-length f n i (written-unled w (h .1))))
+    ∙ ap (λ (l : List ℕ). l ∷ map unfolded (rawLines i)) (folded-unfolds f n)
+    ∙ ap (λ (ls : List (List ℕ)). render x ∷ ls) (written-lines w (h .1))
+
+-- no CR or LF of them is alone
+pub written-paired : {xs : List Line} {i : List ℕ} → Written xs i → Each Readable xs → firstLone i ≡ length i
+unfolding Each firstLone scan
+written-paired none h = refl
+written-paired (more {x = x} {i = i} f w) h =
+    folded-lone f (readable-inner x (h .0)) (13 ∷ 10 ∷ i) (lone-pair i ∙ ap (λ (n : ℕ). suc (suc n)) (written-paired w (h .1)))
+
+-- they end in CR LF
+joined : (r i : List ℕ) → (i ≡ []) ⊎ EndsCrLf i → EndsCrLf (r ++ (13 ∷ 10 ∷ i))
+joined r i (inl e) = (r, ap (λ (s : List ℕ). r ++ (13 ∷ 10 ∷ s)) e)
+joined r i (inr (j, e)) = (r ++ (13 ∷ 10 ∷ j), ap (λ (s : List ℕ). r ++ (13 ∷ 10 ∷ s)) e ∙ sym (append-assoc r (13 ∷ 10 ∷ j) (13 ∷ 10 ∷ [])))
+
+ends-or : {xs : List Line} {i : List ℕ} → Written xs i → (i ≡ []) ⊎ EndsCrLf i
+ends-or none = inl refl
+ends-or (more {r = r} {i = i} f w) = inr (joined r i (ends-or w))
+
+pub written-ends : {xs : List Line} {i : List ℕ} → Written xs i → 0 < length xs → EndsCrLf i
+written-ends none h = absurd (omega arith)
+written-ends (more {r = r} {i = i} f w) h = joined r i (ends-or w)
+
+-- the last two octets are CR LF
+pub ends-law : (i : List ℕ) → (endsCrLf i ≡ true) ↔ EndsCrLf i
+unfolding endsCrLf
+ends-law i = (to, from)
+  where
+    to : endsCrLf i ≡ true → EndsCrLf i
+    to e =
+        let a = and-both (not (ltb (length i) 2)) _ e in
+        let b = and-both (eqb (getD i (length i - 2) 0) 13) _ (a .1) in
+        let n : 2 ≤ length i = ltb-false (length i) 2 (not-true _ (a .0)) in
+        let m = length i - 2 in
+        let next : length i - 1 ≡ suc m = omega arith in
+        let two : drop (suc m) i ≡ 10 ∷ [] =
+        drop-cons i (suc m) 0 (omega arith)
+        ∙ ap (λ (x : ℕ). x ∷ drop (suc (suc m)) i) (ap (λ (q : ℕ). getD i q 0) (sym next) ∙ eqb-true (getD i (length i - 1) 0) 10 (b .1))
+        ∙ ap (λ (t : List ℕ). 10 ∷ t) (drop-of-length-le i {i = suc (suc m)} (omega arith)) in (
+          take m i,
+          split-at i m 0 (omega arith)
+              ∙ ap (λ (x : ℕ). take m i ++ (x ∷ drop (suc m) i)) (eqb-true (getD i m 0) 13 (b .0))
+              ∙ ap (λ (t : List ℕ). take m i ++ (13 ∷ t)) two,
+        )
+
+    from : EndsCrLf i → endsCrLf i ≡ true
+    from (j, e) =
+        let n = length-append j (13 ∷ 10 ∷ []) in
+        let q : length i ≡ length j + 2 = ap length e ∙ n in
+        let a : getD i (length i - 2) 0 ≡ 13 = ap (λ (l : List ℕ). getD l (length i - 2) 0) e ∙ getD-at j 13 (10 ∷ []) 0 (length i - 2) (omega arith) in
+        let k : length i - 1 ≡ length j + 1 = omega arith in
+        let b : getD i (length i - 1) 0 ≡ 10 = ap (λ (m : ℕ). getD i m 0) k ∙ ap (λ (l : List ℕ). getD l (length j + 1) 0) e ∙ getD-append-add j (13 ∷ 10 ∷ []) 1 0 in
+        rw (le-ltb (length i) 2 (omega arith), a, b)
+
+-- octets without lone CR or LF that end in CR LF
+data Text : List ℕ → Type 0 where
+  last : Text (13 ∷ 10 ∷ [])
+  inner : {b : ℕ} {s : List ℕ} → Unbroken b → Text s → Text (b ∷ s)
+  pair : {s : List ℕ} → Text s → Text (13 ∷ 10 ∷ s)
+
+module _ (b c : ℕ) (s : List ℕ) where
+  text-by : (p q r : Bool) → eqb b 10 ≡ p → eqb b 13 ≡ q → eqb c 10 ≡ r → scan loneStep (b ∷ c ∷ s) 0 ≡ suc (suc (length s))
+      → (scan loneStep (c ∷ s) 0 ≡ suc (length s) → Text (c ∷ s))
+      → (c ≡ 10 → scan loneStep s 0 ≡ length s → Text s) → Text (b ∷ c ∷ s)
+  unfolding scan loneStep
+  text-by true q r ep eq er e f g = absurd (omega (arith, simp ep at e))
+  text-by false true true ep eq er e f g = rw (eqb-true b 13 eq, eqb-true c 10 er) (pair (g (eqb-true c 10 er) (omega (arith, simp (ep, eq, er) at e))))
+  text-by false true false ep eq er e f g = absurd (omega (arith, simp (ep, eq, er) at e))
+  text-by false false r ep eq er e f g = inner (eqb-false b 13 eq, eqb-false b 10 ep) (f (omega (arith, simp (ep, eq) at e)))
+
+text-of : (j : List ℕ) → scan loneStep (j ++ (13 ∷ 10 ∷ [])) 0 ≡ length (j ++ (13 ∷ 10 ∷ [])) → Text (j ++ (13 ∷ 10 ∷ []))
+text-of [] e = last
+text-of (b ∷ []) e =
+    text-by b 13 (10 ∷ []) (eqb b 10) (eqb b 13) (eqb 13 10) refl refl refl e (λ h. text-of [] h) (λ h q. absurd (omega arith))
+text-of (b ∷ c ∷ j) e =
+    text-by b c (j ++ (13 ∷ 10 ∷ [])) (eqb b 10) (eqb b 13) (eqb c 10) refl refl refl e (λ h. text-of (c ∷ j) h) (λ h q. text-of j q)
+
+-- the first line, as it came and without its folds, and what comes after its CR LF
+record Split (i : List ℕ) : Type 0 where
+  line : List ℕ
+  raw : List ℕ
+  rest : List ℕ
+  whole : i ≡ raw ++ (13 ∷ 10 ∷ rest)
+  folded : Folded line raw
+  each : Each Unbroken line
+  next : (rest ≡ []) ⊎ Text rest
+  unled : Unled rest
+
+-- a CR LF that is no fold
+here : (s : List ℕ) → (s ≡ []) ⊎ Text s → Unled s → Split (13 ∷ 10 ∷ s)
+unfolding Each
+here s t u = record { line = []; raw = []; rest = s; whole = refl; folded = end; each = tt; next = t; unled = u }
+
+further : (b : ℕ) (s : List ℕ) → Unbroken b → Split s → Split (b ∷ s)
+unfolding Each
+further b s h t = record {
+  line = b ∷ t .line;
+  raw = b ∷ t .raw;
+  rest = t .rest;
+  whole = ap (λ (l : List ℕ). b ∷ l) (t .whole);
+  folded = octet (t .folded);
+  each = (h, t .each);
+  next = t .next;
+  unled = t .unled;
+}
+
+past-fold : (b : ℕ) (s : List ℕ) → Blank b → Split s → Split (13 ∷ 10 ∷ b ∷ s)
+past-fold b s w t = record {
+  line = t .line;
+  raw = 13 ∷ 10 ∷ b ∷ t .raw;
+  rest = t .rest;
+  whole = ap (λ (l : List ℕ). 13 ∷ 10 ∷ b ∷ l) (t .whole);
+  folded = fold w (t .folded);
+  each = t .each;
+  next = t .next;
+  unled = t .unled;
+}
+
+split : {i : List ℕ} → Text i → Split i
+split last = here [] (inl refl) (λ e. omega arith, λ e. omega arith)
+split (inner {b = b} {s = s} h t) = further b s h (split t)
+split (pair last) = here (13 ∷ 10 ∷ []) (inr last) (λ e. omega arith, λ e. omega arith)
+split (pair (pair {s = s} t)) = here (13 ∷ 10 ∷ s) (inr (pair t)) (λ e. omega arith, λ e. omega arith)
+split (pair (inner {b = b} {s = s} h t)) =
+    by (eqb b 32) (λ e. past-fold b s (inl (eqb-true b 32 e)) (split t))
+    (λ e. by (eqb b 9) (λ f. past-fold b s (inr (eqb-true b 9 f)) (split t))
+    (λ f. here (b ∷ s) (inr (inner h t)) (eqb-false b 32 e, eqb-false b 9 f)))
+
+split-raw : (i : List ℕ) (s : Split i) → rawLines i ≡ s .raw ∷ rawLines (s .rest)
+split-raw i s = ap rawLines (s .whole) ∙ first-raw (s .raw) (s .rest) (folded-length (s .folded) (s .each) (s .rest) (s .unled))
+
+cons-nil : {A B : Type 0} {x : A} {xs : List A} → x ∷ xs ≡ [] → B
+cons-nil e = let z : _≡_ {A = ℕ} 0 1 = cc in absurd (omega arith)
+
+-- such octets, whose logical lines are the lines, are the lines written so
+lines-from : (xs : List Line) (i : List ℕ) → (i ≡ []) ⊎ Text i → map unfolded (rawLines i) ≡ map render xs → Written xs i
+unfolding rawLines linesBy
+lines-from [] i (inl q) e = rw q none
+lines-from [] i (inr t) e = cons-nil (sym (ap (map unfolded) (split-raw i (split t))) ∙ e)
+lines-from (x ∷ xs) i (inl q) e = cons-nil (sym e ∙ ap (λ (l : List ℕ). map unfolded (rawLines l)) q)
+lines-from (x ∷ xs) i (inr t) e =
+    let s = split t in
+    let p : unfolded (s .raw) ∷ map unfolded (rawLines (s .rest)) ≡ render x ∷ map render xs = sym (ap (map unfolded) (split-raw i s)) ∙ e in
+    let a : unfolded (s .raw) ≡ render x = cc in
+    let b : map unfolded (rawLines (s .rest)) ≡ map render xs = cc in
+    let f : Folded (render x) (s .raw) = subst (λ (l : List ℕ). Folded l (s .raw)) (sym (folded-unfolds (s .folded) (s .each)) ∙ a) (s .folded) in
+    subst (Written (x ∷ xs)) (sym (s .whole)) (more f (lines-from xs (s .rest) (s .next) b))
+
+paired-text : (i : List ℕ) → firstLone i ≡ length i → EndsCrLf i → Text i
+unfolding firstLone
+paired-text i e (j, q) = subst Text (sym q) (text-of j (subst (λ (l : List ℕ). scan loneStep l 0 ≡ length l) q e))
+
+pub lines-written : (xs : List Line) (i : List ℕ) → firstLone i ≡ length i → EndsCrLf i → map unfolded (rawLines i) ≡ map render xs → Written xs i
+lines-written xs i e h q = lines-from xs i (inr (paired-text i e h)) q
+
+-- the raw lines, each ended by CR LF, are the input, and each is its logical line with folds in it
+raw-from : (n : ℕ) (i : List ℕ) → length i ≤ n → (i ≡ []) ⊎ Text i → (ended (rawLines i) ≡ i) × Each (λ (r : List ℕ). Folded (unfolded r) r) (rawLines i)
+unfolding rawLines linesBy ended Each
+raw-from zero i h (inl q) = rw q (refl, tt)
+raw-from zero i h (inr t) =
+    let s = split t in
+    absurd (omega (arith, ap length (s .whole), length-append (s .raw) (13 ∷ 10 ∷ s .rest)))
+raw-from (suc n) i h (inl q) = rw q (refl, tt)
+raw-from (suc n) i h (inr t) =
+    let s = split t in
+    let r = raw-from n (s .rest) (omega (arith, ap length (s .whole), length-append (s .raw) (13 ∷ 10 ∷ s .rest))) (s .next) in
+    let f : Folded (unfolded (s .raw)) (s .raw) = subst (λ (l : List ℕ). Folded l (s .raw)) (sym (folded-unfolds (s .folded) (s .each))) (s .folded) in (
+      ap ended (split-raw i s) ∙ ap (λ (l : List ℕ). s .raw ++ (13 ∷ 10 ∷ l)) (r .0) ∙ sym (s .whole),
+      subst (Each (λ (r : List ℕ). Folded (unfolded r) r)) (sym (split-raw i s)) (f, r .1),
+    )
+
+pub raw-law : (i : List ℕ) → firstLone i ≡ length i → EndsCrLf i → (ended (rawLines i) ≡ i) × Each (λ (r : List ℕ). Folded (unfolded r) r) (rawLines i)
+raw-law i e h = raw-from (length i) i (omega arith) (inr (paired-text i e h))

@@ -1,0 +1,87 @@
+-- Which inputs are refused, with which number and place, by document 01's table and order. Assumes nothing.
+use Prim.Native.Nat.{ℕ, _<_, _≤_}
+use mathlib.Core.Path.{_≡_}
+use mathlib.Core.Bool.{true}
+use mathlib.Core.List.{List, [], _∷_, _++_, map}
+use mathlib.Core.Logic.{_⊎_}
+use lib.ListN.{length}
+use Rattle.line_folds.specs.Folds.{unfolded}
+use Rattle.line_folds.specs.Logical.{rawLines}
+use Rattle.line_parser.specs.Grammar.{Line, Each, WellFormed, render}
+use Rattle.property_table.specs.Rows.{single}
+use Rattle.card_line.specs.Parts.{rowOfLine, kindOfLine}
+use Rattle.line_breaks.specs.Lone.{firstLone}
+use Rattle.reader.specs.Outcome.{ended}
+use Rattle.reader_grammar.specs.Values.{Fitting}
+use Rattle.reader_grammar.specs.Cards.{Clean, Readable, Bare, Begins, Versions, Inner, Cards, linesOf, groupLines}
+
+-- "last two octets" are CR LF
+abbrev pub EndsCrLf : List ℕ → Type 0
+EndsCrLf i = (j : List ℕ) × (i ≡ j ++ (13 ∷ 10 ∷ []))
+
+-- none of 1 to 4 holds
+pub record Framed (i : List ℕ) : Type 0 where
+  pub short : length i ≤ 16384
+  pub some : 0 < length i
+  pub paired : firstLone i ≡ length i
+  pub ends : EndsCrLf i
+
+-- the lines of a card that has not ended: none, BEGIN, or BEGIN, VERSION and others
+pub data Begun : List Line → Type 0 where
+  nothing : Begun []
+  first : {b : Line} → Begins b → Begun (b ∷ [])
+  within : {b v : Line} {ys : List Line} → Begins b → Versions v → Inner ys → Begun (b ∷ v ∷ ys)
+
+-- the raw lines ds, unfolded, are k cards zs and then the lines ys of a card that has not ended
+pub record SoFar (ds : List (List ℕ)) (k : ℕ) (zs ys : List Line) : Type 0 where
+  pub written : map unfolded ds ≡ map render (zs ++ ys)
+  pub readable : Each Readable (zs ++ ys)
+  pub cards : Cards k zs
+  pub begun : Begun ys
+
+-- the line l is read as x
+pub record Reads (l : List ℕ) (x : Line) : Type 0 where
+  pub text : l ≡ render x
+  pub readable : Readable x
+
+-- "Another line as a card's first or second, or BEGIN or VERSION elsewhere, is 9"; ys are the card's lines before x
+unfoldable pub InPlace : List Line → Line → Type 0
+InPlace [] x = rowOfLine x ≡ 1
+InPlace (b ∷ []) x = rowOfLine x ≡ 34
+InPlace (b ∷ v ∷ ys) x = (rowOfLine x ≡ 1 → ⊥) × (rowOfLine x ≡ 34 → ⊥)
+
+-- BEGIN, VERSION or END
+abbrev pub Framing : ℕ → Type 0
+Framing row = (row ≡ 1) ⊎ ((row ≡ 34) ⊎ (row ≡ 2))
+
+-- no "group or parameter on BEGIN, VERSION or END"
+abbrev pub Unladen : Line → Type 0
+Unladen x = Framing (rowOfLine x) → Bare x
+
+-- none of 5, 6, 9, 8, 7 holds of the line l after the card's lines ys
+pub record Sound (ys : List Line) (l : List ℕ) (x : Line) : Type 0 where
+  pub reads : Reads l x
+  pub place : InPlace ys x
+  pub unladen : Unladen x
+  pub fits : Fitting (rowOfLine x) (kindOfLine x) (x .value)
+
+-- the refusals of a line l after the card's lines ys, each where none before it holds: 5, 6, 9, 8, 7, 10 and, at END, 11, 12
+pub data LineRefused (ys : List Line) (l : List ℕ) : ℕ → Type 0 where
+  octet : (Clean l → ⊥) → LineRefused ys l 5
+  rule : Clean l → ((x : Line) → WellFormed x → l ≡ render x → ⊥) → LineRefused ys l 6
+  order : (x : Line) → Reads l x → (InPlace ys x → ⊥) → LineRefused ys l 9
+  laden : (x : Line) → Reads l x → InPlace ys x → (Unladen x → ⊥) → LineRefused ys l 8
+  value : (x : Line) → Reads l x → InPlace ys x → Unladen x → (Fitting (rowOfLine x) (kindOfLine x) (x .value) → ⊥) → LineRefused ys l 7
+  second : (x : Line) → Sound ys l x → single (rowOfLine x) ≡ true → 1 ≤ linesOf (rowOfLine x) ys → LineRefused ys l 10
+  nameless : (x : Line) → Sound ys l x → rowOfLine x ≡ 2 → linesOf 6 ys ≡ 0 → LineRefused ys l 11
+  no-group : (x : Line) → Sound ys l x → rowOfLine x ≡ 2 → 1 ≤ linesOf 6 ys → 1 ≤ linesOf 24 ys → groupLines ys ≡ 0 → LineRefused ys l 12
+
+-- 1, 2, 3, 4 over the whole input; then the first line that is refused, at its start; then 9 where the input ends inside a card
+pub data RefusedBy (i : List ℕ) : ℕ → ℕ → Type 0 where
+  long : 16384 < length i → RefusedBy i 1 16384
+  empty : length i ≡ 0 → RefusedBy i 2 0
+  lone : length i ≤ 16384 → 0 < length i → firstLone i < length i → RefusedBy i 3 (firstLone i)
+  unended : length i ≤ 16384 → 0 < length i → firstLone i ≡ length i → (EndsCrLf i → ⊥) → RefusedBy i 4 (length i)
+  line : (ds : List (List ℕ)) (l : List ℕ) (es : List (List ℕ)) (n k : ℕ) (zs ys : List Line) → Framed i → rawLines i ≡ ds ++ (l ∷ es)
+      → SoFar ds k zs ys → LineRefused ys (unfolded l) n → RefusedBy i n (length (ended ds))
+  unfinished : (k : ℕ) (zs ys : List Line) → Framed i → SoFar (rawLines i) k zs ys → 0 < length ys → RefusedBy i 9 (length i)

@@ -1,0 +1,35 @@
+-- Which values a line may have, by document 01: the kinds in plain words, and the fixed values of BEGIN, VERSION and END. Assumes nothing.
+use Prim.Native.Nat.{ℕ}
+use mathlib.Core.Path.{_≡_}
+use mathlib.Core.Bool.{true}
+use mathlib.Core.List.{List}
+use Rattle.octets.specs.Cases.{same}
+use Rattle.octets.specs.Ascii.{octets}
+use Rattle.value_laws.specs.Words.{Text, Texts, Semicolons, Uri, Gender, Pidmap}
+
+-- "Kinds: 0 anything; 1 text; 2 texts split by bare commas; 3 URI; [..]"
+pub data OfKind : ℕ → List ℕ → Type 0 where
+  anything : {v : List ℕ} → OfKind 0 v
+  text : {v : List ℕ} → Text v → OfKind 1 v
+  texts : {v : List ℕ} → Texts v → OfKind 2 v
+  uri : {v : List ℕ} → Uri v → OfKind 3 v
+  five : {v : List ℕ} → Semicolons 4 v → OfKind 4 v
+  seven : {v : List ℕ} → Semicolons 6 v → OfKind 5 v
+  components : {v : List ℕ} → Text v → OfKind 6 v
+  gender : {v : List ℕ} → Gender v → OfKind 7 v
+  pidmap : {v : List ℕ} → Pidmap v → OfKind 8 v
+
+-- "BEGIN and END have value VCARD in any case"
+abbrev pub Vcard : List ℕ → Type 0
+Vcard v = same v (octets "VCARD") ≡ true
+
+-- "VERSION exactly `4.0`"
+abbrev pub Four : List ℕ → Type 0
+Four v = v ≡ octets "4.0"
+
+-- the value of a line of row 1 BEGIN, 2 END, 34 VERSION or any other
+pub record Fitting (row kind : ℕ) (v : List ℕ) : Type 0 where
+  pub begin : row ≡ 1 → Vcard v
+  pub end : row ≡ 2 → Vcard v
+  pub version : row ≡ 34 → Four v
+  pub other : (row ≡ 1 → ⊥) → (row ≡ 2 → ⊥) → (row ≡ 34 → ⊥) → OfKind kind v

@@ -1,0 +1,70 @@
+// The walk over the logical lines of an input, each judged in turn.
+ghost use mathlib.Core.Path.{_≡_};
+ghost use mathlib.Core.Bool.{false};
+ghost use Prim.Native.Nat.{_+_, _<_, _≤_};
+ghost use lib.ListN.{length};
+ghost use Rattle.octets.specs.Classes.{Classes};
+ghost use Rattle.octets.specs.Pick.{pick};
+ghost use Rattle.octets.specs.Room.{overlay};
+ghost use Rattle.line_folds.specs.Folds.{unfolded};
+ghost use Rattle.line_folds.specs.Logical.{rawLines};
+ghost use Rattle.property_table.specs.Rows.{Lists};
+ghost use Rattle.value_automaton.specs.States.{Scanner};
+ghost use Rattle.card_state.specs.State.{freshCard};
+ghost use Rattle.card_judge.specs.Judge.{judgeLine};
+ghost use Rattle.reader_walk.specs.Walk.{judgeLines};
+use card_state::Card;
+use card_state::Step;
+
+// Judges the logical line s, which starts at `at` in the input: as it is where it has no fold, else unfolded into the scratch.
+fn judge_span(
+    t: &[u8; 256],
+    rows: &[u8; 624],
+    steps: &[u8; 1016],
+    s: &[u8],
+    folded: bool,
+    scratch: &mut [u8],
+    at: usize,
+    c: Card,
+) -> Step
+    requires { ⌜ Classes (now t) ⌝ }
+    requires { ⌜ Lists (now rows) ⌝ }
+    requires { ⌜ Scanner (now steps) ⌝ }
+    requires { ⌜ (c .cards ≤ c .lines) × (c .lines < 65536) ⌝ }
+    requires { ⌜ length (now s) ≤ 16384 ⌝ }
+    requires { ⌜ length (unfolded (now s)) ≤ length (now scratch) ⌝ }
+    requires { ⌜ (folded ≡ false → unfolded (now s) ≡ now s) ⌝ }
+    ensures { λ r. ⌜ r ≡ judgeLine c at (unfolded (now (s .entry))) ⌝ }
+    ensures { λ _. ⌜ now (scratch .exit) ≡ pick folded (overlay (unfolded (now (s .entry))) (now (scratch .entry))) (now (scratch .entry)) ⌝ }
+{
+    if !folded {
+        return card_judge::judge::judge_line(t, rows, steps, s, at, c);
+    }
+    let n = line_unfolding::unfold(s, scratch);
+    card_judge::judge::judge_line(t, rows, steps, &scratch[..n], at, c)
+}
+
+// Judges the lines one after the other, up to the first refusal.
+pub fn walk(t: &[u8; 256], rows: &[u8; 624], steps: &[u8; 1016], s: &[u8]) -> Step
+    requires { ⌜ Classes (now t) ⌝ }
+    requires { ⌜ Lists (now rows) ⌝ }
+    requires { ⌜ Scanner (now steps) ⌝ }
+    requires { ⌜ length (now s) ≤ 16384 ⌝ }
+    ensures { λ r. ⌜ r ≡ judgeLines (rawLines (now (s .entry))) 0 freshCard ⌝ }
+{
+    let mut scratch = [0u8; 16384];
+    let mut c = card_state::fresh();
+    let mut at: usize = 0;
+    while at < s.len() {
+        let span = line_folds::spans::line_at(s, at);
+        let end = span.end;
+        let folded = span.cr != end;
+        let j = judge_span(t, rows, steps, &s[at..end], folded, &mut scratch, at, c);
+        let Step::Next(next) = j else {
+            return j;
+        };
+        c = next;
+        at = end + 2;
+    }
+    Step::Next(c)
+}

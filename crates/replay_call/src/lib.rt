@@ -1,0 +1,68 @@
+// A call run on a desk, with its answer in a log.
+use desk::Desk;
+use desk::Turn;
+use replay_script::words;
+ghost use mathlib.Core.Path.{_≡_};
+ghost use Prim.Native.Nat.{_≤_};
+ghost use lib.ListN.{length};
+ghost use Rattle.desk_laws.specs.Desks.{said, deedStep, deskStep};
+ghost use Rattle.replay_script.specs.Scripts.{width, lookOf, callOf};
+ghost use Rattle.replay_log.specs.Logs.{entry, Put};
+ghost use Rattle.replay_call.specs.Stepped.{worldOf, Stepped};
+
+// The next desk, and how many octets of the log were written.
+pub struct After {
+    pub desk: Desk,
+    pub wrote: usize,
+}
+
+// Writes what the desk answered.
+fn turned(turn: Turn, log: &mut [u8]) -> After
+    requires { ⌜ length (entry (said (turn .answer))) ≤ length (now log) ⌝ }
+    ensures { λ r. ⌜ (r .desk ≡ turn .desk) × Put (entry (said (turn .answer))) (now (log .entry)) (now (log .exit)) (r .wrote) ⌝ }
+{
+    let d = turn.desk;
+    let a = turn.answer;
+    After {
+        desk: d,
+        wrote: replay_log::put_answer(log, a),
+    }
+}
+
+// Judge, show or the octets held, by the octet that names the call.
+fn look(desk: Desk, pool: &[u8], name: u8, t: u32, log: &mut [u8]) -> usize
+    requires { ⌜ length (entry (deedStep (worldOf desk (now pool)) t (lookOf name) .reply)) ≤ length (now log) ⌝ }
+    ensures { λ r. ⌜ Put (entry (deedStep (worldOf desk (now (pool .entry))) t (lookOf name) .reply)) (now (log .entry)) (now (log .exit)) r ⌝ }
+{
+    if name == 3 {
+        return replay_log::put_verdict(log, desk.judge(pool, t));
+    }
+    if name == 4 {
+        return replay_log::put_part(log, desk.show(pool, t));
+    }
+    replay_log::put_answer(log, desk.held(pool, t))
+}
+
+// The call at the start of s.
+pub fn run_call(desk: Desk, s: &[u8], pool: &mut [u8], log: &mut [u8]) -> After
+    requires { ⌜ 1 ≤ width (now s) ⌝ }
+    requires { ⌜ length (entry (deskStep (worldOf desk (now pool)) (callOf (now s)) .reply)) ≤ length (now log) ⌝ }
+    ensures { λ r. ⌜ Stepped (worldOf desk (now (pool .entry))) (callOf (now (s .entry))) (r .desk) (now (pool .exit)) (now (log .entry)) (now (log .exit)) (r .wrote) ⌝ }
+{
+    let b = s[0];
+    let n = words::word(s, 1);
+    if b == 1 {
+        return turned(desk.open(pool, n), log);
+    }
+    if b == 2 {
+        let end = 7 + words::half(s, 5) as usize;
+        return turned(desk.add(pool, n, &s[7..end]), log);
+    }
+    if b == 6 {
+        return turned(desk.release(pool, n), log);
+    }
+    After {
+        desk: desk,
+        wrote: look(desk, pool, b, n, log),
+    }
+}

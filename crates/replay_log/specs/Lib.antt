@@ -1,0 +1,2 @@
+-- The definitions that the contracts of `replay_log` cite. Assumes nothing.
+pub mod Logs

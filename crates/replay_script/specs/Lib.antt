@@ -1,0 +1,4 @@
+-- The definitions that the contracts of `replay_script` cite. Assumes nothing.
+pub mod Words
+pub mod Scripts
+pub mod Counts

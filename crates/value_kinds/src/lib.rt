@@ -1,0 +1,91 @@
+// The kinds of value, and looks at each octet of a value by itself that settle most values.
+ghost use mathlib.Core.Path.{_≡_};
+ghost use mathlib.Core.Bool.{true, not};
+ghost use Rattle.octets.specs.Classes.{bit};
+ghost use Rattle.octets.specs.Counts.{allIn, count};
+ghost use Rattle.value_kinds.specs.Octets.{neither, graphic, semicolon, holds};
+ghost use Rattle.value_kinds.specs.Kinds.{kindScan};
+
+// A value fits, or the first octet from which nothing could, or the end.
+pub enum Fault {
+    Fits,
+    Breaks(usize),
+}
+
+// 1 for the octets a and b, else 0.
+fn mark_bit(a: u8, b: u8, x: u8) -> u8
+    ensures { λ r. ⌜ r ≡ bit (not (neither a b x)) 1 ⌝ }
+{
+    (x == a) as u8 | (x == b) as u8
+}
+
+// Whether no octet of s is a or b: no way out of the loop, so that it is compiled to vectors.
+fn lacks(a: u8, b: u8, s: &[u8]) -> bool
+    ensures { λ r. ⌜ r ≡ allIn (neither a b) (now (s .entry)) ⌝ }
+{
+    let mut marks: u8 = 0;
+    let mut i: usize = 0;
+    while i < s.len() {
+        marks = marks | mark_bit(a, b, s[i]);
+        i += 1;
+    }
+    marks == 0
+}
+
+// 0 for an octet 21-7E, else 1.
+fn hidden_bit(x: u8) -> u8
+    ensures { λ r. ⌜ r ≡ bit (not (holds graphic x)) 1 ⌝ }
+{
+    (x < 33) as u8 | (126 < x) as u8
+}
+
+// Whether all octets of s are 21-7E.
+pub fn printing(s: &[u8]) -> bool
+    ensures { λ r. ⌜ r ≡ allIn (holds graphic) (now (s .entry)) ⌝ }
+{
+    let mut hidden: u8 = 0;
+    let mut i: usize = 0;
+    while i < s.len() {
+        hidden = hidden | hidden_bit(s[i]);
+        i += 1;
+    }
+    hidden == 0
+}
+
+// How many semicolons s has.
+fn semicolons(s: &[u8]) -> usize
+    ensures { λ r. ⌜ r ≡ count (holds semicolon) (now (s .entry)) ⌝ }
+{
+    let mut n: usize = 0;
+    let mut i: usize = 0;
+    while i < s.len() {
+        n += (s[i] == 59) as usize;
+        i += 1;
+    }
+    n
+}
+
+// True only where s has no backslash, and n semicolons.
+fn counted(s: &[u8], n: usize) -> bool
+    ensures { λ r. ⌜ (r ≡ true → (allIn (neither 92 92) (now (s .entry)) ≡ true) × (count (holds semicolon) (now (s .entry)) ≡ n)) ⌝ }
+{
+    if semicolons(s) != n {
+        return false;
+    }
+    lacks(92, 92, s)
+}
+
+// True only where a look at each octet by itself shows that s fits.
+pub fn quick(kind: usize, s: &[u8]) -> bool
+    ensures { λ r. ⌜ (r ≡ true → kindScan kind (now (s .entry)) ≡ Fault.Fits) ⌝ }
+{
+    match kind {
+        0 => true,
+        1 => lacks(92, 44, s),
+        2 => lacks(92, 92, s),
+        4 => counted(s, 4),
+        5 => counted(s, 6),
+        6 => lacks(92, 44, s),
+        _ => false,
+    }
+}
