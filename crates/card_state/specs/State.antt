@@ -4,6 +4,8 @@ use Prim.Native.Nat.{ℕ, _+_, _/_, _%_}
 use mathlib.Core.Bool.{Bool, false, not, _&&_, _||_}
 use lib.Bits.{bitOr}
 use lib.Dec.{eqb}
+use Rattle.numbers.specs.Properties as property
+use Rattle.numbers.specs.Refusals as refusal
 use Rattle.octets.specs.Pick.{pick}
 use Rattle.card_state.specs.declared.Card.{Card}
 use Rattle.card_state.specs.declared.Step.{Step}
@@ -15,13 +17,13 @@ freshCard = record { phase = 0; seen = 0; named = false; member = false; group =
 
 -- 9: BEGIN first and VERSION second, neither of them later
 unfoldable pub inOrder : ℕ → ℕ → Bool
-inOrder phase row = pick (eqb phase 0) (eqb row 1) (pick (eqb phase 1) (eqb row 34) (not (eqb row 1) && not (eqb row 34)))
+inOrder phase row = pick (eqb phase 0) (eqb row property.begin) (pick (eqb phase 1) (eqb row property.version) (not (eqb row property.begin) && not (eqb row property.version)))
 
 -- the flag of a property marked *1 (KIND, N, BDAY, ANNIVERSARY, GENDER, PRODID, REV, UID); 0 for any other
 unfoldable pub onceBit : ℕ → ℕ
 onceBit row =
-    pick (eqb row 4) 1 (pick (eqb row 7) 2 (pick (eqb row 10) 4 (pick (eqb row 11) 8
-    (pick (eqb row 12) 16 (pick (eqb row 28) 32 (pick (eqb row 29) 64 (pick (eqb row 31) 128 0)))))))
+    pick (eqb row property.kind) 1 (pick (eqb row property.n) 2 (pick (eqb row property.bday) 4 (pick (eqb row property.anniversary) 8
+    (pick (eqb row property.gender) 16 (pick (eqb row property.prodid) 32 (pick (eqb row property.rev) 64 (pick (eqb row property.uid) 128 0)))))))
 
 -- the flag stands among those seen
 unfoldable pub isSeen : ℕ → ℕ → Bool
@@ -29,18 +31,18 @@ isSeen b seen = not (eqb b 0) && eqb (seen / b % 2) 1
 
 -- after BEGIN comes VERSION, after VERSION and each later line another
 unfoldable pub phaseAfter : ℕ → ℕ
-phaseAfter row = pick (eqb row 1) 1 2
+phaseAfter row = pick (eqb row property.begin) 1 2
 
 -- a line of the row that is no END; group: its value is `group` in any case
 unfoldable pub noted : Card → ℕ → ℕ → Bool → Step
 noted c at row group =
-    pick (isSeen (onceBit row) (c .seen)) (Refused 10 at)
+    pick (isSeen (onceBit row) (c .seen)) (Refused refusal.second at)
     (Next (record {
       phase = phaseAfter row;
       seen = bitOr (c .seen) (onceBit row);
-      named = c .named || eqb row 6;
-      member = c .member || eqb row 24;
-      group = c .group || (eqb row 4 && group);
+      named = c .named || eqb row property.fn;
+      member = c .member || eqb row property.member;
+      group = c .group || (eqb row property.kind && group);
       cards = c .cards;
       lines = c .lines + 1;
     }))
@@ -49,6 +51,6 @@ noted c at row group =
 unfoldable pub closed : Card → ℕ → Step
 closed c at =
     pick (c .named)
-    (pick (c .member && not (c .group)) (Refused 12 at)
+    (pick (c .member && not (c .group)) (Refused refusal.member at)
     (Next (record { phase = 0; seen = 0; named = false; member = false; group = false; cards = c .cards + 1; lines = c .lines + 1 })))
-    (Refused 11 at)
+    (Refused refusal.noFn at)

@@ -3,7 +3,10 @@ ghost use mathlib.Core.Path.{_≡_};
 ghost use mathlib.Core.Bool.{false, _||_, _&&_};
 ghost use lib.Dec.{eqb};
 ghost use Prim.Native.Nat.{ℕ, _<_, _≤_};
+ghost use Rattle.numbers.specs.Properties as property;
 ghost use Rattle.card_state.specs.State.{onceBit, isSeen, phaseAfter, freshCard, closed, noted};
+use numbers::property;
+use numbers::refusal;
 
 pub struct Card {
     // 0 before BEGIN, 1 before VERSION, 2 after it.
@@ -54,14 +57,14 @@ fn once_bit(row: usize) -> u32
     ensures { λ r. ⌜ r ≡ onceBit row ⌝ }
 {
     match row {
-        4 => 1,
-        7 => 2,
-        10 => 4,
-        11 => 8,
-        12 => 16,
-        28 => 32,
-        29 => 64,
-        31 => 128,
+        property::KIND => 1,
+        property::N => 2,
+        property::BDAY => 4,
+        property::ANNIVERSARY => 8,
+        property::GENDER => 16,
+        property::PRODID => 32,
+        property::REV => 64,
+        property::UID => 128,
         _ => 0,
     }
 }
@@ -79,9 +82,9 @@ pub fn is_again(seen: u32, row: usize) -> bool
 
 // Whether the line is a KIND line with the value group.
 fn says_group(row: usize, group: bool) -> bool
-    ensures { λ r. ⌜ r ≡ (eqb row 4 && group) ⌝ }
+    ensures { λ r. ⌜ r ≡ (eqb row property.kind && group) ⌝ }
 {
-    if row != 4 {
+    if row != property::KIND {
         return false;
     }
     group
@@ -90,7 +93,7 @@ fn says_group(row: usize, group: bool) -> bool
 fn phase_after(row: usize) -> u32
     ensures { λ r. ⌜ r ≡ phaseAfter row ⌝ }
 {
-    if row == 1 {
+    if row == property::BEGIN {
         return 1;
     }
     2
@@ -102,11 +105,11 @@ pub fn close(c: Card, at: usize) -> Step
     ensures { λ r. ⌜ r ≡ closed c at ⌝ }
 {
     if !c.named {
-        return Step::Refused(11, at);
+        return Step::Refused(refusal::NO_FN, at);
     }
     if c.member {
         if !c.group {
-            return Step::Refused(12, at);
+            return Step::Refused(refusal::MEMBER, at);
         }
     }
     let mut next = fresh();
@@ -125,8 +128,8 @@ pub fn note(c: Card, row: usize, group: bool) -> Card
     Card {
         phase: phase_after(row),
         seen: c.seen | once_bit(row),
-        named: either(c.named, row == 6),
-        member: either(c.member, row == 24),
+        named: either(c.named, row == property::FN),
+        member: either(c.member, row == property::MEMBER),
         group: either(c.group, grouped),
         cards: c.cards,
         lines: c.lines + 1,

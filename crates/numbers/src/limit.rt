@@ -1,0 +1,22 @@
+// Limits of inputs, forms, desks and answers.
+
+// The most octets of an input, a text, a written form and a session; a slot of a pool has as many.
+pub const OCTETS: usize = 16384;
+
+// The most slots of a desk.
+pub const SLOTS: usize = 40;
+
+// The next ticket of a desk whose tickets are used up: one more than the last ticket.
+pub const TICKETS: u32 = 4294967295;
+
+// The most octets of a line's first physical line.
+pub const FIRST_LINE: usize = 75;
+
+// The most octets of each later physical line after its space.
+pub const LATER_LINE: usize = 74;
+
+// The numbers of a record.
+pub const RECORD_LENGTH: usize = 8;
+
+// The factor of a refusal's number in the answer of a C routine.
+pub const WORD: u64 = 4294967296;
