@@ -3,6 +3,8 @@ ghost use lib.ListN.{length};
 ghost use Prim.Native.Nat.{_≤_};
 use crate::print;
 use libc::STDOUT_FILENO;
+use numbers::kind;
+use numbers::limit;
 use octets::rooms::Written;
 
 // Where the value's column starts.
@@ -31,11 +33,11 @@ fn paragraphs(s: &[u8]) {
 
 // The text that escapes stand for.
 fn plain(s: &[u8]) {
-    let mut room = [0u8; 16384];
+    let mut room = [0u8; limit::OCTETS];
     let w = text::unescape(s, &mut room);
     match w {
         Written::Wrote(n) => {
-            let count = octets_slices::least(n, 16384);
+            let count = octets_slices::least(n, limit::OCTETS);
             paragraphs(&room[0..count]);
         }
         Written::Refused(_, _) => print::visible(s),
@@ -74,9 +76,9 @@ fn components(s: &[u8], semicolons: bool) {
 // A value by its kind: text, lists of texts, or as it stands.
 pub(crate) fn value(s: &[u8], kind: u32) {
     match kind {
-        1 => plain(s),
-        2 => components(s, false),
-        4 | 5 | 6 => components(s, true),
+        kind::TEXT => plain(s),
+        kind::TEXTS => components(s, false),
+        kind::NAME | kind::ADDRESS | kind::ORGANIZATION => components(s, true),
         _ => print::visible(s),
     }
 }

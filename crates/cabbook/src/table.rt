@@ -1,15 +1,17 @@
 // `show`: the cards of a file as a table, from the records.
 ghost use lib.ListN.{length};
 ghost use Prim.Native.Nat.{_+_, _≤_, _<_};
+ghost use Rattle.numbers.specs.Limits as limit;
 ghost use Rattle.cabbook.specs.Numbers.{Status};
 use crate::print;
 use crate::shown;
 use libc::STDERR_FILENO;
 use libc::STDOUT_FILENO;
+use numbers::limit;
 use reader::Verdict;
 
 fn wide(n: u32) -> usize
-    ensures { λ r. ⌜ r < 4294967296 ⌝ }
+    ensures { λ r. ⌜ r < limit.word ⌝ }
 {
     n as usize
 }
@@ -74,13 +76,13 @@ fn titles() {
 pub fn shown(path: &[u8], s: &[u8]) -> u8
     ensures { λ r. ⌜ Status r ⌝ }
 {
-    let mut copy = [0u8; 16384];
+    let mut copy = [0u8; limit::OCTETS];
     let mut records = [0u32; 32768];
     let v = reader::read(s, &mut copy, &mut records);
     match v {
         Verdict::Accepted(_, lines) => {
             titles();
-            let n = octets_slices::least(lines, 4096) * 8;
+            let n = octets_slices::least(lines, 4096) * limit::RECORD_LENGTH;
             rows(&copy, &records[0..n]);
             0
         }

@@ -3,6 +3,7 @@ ghost use Rattle.cabbook.specs.Numbers.{Status};
 use crate::print;
 use libc::STDERR_FILENO;
 use libc::STDOUT_FILENO;
+use numbers::limit;
 use octets::rooms::Written;
 
 // The form in which octets are written.
@@ -36,11 +37,11 @@ fn sent(s: &[u8]) -> u8
 pub fn delivered(form: Form, path: &[u8], s: &[u8]) -> u8
     ensures { λ r. ⌜ Status r ⌝ }
 {
-    let mut room = [0u8; 16384];
+    let mut room = [0u8; limit::OCTETS];
     let w = written(form, s, &mut room);
     match w {
         Written::Wrote(n) => {
-            let count = octets_slices::least(n, 16384);
+            let count = octets_slices::least(n, limit::OCTETS);
             sent(&room[0..count])
         }
         Written::Refused(number, place) => {

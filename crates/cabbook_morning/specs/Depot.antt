@@ -3,6 +3,7 @@ use Prim.Native.Nat.{ℕ, _+_, _-_}
 use lib.Dec.{eqb, ltb}
 use lib.IntN.{pos}
 use lib.ListN.{set, replicate}
+use Rattle.numbers.specs.Limits as limit
 use Rattle.octets.specs.Pick.{pick}
 use Rattle.desk.specs.declared.Desk.{Desk}
 use Rattle.desk.specs.Steps.{freshDesk}
@@ -15,7 +16,7 @@ oneMore n = pick (eqb n 18446744073709551615) n (n + 1)
 
 -- a number as a ticket, 0 where it has more than 32 bits
 abbrev pub asTicket : ℕ → ℕ
-asTicket n = pick (ltb 4294967295 n) 0 n
+asTicket n = pick (ltb limit.largest n) 0 n
 
 -- a place that no file has
 abbrev pub freePlace : Place
@@ -25,8 +26,8 @@ freePlace = record { file = 0; fd = pos 0; ticket = 0 }
 abbrev pub freshMorning : ℕ → ℕ → ℕ → ℕ → Morning
 freshMorning next count chunk width =
     record {
-      desk = freshDesk 40;
-      places = replicate 40 freePlace;
+      desk = freshDesk limit.slots;
+      places = replicate limit.slots freePlace;
       next = next;
       count = count;
       used = 0;

@@ -5,6 +5,7 @@ ghost use lib.ListN.{getD};
 ghost use Rattle.desk.specs.Steps.{releaseStep};
 ghost use Rattle.cabbook_morning.specs.Depot.{oneMore, asTicket, freePlace, freshMorning, leftAt};
 use desk::Desk;
+use numbers::limit;
 use reader::Verdict;
 
 // A place in the depot: the argument that names its file, 0 where there is none, the file's descriptor, and the upload's ticket.
@@ -43,7 +44,7 @@ pub(crate) fn more(n: usize) -> usize
 pub(crate) fn ticket_of(n: usize) -> u32
     ensures { λ r. ⌜ r ≡ asTicket n ⌝ }
 {
-    if n > 4294967295 {
+    if n > limit::LARGEST {
         return 0;
     }
     n as u32

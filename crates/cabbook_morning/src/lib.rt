@@ -10,6 +10,7 @@ use depot::Place;
 use desk::Answer;
 use desk::Desk;
 use libc::SEEK_SET;
+use numbers::limit;
 use program_files::Input;
 use reader::Verdict;
 
@@ -110,7 +111,7 @@ fn fed(mut m: Morning, k: usize, pool: &mut [u8]) -> Morning
     requires { ⌜ k < 40 ⌝ }
 {
     let p = m.places[k];
-    let mut room = [0u8; 16384];
+    let mut room = [0u8; limit::OCTETS];
     let got = chunk_of(p, m.chunk, &mut room);
     let Input::Octets(n) = got else {
         m.unread = depot::more(m.unread);

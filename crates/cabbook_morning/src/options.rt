@@ -1,5 +1,6 @@
 // The options of `morning`: the chunks' size, and how wide the column of names has to be.
 ghost use Prim.Native.Nat.{_≤_};
+ghost use Rattle.numbers.specs.Limits as limit;
 ghost use Rattle.cabbook_morning.specs.Options.{Chosen};
 use octets::cases::same_name;
 
@@ -14,7 +15,7 @@ const WIDEST: usize = 40;
 
 // The size that argument i gives.
 fn size_at(i: usize) -> usize
-    ensures { λ r. ⌜ r ≤ 16384 ⌝ }
+    ensures { λ r. ⌜ r ≤ limit.octets ⌝ }
 {
     let mut word = [0u8; 16];
     let n = os::arg(i, &mut word);

@@ -2,6 +2,7 @@
 use Prim.Native.Nat.{ℕ}
 use mathlib.Core.List.{List}
 use lib.Dec.{ltb}
+use Rattle.numbers.specs.Limits as limit
 use Rattle.octets.specs.Pick.{pick}
 use Rattle.program_numbers.specs.Numbers.{numberOf}
 use Rattle.program_numbers.specs.declared.numbers.Number.{Number}
@@ -9,7 +10,7 @@ use Rattle.program_numbers.specs.declared.numbers.Number.the-variants.{Is, Bad}
 
 -- a number up to 16,384, and 0 for any other and for none
 abbrev pub upTo16384 : Number → ℕ
-upTo16384 (Is n) = pick (ltb 16384 n) 0 n
+upTo16384 (Is n) = pick (ltb limit.octets n) 0 n
 upTo16384 Bad = 0
 
 -- a number from 1 to 16,384 in decimal digits, 0 for any other word

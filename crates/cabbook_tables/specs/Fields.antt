@@ -3,6 +3,7 @@ use Prim.Native.Nat.{ℕ, _+_, _-_}
 use mathlib.Core.Bool.{Bool, true}
 use mathlib.Core.List.{List, _++_}
 use lib.Dec.{eqb}
+use Rattle.numbers.specs.Properties as property
 use Rattle.octets.specs.Pick.{pick}
 use Rattle.octets.specs.Ascii.{octets}
 use Rattle.octets_slices.specs.Parts.{part}
@@ -11,7 +12,7 @@ use Rattle.cabbook_columns.specs.Columns.{atLeft}
 
 -- 1 BEGIN, 2 END and 34 VERSION
 abbrev pub framed : ℕ → Bool
-framed n = pick (eqb n 1) true (pick (eqb n 2) true (eqb n 34))
+framed n = pick (eqb n property.begin) true (pick (eqb n property.end) true (eqb n property.version))
 
 abbrev pub titleText : List ℕ
 titleText = atLeft (octets "property") 14 ++ atLeft (octets "group") 8 ++ atLeft (octets "parameters") 26 ++ octets "value\n"

@@ -3,18 +3,19 @@ ghost use mathlib.Core.Path.{_≡_};
 ghost use Prim.Native.Nat.{_+_, _≤_};
 ghost use Rattle.program_output.specs.Pages.{page, added};
 ghost use Rattle.cabbook_tables.specs.Fields.{framed, nameStart, fields, titleText, cardText};
+use numbers::property;
 
 // Whether a property is BEGIN, END or VERSION, which have no row.
 pub fn is_frame(number: u32) -> bool
     ensures { λ r. ⌜ r ≡ framed number ⌝ }
 {
-    if number == 1 {
+    if number == property::BEGIN {
         return true;
     }
-    if number == 2 {
+    if number == property::END {
         return true;
     }
-    number == 34
+    number == property::VERSION
 }
 
 // Adds the names of the columns.

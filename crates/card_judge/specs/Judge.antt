@@ -4,6 +4,8 @@ use mathlib.Core.Bool.{Bool, true, false, not, _&&_, _||_}
 use mathlib.Core.List.{List}
 use lib.Dec.{eqb, ltb}
 use lib.ListN.{length}
+use Rattle.numbers.specs.Refusals as refusal
+use Rattle.numbers.specs.Properties as property
 use Rattle.octets.specs.Pick.{pick}
 use Rattle.utf8.specs.Characters.{allowed, firstBad}
 use Rattle.line_parser.specs.Parse.{Parse, got, bad}
@@ -21,7 +23,7 @@ use Rattle.card_state.specs.declared.Step.the-variants.{Refused}
 
 -- the number of a fault of the line rule: 6 for each
 abbrev pub lineRefusal : ℕ → ℕ
-lineRefusal fault = 6
+lineRefusal fault = refusal.lineRule
 
 -- the place of a value that breaks its kind at an octet of it: the line's start
 abbrev pub valuePlace : ℕ → ℕ → ℕ
@@ -29,7 +31,7 @@ valuePlace at octet = at
 
 -- BEGIN, VERSION and END
 unfoldable pub framing : ℕ → Bool
-framing row = eqb row 1 || (eqb row 34 || eqb row 2)
+framing row = eqb row property.begin || (eqb row property.version || eqb row property.end)
 
 -- 8: a group or a parameter on one of these
 unfoldable pub laden : ℕ → ℕ → ℕ → Bool
@@ -37,12 +39,12 @@ laden row group params = framing row && (not (eqb group 0) || not (eqb params 0)
 
 -- a line that fits its place and its kind
 unfoldable pub entered : Card → ℕ → ℕ → List ℕ → Step
-entered c at row value = pick (eqb row 2) (closed c at) (noted c at row (isGroup value))
+entered c at row value = pick (eqb row property.end) (closed c at) (noted c at row (isGroup value))
 
 -- 7: the value breaks its kind
 abbrev pub fitting : ℕ → Fault → Step → Step
 fitting at Fits next = next
-fitting at (Breaks octet) next = Refused 7 (valuePlace at octet)
+fitting at (Breaks octet) next = Refused refusal.value (valuePlace at octet)
 
 abbrev pub broken : Fault → Bool
 broken Fits = false
@@ -52,8 +54,8 @@ broken (Breaks octet) = true
 unfoldable pub judgeParts : Card → ℕ → ℕ → ℕ → ℕ → ℕ → List ℕ → Step
 judgeParts c at row group params kind value =
     pick (inOrder (c .phase) row)
-    (pick (laden row group params) (Refused 8 at) (fitting at (valueScan row kind value) (entered c at row value)))
-    (Refused 9 at)
+    (pick (laden row group params) (Refused refusal.laden at) (fitting at (valueScan row kind value) (entered c at row value)))
+    (Refused refusal.order at)
 
 abbrev pub judgeParsed : Card → ℕ → Parse Line → Step
 judgeParsed c at (got x k) = judgeParts c at (rowOfLine x) (length (x .group)) (length (x .params)) (kindOfLine x) (x .value)
@@ -62,4 +64,4 @@ judgeParsed c at (bad e) = Refused (lineRefusal e) at
 -- 5: an octet that is not allowed, or no character; then the line rule, and the parts of the line
 unfoldable pub judgeLine : Card → ℕ → List ℕ → Step
 judgeLine c at l =
-    pick (ltb (firstBad (allowed false) l) (length l)) (Refused 5 at) (judgeParsed c at (parseLine l))
+    pick (ltb (firstBad (allowed false) l) (length l)) (Refused refusal.badOctet at) (judgeParsed c at (parseLine l))

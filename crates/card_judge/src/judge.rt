@@ -3,6 +3,8 @@ ghost use mathlib.Core.Path.{_≡_};
 ghost use mathlib.Core.Bool.{false};
 ghost use Prim.Native.Nat.{_≤_, _<_};
 ghost use lib.ListN.{length};
+ghost use Rattle.numbers.specs.Limits as limit;
+ghost use Rattle.numbers.specs.Kinds as kinds;
 ghost use Rattle.octets.specs.Classes.{Classes};
 ghost use Rattle.property_table.specs.Rows.{Lists};
 ghost use Rattle.value_automaton.specs.States.{Scanner};
@@ -13,6 +15,8 @@ use card_line::Parts;
 use card_line::Told;
 use card_state::Card;
 use card_state::Step;
+use numbers::property;
+use numbers::refusal;
 use value_kinds::Fault;
 
 // Whether a line of the row may stand here.
@@ -20,28 +24,28 @@ fn in_order(phase: u32, row: usize) -> bool
     ensures { λ r. ⌜ r ≡ inOrder phase row ⌝ }
 {
     if phase == 0 {
-        return row == 1;
+        return row == property::BEGIN;
     }
     if phase == 1 {
-        return row == 34;
+        return row == property::VERSION;
     }
-    if row == 1 {
+    if row == property::BEGIN {
         return false;
     }
-    row != 34
+    row != property::VERSION
 }
 
 // BEGIN, VERSION and END frame a card.
 fn is_framing(row: usize) -> bool
     ensures { λ r. ⌜ r ≡ framing row ⌝ }
 {
-    if row == 1 {
+    if row == property::BEGIN {
         return true;
     }
-    if row == 34 {
+    if row == property::VERSION {
         return true;
     }
-    row == 2
+    row == property::END
 }
 
 // Whether a framing line has a group or a parameter.
@@ -60,7 +64,7 @@ fn is_laden(x: Parts) -> bool
 // Whether a value breaks its kind.
 fn breaks_kind(steps: &[u8; 1016], row: usize, kind: usize, value: &[u8]) -> bool
     requires { ⌜ Scanner (now steps) ⌝ }
-    requires { ⌜ kind < 9 ⌝ }
+    requires { ⌜ kind < kinds.count ⌝ }
     ensures { λ r. ⌜ r ≡ broken (valueScan row kind (now (value .entry))) ⌝ }
 {
     let f = value_automaton::judge_value(steps, row, kind, value);
@@ -76,7 +80,7 @@ fn enter(c: Card, at: usize, row: usize, value: &[u8]) -> Step
     requires { ⌜ isSeen (onceBit row) (c .seen) ≡ false ⌝ }
     ensures { λ r. ⌜ r ≡ entered c at row (now (value .entry)) ⌝ }
 {
-    if row == 2 {
+    if row == property::END {
         return card_state::close(c, at);
     }
     let group = property_table::is_group(value);
@@ -86,7 +90,7 @@ fn enter(c: Card, at: usize, row: usize, value: &[u8]) -> Step
 // The checks of a line whose parts are known: 9, 8, 7, 10, and at END those of the card.
 fn judge_parts(steps: &[u8; 1016], x: Parts, value: &[u8], at: usize, c: Card) -> Step
     requires { ⌜ Scanner (now steps) ⌝ }
-    requires { ⌜ x .kind < 9 ⌝ }
+    requires { ⌜ x .kind < kinds.count ⌝ }
     requires { ⌜ (c .cards ≤ c .lines) × (c .lines < 65536) ⌝ }
     ensures { λ r. ⌜ r ≡ judgeParts c at (x .row) (x .group) (x .params) (x .kind) (now (value .entry)) ⌝ }
 {
@@ -95,16 +99,16 @@ fn judge_parts(steps: &[u8; 1016], x: Parts, value: &[u8], at: usize, c: Card) -
     let broken = breaks_kind(steps, x.row, x.kind, value);
     let again = card_state::is_again(c.seen, x.row);
     if misplaced {
-        return Step::Refused(9, at);
+        return Step::Refused(refusal::ORDER, at);
     }
     if laden {
-        return Step::Refused(8, at);
+        return Step::Refused(refusal::LADEN, at);
     }
     if broken {
-        return Step::Refused(7, at);
+        return Step::Refused(refusal::VALUE, at);
     }
     if again {
-        return Step::Refused(10, at);
+        return Step::Refused(refusal::SECOND, at);
     }
     enter(c, at, x.row, value)
 }
@@ -121,16 +125,16 @@ pub fn judge_line(
     requires { ⌜ Classes (now t) ⌝ }
     requires { ⌜ Lists (now rows) ⌝ }
     requires { ⌜ Scanner (now steps) ⌝ }
-    requires { ⌜ length (now s) ≤ 16384 ⌝ }
+    requires { ⌜ length (now s) ≤ limit.octets ⌝ }
     requires { ⌜ (c .cards ≤ c .lines) × (c .lines < 65536) ⌝ }
     ensures { λ r. ⌜ r ≡ judgeLine c at (now (s .entry)) ⌝ }
 {
     if utf8_screening::units::first_bad(t, s, false) < s.len() {
-        return Step::Refused(5, at);
+        return Step::Refused(refusal::BAD_OCTET, at);
     }
     let p = card_line::parts_of(t, rows, s);
     let Told::Line(x) = p else {
-        return Step::Refused(6, at);
+        return Step::Refused(refusal::LINE_RULE, at);
     };
     let value = x.value;
     judge_parts(steps, x, &s[value..], at, c)

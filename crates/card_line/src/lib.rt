@@ -2,6 +2,8 @@
 ghost use mathlib.Core.Path.{_≡_};
 ghost use Prim.Native.Nat.{_≤_, _<_};
 ghost use lib.ListN.{length};
+ghost use Rattle.numbers.specs.Limits as limit;
+ghost use Rattle.numbers.specs.Properties as property;
 ghost use Rattle.octets.specs.Classes.{Classes};
 ghost use Rattle.property_table.specs.Rows.{Lists, lineKind};
 ghost use Rattle.line_parser.specs.Places.{nameStart};
@@ -50,7 +52,7 @@ fn fault_of(p: Part) -> u32
 fn kind_at(t: &[u8; 256], rows: &[u8; 624], s: &[u8], row: usize, name: usize) -> usize
     requires { ⌜ Classes (now t) ⌝ }
     requires { ⌜ Lists (now rows) ⌝ }
-    requires { ⌜ row < 39 ⌝ }
+    requires { ⌜ row < property.count ⌝ }
     requires { ⌜ Accepted (now s) name ⌝ }
     ensures { λ r. ⌜ r ≡ lineKind row (firstValue (now (s .entry))) ⌝ }
 {
@@ -69,7 +71,7 @@ fn kind_at(t: &[u8; 256], rows: &[u8; 624], s: &[u8], row: usize, name: usize) -
 pub fn parts_of(t: &[u8; 256], rows: &[u8; 624], s: &[u8]) -> Told
     requires { ⌜ Classes (now t) ⌝ }
     requires { ⌜ Lists (now rows) ⌝ }
-    requires { ⌜ length (now s) ≤ 16384 ⌝ }
+    requires { ⌜ length (now s) ≤ limit.octets ⌝ }
     ensures { λ r. ⌜ r ≡ toldOf (now (s .entry)) ⌝ }
 {
     let p = line_parser::rule::read_line(t, s);

@@ -3,6 +3,7 @@ use Prim.Native.Nat.{ℕ, _+_, _-_}
 use mathlib.Core.List.{List, _++_}
 use lib.Dec.{ltb}
 use lib.ListN.{length, take}
+use Rattle.numbers.specs.Limits as limit
 use Rattle.octets.specs.Pick.{pick}
 use Rattle.octets.specs.Room.{overlay}
 use Rattle.octets_slices.specs.Parts.{part}
@@ -65,7 +66,7 @@ newDesk slots n t pool =
 
 -- a number over 32 bits is no request
 abbrev pub fitting : {A : Type 0} → ℕ → A → A → A
-fitting n bad a = pick (ltb 4294967295 n) bad a
+fitting n bad a = pick (ltb limit.largest n) bad a
 
 abbrev pub withNext : Desk → ℕ → Desk
 withNext d n = record { entries = d .entries; slots = d .slots; next = n }

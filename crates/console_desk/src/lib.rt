@@ -6,6 +6,7 @@ ghost use Rattle.console_desk.specs.Uploads.{told, kept, first, moved, b
 use console_entries::rooms;
 use desk::Desk;
 use desk::Turn;
+use numbers::limit;
 
 // What is kept from request to request: the desk, how many octets of pool are lent to it, and where the output stands.
 pub struct Console {
@@ -88,7 +89,7 @@ pub fn new_desk(c: Console, slots: usize, n: usize, pool: &mut [u8], out: &mut [
 pub fn next_ticket(c: Console, ticket: usize, out: &mut [u8]) -> Console
     ensures { λ r. ⌜ told r (now (out .exit)) ≡ nextTicket ticket (told c (now (out .entry))) ⌝ }
 {
-    if ticket > 4294967295 {
+    if ticket > limit::LARGEST {
         return c.refused(out);
     }
     let d = c.desk;
@@ -128,7 +129,7 @@ pub fn changed(
     ensures { λ r. ⌜ kept (told r (now (out .exit))) (now (pool .exit)) ≡ change which n (now (chunk .entry)) (told c (now (out .entry))) (now (pool .entry)) ⌝ }
 {
     let size = c.size;
-    if n > 4294967295 {
+    if n > limit::LARGEST {
         return c.refused(out);
     }
     if size > pool.len() {
@@ -154,7 +155,7 @@ pub fn looked(which: Look, c: Console, n: usize, pool: &[u8], out: &mut [u8]) ->
     ensures { λ r. ⌜ told r (now (out .exit)) ≡ look which n (told c (now (out .entry))) (now (pool .entry)) ⌝ }
 {
     let size = c.size;
-    if n > 4294967295 {
+    if n > limit::LARGEST {
         return c.refused(out);
     }
     if size > pool.len() {

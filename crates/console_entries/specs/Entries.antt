@@ -3,6 +3,7 @@ use Prim.Native.Nat.{ℕ, _+_, _-_, _*_, min}
 use mathlib.Core.List.{List, [], _++_}
 use lib.Dec.{ltb, eqb}
 use lib.ListN.{length, getD, drop}
+use Rattle.numbers.specs.Limits as limit
 use Rattle.octets.specs.Pick.{pick}
 use Rattle.octets.specs.Room.{Filled}
 use Rattle.octets.specs.declared.rooms.Written.{Written}
@@ -35,7 +36,7 @@ linesOf (Refused n p) = 0
 
 -- eight for each line, of at most so many
 abbrev pub numbersOf : ℕ → ℕ → ℕ
-numbersOf lines most = min (lines * 8) most
+numbersOf lines most = min (lines * limit.recordLength) most
 
 -- the last record says where the last line of the copy starts and how long it is; CR LF ends it
 unfoldable pub copyLength : List ℕ → ℕ

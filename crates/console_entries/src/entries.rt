@@ -6,6 +6,7 @@ ghost use Rattle.program_output.specs.Pages.{page, added};
 ghost use Rattle.console_entries.specs.Rooms.{octetRoom, numberRoom};
 ghost use Rattle.console_entries.specs.Entries.{linesOf, count, numbersOf, copyLength, takenText, roomsText, readText, outcomeOf, leftText, judgeAnswer, readAnswer, writeAnswer};
 use crate::rooms;
+use numbers::limit;
 use octets::rooms::Written;
 use reader::Verdict;
 
@@ -44,7 +45,7 @@ fn numbers_of(lines: usize, most: usize) -> usize
     if lines > most / 8 {
         return most;
     }
-    lines * 8
+    lines * limit::RECORD_LENGTH
 }
 
 // Where a line that starts and is so long ends, CR LF and all.

@@ -6,6 +6,7 @@ use mathlib.Core.Bool.{true, false}
 use mathlib.Core.List.{List, _∷_}
 use mathlib.Core.Logic.{_↔_}
 use lib.ListN.{length, take, drop}
+use Rattle.numbers.specs.Limits as limit
 use Rattle.octets.specs.Room.{Filled, filled, overlay}
 use Rattle.octets.specs.declared.rooms.Written.the-variants.{Wrote}
 use Rattle.text_escaping.specs.Escaped.{escaped}
@@ -28,14 +29,14 @@ use Rattle.demands.specs.Demand1.{copied, folded, Fair}
 -- both rooms hold what reading the input writes
 pub record Roomy {i : List ℕ} {k n : ℕ} (h : InputOf i k n) (copy records : List ℕ) : Type 0 where
   pub octets : length (copied h) ≤ length copy
-  pub numbers : n * 8 ≤ length records
+  pub numbers : n * limit.recordLength ≤ length records
 
 -- the counts; the copy, and the room past it as it was; the records, which tell of the lines in the copy, and the room past them as it was
 pub record ReadAs {i : List ℕ} {k n : ℕ} (h : InputOf i k n) (copy records : List ℕ) (t : Taken) : Type 0 where
   pub counts : t .answer ≡ Accepted k n
   pub copies : t .copy ≡ overlay (copied h) copy
-  pub tells : Records (t .copy) 0 (h .lines) (take (n * 8) (t .records))
-  pub past : drop (n * 8) (t .records) ≡ drop (n * 8) records
+  pub tells : Records (t .copy) 0 (h .lines) (take (n * limit.recordLength) (t .records))
+  pub past : drop (n * limit.recordLength) (t .records) ≡ drop (n * limit.recordLength) records
 
 -- xs stand at the start of the room, which is as it was past them
 abbrev pub wrote : List ℕ → List ℕ → Filled
@@ -50,7 +51,7 @@ pub record Demand2 : Type 0 where
   pub reads : (i copy records : List ℕ) (k n : ℕ) (h : InputOf i k n) → Roomy h copy records → ReadAs h copy records (readOutcome i copy records)
   pub only : (i copy records : List ℕ) (k n : ℕ) → readOutcome i copy records .answer ≡ Accepted k n → (h : InputOf i k n) × Roomy h copy records
   -- the folder writes the folded form, which is made of each line's greedy cutting
-  pub folds : (i out : List ℕ) (k n : ℕ) (h : InputOf i k n) → length (folded h) ≤ 16384 → length (folded h) ≤ length out → foldOutcome i out ≡ wrote (folded h) out
+  pub folds : (i out : List ℕ) (k n : ℕ) (h : InputOf i k n) → length (folded h) ≤ limit.octets → length (folded h) ≤ length out → foldOutcome i out ≡ wrote (folded h) out
   pub greedy : (x : Line) → Readable x → (p : List ℕ) (ps : List (List ℕ)) → Cutting (render x) p ps ↔ (p ∷ ps ≡ pieces (render x))
   -- what it wrote has physical lines of at most 75 octets, with no character split,
   pub physical : (i out after : List ℕ) (n : ℕ) → foldOutcome i out ≡ filled (Wrote n) after → Folds (logicalLines i) (take n after)
@@ -58,12 +59,12 @@ pub record Demand2 : Type 0 where
   pub read-again : (i out after : List ℕ) (n : ℕ) → foldOutcome i out ≡ filled (Wrote n) after
       → (copy records : List ℕ) → readOutcome (take n after) copy records ≡ readOutcome i copy records
   -- escape writes the escaped form of a text; unescape writes what a text stands for
-  pub escapes : (t out : List ℕ) → Fair true t → length (escaped t) ≤ 16384 → length (escaped t) ≤ length out → escapeOutcome t out ≡ wrote (escaped t) out
+  pub escapes : (t out : List ℕ) → Fair true t → length (escaped t) ≤ limit.octets → length (escaped t) ≤ length out → escapeOutcome t out ≡ wrote (escaped t) out
   pub unescapes : (t u out : List ℕ) → Fair false t → Stands t u → length u ≤ length out → unescapeOutcome t out ≡ wrote u out
   -- text escaped, then unescaped, comes back the same
   pub back : (t out after room : List ℕ) (n : ℕ) → escapeOutcome t out ≡ filled (Wrote n) after → length t ≤ length room
       → unescapeOutcome (take n after) room ≡ wrote t room
   -- the routines for C answer the count alone, which is no refusal's word, and leave the room as the entry does
-  pub c-judge : (i : List ℕ) (k n : ℕ) → InputOf i k n → (verdictWord (judgeOf i) ≡ k) × (k ≤ 16384)
-  pub c-fold : (i out after : List ℕ) (n : ℕ) → foldOutcome i out ≡ filled (Wrote n) after → (wordOutcome (foldOutcome i out) ≡ worded n after) × (n ≤ 16384)
-  pub c-unescape : (t out after : List ℕ) (n : ℕ) → unescapeOutcome t out ≡ filled (Wrote n) after → (wordOutcome (unescapeOutcome t out) ≡ worded n after) × (n ≤ 16384)
+  pub c-judge : (i : List ℕ) (k n : ℕ) → InputOf i k n → (verdictWord (judgeOf i) ≡ k) × (k ≤ limit.octets)
+  pub c-fold : (i out after : List ℕ) (n : ℕ) → foldOutcome i out ≡ filled (Wrote n) after → (wordOutcome (foldOutcome i out) ≡ worded n after) × (n ≤ limit.octets)
+  pub c-unescape : (t out after : List ℕ) (n : ℕ) → unescapeOutcome t out ≡ filled (Wrote n) after → (wordOutcome (unescapeOutcome t out) ≡ worded n after) × (n ≤ limit.octets)

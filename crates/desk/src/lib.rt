@@ -6,9 +6,11 @@ use desk_sessions::State;
 use desk_slots::SLOTS;
 use desk_slots::Slot;
 use desk_tickets::Place;
+use numbers::refusal;
 use reader::Verdict;
 ghost use mathlib.Core.Path.{_≡_};
 ghost use Prim.Native.Nat.{_<_};
+ghost use Rattle.numbers.specs.Limits as limit;
 ghost use Rattle.desk_pool.specs.Pools.{Lies};
 ghost use Rattle.desk.specs.Steps.{refuse, grant, slotOf, turned, newStep, openStep, addStep, releaseStep, heldStep, judgeStep, showStep};
 
@@ -39,7 +41,7 @@ impl Desk {
         let es = [Entry { state: State::Free }; SLOTS];
         if !desk_slots::in_bounds(slots, 1) {
             return Turn {
-                answer: Answer::Refused(26, 0),
+                answer: Answer::Refused(refusal::SLOT_COUNT, 0),
                 desk: Desk {
                     entries: es,
                     slots: 0,
@@ -69,7 +71,7 @@ impl Desk {
 
     // The desk with entry i in a new state.
     fn granted(mut self, i: usize, state: State, answer: usize) -> Turn
-        requires { ⌜ i < 40 ⌝ }
+        requires { ⌜ i < limit.slots ⌝ }
         ensures { λ r. ⌜ r ≡ grant self i state answer ⌝ }
     {
         self.entries[i] = Entry { state: state };
@@ -97,13 +99,13 @@ impl Desk {
             Place::Barred(r) => self.refused(r, 0),
             Place::Nowhere => {
                 if t == USED_UP {
-                    return self.refused(21, 0);
+                    return self.refused(refusal::TICKETS_USED_UP, 0);
                 }
-                self.refused(20, 0)
+                self.refused(refusal::NO_FREE_SLOT, 0)
             }
             Place::At(i) => {
                 if t == USED_UP {
-                    return self.refused(21, 0);
+                    return self.refused(refusal::TICKETS_USED_UP, 0);
                 }
                 let s = State::Open(Session {
                     ticket: t,
@@ -125,7 +127,7 @@ impl Desk {
             Slot::Held(i, o) => {
                 let h = o.held as usize;
                 if chunk.len() > SLOT_SIZE - h {
-                    return self.refused(23, h);
+                    return self.refused(refusal::SLOT_FULL, h);
                 }
                 desk_pool::put(pool, i, h, chunk);
                 let m = h + chunk.len();

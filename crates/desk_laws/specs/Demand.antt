@@ -3,6 +3,8 @@ use Prim.Native.Nat.{ℕ, _*_, _<_, _≤_}
 use mathlib.Core.Path.{_≡_}
 use mathlib.Core.List.{List, [], _∷_, _++_, map}
 use lib.ListN.{length, take}
+use Rattle.numbers.specs.Limits as limit
+use Rattle.numbers.specs.Refusals as refusal
 use Rattle.reader.specs.Outcome.{judgeOf}
 use Rattle.desk_slots.specs.Sound.{stateAt}
 use Rattle.desk.specs.Steps.{Sound, openStep, showStep, heldStep, judgeStep}
@@ -17,8 +19,8 @@ use Rattle.desk_laws.specs.Desks.{World, deskStep, fresh}
 -- a desk of n slots with its proper pool, whatever this holds
 pub record Proper (n : ℕ) (p : List ℕ) : Type 0 where
   pub some : 1 ≤ n
-  pub most : n ≤ 40
-  pub sized : length p ≡ n * 16384
+  pub most : n ≤ limit.slots
+  pub sized : length p ≡ n * limit.octets
 
 abbrev pub answers : ℕ → List ℕ → List Call → List Reply
 answers n p cs = run deskStep (fresh n p) cs
@@ -47,7 +49,7 @@ pub record Holds (w : World) (t : ℕ) (o : List ℕ) : Type 0 where
 pub record Afterwards (n : ℕ) (p : List ℕ) (cs : List Call) : Type 0 where
   pub sound : Sound (world n p cs .desk)
   pub slots : world n p cs .desk .slots ≡ n
-  pub proper : length (world n p cs .pool) ≡ n * 16384
+  pub proper : length (world n p cs .pool) ≡ n * limit.octets
   pub recorded : (t : ℕ) → OpenOn (world n p cs .desk) t → OpenIn (ledger n cs) t
   pub backed : (t : ℕ) → OpenIn (ledger n cs) t → OpenOn (world n p cs .desk) t
   pub holds : (t : ℕ) → OpenOn (world n p cs .desk) t → Holds (world n p cs) t (joined t cs (run ledgerStep (freshLedger n) cs))
@@ -72,13 +74,13 @@ pub record Alike (n : ℕ) (p : List ℕ) (xs : List Call) (m t : ℕ) (n′ : �
 
 -- tickets are used up, or no slot is free
 pub data Closed (d : Desk) : Type 0 where
-  used-up : d .next ≡ 4294967295 → Closed d
+  used-up : d .next ≡ limit.tickets → Closed d
   no-slot : ((i : ℕ) → i < d .slots → stateAt (d .entries) i ≡ Free → ⊥) → Closed d
 
 -- an opening is refused exactly where the desk is closed: 21 where tickets are used up, else 20; else the next ticket is granted
 pub record Opening (d : Desk) (p : List ℕ) (m : ℕ) : Type 0 where
-  pub first : d .next ≡ 4294967295 → openStep d p m .answer ≡ Refused 21 0
-  pub second : (d .next ≡ 4294967295 → ⊥) → Closed d → openStep d p m .answer ≡ Refused 20 0
+  pub first : d .next ≡ limit.tickets → openStep d p m .answer ≡ Refused refusal.ticketsUsedUp 0
+  pub second : (d .next ≡ limit.tickets → ⊥) → Closed d → openStep d p m .answer ≡ Refused refusal.noFreeSlot 0
   pub only : (r a : ℕ) → openStep d p m .answer ≡ Refused r a → Closed d
   pub else : (Closed d → ⊥) → openStep d p m .answer ≡ Done (d .next)
 
@@ -94,4 +96,4 @@ pub record Demand3 : Type 0 where
   -- no identifier and no octet that the pool held at first changes an answer
   pub unseen : (n : ℕ) (p p′ : List ℕ) → Proper n p → Proper n p′ → (cs ds : List Call) → map unnamed cs ≡ map unnamed ds → answers n p cs ≡ answers n p′ ds
   -- on every sound desk with its proper pool
-  pub opening : (d : Desk) (p : List ℕ) (m : ℕ) → Sound d → length p ≡ d .slots * 16384 → Opening d p m
+  pub opening : (d : Desk) (p : List ℕ) (m : ℕ) → Sound d → length p ≡ d .slots * limit.octets → Opening d p m

@@ -3,6 +3,8 @@ use Prim.Native.Nat.{ℕ, _+_}
 use mathlib.Core.List.{List, [], _∷_, _++_}
 use lib.Dec.{ltb, eqb}
 use lib.ListN.{length}
+use Rattle.numbers.specs.Limits as limit
+use Rattle.numbers.specs.Refusals as refusal
 use Rattle.octets.specs.Pick.{pick}
 use Rattle.reader.specs.Outcome.{judgeOf}
 use Rattle.reader.specs.declared.Verdict.{Verdict}
@@ -37,15 +39,15 @@ pub data Found : Type 0 where
 
 -- 22 of a ticket that is not open; from show an empty part
 abbrev pub shut : Deed → Reply
-shut (adds q) = refused 22 0
-shut judges = refused 22 0
+shut (adds q) = refused refusal.notOpen 0
+shut judges = refused refusal.notOpen 0
 shut shows = part []
-shut asks = refused 22 0
-shut releases = refused 22 0
+shut asks = refused refusal.notOpen 0
+shut releases = refused refusal.notOpen 0
 
 abbrev pub answer : Found → Deed → Reply
 answer absent x = shut x
-answer (present o) (adds q) = pick (ltb 16384 (length o + length q)) (refused 23 (length o)) (told (length o + length q))
+answer (present o) (adds q) = pick (ltb limit.octets (length o + length q)) (refused refusal.slotFull (length o)) (told (length o + length q))
 answer (present o) judges = verdict (judgeOf o)
 answer (present o) shows = part o
 answer (present o) asks = told (length o)
@@ -53,7 +55,7 @@ answer (present o) releases = told 0
 
 abbrev pub leaves : Found → Deed → Found
 leaves absent x = absent
-leaves (present o) (adds q) = present (pick (ltb 16384 (length o + length q)) o (o ++ q))
+leaves (present o) (adds q) = present (pick (ltb limit.octets (length o + length q)) o (o ++ q))
 leaves (present o) judges = present o
 leaves (present o) shows = present o
 leaves (present o) asks = present o
@@ -90,8 +92,8 @@ pub record Out (S : Type 0) : Type 0 where
 
 abbrev pub opening : Ledger → Out Ledger
 opening l =
-    pick (eqb (l .next) 4294967295) (record { reply = refused 21 0; then = l })
-    (pick (eqb (length (l .rows)) (l .slots)) (record { reply = refused 20 0; then = l })
+    pick (eqb (l .next) limit.tickets) (record { reply = refused refusal.ticketsUsedUp 0; then = l })
+    (pick (eqb (length (l .rows)) (l .slots)) (record { reply = refused refusal.noFreeSlot 0; then = l })
     (record { reply = told (l .next); then = record { slots = l .slots; next = l .next + 1; rows = record { ticket = l .next; octets = [] } ∷ l .rows } }))
 
 abbrev pub ledgerStep : Ledger → Call → Out Ledger

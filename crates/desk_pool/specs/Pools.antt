@@ -4,6 +4,7 @@ use mathlib.Core.Path.{_≡_}
 use mathlib.Core.List.{List, _++_}
 use denote.Ref.{RefT, ptr, now}
 use lib.ListN.{take, drop, replicate}
+use Rattle.numbers.specs.Limits as limit
 use Rattle.octets.specs.Room.{overlay}
 
 -- p with q in the place of as many octets from a on
@@ -12,7 +13,7 @@ patch p a q = take a p ++ overlay q (drop a p)
 
 -- what a released slot holds
 unfoldable pub zeros : List ℕ
-zeros = replicate 16384 0
+zeros = replicate limit.octets 0
 
 -- a part of the pool: where it starts, and its octets
 pub record Part : Type 0 where
@@ -21,7 +22,7 @@ pub record Part : Type 0 where
 
 -- the first octets of a slot
 abbrev pub partOf : List ℕ → ℕ → ℕ → Part
-partOf p slot held = record { start = slot * 16384; octets = take held (drop (slot * 16384) p) }
+partOf p slot held = record { start = slot * limit.octets; octets = take held (drop (slot * limit.octets) p) }
 
 -- r is that part of s itself: in the same block of memory, so far behind its start, with those octets
 pub record Lies (s r : RefT (List ℕ)) (part : Part) : Type 0 where

@@ -2,13 +2,15 @@
 ghost use mathlib.Core.Path.{_≡_};
 ghost use Prim.Native.Nat.{_+_, _*_, _≤_};
 ghost use lib.ListN.{length};
+ghost use Rattle.numbers.specs.Limits as limit;
 ghost use Rattle.desk_pool.specs.Pools.{patch, zeros, partOf, Lies};
+use numbers::limit;
 
-pub const SLOT_SIZE: usize = 16384;
+pub const SLOT_SIZE: usize = limit::OCTETS;
 
 // The first octets of a slot, the part of the pool itself.
 pub fn part(pool: &[u8], slot: usize, held: usize) -> &[u8]
-    requires { ⌜ slot * 16384 + held ≤ length (now pool) ⌝ }
+    requires { ⌜ slot * limit.octets + held ≤ length (now pool) ⌝ }
     ensures { λ r. ⌜ Lies (pool .entry) r (partOf (now (pool .entry)) slot held) ⌝ }
 {
     let start = slot * SLOT_SIZE;
@@ -18,8 +20,8 @@ pub fn part(pool: &[u8], slot: usize, held: usize) -> &[u8]
 
 // Copies a chunk into a slot behind the octets held.
 pub fn put(pool: &mut [u8], slot: usize, held: usize, chunk: &[u8])
-    requires { ⌜ slot * 16384 + held + length (now chunk) ≤ length (now pool) ⌝ }
-    ensures { λ _. ⌜ now (pool .exit) ≡ patch (now (pool .entry)) (slot * 16384 + held) (now (chunk .entry)) ⌝ }
+    requires { ⌜ slot * limit.octets + held + length (now chunk) ≤ length (now pool) ⌝ }
+    ensures { λ _. ⌜ now (pool .exit) ≡ patch (now (pool .entry)) (slot * limit.octets + held) (now (chunk .entry)) ⌝ }
 {
     let from = slot * SLOT_SIZE + held;
     octets::copying::copy_in(&mut pool[from..], chunk);
@@ -27,8 +29,8 @@ pub fn put(pool: &mut [u8], slot: usize, held: usize, chunk: &[u8])
 
 // Zeroes a slot.
 pub fn clear(pool: &mut [u8], slot: usize)
-    requires { ⌜ slot * 16384 + 16384 ≤ length (now pool) ⌝ }
-    ensures { λ _. ⌜ now (pool .exit) ≡ patch (now (pool .entry)) (slot * 16384) zeros ⌝ }
+    requires { ⌜ slot * limit.octets + limit.octets ≤ length (now pool) ⌝ }
+    ensures { λ _. ⌜ now (pool .exit) ≡ patch (now (pool .entry)) (slot * limit.octets) zeros ⌝ }
 {
     let first = slot * SLOT_SIZE;
     let past = first + SLOT_SIZE;

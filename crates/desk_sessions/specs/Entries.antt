@@ -2,6 +2,7 @@
 use Prim.Native.Nat.{ℕ}
 use mathlib.Core.Bool.{Bool, true, false}
 use lib.Dec.{ltb, leb}
+use Rattle.numbers.specs.Limits as limit
 use Rattle.octets.specs.Pick.{pick}
 use Rattle.desk_sessions.specs.declared.State.{State}
 use Rattle.desk_sessions.specs.declared.State.the-variants.{Free, Open}
@@ -14,4 +15,4 @@ ticketOf (Open s) = s .ticket
 -- entry i is free, or is one of so many slots and has a ticket from 1 on below the next one and at most 16,384 octets
 abbrev pub fits : ℕ → ℕ → ℕ → State → Bool
 fits slots next i Free = true
-fits slots next i (Open s) = pick (ltb i slots) (pick (leb 1 (s .ticket)) (pick (ltb (s .ticket) next) (leb (s .held) 16384) false) false) false
+fits slots next i (Open s) = pick (ltb i slots) (pick (leb 1 (s .ticket)) (pick (ltb (s .ticket) next) (leb (s .held) limit.octets) false) false) false

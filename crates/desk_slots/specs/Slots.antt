@@ -4,6 +4,8 @@ use Prim.Native.Nat.{ℕ, _*_}
 use mathlib.Core.Bool.{Bool, true, false}
 use mathlib.Core.List.{List}
 use lib.Dec.{eqb}
+use Rattle.numbers.specs.Limits as limit
+use Rattle.numbers.specs.Refusals as refusal
 use Rattle.octets.specs.Pick.{pick}
 use Rattle.desk_tickets.specs.Search.{firstAt, sameAs}
 use Rattle.desk_slots.specs.Sound.{stateAt, ticketAt, sound}
@@ -17,7 +19,7 @@ use Rattle.desk_slots.specs.declared.Slot.the-variants.{Held, No}
 
 -- 25 where the desk is not sound, then 24 where the pool has another size, else a
 abbrev pub guarded : {A : Type 0} → List Entry → ℕ → ℕ → ℕ → (ℕ → A) → A → A
-guarded es slots next size bar a = pick (sound es slots next) (pick (eqb size (slots * 16384)) a (bar 24)) (bar 25)
+guarded es slots next size bar a = pick (sound es slots next) (pick (eqb size (slots * limit.octets)) a (bar refusal.poolLength)) (bar refusal.unsound)
 
 abbrev pub isFree : State → Bool
 isFree Free = true
@@ -34,11 +36,11 @@ abbrev pub openAt : List Entry → ℕ → ℕ → Bool
 openAt es t i = hasTicket t (stateAt es i)
 
 abbrev pub inState : ℕ → State → Slot
-inState i Free = No 22
+inState i Free = No refusal.notOpen
 inState i (Open s) = Held i s
 
 abbrev pub inPlace : List Entry → Place → Slot
-inPlace es Nowhere = No 22
+inPlace es Nowhere = No refusal.notOpen
 inPlace es (At i) = inState i (stateAt es i)
 inPlace es (Barred n) = No n
 
@@ -48,4 +50,4 @@ lookOf es slots next size t = guarded es slots next size Barred (firstAt (sameAs
 
 -- 25, 24, 22, or the slot of a ticket with its session
 unfoldable pub slotOf : List Entry → ℕ → ℕ → ℕ → ℕ → Slot
-slotOf es slots next size t = guarded es slots next size No (inPlace es (firstAt (openAt es t) 0 40))
+slotOf es slots next size t = guarded es slots next size No (inPlace es (firstAt (openAt es t) 0 limit.slots))

@@ -5,6 +5,7 @@ use mathlib.Core.Bool.{Bool, false, not}
 use mathlib.Core.List.{List}
 use lib.Dec.{leb}
 use lib.ListN.{getD}
+use Rattle.numbers.specs.Limits as limit
 use Rattle.octets.specs.Pick.{pick}
 use Rattle.desk_sessions.specs.Entries.{ticketOf, fits}
 use Rattle.desk_tickets.specs.Search.{allAt, among}
@@ -24,17 +25,17 @@ stateAt es i = getD es i none .state
 pub record Fit (next : ℕ) (s : Session) : Type 0 where
   pub low : 1 ≤ s .ticket
   pub high : s .ticket < next
-  pub room : s .held ≤ 16384
+  pub room : s .held ≤ limit.octets
 
 -- slot count in range; entries past it free; open tickets distinct, at least 1 and below the next ticket; octets held at most 16,384;
 -- next ticket at least 1
 pub record Sound (es : List Entry) (slots next : ℕ) : Type 0 where
   pub some : 1 ≤ slots
-  pub most : slots ≤ 40
+  pub most : slots ≤ limit.slots
   pub first : 1 ≤ next
-  pub past : (i : ℕ) → slots ≤ i → i < 40 → stateAt es i ≡ Free
-  pub each : (i : ℕ) → i < 40 → (s : Session) → stateAt es i ≡ Open s → Fit next s
-  pub distinct : (i j : ℕ) → i < 40 → j < 40 → (s u : Session) → stateAt es i ≡ Open s → stateAt es j ≡ Open u → s .ticket ≡ u .ticket → i ≡ j
+  pub past : (i : ℕ) → slots ≤ i → i < limit.slots → stateAt es i ≡ Free
+  pub each : (i : ℕ) → i < limit.slots → (s : Session) → stateAt es i ≡ Open s → Fit next s
+  pub distinct : (i j : ℕ) → i < limit.slots → j < limit.slots → (s u : Session) → stateAt es i ≡ Open s → stateAt es j ≡ Open u → s .ticket ≡ u .ticket → i ≡ j
 
 abbrev pub ticketAt : List Entry → ℕ → ℕ
 ticketAt es i = ticketOf (stateAt es i)
@@ -47,7 +48,7 @@ unfoldable pub goodAt : List Entry → ℕ → ℕ → ℕ → Bool
 goodAt es slots next i = pick (fitsAt es slots next i) (not (among (ticketAt es) (ticketAt es i) i)) false
 
 unfoldable pub bounds : ℕ → ℕ → Bool
-bounds slots next = pick (leb 1 slots) (pick (leb slots 40) (leb 1 next) false) false
+bounds slots next = pick (leb 1 slots) (pick (leb slots limit.slots) (leb 1 next) false) false
 
 unfoldable pub sound : List Entry → ℕ → ℕ → Bool
-sound es slots next = pick (bounds slots next) (allAt (goodAt es slots next) 0 40) false
+sound es slots next = pick (bounds slots next) (allAt (goodAt es slots next) 0 limit.slots) false

@@ -3,6 +3,8 @@ use desk_sessions::Entry;
 use desk_sessions::Session;
 use desk_sessions::State;
 use desk_tickets::Place;
+use numbers::limit;
+use numbers::refusal;
 ghost use mathlib.Core.Path.{_≡_};
 ghost use Rattle.desk_slots.specs.Sound.{bounds};
 ghost use Rattle.desk_slots.specs.Slots.{lookOf, slotOf};
@@ -33,24 +35,24 @@ pub fn look(entries: [Entry; SLOTS], slots: usize, next: u32, size: usize, t: u3
     ensures { λ r. ⌜ r ≡ lookOf entries slots next size t ⌝ }
 {
     if !in_bounds(slots, next) {
-        return Place::Barred(25);
+        return Place::Barred(refusal::UNSOUND);
     }
     let mut ts = [0u32; SLOTS];
     let mut i: usize = 0;
     while i < SLOTS {
         let e = entries[i];
         if !desk_sessions::fits(e, i, slots, next) {
-            return Place::Barred(25);
+            return Place::Barred(refusal::UNSOUND);
         }
         let u = desk_sessions::ticket_of(e);
         if desk_tickets::stands(&ts, u, i) {
-            return Place::Barred(25);
+            return Place::Barred(refusal::UNSOUND);
         }
         ts[i] = u;
         i += 1;
     }
-    if size != slots * 16384 {
-        return Place::Barred(24);
+    if size != slots * limit::OCTETS {
+        return Place::Barred(refusal::POOL_LENGTH);
     }
     desk_tickets::find(&ts, t, slots)
 }

@@ -1,19 +1,21 @@
 // The routines that C firmware calls, on byte ranges, one number as the answer of each.
 ghost use mathlib.Core.Path.{_≡_};
 ghost use Prim.Native.Nat.{_<_};
+ghost use Rattle.numbers.specs.Limits as limit;
 ghost use Rattle.reader.specs.Outcome.{judgeOf};
 ghost use Rattle.folder.specs.Outcome.{foldOutcome};
 ghost use Rattle.text.specs.Outcomes.{unescapeOutcome};
 ghost use Rattle.firmware.specs.Word.{word, verdictWord, writtenWord, worded, wordOutcome, Low};
+use numbers::limit;
 use octets::rooms::Written;
 use reader::Verdict;
 
 // A refusal's number and place as one number.
 fn refusal(n: u32, p: usize) -> u64
-    requires { ⌜ p < 4294967296 ⌝ }
+    requires { ⌜ p < limit.word ⌝ }
     ensures { λ r. ⌜ r ≡ word n p ⌝ }
 {
-    (n as u64) * 4294967296 + (p as u64)
+    (n as u64) * limit::WORD + (p as u64)
 }
 
 // The count of cards, or the refusal.

@@ -2,6 +2,7 @@
 use Prim.Native.Nat.{ℕ, zero, suc, _+_}
 use mathlib.Core.List.{List}
 use lib.Dec.{eqb, ltb}
+use Rattle.numbers.specs.Limits as limit
 use Rattle.octets.specs.Pick.{pick}
 use Rattle.reader.specs.declared.Verdict.{Verdict}
 use Rattle.reader.specs.declared.Verdict.the-variants.{Accepted, Refused as Unread}
@@ -38,4 +39,4 @@ run q kind last t (suc k) s = run q kind last (following t last) k (callStep (s 
 
 -- uploads opened on a fresh desk, additions to them, and then n calls of a kind
 unfoldable pub served : List ℕ → List ℕ → ℕ → ℕ → ℕ → ℕ → Turned
-served p q opens adds kind n = run q kind opens 1 n (run q 1 opens 1 adds (run q 0 opens 1 opens (turned (newStep 40) p)))
+served p q opens adds kind n = run q kind opens 1 n (run q 1 opens 1 adds (run q 0 opens 1 opens (turned (newStep limit.slots) p)))

@@ -6,6 +6,7 @@ ghost use Rattle.firmware_bench.specs.Answers.{number, writtenNumber, ve
 ghost use Rattle.firmware_bench.specs.Calls.{served};
 use desk::Answer;
 use desk::Desk;
+use numbers::limit;
 use octets::rooms::Written;
 use reader::Verdict;
 
@@ -15,7 +16,7 @@ mod calls;
 fn refusal(n: u32) -> u64
     ensures { λ r. ⌜ r ≡ number n ⌝ }
 {
-    (n as u64) * 4294967296
+    (n as u64) * limit::WORD
 }
 
 // The count of octets written, or the refusal; the room is as escaping leaves it.

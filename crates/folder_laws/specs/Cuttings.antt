@@ -3,6 +3,7 @@ use Prim.Native.Nat.{ℕ, _+_, _<_, _≤_}
 use mathlib.Core.Path.{_≡_}
 use mathlib.Core.List.{List, [], _∷_, flatten}
 use lib.ListN.{length}
+use Rattle.numbers.specs.Limits as limit
 use Rattle.utf8.specs.Characters.{charLength}
 use Rattle.folder_line.specs.Pieces.{Clean, All}
 
@@ -18,7 +19,7 @@ Full r p (q ∷ qs) = r < length p + charLength q
 -- each of the later pieces is cut so
 unfoldable pub AllFull : List (List ℕ) → Type 0
 AllFull [] = Unit {0}
-AllFull (p ∷ ps) = Full 74 p ps × AllFull ps
+AllFull (p ∷ ps) = Full limit.laterLine p ps × AllFull ps
 
 -- the first piece p of a line, and the later ones ps
 pub record Cutting (l p : List ℕ) (ps : List (List ℕ)) : Type 0 where
@@ -27,8 +28,8 @@ pub record Cutting (l p : List ℕ) (ps : List (List ℕ)) : Type 0 where
   -- every cut is at a character boundary
   pub clean : All Clean (p ∷ ps)
   -- the first physical line has up to 75 octets, each later one up to 74 behind its space
-  pub start : UpTo 75 p
-  pub others : All (UpTo 74) ps
+  pub start : UpTo limit.firstLine p
+  pub others : All (UpTo limit.laterLine) ps
   -- every cut is at the last boundary that fits
-  pub full : Full 75 p ps
+  pub full : Full limit.firstLine p ps
   pub fulls : AllFull ps

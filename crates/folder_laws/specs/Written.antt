@@ -2,6 +2,7 @@
 use Prim.Native.Nat.{ℕ}
 use mathlib.Core.Path.{_≡_}
 use mathlib.Core.List.{List, map}
+use Rattle.numbers.specs.Limits as limit
 use Rattle.line_folds.specs.Folds.{unfolded}
 use Rattle.line_folds.specs.Logical.{rawLines}
 use Rattle.folder_line.specs.Pieces.{foldedLines, Clean, All}
@@ -11,7 +12,7 @@ use Rattle.folder_laws.specs.Physical.{physical}
 -- t are the octets, ls the logical lines
 pub record Folds (ls : List (List ℕ)) (t : List ℕ) : Type 0 where
   -- each physical line has at most 75 octets
-  pub short : All (UpTo 75) (physical t)
+  pub short : All (UpTo limit.firstLine) (physical t)
   -- each is whole characters, so that every cut is at a character boundary
   pub whole : All Clean (physical t)
   -- read again, the octets have the same logical lines

@@ -6,6 +6,7 @@ use mathlib.Core.Bool.{Bool, false}
 use mathlib.Core.List.{List, [], _∷_, _++_}
 use lib.Dec.{ltb}
 use lib.ListN.{length}
+use Rattle.numbers.specs.Limits as limit
 use Rattle.octets.specs.Pick.{pick}
 use Rattle.utf8.specs.Characters.{charLength, allowed, firstBad}
 
@@ -29,7 +30,7 @@ cutFrom l r = first l r ∷ later l r
 
 -- the pieces of a logical line, one a physical line
 unfoldable pub pieces : List ℕ → List (List ℕ)
-pieces l = cutFrom l 75
+pieces l = cutFrom l limit.firstLine
 
 -- pieces joined by CR LF space
 unfoldable pub joined : List (List ℕ) → List ℕ

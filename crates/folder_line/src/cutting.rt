@@ -2,6 +2,7 @@
 ghost use mathlib.Core.Path.{_≡_};
 ghost use Prim.Native.Nat.{_+_, _*_, _<_, _≤_};
 ghost use lib.ListN.{length, drop};
+ghost use Rattle.numbers.specs.Limits as limit;
 ghost use Rattle.folder_line.specs.Pieces.{first, folded, Clean};
 
 // The end of the piece that starts at `from`, where `room` octets are left in the physical line and more than those follow.
@@ -18,7 +19,7 @@ pub fn cut(s: &[u8], from: usize, room: usize) -> usize
 
 // How many octets the line has when it is folded.
 pub fn measure(s: &[u8]) -> usize
-    requires { ⌜ Clean (now s) × (length (now s) ≤ 16384) ⌝ }
+    requires { ⌜ Clean (now s) × (length (now s) ≤ limit.octets) ⌝ }
     ensures { λ r. ⌜ (r ≡ length (folded (now (s .entry)))) × (r ≤ 4 * length (now (s .entry)) + 2) ⌝ }
 {
     let mut a: usize = 0;

@@ -5,6 +5,7 @@ ghost use lib.ListN.{length, drop};
 ghost use Rattle.octets.specs.Classes.{Classes};
 ghost use Rattle.line_parser.specs.Rule.{word, value, values, param, params, head, parseLine};
 ghost use Rattle.line_parser.specs.Places.{place, listed, headed, outcome};
+use numbers::fault;
 
 // What reading a part answers; a fault is handed up unchanged.
 pub enum Part {
@@ -48,10 +49,10 @@ fn read_value(t: &[u8; 256], s: &[u8], at: usize) -> Part
     }
     let e = octets::classes::span(t, s, at + 1, 16);
     if s.len() <= e {
-        return Part::Fault(42);
+        return Part::Fault(fault::QUOTE);
     }
     if s[e] != 34 {
-        return Part::Fault(42);
+        return Part::Fault(fault::QUOTE);
     }
     Part::Upto(e + 1)
 }
@@ -76,7 +77,7 @@ fn read_values(t: &[u8; 256], s: &[u8], from: usize) -> Part
             if b == 58 {
                 return Part::Upto(at);
             }
-            return Part::Fault(42);
+            return Part::Fault(fault::QUOTE);
         }
         let v = read_value(t, s, at + 1);
         let Part::Upto(e) = v else {
@@ -84,7 +85,7 @@ fn read_values(t: &[u8; 256], s: &[u8], from: usize) -> Part
         };
         at = e;
     }
-    Part::Fault(43)
+    Part::Fault(fault::NO_COLON)
 }
 
 // A name, `=` and the values.
@@ -93,15 +94,15 @@ pub fn read_param(t: &[u8; 256], s: &[u8], at: usize) -> Part
     requires { ⌜ at ≤ length (now s) ⌝ }
     ensures { λ r. ⌜ r ≡ place at (param (drop at (now (s .entry)))) ⌝ }
 {
-    let name = read_word(t, s, at, 41);
+    let name = read_word(t, s, at, fault::PARAMETER);
     let Part::Upto(n) = name else {
         return name;
     };
     if s.len() <= n {
-        return Part::Fault(41);
+        return Part::Fault(fault::PARAMETER);
     }
     if s[n] != 61 {
-        return Part::Fault(41);
+        return Part::Fault(fault::PARAMETER);
     }
     read_values(t, s, n + 1)
 }
@@ -119,7 +120,7 @@ fn read_params(t: &[u8; 256], s: &[u8], from: usize) -> Part
             if b == 58 {
                 return Part::Listed(count, at);
             }
-            return Part::Fault(40);
+            return Part::Fault(fault::NAME);
         }
         let p = read_param(t, s, at + 1);
         let Part::Upto(e) = p else {
@@ -128,7 +129,7 @@ fn read_params(t: &[u8; 256], s: &[u8], from: usize) -> Part
         at = e;
         count += 1;
     }
-    Part::Fault(43)
+    Part::Fault(fault::NO_COLON)
 }
 
 // The group and its dot, if there is one, and the name.
@@ -136,7 +137,7 @@ fn read_head(t: &[u8; 256], s: &[u8]) -> Part
     requires { ⌜ Classes (now t) ⌝ }
     ensures { λ r. ⌜ r ≡ headed (head (now (s .entry))) ⌝ }
 {
-    let first = read_word(t, s, 0, 40);
+    let first = read_word(t, s, 0, fault::NAME);
     let Part::Upto(n) = first else {
         return first;
     };
@@ -147,7 +148,7 @@ fn read_head(t: &[u8; 256], s: &[u8]) -> Part
         return Part::Named(0, n);
     }
     let start = n + 1;
-    let second = read_word(t, s, start, 40);
+    let second = read_word(t, s, start, fault::NAME);
     let Part::Upto(e) = second else {
         return second;
     };

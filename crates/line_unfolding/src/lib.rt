@@ -4,6 +4,7 @@ ghost use mathlib.Core.Bool.{false};
 ghost use mathlib.Core.List.{[], _∷_, _++_};
 ghost use Prim.Native.Nat.{ℕ, _+_, _<_, _≤_};
 ghost use lib.ListN.{length, drop};
+ghost use Rattle.numbers.specs.Limits as limit;
 ghost use Rattle.octets.specs.Classes.{bit};
 ghost use Rattle.line_folds.specs.Folds.{foldAt, unfolded};
 use line_folds::spans::fold_at;
@@ -17,7 +18,7 @@ fn fold_bit(a: u8, b: u8, c: u8) -> u8
 
 // The length of s without its folds: they are counted with no way out, so that it is compiled to vectors.
 pub fn unfolded_length(s: &[u8]) -> usize
-    requires { ⌜ length (now s) ≤ 16384 ⌝ }
+    requires { ⌜ length (now s) ≤ limit.octets ⌝ }
     ensures { λ r. ⌜ r ≡ length (unfolded (now (s .entry))) ⌝ }
 {
     if s.len() < 3 {

@@ -1,6 +1,5 @@
 -- Kinds of value: the number that a record has for each. Assumes nothing.
 use Prim.Native.Nat.{ℕ}
-use mathlib.Core.List.{List, [], _∷_}
 
 -- any octets
 abbrev pub anything : ℕ
@@ -39,5 +38,5 @@ abbrev pub pidmap : ℕ
 pidmap = 8
 
 -- how many kinds there are
-abbrev pub kinds : ℕ
-kinds = 9
+abbrev pub count : ℕ
+count = 9

@@ -28,3 +28,7 @@ recordLength = 8
 -- the factor of a refusal's number in the answer of a C routine
 abbrev pub word : ℕ
 word = 4294967296
+
+-- the largest number of 32 bits
+abbrev pub largest : ℕ
+largest = 4294967295

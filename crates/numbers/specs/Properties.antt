@@ -1,5 +1,5 @@
 -- Property numbers: the row of each property in the table, and 0 for any other name. Assumes nothing.
-use Prim.Native.Nat.{ℕ, suc}
+use Prim.Native.Nat.{ℕ}
 use mathlib.Core.List.{List, [], _∷_}
 
 -- a name that is not in the table
@@ -121,8 +121,8 @@ abbrev pub caluri : ℕ
 caluri = 38
 
 -- how many rows the table has, row 0 counted in
-abbrev pub rows : ℕ
-rows = 39
+abbrev pub count : ℕ
+count = 39
 
 -- all of them
 abbrev pub properties : List ℕ

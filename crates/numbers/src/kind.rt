@@ -28,4 +28,4 @@ pub const GENDER: usize = 7;
 pub const PIDMAP: usize = 8;
 
 // How many kinds there are.
-pub const KINDS: usize = 9;
+pub const COUNT: usize = 9;

@@ -1,4 +1,5 @@
-// The numbers with names: limits, refusals, properties and kinds of value.
+// The numbers with names: limits, refusals, faults of the line rule, properties and kinds of value.
+pub mod fault;
 pub mod kind;
 pub mod limit;
 pub mod property;

@@ -20,3 +20,9 @@ pub const RECORD_LENGTH: usize = 8;
 
 // The factor of a refusal's number in the answer of a C routine.
 pub const WORD: u64 = 4294967296;
+
+// The largest number of 32 bits.
+pub const LARGEST: usize = 4294967295;
+
+// The most octets held by a session, in the width in which it counts them.
+pub const HELD: u32 = 16384;

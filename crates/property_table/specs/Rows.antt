@@ -7,6 +7,8 @@ use mathlib.Core.List.{List, [], _∷_, _++_}
 use mathlib.Core.Option.{Option, none, some}
 use lib.Dec.{eqb, ltb}
 use lib.ListN.{length, getD, take, drop}
+use Rattle.numbers.specs.Properties as property
+use Rattle.numbers.specs.Kinds as kinds
 use Rattle.octets.specs.Pick.{pick}
 use Rattle.octets.specs.Classes.{bit}
 use Rattle.octets.specs.Cases.{same}
@@ -107,12 +109,12 @@ single n = isOnce (rowAt n .times)
 -- VALUE sets the kind on listed rows of kind 0, 1 or 3, except 1 BEGIN, 2 END, 34 VERSION and 5 XML
 unfoldable pub takesValue : ℕ → Bool
 takesValue n =
-    (ltb 0 n && ltb n 39)
-    && ((eqb (kindAt n) 0 || (eqb (kindAt n) 1 || eqb (kindAt n) 3)) && not (eqb n 1 || (eqb n 2 || (eqb n 34 || eqb n 5))))
+    (ltb 0 n && ltb n property.count)
+    && ((eqb (kindAt n) kinds.anything || (eqb (kindAt n) kinds.text || eqb (kindAt n) kinds.uri)) && not (eqb n property.begin || (eqb n property.end || (eqb n property.version || eqb n property.xml))))
 
 -- the kind that a VALUE parameter names
 unfoldable pub kindNamed : List ℕ → ℕ
-kindNamed v = pick (same v (octets "text")) 1 (pick (same v (octets "uri")) 3 0)
+kindNamed v = pick (same v (octets "text")) kinds.text (pick (same v (octets "uri")) kinds.uri kinds.anything)
 
 -- the kind of a line of row n, given the first value of its first VALUE parameter, quotes taken off, where it has one
 unfoldable pub lineKind : ℕ → Option (List ℕ) → ℕ
@@ -147,4 +149,4 @@ entriesFrom n (suc k) = entries n ++ entriesFrom (suc n) k
 
 -- a list is the property table
 unfoldable pub Lists : List ℕ → Type 0
-Lists t = t ≡ entriesFrom 0 39
+Lists t = t ≡ entriesFrom 0 property.count

@@ -2,6 +2,8 @@
 ghost use mathlib.Core.Path.{_≡_};
 ghost use Prim.Native.Nat.{_<_, _≤_};
 ghost use lib.ListN.{length};
+ghost use Rattle.numbers.specs.Properties as property;
+ghost use Rattle.numbers.specs.Kinds as kinds;
 ghost use Rattle.octets.specs.Cases.{same};
 ghost use Rattle.property_table.specs.Rows.{rowOf, rowAt, firstOf, nextOf, kindAt, takesValue, kindNamed, isGroup, Lists};
 use octets::cases::same_name;
@@ -69,7 +71,7 @@ fn first_sized(rows: &[u8; 624], n: usize) -> usize
 // The next row whose name is as long as this one's, 0 for none.
 fn next_sized(rows: &[u8; 624], row: usize) -> usize
     requires { ⌜ Lists (now rows) ⌝ }
-    requires { ⌜ row < 39 ⌝ }
+    requires { ⌜ row < property.count ⌝ }
     ensures { λ r. ⌜ r ≡ nextOf row ⌝ }
 {
     wide(rows[row * 16 + 14])
@@ -78,7 +80,7 @@ fn next_sized(rows: &[u8; 624], row: usize) -> usize
 // Whether the row's name, which is as long, is this one without case: a capital and an octet differ at most in the bit of 32.
 fn spells(rows: &[u8; 624], row: usize, name: &[u8]) -> bool
     requires { ⌜ Lists (now rows) ⌝ }
-    requires { ⌜ row < 39 ⌝ }
+    requires { ⌜ row < property.count ⌝ }
     requires { ⌜ length (rowAt row .name) ≡ length (now name) ⌝ }
     ensures { λ r. ⌜ r ≡ same (now (name .entry)) (rowAt row .name) ⌝ }
 {
@@ -97,7 +99,7 @@ fn spells(rows: &[u8; 624], row: usize, name: &[u8]) -> bool
 pub fn find_row(rows: &[u8; 624], name: &[u8]) -> usize
     requires { ⌜ Lists (now rows) ⌝ }
     ensures { λ r. ⌜ r ≡ rowOf (now (name .entry)) ⌝ }
-    ensures { λ r. ⌜ r < 39 ⌝ }
+    ensures { λ r. ⌜ r < property.count ⌝ }
 {
     if name.len() == 0 {
         return 0;
@@ -118,9 +120,9 @@ pub fn find_row(rows: &[u8; 624], name: &[u8]) -> usize
 // The kind of a row's value.
 pub fn kind_of(rows: &[u8; 624], row: usize) -> usize
     requires { ⌜ Lists (now rows) ⌝ }
-    requires { ⌜ row < 39 ⌝ }
+    requires { ⌜ row < property.count ⌝ }
     ensures { λ r. ⌜ r ≡ kindAt row ⌝ }
-    ensures { λ r. ⌜ r < 9 ⌝ }
+    ensures { λ r. ⌜ r < kinds.count ⌝ }
 {
     wide(rows[row * 16 + 13])
 }
@@ -128,7 +130,7 @@ pub fn kind_of(rows: &[u8; 624], row: usize) -> usize
 // Whether a VALUE parameter sets the kind of a row's line.
 pub fn takes_value(rows: &[u8; 624], row: usize) -> bool
     requires { ⌜ Lists (now rows) ⌝ }
-    requires { ⌜ row < 39 ⌝ }
+    requires { ⌜ row < property.count ⌝ }
     ensures { λ r. ⌜ r ≡ takesValue row ⌝ }
 {
     rows[row * 16 + 15] == 1
@@ -137,7 +139,7 @@ pub fn takes_value(rows: &[u8; 624], row: usize) -> bool
 // The kind that a VALUE parameter names.
 pub fn kind_named(value: &[u8]) -> usize
     ensures { λ r. ⌜ r ≡ kindNamed (now (value .entry)) ⌝ }
-    ensures { λ r. ⌜ r < 9 ⌝ }
+    ensures { λ r. ⌜ r < kinds.count ⌝ }
 {
     if same_name(value, b"text") {
         return 1;

@@ -2,6 +2,8 @@
 ghost use mathlib.Core.Path.{_≡_};
 ghost use Rattle.reader.specs.Outcome.{verdictOf, judgeOf, took, readOutcome};
 use card_state::Step;
+use numbers::limit;
+use numbers::refusal;
 
 // The counts of cards and lines, or a refusal's number and place.
 pub enum Verdict {
@@ -18,7 +20,7 @@ fn concluded(n: usize, last: Step) -> Verdict
             if c.phase == 0 {
                 return Verdict::Accepted(c.cards, c.lines);
             }
-            Verdict::Refused(9, n)
+            Verdict::Refused(refusal::ORDER, n)
         }
         Step::Refused(k, p) => Verdict::Refused(k, p),
     }
@@ -28,19 +30,19 @@ fn concluded(n: usize, last: Step) -> Verdict
 pub fn judge(input: &[u8]) -> Verdict
     ensures { λ r. ⌜ r ≡ judgeOf (now (input .entry)) ⌝ }
 {
-    if 16384 < input.len() {
-        return Verdict::Refused(1, 16384);
+    if limit::OCTETS < input.len() {
+        return Verdict::Refused(refusal::TOO_LONG, limit::OCTETS);
     }
     if input.len() == 0 {
-        return Verdict::Refused(2, 0);
+        return Verdict::Refused(refusal::EMPTY, 0);
     }
     let lone = line_breaks::first_lone(input);
     if lone < input.len() {
-        return Verdict::Refused(3, lone);
+        return Verdict::Refused(refusal::LONE_CR_OR_LF, lone);
     }
     let ended = line_breaks::ends_cr_lf(input);
     if !ended {
-        return Verdict::Refused(4, input.len());
+        return Verdict::Refused(refusal::NO_END, input.len());
     }
     let t = octets::classes::table();
     let rows = property_table::table();
@@ -60,11 +62,11 @@ pub fn read(input: &[u8], copy: &mut [u8], records: &mut [u32]) -> Verdict
     };
     let octets = line_unfolding::unfolded_length(input);
     if copy.len() < octets {
-        return Verdict::Refused(13, octets);
+        return Verdict::Refused(refusal::COPY_ROOM, octets);
     }
-    let numbers = lines * 8;
+    let numbers = lines * limit::RECORD_LENGTH;
     if records.len() < numbers {
-        return Verdict::Refused(14, numbers);
+        return Verdict::Refused(refusal::RECORD_ROOM, numbers);
     }
     let t = octets::classes::table();
     let rows = property_table::table();

@@ -4,6 +4,7 @@ use mathlib.Core.Path.{_≡_}
 use mathlib.Core.Bool.{Bool, true, false, _&&_}
 use mathlib.Core.List.{List, [], _∷_, _++_}
 use lib.Dec.{eqb}
+use Rattle.numbers.specs.Properties as property
 use Rattle.utf8.specs.Characters.{allowed}
 use Rattle.utf8.specs.Rfc3629.{Characters}
 use Rattle.utf8_laws.specs.Texts.{Each as EachOctet}
@@ -44,9 +45,9 @@ Ends x = Frame 2 Vcard x
 
 -- any other line: its value is of its kind
 pub record Inside (x : Line) : Type 0 where
-  pub begin : rowOfLine x ≡ 1 → ⊥
-  pub version : rowOfLine x ≡ 34 → ⊥
-  pub end : rowOfLine x ≡ 2 → ⊥
+  pub begin : rowOfLine x ≡ property.begin → ⊥
+  pub version : rowOfLine x ≡ property.version → ⊥
+  pub end : rowOfLine x ≡ property.end → ⊥
   pub value : OfKind (kindOfLine x) (x .value)
 
 abbrev pub counts : Bool → ℕ → ℕ
@@ -84,8 +85,8 @@ pub record Inner (xs : List Line) : Type 0 where
 -- all of them: FN (6) at least once, and MEMBER (24) only beside a KIND line with the value group
 pub record Body (xs : List Line) : Type 0 where
   pub inner : Inner xs
-  pub named : 1 ≤ linesOf 6 xs
-  pub members : 1 ≤ linesOf 24 xs → 1 ≤ groupLines xs
+  pub named : 1 ≤ linesOf property.fn xs
+  pub members : 1 ≤ linesOf property.member xs → 1 ≤ groupLines xs
 
 -- "BEGIN, VERSION, other lines, END"
 pub data CardLines : List Line → Type 0 where

@@ -4,6 +4,7 @@ use mathlib.Core.Path.{_≡_}
 use mathlib.Core.List.{List, [], _∷_, _++_}
 use mathlib.Core.Logic.{_⊎_}
 use lib.ListN.{length}
+use Rattle.numbers.specs.Limits as limit
 use Rattle.line_parser.specs.Grammar.{Line, Each, render}
 use Rattle.reader_grammar.specs.Cards.{Readable, Cards}
 
@@ -24,7 +25,7 @@ pub data Written : List Line → List ℕ → Type 0 where
 
 -- at most 16,384 octets, which are n lines that may be read, and these are k cards, one or more
 pub record InputOf (i : List ℕ) (k n : ℕ) : Type 0 where
-  pub short : length i ≤ 16384
+  pub short : length i ≤ limit.octets
   pub lines : List Line
   pub written : Written lines i
   pub readable : Each Readable lines

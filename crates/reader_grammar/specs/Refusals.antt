@@ -5,6 +5,9 @@ use mathlib.Core.Bool.{true}
 use mathlib.Core.List.{List, [], _∷_, _++_, map}
 use mathlib.Core.Logic.{_⊎_}
 use lib.ListN.{length}
+use Rattle.numbers.specs.Limits as limit
+use Rattle.numbers.specs.Refusals as refusal
+use Rattle.numbers.specs.Properties as property
 use Rattle.line_folds.specs.Folds.{unfolded}
 use Rattle.line_folds.specs.Logical.{rawLines}
 use Rattle.line_parser.specs.Grammar.{Line, Each, WellFormed, render}
@@ -21,7 +24,7 @@ EndsCrLf i = (j : List ℕ) × (i ≡ j ++ (13 ∷ 10 ∷ []))
 
 -- none of 1 to 4 holds
 pub record Framed (i : List ℕ) : Type 0 where
-  pub short : length i ≤ 16384
+  pub short : length i ≤ limit.octets
   pub some : 0 < length i
   pub paired : firstLone i ≡ length i
   pub ends : EndsCrLf i
@@ -46,13 +49,13 @@ pub record Reads (l : List ℕ) (x : Line) : Type 0 where
 
 -- "Another line as a card's first or second, or BEGIN or VERSION elsewhere, is 9"; ys are the card's lines before x
 unfoldable pub InPlace : List Line → Line → Type 0
-InPlace [] x = rowOfLine x ≡ 1
-InPlace (b ∷ []) x = rowOfLine x ≡ 34
-InPlace (b ∷ v ∷ ys) x = (rowOfLine x ≡ 1 → ⊥) × (rowOfLine x ≡ 34 → ⊥)
+InPlace [] x = rowOfLine x ≡ property.begin
+InPlace (b ∷ []) x = rowOfLine x ≡ property.version
+InPlace (b ∷ v ∷ ys) x = (rowOfLine x ≡ property.begin → ⊥) × (rowOfLine x ≡ property.version → ⊥)
 
 -- BEGIN, VERSION or END
 abbrev pub Framing : ℕ → Type 0
-Framing row = (row ≡ 1) ⊎ ((row ≡ 34) ⊎ (row ≡ 2))
+Framing row = (row ≡ property.begin) ⊎ ((row ≡ property.version) ⊎ (row ≡ property.end))
 
 -- no "group or parameter on BEGIN, VERSION or END"
 abbrev pub Unladen : Line → Type 0
@@ -67,21 +70,21 @@ pub record Sound (ys : List Line) (l : List ℕ) (x : Line) : Type 0 where
 
 -- the refusals of a line l after the card's lines ys, each where none before it holds: 5, 6, 9, 8, 7, 10 and, at END, 11, 12
 pub data LineRefused (ys : List Line) (l : List ℕ) : ℕ → Type 0 where
-  octet : (Clean l → ⊥) → LineRefused ys l 5
-  rule : Clean l → ((x : Line) → WellFormed x → l ≡ render x → ⊥) → LineRefused ys l 6
-  order : (x : Line) → Reads l x → (InPlace ys x → ⊥) → LineRefused ys l 9
-  laden : (x : Line) → Reads l x → InPlace ys x → (Unladen x → ⊥) → LineRefused ys l 8
-  value : (x : Line) → Reads l x → InPlace ys x → Unladen x → (Fitting (rowOfLine x) (kindOfLine x) (x .value) → ⊥) → LineRefused ys l 7
-  second : (x : Line) → Sound ys l x → single (rowOfLine x) ≡ true → 1 ≤ linesOf (rowOfLine x) ys → LineRefused ys l 10
-  nameless : (x : Line) → Sound ys l x → rowOfLine x ≡ 2 → linesOf 6 ys ≡ 0 → LineRefused ys l 11
-  no-group : (x : Line) → Sound ys l x → rowOfLine x ≡ 2 → 1 ≤ linesOf 6 ys → 1 ≤ linesOf 24 ys → groupLines ys ≡ 0 → LineRefused ys l 12
+  octet : (Clean l → ⊥) → LineRefused ys l refusal.badOctet
+  rule : Clean l → ((x : Line) → WellFormed x → l ≡ render x → ⊥) → LineRefused ys l refusal.lineRule
+  order : (x : Line) → Reads l x → (InPlace ys x → ⊥) → LineRefused ys l refusal.order
+  laden : (x : Line) → Reads l x → InPlace ys x → (Unladen x → ⊥) → LineRefused ys l refusal.laden
+  value : (x : Line) → Reads l x → InPlace ys x → Unladen x → (Fitting (rowOfLine x) (kindOfLine x) (x .value) → ⊥) → LineRefused ys l refusal.value
+  second : (x : Line) → Sound ys l x → single (rowOfLine x) ≡ true → 1 ≤ linesOf (rowOfLine x) ys → LineRefused ys l refusal.second
+  nameless : (x : Line) → Sound ys l x → rowOfLine x ≡ property.end → linesOf property.fn ys ≡ 0 → LineRefused ys l refusal.noFn
+  no-group : (x : Line) → Sound ys l x → rowOfLine x ≡ property.end → 1 ≤ linesOf property.fn ys → 1 ≤ linesOf property.member ys → groupLines ys ≡ 0 → LineRefused ys l refusal.member
 
 -- 1, 2, 3, 4 over the whole input; then the first line that is refused, at its start; then 9 where the input ends inside a card
 pub data RefusedBy (i : List ℕ) : ℕ → ℕ → Type 0 where
-  long : 16384 < length i → RefusedBy i 1 16384
-  empty : length i ≡ 0 → RefusedBy i 2 0
-  lone : length i ≤ 16384 → 0 < length i → firstLone i < length i → RefusedBy i 3 (firstLone i)
-  unended : length i ≤ 16384 → 0 < length i → firstLone i ≡ length i → (EndsCrLf i → ⊥) → RefusedBy i 4 (length i)
+  long : limit.octets < length i → RefusedBy i refusal.tooLong limit.octets
+  empty : length i ≡ 0 → RefusedBy i refusal.empty 0
+  lone : length i ≤ limit.octets → 0 < length i → firstLone i < length i → RefusedBy i refusal.loneCrOrLf (firstLone i)
+  unended : length i ≤ limit.octets → 0 < length i → firstLone i ≡ length i → (EndsCrLf i → ⊥) → RefusedBy i refusal.noEnd (length i)
   line : (ds : List (List ℕ)) (l : List ℕ) (es : List (List ℕ)) (n k : ℕ) (zs ys : List Line) → Framed i → rawLines i ≡ ds ++ (l ∷ es)
       → SoFar ds k zs ys → LineRefused ys (unfolded l) n → RefusedBy i n (length (ended ds))
-  unfinished : (k : ℕ) (zs ys : List Line) → Framed i → SoFar (rawLines i) k zs ys → 0 < length ys → RefusedBy i 9 (length i)
+  unfinished : (k : ℕ) (zs ys : List Line) → Framed i → SoFar (rawLines i) k zs ys → 0 < length ys → RefusedBy i refusal.order (length i)

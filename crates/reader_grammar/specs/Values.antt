@@ -3,6 +3,7 @@ use Prim.Native.Nat.{ℕ}
 use mathlib.Core.Path.{_≡_}
 use mathlib.Core.Bool.{true}
 use mathlib.Core.List.{List}
+use Rattle.numbers.specs.Properties as property
 use Rattle.octets.specs.Cases.{same}
 use Rattle.octets.specs.Ascii.{octets}
 use Rattle.value_laws.specs.Words.{Text, Texts, Semicolons, Uri, Gender, Pidmap}
@@ -29,7 +30,7 @@ Four v = v ≡ octets "4.0"
 
 -- the value of a line of row 1 BEGIN, 2 END, 34 VERSION or any other
 pub record Fitting (row kind : ℕ) (v : List ℕ) : Type 0 where
-  pub begin : row ≡ 1 → Vcard v
-  pub end : row ≡ 2 → Vcard v
-  pub version : row ≡ 34 → Four v
-  pub other : (row ≡ 1 → ⊥) → (row ≡ 2 → ⊥) → (row ≡ 34 → ⊥) → OfKind kind v
+  pub begin : row ≡ property.begin → Vcard v
+  pub end : row ≡ property.end → Vcard v
+  pub version : row ≡ property.version → Four v
+  pub other : (row ≡ property.begin → ⊥) → (row ≡ property.end → ⊥) → (row ≡ property.version → ⊥) → OfKind kind v

@@ -3,6 +3,7 @@ ghost use mathlib.Core.Path.{_≡_};
 ghost use mathlib.Core.List.{_++_};
 ghost use Prim.Native.Nat.{_+_, _≤_};
 ghost use lib.ListN.{length, take, drop};
+ghost use Rattle.numbers.specs.Limits as limit;
 ghost use Rattle.octets.specs.Classes.{Classes};
 ghost use Rattle.octets.specs.Room.{overlay};
 ghost use Rattle.line_folds.specs.Folds.{unfolded};
@@ -27,7 +28,7 @@ pub struct Record {
 fn record_of(t: &[u8; 256], rows: &[u8; 624], l: &[u8], w: usize) -> Record
     requires { ⌜ Classes (now t) ⌝ }
     requires { ⌜ Lists (now rows) ⌝ }
-    requires { ⌜ w + length (now l) ≤ 16384 ⌝ }
+    requires { ⌜ w + length (now l) ≤ limit.octets ⌝ }
     ensures { λ r. ⌜ numbers r ≡ recordOf w (now (l .entry)) ⌝ }
 {
     let told = card_line::parts_of(t, rows, l);
@@ -75,7 +76,7 @@ fn put_record(out: &mut [u32], at: usize, r: Record)
 fn write_records(t: &[u8; 256], rows: &[u8; 624], s: &[u8], out: &mut [u32])
     requires { ⌜ Classes (now t) ⌝ }
     requires { ⌜ Lists (now rows) ⌝ }
-    requires { ⌜ length (now s) ≤ 16384 ⌝ }
+    requires { ⌜ length (now s) ≤ limit.octets ⌝ }
     requires { ⌜ length (recordsFrom 0 (rawLines (now s))) ≤ length (now out) ⌝ }
     ensures { λ _. ⌜ now (out .exit) ≡ overlay (recordsFrom 0 (rawLines (now (s .entry)))) (now (out .entry)) ⌝ }
 {
@@ -95,7 +96,7 @@ fn write_records(t: &[u8; 256], rows: &[u8; 624], s: &[u8], out: &mut [u32])
 pub fn write_lines(t: &[u8; 256], rows: &[u8; 624], s: &[u8], copy: &mut [u8], out: &mut [u32])
     requires { ⌜ Classes (now t) ⌝ }
     requires { ⌜ Lists (now rows) ⌝ }
-    requires { ⌜ length (now s) ≤ 16384 ⌝ }
+    requires { ⌜ length (now s) ≤ limit.octets ⌝ }
     requires { ⌜ (length (unfolded (now s)) ≤ length (now copy)) × (length (recordsFrom 0 (rawLines (unfolded (now s)))) ≤ length (now out)) ⌝ }
     ensures { λ _. ⌜ now (copy .exit) ≡ overlay (unfolded (now (s .entry))) (now (copy .entry)) ⌝ }
     ensures { λ _. ⌜ now (out .exit) ≡ overlay (recordsFrom 0 (rawLines (unfolded (now (s .entry))))) (now (out .entry)) ⌝ }

@@ -3,6 +3,7 @@ ghost use mathlib.Core.Path.{_≡_};
 ghost use mathlib.Core.Bool.{false};
 ghost use Prim.Native.Nat.{_+_, _<_, _≤_};
 ghost use lib.ListN.{length};
+ghost use Rattle.numbers.specs.Limits as limit;
 ghost use Rattle.octets.specs.Classes.{Classes};
 ghost use Rattle.octets.specs.Pick.{pick};
 ghost use Rattle.octets.specs.Room.{overlay};
@@ -15,6 +16,7 @@ ghost use Rattle.card_judge.specs.Judge.{judgeLine};
 ghost use Rattle.reader_walk.specs.Walk.{judgeLines};
 use card_state::Card;
 use card_state::Step;
+use numbers::limit;
 
 // Judges the logical line s, which starts at `at` in the input: as it is where it has no fold, else unfolded into the scratch.
 fn judge_span(
@@ -31,7 +33,7 @@ fn judge_span(
     requires { ⌜ Lists (now rows) ⌝ }
     requires { ⌜ Scanner (now steps) ⌝ }
     requires { ⌜ (c .cards ≤ c .lines) × (c .lines < 65536) ⌝ }
-    requires { ⌜ length (now s) ≤ 16384 ⌝ }
+    requires { ⌜ length (now s) ≤ limit.octets ⌝ }
     requires { ⌜ length (unfolded (now s)) ≤ length (now scratch) ⌝ }
     requires { ⌜ (folded ≡ false → unfolded (now s) ≡ now s) ⌝ }
     ensures { λ r. ⌜ r ≡ judgeLine c at (unfolded (now (s .entry))) ⌝ }
@@ -49,10 +51,10 @@ pub fn walk(t: &[u8; 256], rows: &[u8; 624], steps: &[u8; 1016], s: &[u8]) -> St
     requires { ⌜ Classes (now t) ⌝ }
     requires { ⌜ Lists (now rows) ⌝ }
     requires { ⌜ Scanner (now steps) ⌝ }
-    requires { ⌜ length (now s) ≤ 16384 ⌝ }
+    requires { ⌜ length (now s) ≤ limit.octets ⌝ }
     ensures { λ r. ⌜ r ≡ judgeLines (rawLines (now (s .entry))) 0 freshCard ⌝ }
 {
-    let mut scratch = [0u8; 16384];
+    let mut scratch = [0u8; limit::OCTETS];
     let mut c = card_state::fresh();
     let mut at: usize = 0;
     while at < s.len() {

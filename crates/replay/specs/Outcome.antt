@@ -3,6 +3,8 @@ use Prim.Native.Nat.{ℕ, _*_}
 use mathlib.Core.List.{List}
 use lib.Dec.{leb, eqb}
 use lib.ListN.{length}
+use Rattle.numbers.specs.Limits as limit
+use Rattle.numbers.specs.Refusals as refusal
 use Rattle.octets.specs.Pick.{pick}
 use Rattle.octets.specs.Room.{overlay}
 use Rattle.desk_slots.specs.Sound.{bounds}
@@ -30,7 +32,7 @@ ledgerLog n cs = written (run ledgerStep (freshLedger n) cs)
 abbrev pub played : ℕ → List ℕ → List ℕ → Decoded → Replay
 played n p l (broken at) = replayed (Refused 90 at) p l
 played n p l (calls cs) =
-    pick (eqb (length p) (n * 16384))
+    pick (eqb (length p) (n * limit.octets))
     (pick (leb (roomFor cs) (length l))
     (replayed (Ran (length cs) (length (ledgerLog n cs))) (world n p cs .pool) (overlay (ledgerLog n cs) l))
     (replayed (Refused 92 (length l)) p l))
@@ -38,4 +40,4 @@ played n p l (calls cs) =
 
 -- 26 where there are no slots or over 40, then 90 at the first call that is unknown or cut off
 unfoldable pub replayOutcome : ℕ → List ℕ → List ℕ → List ℕ → Replay
-replayOutcome n s p l = pick (bounds n 1) (played n p l (decode s)) (replayed (Refused 26 0) p l)
+replayOutcome n s p l = pick (bounds n 1) (played n p l (decode s)) (replayed (Refused refusal.slotCount 0) p l)

@@ -1,6 +1,7 @@
 // Replaying a record of calls: a script of them is run on a fresh desk, and the answers are written to a log.
 use desk::Answer;
 use desk::Desk;
+use numbers::limit;
 use replay_script::Counted;
 ghost use mathlib.Core.Path.{_≡_};
 ghost use mathlib.Core.Bool.{true};
@@ -53,7 +54,7 @@ fn play(slots: usize, desk: Desk, script: &[u8], pool: &mut [u8], log: &mut [u8]
         Counted::Broken(at) => Replayed::Refused(90, at),
         Counted::Calls(calls, shows) => {
             let size = pool.len();
-            if size != slots * 16384 {
+            if size != slots * limit::OCTETS {
                 return Replayed::Refused(91, size);
             }
             let room = log.len();

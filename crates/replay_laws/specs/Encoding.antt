@@ -3,6 +3,7 @@ use Prim.Native.Nat.{ℕ, _<_, _≤_}
 use mathlib.Core.Path.{_≡_}
 use mathlib.Core.List.{List, [], _∷_, _++_}
 use lib.ListN.{length}
+use Rattle.numbers.specs.Limits as limit
 use Rattle.desk_laws.specs.Ledger.{Deed, adds, judges, shows, asks, releases, Call, opens, on}
 use Rattle.replay_script.specs.Words.{halfOctets, wordOctets}
 use Rattle.replay_script.specs.Scripts.{calls, decode}
@@ -36,8 +37,8 @@ DeedFits asks = Unit {0}
 DeedFits releases = Unit {0}
 
 abbrev pub CallFits : Call → Type 0
-CallFits (opens m) = m < 4294967296
-CallFits (on t x) = (t < 4294967296) × DeedFits x
+CallFits (opens m) = m < limit.word
+CallFits (on t x) = (t < limit.word) × DeedFits x
 
 unfoldable pub Fit : List Call → Type 0
 Fit [] = Unit {0}

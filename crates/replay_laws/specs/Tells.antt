@@ -4,6 +4,7 @@ use Prim.Native.Nat.{ℕ, _<_}
 use mathlib.Core.Path.{_≡_}
 use mathlib.Core.List.{List, [], _∷_}
 use lib.ListN.{length, take}
+use Rattle.numbers.specs.Limits as limit
 use Rattle.desk_laws.specs.Ledger.{Call, Reply, refused, told, counts, part, ledgerStep, freshLedger, run}
 use Rattle.replay_script.specs.Scripts.{callsIn}
 use Rattle.replay_log.specs.Logs.{written}
@@ -12,10 +13,10 @@ use Rattle.replay.specs.declared.Replayed.the-variants.{Ran}
 
 -- each number of an answer has 32 bits
 abbrev pub Small : Reply → Type 0
-Small (refused n p) = (n < 4294967296) × (p < 4294967296)
-Small (told n) = n < 4294967296
-Small (counts k n) = (k < 4294967296) × (n < 4294967296)
-Small (part o) = length o < 4294967296
+Small (refused n p) = (n < limit.word) × (p < limit.word)
+Small (told n) = n < limit.word
+Small (counts k n) = (k < limit.word) × (n < limit.word)
+Small (part o) = length o < limit.word
 
 unfoldable pub AllSmall : List Reply → Type 0
 AllSmall [] = Unit {0}

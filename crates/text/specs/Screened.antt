@@ -4,6 +4,8 @@ use mathlib.Core.Bool.{Bool}
 use mathlib.Core.List.{List}
 use lib.Dec.{ltb}
 use lib.ListN.{length}
+use Rattle.numbers.specs.Limits as limit
+use Rattle.numbers.specs.Refusals as refusal
 use Rattle.octets.specs.Pick.{pick}
 use Rattle.utf8.specs.Characters.{allowed, firstBad}
 use Rattle.text_marks.specs.Looks.{seen}
@@ -12,5 +14,5 @@ use Rattle.text.specs.declared.Screened.the-variants.{Saw, Refused}
 
 unfoldable pub screened : Bool → ℕ → ℕ → List ℕ → Screened
 screened lf x y t =
-    pick (ltb 16384 (length t)) (Refused 1 16384)
-    (pick (ltb (firstBad (allowed lf) t) (length t)) (Refused 31 (firstBad (allowed lf) t)) (Saw (seen x y t)))
+    pick (ltb limit.octets (length t)) (Refused refusal.tooLong limit.octets)
+    (pick (ltb (firstBad (allowed lf) t) (length t)) (Refused refusal.textOctet (firstBad (allowed lf) t)) (Saw (seen x y t)))

@@ -3,6 +3,7 @@ ghost use mathlib.Core.Path.{_≡_};
 ghost use mathlib.Core.Bool.{false};
 ghost use Prim.Native.Nat.{_≤_};
 ghost use lib.ListN.{length};
+ghost use Rattle.numbers.specs.Limits as limit;
 ghost use Rattle.utf8.specs.Characters.{allowed, firstBad};
 ghost use Rattle.utf8_screening.specs.Plain.{odd};
 ghost use Rattle.octets.specs.Room.{filled, fill, fillBounded};
@@ -11,6 +12,8 @@ ghost use Rattle.text_unescaping.specs.Unescaped.{unescaped};
 ghost use Rattle.octets.specs.Counts.{any};
 ghost use Rattle.text.specs.Screened.{screened};
 ghost use Rattle.text.specs.Outcomes.{faultless, escapeOutcome, unescapeOutcome};
+use numbers::limit;
+use numbers::refusal;
 use octets::rooms::Written;
 
 // The first bad octet, or the length; a look that saw only plain octets has told that there is none.
@@ -37,13 +40,13 @@ pub enum Screened {
 fn screen(text: &[u8], x: u8, y: u8, lf: bool) -> Screened
     ensures { λ r. ⌜ r ≡ screened lf x y (now (text .entry)) ⌝ }
 {
-    if 16384 < text.len() {
-        return Screened::Refused(1, 16384);
+    if limit::OCTETS < text.len() {
+        return Screened::Refused(refusal::TOO_LONG, limit::OCTETS);
     }
     let look = text_marks::look(text, x, y);
     let bad = bad_octet(text, look, lf);
     if bad < text.len() {
-        return Screened::Refused(31, bad);
+        return Screened::Refused(refusal::TEXT_OCTET, bad);
     }
     Screened::Saw(look)
 }
@@ -53,7 +56,7 @@ fn put(text: &[u8], out: &mut [u8]) -> Written
     ensures { λ r. ⌜ filled r (now (out .exit)) ≡ fill (now (text .entry)) (now (out .entry)) ⌝ }
 {
     if out.len() < text.len() {
-        return Written::Refused(15, text.len());
+        return Written::Refused(refusal::ROOM, text.len());
     }
     octets::copying::copy_in(out, text);
     Written::Wrote(text.len())
@@ -61,15 +64,15 @@ fn put(text: &[u8], out: &mut [u8]) -> Written
 
 // Escapes octet by octet, or refuses with 16 or 15.
 fn escape_each(text: &[u8], out: &mut [u8]) -> Written
-    requires { ⌜ length (now text) ≤ 16384 ⌝ }
+    requires { ⌜ length (now text) ≤ limit.octets ⌝ }
     ensures { λ r. ⌜ filled r (now (out .exit)) ≡ fillBounded (escaped (now (text .entry))) (now (out .entry)) ⌝ }
 {
     let n = text.len() + text_marks::counts::marks(text);
-    if 16384 < n {
-        return Written::Refused(16, 16384);
+    if limit::OCTETS < n {
+        return Written::Refused(refusal::FORM_TOO_LONG, limit::OCTETS);
     }
     if out.len() < n {
-        return Written::Refused(15, n);
+        return Written::Refused(refusal::ROOM, n);
     }
     let t = text_escaping::letters();
     text_escaping::write(&t, text, out);
@@ -94,17 +97,17 @@ pub fn escape(text: &[u8], out: &mut [u8]) -> Written
 
 // Unescapes octet by octet, or refuses with 30 or 15.
 fn unescape_each(text: &[u8], out: &mut [u8]) -> Written
-    requires { ⌜ length (now text) ≤ 16384 ⌝ }
+    requires { ⌜ length (now text) ≤ limit.octets ⌝ }
     ensures { λ r. ⌜ filled r (now (out .exit)) ≡ faultless (now (text .entry)) (now (out .entry)) (fill (unescaped (now (text .entry))) (now (out .entry))) ⌝ }
 {
     let m = text_unescaping::measure(text);
     let fault = m.fault;
     if fault < text.len() {
-        return Written::Refused(30, fault);
+        return Written::Refused(refusal::ESCAPE, fault);
     }
     let kept = m.kept;
     if out.len() < kept {
-        return Written::Refused(15, kept);
+        return Written::Refused(refusal::ROOM, kept);
     }
     text_unescaping::write(text, out);
     Written::Wrote(kept)

@@ -2,12 +2,13 @@
 ghost use mathlib.Core.Path.{_≡_};
 ghost use Prim.Native.Nat.{_≤_};
 ghost use lib.ListN.{length};
+ghost use Rattle.numbers.specs.Limits as limit;
 ghost use Rattle.text_marks.specs.Marks.{backslash, marked};
 ghost use Rattle.octets.specs.Counts.{count};
 
 // How many octets escaping changes.
 pub fn marks(s: &[u8]) -> usize
-    requires { ⌜ length (now s) ≤ 16384 ⌝ }
+    requires { ⌜ length (now s) ≤ limit.octets ⌝ }
     ensures { λ r. ⌜ (r ≡ count marked (now (s .entry))) × (r ≤ length (now (s .entry))) ⌝ }
 {
     let mut n: u16 = 0;
@@ -21,7 +22,7 @@ pub fn marks(s: &[u8]) -> usize
 
 // How many octets are a backslash.
 pub fn backslashes(s: &[u8]) -> usize
-    requires { ⌜ length (now s) ≤ 16384 ⌝ }
+    requires { ⌜ length (now s) ≤ limit.octets ⌝ }
     ensures { λ r. ⌜ (r ≡ count backslash (now (s .entry))) × (r ≤ length (now (s .entry))) ⌝ }
 {
     let mut n: u16 = 0;

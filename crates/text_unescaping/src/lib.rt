@@ -3,6 +3,7 @@ ghost use mathlib.Core.Path.{_≡_};
 ghost use mathlib.Core.Bool.{true};
 ghost use Prim.Native.Nat.{_+_, _<_, _≤_};
 ghost use lib.ListN.{length, drop};
+ghost use Rattle.numbers.specs.Limits as limit;
 ghost use Rattle.octets.specs.Classes.{bit};
 ghost use Rattle.octets.specs.Room.{overlay};
 ghost use Rattle.text_unescaping.specs.Unescaped.{code, meant, escapeAt, firstFault, unescaped};
@@ -116,7 +117,7 @@ fn measure_each(text: &[u8]) -> Measured
 
 // Measures a text.
 pub fn measure(text: &[u8]) -> Measured
-    requires { ⌜ length (now text) ≤ 16384 ⌝ }
+    requires { ⌜ length (now text) ≤ limit.octets ⌝ }
     ensures { λ r. ⌜ (r .fault ≡ firstFault (now (text .entry))) × (r .fault ≡ length (now (text .entry)) → r .kept ≡ length (unescaped (now (text .entry)))) ⌝ }
 {
     if text.len() < 32 {

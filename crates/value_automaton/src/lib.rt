@@ -1,17 +1,19 @@
 // Whether a value satisfies its kind, and if not, from which octet on nothing could.
 ghost use mathlib.Core.Path.{_≡_};
 ghost use Prim.Native.Nat.{_<_};
+ghost use Rattle.numbers.specs.Kinds as kinds;
 ghost use Rattle.value_kinds.specs.Kinds.{kindScan, valueScan};
 ghost use Rattle.value_automaton.specs.States.{Scanner};
 
 pub mod scanner;
 
+use numbers::property;
 use value_kinds::Fault;
 
 // Whether s satisfies its kind: `Breaks` has the first octet from which nothing could, or the end.
 pub fn value_fault(steps: &[u8; 1016], kind: usize, s: &[u8]) -> Fault
     requires { ⌜ Scanner (now steps) ⌝ }
-    requires { ⌜ kind < 9 ⌝ }
+    requires { ⌜ kind < kinds.count ⌝ }
     ensures { λ r. ⌜ r ≡ kindScan kind (now (s .entry)) ⌝ }
 {
     if value_kinds::quick(kind, s) {
@@ -24,13 +26,13 @@ pub fn value_fault(steps: &[u8; 1016], kind: usize, s: &[u8]) -> Fault
 // Whether s satisfies what its row asks: VCARD on BEGIN and END, 4.0 on VERSION, else the line's kind.
 pub fn judge_value(steps: &[u8; 1016], row: usize, kind: usize, s: &[u8]) -> Fault
     requires { ⌜ Scanner (now steps) ⌝ }
-    requires { ⌜ kind < 9 ⌝ }
+    requires { ⌜ kind < kinds.count ⌝ }
     ensures { λ r. ⌜ r ≡ valueScan row kind (now (s .entry)) ⌝ }
 {
     match row {
-        1 => scanner::scan(steps, 21, s),
-        2 => scanner::scan(steps, 21, s),
-        34 => scanner::scan(steps, 26, s),
+        property::BEGIN => scanner::scan(steps, 21, s),
+        property::END => scanner::scan(steps, 21, s),
+        property::VERSION => scanner::scan(steps, 26, s),
         _ => value_fault(steps, kind, s),
     }
 }

@@ -3,11 +3,13 @@ ghost use mathlib.Core.Path.{_≡_};
 ghost use mathlib.Core.Bool.{true};
 ghost use Prim.Native.Nat.{_+_, _<_, _≤_};
 ghost use lib.ListN.{length, drop};
+ghost use Rattle.numbers.specs.Kinds as kinds;
 ghost use Rattle.octets.specs.Counts.{allIn};
 ghost use Rattle.value_kinds.specs.Octets.{graphic, holds};
 ghost use Rattle.value_kinds.specs.Shapes.{faultFrom};
 ghost use Rattle.value_kinds.specs.Kinds.{shapeOf};
 ghost use Rattle.value_automaton.specs.States.{stateShape, Scanner, Next};
+use numbers::kind;
 use octets::indices::wide;
 use value_kinds::Fault;
 
@@ -79,19 +81,19 @@ pub fn table() -> [u8; 1016]
 
 // The state in which a value of each kind starts.
 pub fn start(kind: usize) -> u8
-    requires { ⌜ kind < 9 ⌝ }
+    requires { ⌜ kind < kinds.count ⌝ }
     ensures { λ r. ⌜ r < 38 ⌝ }
     ensures { λ r. ⌜ stateShape r ≡ shapeOf kind ⌝ }
 {
     match kind {
-        0 => 29,
-        1 => 30,
-        2 => 31,
-        3 => 3,
-        4 => 5,
-        5 => 14,
-        6 => 34,
-        7 => 35,
+        kind::ANYTHING => 29,
+        kind::TEXT => 30,
+        kind::TEXTS => 31,
+        kind::URI => 3,
+        kind::NAME => 5,
+        kind::ADDRESS => 14,
+        kind::ORGANIZATION => 34,
+        kind::GENDER => 35,
         _ => 19,
     }
 }

@@ -3,6 +3,7 @@ use Prim.Native.Nat.{ℕ, zero, suc}
 use mathlib.Core.List.{List, [], _∷_}
 use lib.Dec.{eqb}
 use lib.ListN.{getD}
+use Rattle.numbers.specs.Properties as property
 use Rattle.octets.specs.Pick.{pick}
 use Rattle.value_kinds.specs.Octets.{Octets, any, plain, inner, escapee, backslash, comma, semicolon, colon, letter, scheme, graphic, digit, sex, theV, theC, theA, theR, theD, four, point, nought}
 use Rattle.value_kinds.specs.Shapes.{Shape, never, empty, one, _then_, _or_, many, faultFrom}
@@ -66,7 +67,7 @@ version = one four then one point then one nought
 
 -- the value of a line: rows 1 BEGIN and 2 END have VCARD, 34 VERSION has 4.0, any other row a value of the line's kind
 unfoldable pub lineShape : ℕ → ℕ → Shape
-lineShape row k = pick (eqb row 1) vcard (pick (eqb row 2) vcard (pick (eqb row 34) version (shapeOf k)))
+lineShape row k = pick (eqb row property.begin) vcard (pick (eqb row property.end) vcard (pick (eqb row property.version) version (shapeOf k)))
 
 unfoldable pub valueScan : ℕ → ℕ → List ℕ → Fault
 valueScan row k v = faultFrom (lineShape row k) 0 v

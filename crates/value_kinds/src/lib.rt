@@ -5,6 +5,7 @@ ghost use Rattle.octets.specs.Classes.{bit};
 ghost use Rattle.octets.specs.Counts.{allIn, count};
 ghost use Rattle.value_kinds.specs.Octets.{neither, graphic, semicolon, holds};
 ghost use Rattle.value_kinds.specs.Kinds.{kindScan};
+use numbers::kind;
 
 // A value fits, or the first octet from which nothing could, or the end.
 pub enum Fault {
@@ -80,12 +81,12 @@ pub fn quick(kind: usize, s: &[u8]) -> bool
     ensures { λ r. ⌜ (r ≡ true → kindScan kind (now (s .entry)) ≡ Fault.Fits) ⌝ }
 {
     match kind {
-        0 => true,
-        1 => lacks(92, 44, s),
-        2 => lacks(92, 92, s),
-        4 => counted(s, 4),
-        5 => counted(s, 6),
-        6 => lacks(92, 44, s),
+        kind::ANYTHING => true,
+        kind::TEXT => lacks(92, 44, s),
+        kind::TEXTS => lacks(92, 92, s),
+        kind::NAME => counted(s, 4),
+        kind::ADDRESS => counted(s, 6),
+        kind::ORGANIZATION => lacks(92, 44, s),
         _ => false,
     }
 }
