@@ -42,7 +42,7 @@ fn named(command: Command, path: &[u8]) -> u8
     let Input::Octets(n) = got else {
         return 2;
     };
-    let count = octets_slices::least(n, 16385);
+    let count = octets::slices::least(n, 16385);
     done(command, path, &octets[0..count])
 }
 

@@ -3,7 +3,7 @@ use libc::STDOUT_FILENO;
 
 // Writes the first n octets of a page.
 pub(crate) fn sent(to: i32, room: &[u8], n: usize) {
-    io::write_all(to, octets_slices::part(room, 0, n));
+    io::write_all(to, octets::slices::part(room, 0, n));
 }
 
 // Text of up to 16,384 octets on standard output, with controls and octets of no character made visible.

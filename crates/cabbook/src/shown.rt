@@ -37,7 +37,7 @@ fn plain(s: &[u8]) {
     let w = text::unescape(s, &mut room);
     match w {
         Written::Wrote(n) => {
-            let count = octets_slices::least(n, limit::OCTETS);
+            let count = octets::slices::least(n, limit::OCTETS);
             paragraphs(&room[0..count]);
         }
         Written::Refused(_, _) => print::visible(s),
@@ -49,7 +49,7 @@ fn component_end(s: &[u8], from: usize, semicolons: bool) -> usize
     requires { ⌜ from ≤ length (now s) ⌝ }
     ensures { λ r. ⌜ (from ≤ r) × (r ≤ length (now (s .entry))) ⌝ }
 {
-    let n = cabbook_positions::component(octets_slices::part(s, from, s.len()), semicolons);
+    let n = cabbook_positions::component(octets::slices::part(s, from, s.len()), semicolons);
     if n > s.len() - from {
         return s.len();
     }

@@ -33,7 +33,7 @@ fn row(copy: &[u8], r: &[u32]) {
     }
     fields(copy, r[1], r[3], r[4], r[6]);
     let end = wide(r[1]) + wide(r[2]);
-    shown::value(octets_slices::part(copy, wide(r[6]), end), r[7]);
+    shown::value(octets::slices::part(copy, wide(r[6]), end), r[7]);
     io::write_all(STDOUT_FILENO, b"\n");
 }
 
@@ -82,7 +82,7 @@ pub fn shown(path: &[u8], s: &[u8]) -> u8
     match v {
         Verdict::Accepted(_, lines) => {
             titles();
-            let n = octets_slices::least(lines, 4096) * limit::RECORD_LENGTH;
+            let n = octets::slices::least(lines, 4096) * limit::RECORD_LENGTH;
             rows(&copy, &records[0..n]);
             0
         }

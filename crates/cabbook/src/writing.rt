@@ -41,7 +41,7 @@ pub fn delivered(form: Form, path: &[u8], s: &[u8]) -> u8
     let w = written(form, s, &mut room);
     match w {
         Written::Wrote(n) => {
-            let count = octets_slices::least(n, limit::OCTETS);
+            let count = octets::slices::least(n, limit::OCTETS);
             sent(&room[0..count])
         }
         Written::Refused(number, place) => {

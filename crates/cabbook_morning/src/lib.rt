@@ -29,7 +29,7 @@ fn compared(d: Desk, p: Place, whole: bool, pool: &[u8]) -> bool {
     if whole && n > held.len() {
         return false;
     }
-    check::same(held, octets_slices::part(&room, 0, held.len()))
+    check::same(held, octets::slices::part(&room, 0, held.len()))
 }
 
 // The upload ends with a verdict: its row, and the place is free again.
@@ -102,7 +102,7 @@ fn added(mut m: Morning, k: usize, chunk: &[u8], pool: &mut [u8]) -> Morning
 
 // Reads a chunk of that size of a place's file, as far as there is room.
 fn chunk_of(p: Place, size: usize, room: &mut [u8]) -> Input {
-    let n = octets_slices::least(size, room.len());
+    let n = octets::slices::least(size, room.len());
     program_files::fetch_argument(p.file, p.fd, &mut room[0..n])
 }
 
@@ -121,7 +121,7 @@ fn fed(mut m: Morning, k: usize, pool: &mut [u8]) -> Morning
         let d = m.desk;
         return ended(m, k, d.judge(pool, p.ticket), true, pool);
     }
-    added(m, k, octets_slices::part(&room, 0, n), pool)
+    added(m, k, octets::slices::part(&room, 0, n), pool)
 }
 
 // One turn of a place.

@@ -54,7 +54,7 @@ pub fn widest(first: usize, count: usize) -> usize
     let mut width: usize = 4;
     let mut i = first;
     while i < count {
-        let one = octets_slices::least(width_of(i), WIDEST);
+        let one = octets::slices::least(width_of(i), WIDEST);
         if width < one {
             width = one;
         }

@@ -8,7 +8,7 @@ use reader::Verdict;
 
 // Writes the first n octets of a page.
 fn sent(room: &[u8], n: usize) {
-    io::write_all(STDOUT_FILENO, octets_slices::part(room, 0, n));
+    io::write_all(STDOUT_FILENO, octets::slices::part(room, 0, n));
 }
 
 // The names of the columns.

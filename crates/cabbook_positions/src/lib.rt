@@ -75,7 +75,7 @@ fn line_opens(s: &[u8], i: usize) -> bool
 pub fn line_start(s: &[u8], place: usize) -> usize
     ensures { λ r. ⌜ (r ≡ backTo (opens (now (s .entry))) (min place (length (now (s .entry))))) × (r ≤ length (now (s .entry))) ⌝ }
 {
-    let mut i = octets_slices::least(place, s.len());
+    let mut i = octets::slices::least(place, s.len());
     while i > 0 {
         let opens = line_opens(s, i);
         if opens {

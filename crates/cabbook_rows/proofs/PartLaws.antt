@@ -6,7 +6,7 @@ use native.Mathlib.Omega.{arith}
 use lib.ListN.{length, length-append}
 use lib.Seq.{take-append-seam}
 use borrow.Author.Tests.{le-ltb}
-use Rattle.octets_slices.specs.Parts.{part}
+use Rattle.octets.specs.Slices.{part}
 
 -- what was written to the front
 pub part-front : (xs rest d : List ℕ) (n : ℕ) → n ≡ length xs → d ≡ xs ++ rest → part d 0 n ≡ xs

@@ -3,7 +3,7 @@ use Prim.Native.Nat.{ℕ, _+_, min}
 use mathlib.Core.List.{List, _++_}
 use lib.ListN.{length}
 use Rattle.octets.specs.Ascii.{octets}
-use Rattle.octets_slices.specs.Parts.{part}
+use Rattle.octets.specs.Slices.{part}
 use Rattle.cabbook_positions.specs.Places.{count, isLf}
 use Rattle.cabbook_columns.specs.Seen.{visible}
 use Rattle.cabbook_messages.specs.Sentences.{amount, counted, refusal}

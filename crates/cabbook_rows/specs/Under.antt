@@ -6,7 +6,7 @@ use lib.ListN.{length, drop}
 use Rattle.octets.specs.Pick.{pick}
 use Rattle.octets.specs.Ascii.{octets}
 use Rattle.line_folds.specs.Folds.{lineLength, unfolded}
-use Rattle.octets_slices.specs.Parts.{part}
+use Rattle.octets.specs.Slices.{part}
 use Rattle.cabbook_positions.specs.Places.{backTo, opens, starts}
 use Rattle.cabbook_columns.specs.Seen.{visible}
 

@@ -27,8 +27,8 @@ pub fn put_accepted(room: &mut [u8], at: usize, path: &[u8], cards: usize, lines
 fn line_of(s: &[u8], place: usize) -> usize
     ensures { λ r. ⌜ r ≡ lineOf (now (s .entry)) place ⌝ }
 {
-    let at = octets_slices::least(place, s.len());
-    cabbook_positions::line_number(octets_slices::part(s, 0, at))
+    let at = octets::slices::least(place, s.len());
+    cabbook_positions::line_number(octets::slices::part(s, 0, at))
 }
 
 // Adds the line in which a refusal's place lies, and the refusal's words.

@@ -25,7 +25,7 @@ pub fn offending(s: &[u8], number: u32, place: usize) -> &[u8]
 {
     let from = cabbook_positions::line_start(s, place);
     let end = shown_end(s, number, place, from);
-    octets_slices::part(s, from, end)
+    octets::slices::part(s, from, end)
 }
 
 // Adds a line; one of over 120 octets is cut at a character, and three points stand for the rest.
@@ -33,7 +33,7 @@ fn put_cut(room: &mut [u8], at: usize, line: &[u8]) -> usize
     ensures { λ r. ⌜ page r (now (room .exit)) ≡ added (cut (now (line .entry))) (page at (now (room .entry))) ⌝ }
 {
     let end = cabbook_positions::character_start(line, 120);
-    let a = cabbook_columns::seen::put_visible(room, at, octets_slices::part(line, 0, end));
+    let a = cabbook_columns::seen::put_visible(room, at, octets::slices::part(line, 0, end));
     if end == line.len() {
         return a;
     }
@@ -50,6 +50,6 @@ pub fn put_under(room: &mut [u8], at: usize, line: &[u8]) -> usize
     let mut text = [0u8; 16385];
     let n = line_unfolding::unfold(line, &mut text);
     let a = program_output::put_all(room, at, b"    ");
-    let b = put_cut(room, a, octets_slices::part(&text, 0, n));
+    let b = put_cut(room, a, octets::slices::part(&text, 0, n));
     program_output::put_all(room, b, b"\n")
 }

@@ -6,7 +6,7 @@ use lib.Dec.{eqb}
 use Rattle.numbers.specs.Properties as property
 use Rattle.octets.specs.Pick.{pick}
 use Rattle.octets.specs.Ascii.{octets}
-use Rattle.octets_slices.specs.Parts.{part}
+use Rattle.octets.specs.Slices.{part}
 use Rattle.cabbook_messages.specs.Sentences.{amount}
 use Rattle.cabbook_columns.specs.Columns.{atLeft}
 

@@ -62,13 +62,13 @@ pub fn put_fields(
     let from = name_start(start, group);
     let past = from + name as usize;
     let group_end = start as usize + group as usize;
-    let a = cabbook_columns::put_column(room, at, octets_slices::part(copy, from, past), 14);
+    let a = cabbook_columns::put_column(room, at, octets::slices::part(copy, from, past), 14);
     let b = cabbook_columns::put_column(
         room,
         a,
-        octets_slices::part(copy, start as usize, group_end),
+        octets::slices::part(copy, start as usize, group_end),
         8,
     );
     let end = cabbook_positions::before(value as usize);
-    cabbook_columns::put_column(room, b, octets_slices::part(copy, past + 1, end), 26)
+    cabbook_columns::put_column(room, b, octets::slices::part(copy, past + 1, end), 26)
 }

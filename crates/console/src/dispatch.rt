@@ -47,7 +47,7 @@ fn read_in(c: Console, line: &[u8], room: &mut [u8], pool: &mut [u8], out: &mut 
     ensures { λ r. ⌜ kept (told r (now (out .exit))) (now (pool .exit)) ≡ answerIn (now (line .entry)) (now (room .entry)) (told c (now (out .entry))) (now (pool .entry)) ⌝ }
 {
     let q = console_requests::request_of(line, room);
-    answered(q, c, octets_slices::part(room, 0, q.count), pool, out)
+    answered(q, c, octets::slices::part(room, 0, q.count), pool, out)
 }
 
 // The answer to a line without its end.

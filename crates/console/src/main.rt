@@ -13,7 +13,7 @@ const ANSWER: usize = 1310721;
 
 // Sends on what waits, and answers that nothing waits any more.
 fn sent(out: &[u8], at: usize) -> usize {
-    io::write_all(STDOUT_FILENO, octets_slices::part(out, 0, at));
+    io::write_all(STDOUT_FILENO, octets::slices::part(out, 0, at));
     0
 }
 
@@ -45,7 +45,7 @@ fn answered(
     if long {
         return ready.refused(out);
     }
-    let text = console_words::without_cr(octets_slices::part(buffer, line.from, line.to));
+    let text = console_words::without_cr(octets::slices::part(buffer, line.from, line.to));
     dispatch::answer(ready, text, pool, out)
 }
 

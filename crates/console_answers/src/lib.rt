@@ -79,7 +79,7 @@ pub fn written(out: &mut [u8], at: usize, w: Written, room: &[u8]) -> usize
     match w {
         Written::Wrote(count) => {
             let end = done(out, at, count);
-            octets(out, end, octets_slices::part(room, 0, count))
+            octets(out, end, octets::slices::part(room, 0, count))
         }
         Written::Refused(number, place) => refusal(out, at, number, place),
     }

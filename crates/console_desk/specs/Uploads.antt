@@ -6,7 +6,7 @@ use lib.ListN.{length, take}
 use Rattle.numbers.specs.Limits as limit
 use Rattle.octets.specs.Pick.{pick}
 use Rattle.octets.specs.Room.{overlay}
-use Rattle.octets_slices.specs.Parts.{part}
+use Rattle.octets.specs.Slices.{part}
 use Rattle.desk.specs.Steps.{Turned, newStep, openStep, addStep, releaseStep, showStep, heldStep, judgeStep}
 use Rattle.desk.specs.declared.Desk.{Desk}
 use Rattle.desk.specs.declared.Turn.{Turn}

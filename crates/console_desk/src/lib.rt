@@ -169,7 +169,7 @@ pub fn looked(which: Look, c: Console, n: usize, pool: &[u8], out: &mut [u8]) ->
 pub fn pool_part(c: Console, from: usize, count: usize, pool: &[u8], out: &mut [u8]) -> Console
     ensures { λ r. ⌜ told r (now (out .exit)) ≡ poolPart from count (told c (now (out .entry))) (now (pool .entry)) ⌝ }
 {
-    let lent = octets_slices::part(pool, 0, c.size);
+    let lent = octets::slices::part(pool, 0, c.size);
     if from > lent.len() {
         return c.refused(out);
     }

@@ -9,7 +9,7 @@ use lib.Seq.{drop-length, length-take-le, take-all}
 use borrow.Author.Tests.{le-ltb}
 use Rattle.octets.proofs.Copies.{copy-step}
 use Rattle.octets.specs.Room.{overlay}
-use Rattle.octets_slices.specs.Parts.{part}
+use Rattle.octets.specs.Slices.{part}
 use Rattle.program_output.specs.Pages.{Page, added}
 use Rattle.console_answers.specs.Texts.{roomEnd}
 use Rattle.console_entries.specs.Rooms.{octetRoom, numberRoom, bothKept}

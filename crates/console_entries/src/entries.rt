@@ -82,9 +82,9 @@ fn put_rooms(lines: usize, copy: &[u8], records: &[u32], out: &mut [u8], at: usi
     ensures { λ r. ⌜ page r (now (out .exit)) ≡ added (roomsText lines (now (copy .entry)) (now (records .entry))) (page at (now (out .entry))) ⌝ }
 {
     let k = numbers_of(lines, records.len());
-    let taken = octets_slices::numbers(records, k);
+    let taken = octets::slices::numbers(records, k);
     let n = copy_length(taken);
-    let end = put_taken(octets_slices::part(copy, 0, n), taken, out, at);
+    let end = put_taken(octets::slices::part(copy, 0, n), taken, out, at);
     console_answers::looked_at(out, end, rooms::both_kept(copy, n, records, k))
 }
 

@@ -18,11 +18,11 @@ use Rattle.reader.specs.declared.Verdict.the-variants.{Accepted, Refused}
 use Rattle.folder.specs.Outcome.{foldOutcome}
 use Rattle.desk_slots.specs.Sound.{stateAt, bounds}
 use Rattle.desk.specs.Steps.{newStep}
-use Rattle.desk_sessions.specs.declared.Session.{Session}
-use Rattle.desk_sessions.specs.declared.State.{State}
-use Rattle.desk_sessions.specs.declared.State.the-variants.{Free, Open}
-use Rattle.desk_laws.specs.Ledger.{Call, Reply, refused, told, counts, part, ledgerStep, freshLedger, run}
-use Rattle.desk_laws.specs.Demand.{Proper, world}
+use Rattle.desk_entries.specs.declared.Session.{Session}
+use Rattle.desk_entries.specs.declared.State.{State}
+use Rattle.desk_entries.specs.declared.State.the-variants.{Free, Open}
+use Rattle.desk_ledger.specs.Ledger.{Call, Reply, refused, told, counts, part, ledgerStep, freshLedger, run}
+use Rattle.desk_ledger.specs.Desks.{Proper, world}
 use Rattle.desk_laws.proofs.Claim.{demand3}
 use Rattle.desk_laws.proofs.Blind.{same-desk}
 use Rattle.demands.specs.Cases.{Case, reads, folds, unescapes, turns, Turns, Holds}

@@ -13,11 +13,11 @@ use Rattle.reader.specs.Outcome.{Taken, took, readOutcome}
 use Rattle.reader.specs.declared.Verdict.the-variants.{Accepted, Refused}
 use Rattle.desk_slots.specs.Sound.{stateAt}
 use Rattle.desk.specs.Steps.{newStep}
-use Rattle.desk_sessions.specs.declared.Session.{Session}
-use Rattle.desk_sessions.specs.declared.State.the-variants.{Open}
+use Rattle.desk_entries.specs.declared.Session.{Session}
+use Rattle.desk_entries.specs.declared.State.the-variants.{Open}
 use Rattle.desk.specs.declared.Answer.the-variants.{Done}
-use Rattle.desk_laws.specs.Ledger.{Call, opens, on, releases, told}
-use Rattle.desk_laws.specs.Demand.{Proper, answers, world}
+use Rattle.desk_ledger.specs.Ledger.{Call, opens, on, releases, told}
+use Rattle.desk_ledger.specs.Desks.{Proper, answers, world}
 
 -- a line with its end
 abbrev line : String → List ℕ

@@ -22,8 +22,8 @@ use Rattle.folder_line.specs.Pieces.{foldedLines}
 use Rattle.folder.specs.Outcome.{foldOutcome}
 use Rattle.desk_slots.specs.Sound.{stateAt}
 use Rattle.desk.specs.Steps.{Sound, Turned, refuse as refuseNew, refused, freshDesk, newStep, openStep, addStep, releaseStep, octetsIn, showStep, heldStep, judgeStep}
-use Rattle.desk_sessions.specs.declared.Session.{Session}
-use Rattle.desk_sessions.specs.declared.State.the-variants.{Free, Open}
+use Rattle.desk_entries.specs.declared.Session.{Session}
+use Rattle.desk_entries.specs.declared.State.the-variants.{Free, Open}
 use Rattle.desk.specs.declared.Desk.{Desk}
 use Rattle.desk.specs.declared.Turn.{Turn}
 use Rattle.desk.specs.declared.Answer.{Answer}

@@ -7,15 +7,15 @@ use lib.Dec.{eqb}
 use lib.ListN.{length}
 use borrow.Author.Tests.{lt-ltb, le-ltb}
 use Rattle.octets.specs.Pick.{pick}
-use Rattle.desk_tickets.specs.Search.{firstAt}
+use Rattle.desk_entries.specs.Search.{firstAt}
 use Rattle.desk_slots.specs.Slots.{freeAt, lookOf}
-use Rattle.desk_tickets.proofs.Searches.{unbarred}
+use Rattle.desk_entries.proofs.Searches.{unbarred}
 use Rattle.desk_slots.proofs.SoundLaws.{sound-is as soundness, is-sound as tested}
 use Rattle.desk_slots.proofs.SlotLaws.{Granted as GrantedIn, granted as grantedIn, free-look}
-use Rattle.desk_tickets.specs.declared.Place.{Place}
-use Rattle.desk_tickets.specs.declared.Place.the-variants.{At, Nowhere, Barred}
-use Rattle.desk_sessions.specs.declared.Session.{Session}
-use Rattle.desk_sessions.specs.declared.State.the-variants.{Free, Open}
+use Rattle.desk_entries.specs.declared.tickets.Place.{Place}
+use Rattle.desk_entries.specs.declared.tickets.Place.the-variants.{At, Nowhere, Barred}
+use Rattle.desk_entries.specs.declared.Session.{Session}
+use Rattle.desk_entries.specs.declared.State.the-variants.{Free, Open}
 use Rattle.desk_slots.specs.declared.Slot.{Slot}
 use Rattle.desk_slots.specs.declared.Slot.the-variants.{Held, No}
 use Rattle.desk_pool.specs.Pools.{patch, zeros}

@@ -10,14 +10,14 @@ use Rattle.octets.specs.Pick.{pick}
 use Rattle.reader.specs.Outcome.{judgeOf}
 use Rattle.reader.specs.declared.Verdict.{Verdict}
 use Rattle.reader.specs.declared.Verdict.the-variants.{Refused as Unread}
-use Rattle.desk_tickets.specs.Search.{firstAt}
+use Rattle.desk_entries.specs.Search.{firstAt}
 use Rattle.desk_slots.specs.Sound.{none, bounds, Sound as SoundEntries, sound as soundEntries}
 use Rattle.desk_slots.specs.Slots.{guarded as guardedEntries, freeAt, slotOf as slotIn}
-use Rattle.desk_tickets.specs.declared.Place.{Place}
-use Rattle.desk_tickets.specs.declared.Place.the-variants.{At, Nowhere, Barred}
-use Rattle.desk_sessions.specs.declared.Session.{Session}
-use Rattle.desk_sessions.specs.declared.State.{State}
-use Rattle.desk_sessions.specs.declared.State.the-variants.{Free, Open}
+use Rattle.desk_entries.specs.declared.tickets.Place.{Place}
+use Rattle.desk_entries.specs.declared.tickets.Place.the-variants.{At, Nowhere, Barred}
+use Rattle.desk_entries.specs.declared.Session.{Session}
+use Rattle.desk_entries.specs.declared.State.{State}
+use Rattle.desk_entries.specs.declared.State.the-variants.{Free, Open}
 use Rattle.desk_slots.specs.declared.Slot.{Slot}
 use Rattle.desk_slots.specs.declared.Slot.the-variants.{Held, No}
 use Rattle.desk_pool.specs.Pools.{patch, zeros, Part, partOf}

@@ -1,11 +1,11 @@
 // The upload desk: 1 to 40 slots of 16,384 octets in a lent pool, and a session in each open one.
+use desk_entries::Entry;
+use desk_entries::Session;
+use desk_entries::State;
+use desk_entries::tickets::Place;
 use desk_pool::SLOT_SIZE;
-use desk_sessions::Entry;
-use desk_sessions::Session;
-use desk_sessions::State;
 use desk_slots::SLOTS;
 use desk_slots::Slot;
-use desk_tickets::Place;
 use numbers::refusal;
 use reader::Verdict;
 ghost use mathlib.Core.Path.{_≡_};

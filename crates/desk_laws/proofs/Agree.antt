@@ -9,25 +9,25 @@ use lib.ListN.{length, drop, set, replicate, length-set, length-drop, getD-repli
 use lib.Seq.{length-take-le}
 use borrow.Author.Tests.{ltb-false, eqb-true, eqb-false, eq-eqb, ne-eqb}
 use Rattle.octets.specs.Pick.{pick}
-use Rattle.desk_tickets.specs.Search.{firstAt}
+use Rattle.desk_entries.specs.Search.{firstAt}
 use Rattle.desk_slots.specs.Sound.{none, stateAt, Fit}
 use Rattle.desk_slots.specs.Slots.{isFree, freeAt}
 use Rattle.desk_pool.specs.Pools.{patch, zeros}
 use Rattle.desk_pool.proofs.Patches.{zeros-length}
 use Rattle.desk.specs.Steps.{refused as refusing, newStep, slotOf, opened, openIn, openStep, grown, withState, addIn, addStep, releaseStep, octetsIn, showStep, heldStep, judgeStep}
-use Rattle.desk_tickets.proofs.Searches.{clash, firstAt-is, firstAt-not, unbarred}
+use Rattle.desk_entries.proofs.Searches.{clash, firstAt-is, firstAt-not, unbarred}
 use Rattle.desk_slots.proofs.SoundLaws.{in-bounds}
 use Rattle.desk.proofs.DeskLaws.{is-sound, Granted}
-use Rattle.desk_tickets.specs.declared.Place.{Place}
-use Rattle.desk_tickets.specs.declared.Place.the-variants.{At, Nowhere, Barred}
-use Rattle.desk_sessions.specs.declared.Session.{Session}
-use Rattle.desk_sessions.specs.declared.Entry.{Entry}
-use Rattle.desk_sessions.specs.declared.State.{State}
-use Rattle.desk_sessions.specs.declared.State.the-variants.{Free, Open}
+use Rattle.desk_entries.specs.declared.tickets.Place.{Place}
+use Rattle.desk_entries.specs.declared.tickets.Place.the-variants.{At, Nowhere, Barred}
+use Rattle.desk_entries.specs.declared.Session.{Session}
+use Rattle.desk_entries.specs.declared.Entry.{Entry}
+use Rattle.desk_entries.specs.declared.State.{State}
+use Rattle.desk_entries.specs.declared.State.the-variants.{Free, Open}
 use Rattle.desk.specs.declared.Desk.{Desk}
 use Rattle.desk_slots.specs.declared.Slot.the-variants.{Held, No}
-use Rattle.desk_laws.specs.Ledger.{Deed, adds, judges, shows, asks, releases, Call, opens, on, told, absent, present, answer, leaves, Row, Ledger, lookup, change, Out, opening, ledgerStep, freshLedger, run, after}
-use Rattle.desk_laws.specs.Desks.{World, took, deedStep, deskStep}
+use Rattle.desk_ledger.specs.Ledger.{Deed, adds, judges, shows, asks, releases, Call, opens, on, told, absent, present, answer, leaves, Row, Ledger, lookup, change, Out, opening, ledgerStep, freshLedger, run, after}
+use Rattle.desk_ledger.specs.Desks.{World, took, deedStep, deskStep}
 use Rattle.desk_laws.proofs.Rows.{no, change-same, change-other, change-absent, change-back, below-change, length-put, length-close}
 use Rattle.desk_laws.proofs.Patched.{patch-in, length-patch, patch-other}
 use Rattle.desk_laws.proofs.Counts.{count, count-same, count-le, count-zero, count-full, count-more}

@@ -8,9 +8,9 @@ use lib.Dec.{eqb}
 use lib.ListN.{length, take}
 use borrow.Author.Tests.{eqb-true, eqb-false, eq-eqb, ne-eqb}
 use Rattle.octets.specs.Pick.{pick}
-use Rattle.desk_tickets.proofs.Searches.{clash}
-use Rattle.desk_laws.specs.Ledger.{Deed, Call, opens, on, Reply, refused, told, Found, absent, present, answer, leaves, Row, Ledger, lookup, change, Out, opening, ledgerStep, run, after}
-use Rattle.desk_laws.specs.Uploads.{keep, mine, own, solo, unnamed}
+use Rattle.desk_entries.proofs.Searches.{clash}
+use Rattle.desk_ledger.specs.Ledger.{Deed, Call, opens, on, Reply, refused, told, Found, absent, present, answer, leaves, Row, Ledger, lookup, change, Out, opening, ledgerStep, run, after}
+use Rattle.desk_ledger.specs.Uploads.{keep, mine, own, solo, unnamed}
 use Rattle.desk_laws.proofs.Rows.{Below, change-same, change-other, change-absent, below-change}
 
 -- ---- one call of the ledger

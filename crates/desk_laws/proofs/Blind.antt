@@ -6,17 +6,16 @@ use mathlib.Core.List.{List, [], _∷_}
 use lib.Dec.{ltb, eqb}
 use lib.ListN.{length}
 use Rattle.octets.specs.Pick.{pick}
-use Rattle.desk_tickets.specs.Search.{firstAt}
+use Rattle.desk_entries.specs.Search.{firstAt}
 use Rattle.desk_slots.specs.Slots.{freeAt}
 use Rattle.desk.specs.Steps.{sound, Turned, openIn, openStep, slotOf, addIn, addStep, releaseIn, releaseStep}
-use Rattle.desk_tickets.specs.declared.Place.{Place}
-use Rattle.desk_tickets.specs.declared.Place.the-variants.{At, Nowhere, Barred}
+use Rattle.desk_entries.specs.declared.tickets.Place.{Place}
+use Rattle.desk_entries.specs.declared.tickets.Place.the-variants.{At, Nowhere, Barred}
 use Rattle.desk_slots.specs.declared.Slot.{Slot}
 use Rattle.desk_slots.specs.declared.Slot.the-variants.{Held, No}
 use Rattle.desk.specs.declared.Desk.{Desk}
-use Rattle.desk_laws.specs.Ledger.{adds, judges, shows, asks, releases, Call, opens, on, Ledger, ledgerStep, freshLedger, after}
-use Rattle.desk_laws.specs.Desks.{World, deskStep, fresh}
-use Rattle.desk_laws.specs.Demand.{Proper, world}
+use Rattle.desk_ledger.specs.Ledger.{adds, judges, shows, asks, releases, Call, opens, on, Ledger, ledgerStep, freshLedger, after}
+use Rattle.desk_ledger.specs.Desks.{World, deskStep, fresh, Proper, world}
 use Rattle.desk_laws.proofs.Steady.{Stands}
 use Rattle.desk_laws.proofs.Agree.{step-agrees, fresh-stands}
 

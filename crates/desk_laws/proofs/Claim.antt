@@ -9,23 +9,23 @@ use lib.ListN.{length, take}
 use borrow.Author.Tests.{ltb-true, ltb-false, eqb-true, eqb-false, eq-eqb, ne-eqb}
 use Rattle.octets.specs.Pick.{pick}
 use Rattle.reader.specs.Outcome.{judgeOf}
-use Rattle.desk_tickets.specs.Search.{firstAt}
+use Rattle.desk_entries.specs.Search.{firstAt}
 use Rattle.desk_slots.specs.Sound.{stateAt}
 use Rattle.desk_slots.specs.Slots.{isFree, freeAt}
 use Rattle.desk.specs.Steps.{Sound, Turned, refused, newStep, openIn, openStep, octetsIn, showStep, heldStep, judgeStep}
-use Rattle.desk_tickets.proofs.Searches.{clash, firstAt-is, firstAt-not, unbarred}
+use Rattle.desk_entries.proofs.Searches.{clash, firstAt-is, firstAt-not, unbarred}
 use Rattle.desk.proofs.DeskLaws.{is-sound}
-use Rattle.desk_tickets.specs.declared.Place.{Place}
-use Rattle.desk_tickets.specs.declared.Place.the-variants.{At, Nowhere, Barred}
-use Rattle.desk_sessions.specs.declared.Session.{Session}
-use Rattle.desk_sessions.specs.declared.State.{State}
-use Rattle.desk_sessions.specs.declared.State.the-variants.{Free, Open}
+use Rattle.desk_entries.specs.declared.tickets.Place.{Place}
+use Rattle.desk_entries.specs.declared.tickets.Place.the-variants.{At, Nowhere, Barred}
+use Rattle.desk_entries.specs.declared.Session.{Session}
+use Rattle.desk_entries.specs.declared.State.{State}
+use Rattle.desk_entries.specs.declared.State.the-variants.{Free, Open}
 use Rattle.desk.specs.declared.Desk.{Desk}
 use Rattle.desk.specs.declared.Answer.the-variants.{Done, Refused}
-use Rattle.desk_laws.specs.Ledger.{Deed, releases, Call, opens, on, Reply, Found, absent, present, shut, answer, leaves, Ledger, lookup, ledgerStep, freshLedger, run, after}
-use Rattle.desk_laws.specs.Uploads.{keep, mine, own, solo, joined, unnamed}
-use Rattle.desk_laws.specs.Desks.{World, deskStep, fresh}
-use Rattle.desk_laws.specs.Demand.{Proper, answers, world, ledger, OpenOn, OpenIn, Holds, Afterwards, Grants, ownAnswers, asked, Alike, Closed, used-up, no-slot, Opening, Demand3}
+use Rattle.desk_ledger.specs.Ledger.{Deed, releases, Call, opens, on, Reply, Found, absent, present, shut, answer, leaves, Ledger, lookup, ledgerStep, freshLedger, run, after}
+use Rattle.desk_ledger.specs.Uploads.{keep, mine, own, solo, joined, unnamed}
+use Rattle.desk_ledger.specs.Desks.{World, deskStep, fresh, Proper, answers, world, ledger}
+use Rattle.desk_laws.specs.Demand.{OpenOn, OpenIn, Holds, Afterwards, Grants, ownAnswers, asked, Alike, Closed, used-up, no-slot, Opening, Demand3}
 use Rattle.desk_laws.proofs.Rows.{no}
 use Rattle.desk_laws.proofs.Steady.{Stands, View, seen, unseen, view}
 use Rattle.desk_laws.proofs.Agree.{octets-length, step-agrees, agree, after-stands, fresh-stands}

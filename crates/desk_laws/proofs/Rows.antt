@@ -8,8 +8,8 @@ use lib.Dec.{eqb}
 use lib.ListN.{length}
 use borrow.Author.Tests.{eqb-true, ne-eqb}
 use Rattle.octets.specs.Pick.{pick}
-use Rattle.desk_tickets.proofs.Searches.{clash}
-use Rattle.desk_laws.specs.Ledger.{Found, absent, present, Row, lookup, renew, change}
+use Rattle.desk_entries.proofs.Searches.{clash}
+use Rattle.desk_ledger.specs.Ledger.{Found, absent, present, Row, lookup, renew, change}
 
 pub no : {A : Type 0} (o : List ℕ) → absent ≡ present o → A
 no o e = clash cc

@@ -8,21 +8,21 @@ use lib.Dec.{eqb}
 use lib.ListN.{length, set}
 use lib.Seq.{getD-set-same, getD-set-other}
 use borrow.Author.Tests.{eqb-true, eqb-false, eq-eqb}
-use Rattle.desk_tickets.specs.Search.{firstAt}
+use Rattle.desk_entries.specs.Search.{firstAt}
 use Rattle.desk_slots.specs.Sound.{none, stateAt, Fit}
 use Rattle.desk_slots.specs.Slots.{isFree, openAt}
 use Rattle.desk.specs.Steps.{Sound, sound, slotOf, octetsIn}
-use Rattle.desk_tickets.proofs.Searches.{clash, firstAt-is, firstAt-not, unbarred}
+use Rattle.desk_entries.proofs.Searches.{clash, firstAt-is, firstAt-not, unbarred}
 use Rattle.desk.proofs.DeskLaws.{is-sound, Granted, granted}
-use Rattle.desk_tickets.specs.declared.Place.{Place}
-use Rattle.desk_tickets.specs.declared.Place.the-variants.{At, Nowhere, Barred}
-use Rattle.desk_sessions.specs.declared.Session.{Session}
-use Rattle.desk_sessions.specs.declared.Entry.{Entry}
-use Rattle.desk_sessions.specs.declared.State.{State}
-use Rattle.desk_sessions.specs.declared.State.the-variants.{Free, Open}
+use Rattle.desk_entries.specs.declared.tickets.Place.{Place}
+use Rattle.desk_entries.specs.declared.tickets.Place.the-variants.{At, Nowhere, Barred}
+use Rattle.desk_entries.specs.declared.Session.{Session}
+use Rattle.desk_entries.specs.declared.Entry.{Entry}
+use Rattle.desk_entries.specs.declared.State.{State}
+use Rattle.desk_entries.specs.declared.State.the-variants.{Free, Open}
 use Rattle.desk.specs.declared.Desk.{Desk}
 use Rattle.desk_slots.specs.declared.Slot.the-variants.{Held, No}
-use Rattle.desk_laws.specs.Ledger.{Found, absent, present, Row, Ledger, lookup}
+use Rattle.desk_ledger.specs.Ledger.{Found, absent, present, Row, Ledger, lookup}
 use Rattle.desk_laws.proofs.Rows.{no, Below}
 use Rattle.desk_laws.proofs.Counts.{count}
 

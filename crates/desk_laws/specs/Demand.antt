@@ -8,28 +8,13 @@ use Rattle.numbers.specs.Refusals as refusal
 use Rattle.reader.specs.Outcome.{judgeOf}
 use Rattle.desk_slots.specs.Sound.{stateAt}
 use Rattle.desk.specs.Steps.{Sound, openStep, showStep, heldStep, judgeStep}
-use Rattle.desk_sessions.specs.declared.Session.{Session}
-use Rattle.desk_sessions.specs.declared.State.the-variants.{Free, Open}
+use Rattle.desk_entries.specs.declared.Session.{Session}
+use Rattle.desk_entries.specs.declared.State.the-variants.{Free, Open}
 use Rattle.desk.specs.declared.Desk.{Desk}
 use Rattle.desk.specs.declared.Answer.the-variants.{Done, Refused}
-use Rattle.desk_laws.specs.Ledger.{Deed, Call, opens, on, Reply, told, present, Ledger, lookup, ledgerStep, freshLedger, run, after}
-use Rattle.desk_laws.specs.Uploads.{mine, own, solo, joined, unnamed}
-use Rattle.desk_laws.specs.Desks.{World, deskStep, fresh}
-
--- a desk of n slots with its proper pool, whatever this holds
-pub record Proper (n : ℕ) (p : List ℕ) : Type 0 where
-  pub some : 1 ≤ n
-  pub most : n ≤ limit.slots
-  pub sized : length p ≡ n * limit.octets
-
-abbrev pub answers : ℕ → List ℕ → List Call → List Reply
-answers n p cs = run deskStep (fresh n p) cs
-
-abbrev pub world : ℕ → List ℕ → List Call → World
-world n p cs = after deskStep (fresh n p) cs
-
-abbrev pub ledger : ℕ → List Call → Ledger
-ledger n cs = after ledgerStep (freshLedger n) cs
+use Rattle.desk_ledger.specs.Ledger.{Deed, Call, opens, on, Reply, told, present, Ledger, lookup, ledgerStep, freshLedger, run, after}
+use Rattle.desk_ledger.specs.Uploads.{mine, own, solo, joined, unnamed}
+use Rattle.desk_ledger.specs.Desks.{World, deskStep, Proper, answers, world, ledger}
 
 -- a ticket is open on a desk; in a ledger
 abbrev pub OpenOn : Desk → ℕ → Type 0

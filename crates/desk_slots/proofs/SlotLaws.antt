@@ -9,18 +9,18 @@ use lib.ListN.{length, set}
 use lib.Seq.{getD-set-same, getD-set-other}
 use borrow.Author.Tests.{ltb-true, ltb-false, eqb-true, eqb-false, eq-eqb, ne-eqb}
 use Rattle.octets.specs.Pick.{pick}
-use Rattle.desk_tickets.specs.Search.{firstAt, column, sameAs, among}
+use Rattle.desk_entries.specs.Search.{firstAt, column, sameAs, among}
 use Rattle.desk_slots.specs.Sound.{stateAt, Sound, ticketAt, sound}
-use Rattle.desk_sessions.specs.Entries.{ticketOf}
+use Rattle.desk_entries.specs.Entries.{ticketOf}
 use Rattle.desk_slots.specs.Slots.{guarded, freeAt, openAt, inState, inPlace, lookOf, slotOf}
-use Rattle.desk_tickets.proofs.Searches.{clash, firstAt-is, firstAt-not, firstAt-same, unbarred, among-same}
+use Rattle.desk_entries.proofs.Searches.{clash, firstAt-is, firstAt-not, firstAt-same, unbarred, among-same}
 use Rattle.desk_slots.proofs.SoundLaws.{sound-is}
-use Rattle.desk_tickets.specs.declared.Place.{Place}
-use Rattle.desk_tickets.specs.declared.Place.the-variants.{At, Nowhere, Barred}
-use Rattle.desk_sessions.specs.declared.Session.{Session}
-use Rattle.desk_sessions.specs.declared.State.{State}
-use Rattle.desk_sessions.specs.declared.State.the-variants.{Free, Open}
-use Rattle.desk_sessions.specs.declared.Entry.{Entry}
+use Rattle.desk_entries.specs.declared.tickets.Place.{Place}
+use Rattle.desk_entries.specs.declared.tickets.Place.the-variants.{At, Nowhere, Barred}
+use Rattle.desk_entries.specs.declared.Session.{Session}
+use Rattle.desk_entries.specs.declared.State.{State}
+use Rattle.desk_entries.specs.declared.State.the-variants.{Free, Open}
+use Rattle.desk_entries.specs.declared.Entry.{Entry}
 use Rattle.desk_slots.specs.declared.Slot.the-variants.{Held, No}
 
 -- ---- 25 and 24

@@ -6,14 +6,14 @@ use mathlib.Core.List.{List}
 use native.Mathlib.Omega.{arith}
 use lib.Dec.{ltb, eqb}
 use borrow.Author.Tests.{ltb-true, ltb-false, leb-true, eqb-true, eqb-false, lt-ltb, le-leb}
-use Rattle.desk_tickets.specs.Search.{allAt, among}
+use Rattle.desk_entries.specs.Search.{allAt, among}
 use Rattle.desk_slots.specs.Sound.{stateAt, Fit, Sound, ticketAt, fitsAt, goodAt, bounds, sound}
-use Rattle.desk_sessions.specs.Entries.{fits}
-use Rattle.desk_tickets.proofs.Searches.{clash, pick-both, allAt-all, all-allAt, among-not, not-among}
-use Rattle.desk_sessions.specs.declared.Session.{Session}
-use Rattle.desk_sessions.specs.declared.State.{State}
-use Rattle.desk_sessions.specs.declared.State.the-variants.{Free, Open}
-use Rattle.desk_sessions.specs.declared.Entry.{Entry}
+use Rattle.desk_entries.specs.Entries.{fits}
+use Rattle.desk_entries.proofs.Searches.{clash, pick-both, allAt-all, all-allAt, among-not, not-among}
+use Rattle.desk_entries.specs.declared.Session.{Session}
+use Rattle.desk_entries.specs.declared.State.{State}
+use Rattle.desk_entries.specs.declared.State.the-variants.{Free, Open}
+use Rattle.desk_entries.specs.declared.Entry.{Entry}
 
 -- ---- an entry
 

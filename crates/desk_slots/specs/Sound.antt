@@ -7,12 +7,12 @@ use lib.Dec.{leb}
 use lib.ListN.{getD}
 use Rattle.numbers.specs.Limits as limit
 use Rattle.octets.specs.Pick.{pick}
-use Rattle.desk_sessions.specs.Entries.{ticketOf, fits}
-use Rattle.desk_tickets.specs.Search.{allAt, among}
-use Rattle.desk_sessions.specs.declared.Session.{Session}
-use Rattle.desk_sessions.specs.declared.State.{State}
-use Rattle.desk_sessions.specs.declared.State.the-variants.{Free, Open}
-use Rattle.desk_sessions.specs.declared.Entry.{Entry}
+use Rattle.desk_entries.specs.Entries.{ticketOf, fits}
+use Rattle.desk_entries.specs.Search.{allAt, among}
+use Rattle.desk_entries.specs.declared.Session.{Session}
+use Rattle.desk_entries.specs.declared.State.{State}
+use Rattle.desk_entries.specs.declared.State.the-variants.{Free, Open}
+use Rattle.desk_entries.specs.declared.Entry.{Entry}
 
 abbrev pub none : Entry
 none = record { state = Free }

@@ -1,8 +1,8 @@
 // A look along the entries of a desk: whether the desk is sound, and the slot of a ticket or the lowest free one.
-use desk_sessions::Entry;
-use desk_sessions::Session;
-use desk_sessions::State;
-use desk_tickets::Place;
+use desk_entries::Entry;
+use desk_entries::Session;
+use desk_entries::State;
+use desk_entries::tickets::Place;
 use numbers::limit;
 use numbers::refusal;
 ghost use mathlib.Core.Path.{_≡_};
@@ -41,11 +41,11 @@ pub fn look(entries: [Entry; SLOTS], slots: usize, next: u32, size: usize, t: u3
     let mut i: usize = 0;
     while i < SLOTS {
         let e = entries[i];
-        if !desk_sessions::fits(e, i, slots, next) {
+        if !desk_entries::fits(e, i, slots, next) {
             return Place::Barred(refusal::UNSOUND);
         }
-        let u = desk_sessions::ticket_of(e);
-        if desk_tickets::stands(&ts, u, i) {
+        let u = desk_entries::ticket_of(e);
+        if desk_entries::tickets::stands(&ts, u, i) {
             return Place::Barred(refusal::UNSOUND);
         }
         ts[i] = u;
@@ -54,7 +54,7 @@ pub fn look(entries: [Entry; SLOTS], slots: usize, next: u32, size: usize, t: u3
     if size != slots * limit::OCTETS {
         return Place::Barred(refusal::POOL_LENGTH);
     }
-    desk_tickets::find(&ts, t, slots)
+    desk_entries::tickets::find(&ts, t, slots)
 }
 
 // 25, 24, 22, or the slot of a ticket.

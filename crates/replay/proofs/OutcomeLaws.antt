@@ -16,9 +16,8 @@ use Rattle.desk.specs.declared.Desk.{Desk}
 use Rattle.desk.specs.declared.Answer.the-variants.{Done, Refused as No}
 use Rattle.desk.specs.declared.Turn.{Turn}
 use Rattle.desk_slots.proofs.SoundLaws.{bounds-are}
-use Rattle.desk_laws.specs.Ledger.{Reply, ledgerStep, freshLedger, run, after}
-use Rattle.desk_laws.specs.Desks.{World, deskStep}
-use Rattle.desk_laws.specs.Demand.{Proper, world}
+use Rattle.desk_ledger.specs.Ledger.{Reply, ledgerStep, freshLedger, run, after}
+use Rattle.desk_ledger.specs.Desks.{World, deskStep, Proper, world}
 use Rattle.desk_laws.proofs.Claim.{demand3}
 use Rattle.replay_script.specs.Scripts.{width, callsIn, Decoded, calls, broken, decode}
 use Rattle.replay_script.specs.Counts.{shown, counted}

@@ -16,8 +16,8 @@ use Rattle.desk_pool.proofs.Patches.{put-copied}
 use Rattle.desk.specs.Steps.{slotOf, openStep, addStep, releaseStep, showIn, showStep, heldStep, judgeStep}
 use Rattle.desk.proofs.DeskLaws.{granted}
 use Rattle.desk.specs.declared.Desk.{Desk}
-use Rattle.desk_laws.specs.Ledger.{adds, judges, shows, asks, releases, Call, opens, on, run, after}
-use Rattle.desk_laws.specs.Desks.{World, deskStep}
+use Rattle.desk_ledger.specs.Ledger.{adds, judges, shows, asks, releases, Call, opens, on, run, after}
+use Rattle.desk_ledger.specs.Desks.{World, deskStep}
 use Rattle.replay_script.specs.Scripts.{width, callOf, callsIn}
 use Rattle.replay_script.proofs.ScriptLaws.{whole, calls-step, calls-end}
 use Rattle.replay_log.specs.Logs.{entry, written, Put, callRoom, roomFor}

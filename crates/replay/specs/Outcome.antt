@@ -8,8 +8,8 @@ use Rattle.numbers.specs.Refusals as refusal
 use Rattle.octets.specs.Pick.{pick}
 use Rattle.octets.specs.Room.{overlay}
 use Rattle.desk_slots.specs.Sound.{bounds}
-use Rattle.desk_laws.specs.Ledger.{Call, ledgerStep, freshLedger, run}
-use Rattle.desk_laws.specs.Demand.{world}
+use Rattle.desk_ledger.specs.Ledger.{Call, ledgerStep, freshLedger, run}
+use Rattle.desk_ledger.specs.Desks.{world}
 use Rattle.replay_script.specs.Scripts.{Decoded, calls, broken, decode}
 use Rattle.replay_log.specs.Logs.{written, roomFor}
 use Rattle.replay.specs.declared.Replayed.{Replayed}

@@ -10,8 +10,8 @@ use Rattle.octets.specs.Pick.{pick}
 use Rattle.desk.specs.Steps.{Turned, turned, openStep, addStep, releaseStep, showStep, heldStep, judgeStep}
 use Rattle.desk.specs.declared.Desk.{Desk}
 use Rattle.desk.specs.declared.Turn.{Turn}
-use Rattle.desk_laws.specs.Ledger.{judges, shows, asks, Call, part, verdict, Out}
-use Rattle.desk_laws.specs.Desks.{World, said, took, deedStep, deskStep}
+use Rattle.desk_ledger.specs.Ledger.{judges, shows, asks, Call, part, verdict, Out}
+use Rattle.desk_ledger.specs.Desks.{World, said, took, deedStep, deskStep}
 use Rattle.replay_script.specs.Words.{half, word}
 use Rattle.replay_script.specs.Scripts.{lookOf, callOf}
 use Rattle.replay_log.specs.Logs.{entry, Put}

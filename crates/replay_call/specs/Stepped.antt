@@ -3,8 +3,8 @@ use Prim.Native.Nat.{ℕ}
 use mathlib.Core.Path.{_≡_}
 use mathlib.Core.List.{List}
 use Rattle.desk.specs.declared.Desk.{Desk}
-use Rattle.desk_laws.specs.Ledger.{Call}
-use Rattle.desk_laws.specs.Desks.{World, deskStep}
+use Rattle.desk_ledger.specs.Ledger.{Call}
+use Rattle.desk_ledger.specs.Desks.{World, deskStep}
 use Rattle.replay_log.specs.Logs.{entry, Put}
 
 abbrev pub worldOf : Desk → List ℕ → World

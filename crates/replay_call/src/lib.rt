@@ -5,7 +5,7 @@ use replay_script::words;
 ghost use mathlib.Core.Path.{_≡_};
 ghost use Prim.Native.Nat.{_≤_};
 ghost use lib.ListN.{length};
-ghost use Rattle.desk_laws.specs.Desks.{said, deedStep, deskStep};
+ghost use Rattle.desk_ledger.specs.Desks.{said, deedStep, deskStep};
 ghost use Rattle.replay_script.specs.Scripts.{width, lookOf, callOf};
 ghost use Rattle.replay_log.specs.Logs.{entry, Put};
 ghost use Rattle.replay_call.specs.Stepped.{worldOf, Stepped};

@@ -11,7 +11,7 @@ use lib.Seq.{take-append-seam, drop-append-seam}
 use borrow.Author.Tests.{le-leb, eq-eqb}
 use Rattle.octets.specs.Scan.{scan}
 use Rattle.octets.proofs.Scans.{scan-step}
-use Rattle.desk_laws.specs.Ledger.{adds, judges, shows, asks, releases, Call, opens, on}
+use Rattle.desk_ledger.specs.Ledger.{adds, judges, shows, asks, releases, Call, opens, on}
 use Rattle.replay_script.specs.Words.{half, word, halfOctets, wordOctets}
 use Rattle.replay_script.specs.Scripts.{asked, width, callOf, callsIn, decode}
 use Rattle.replay_script.proofs.WordLaws.{half-value, word-value}

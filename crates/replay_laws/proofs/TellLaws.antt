@@ -11,7 +11,7 @@ use Rattle.octets.specs.Pick.{pick}
 use Rattle.octets.specs.Room.{overlay}
 use Rattle.octets.specs.Scan.{scan}
 use Rattle.desk_slots.specs.Sound.{bounds}
-use Rattle.desk_laws.specs.Demand.{world}
+use Rattle.desk_ledger.specs.Desks.{world}
 use Rattle.replay_script.specs.Scripts.{width, callsIn, calls, broken, decode}
 use Rattle.replay_log.specs.Logs.{written, roomFor}
 use Rattle.replay.specs.Outcome.{Replay, replayed, ledgerLog, played, replayOutcome}

@@ -5,7 +5,7 @@ use mathlib.Core.List.{List, [], _∷_, _++_}
 use native.Mathlib.Omega.{arith}
 use lib.ListN.{length, getD, take, drop, length-append}
 use lib.Seq.{take-append-seam, drop-append-seam}
-use Rattle.desk_laws.specs.Ledger.{Reply, refused, told, counts, part}
+use Rattle.desk_ledger.specs.Ledger.{Reply, refused, told, counts, part}
 use Rattle.replay_script.specs.Words.{halfOctets, wordOctets}
 use Rattle.replay_log.specs.Logs.{entry, written}
 use Rattle.replay_laws.specs.Tells.{Small, AllSmall}

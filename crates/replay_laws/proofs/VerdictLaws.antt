@@ -21,7 +21,7 @@ use Rattle.reader.specs.declared.Verdict.the-variants.{Accepted, Refused}
 use Rattle.firmware.proofs.Places.{place-low}
 use Rattle.reader_grammar.specs.Refusals.{LineRefused, octet, rule, order, laden, value, second, nameless, no-group, RefusedBy, long, empty, lone, unended, line, unfinished}
 use Rattle.reader_grammar.proofs.Refused.{refused-law}
-use Rattle.desk_laws.specs.Ledger.{verdict}
+use Rattle.desk_ledger.specs.Ledger.{verdict}
 use Rattle.replay_laws.specs.Tells.{Small}
 
 -- a line that is judged closes at most one card

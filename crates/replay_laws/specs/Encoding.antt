@@ -4,7 +4,7 @@ use mathlib.Core.Path.{_≡_}
 use mathlib.Core.List.{List, [], _∷_, _++_}
 use lib.ListN.{length}
 use Rattle.numbers.specs.Limits as limit
-use Rattle.desk_laws.specs.Ledger.{Deed, adds, judges, shows, asks, releases, Call, opens, on}
+use Rattle.desk_ledger.specs.Ledger.{Deed, adds, judges, shows, asks, releases, Call, opens, on}
 use Rattle.replay_script.specs.Words.{halfOctets, wordOctets}
 use Rattle.replay_script.specs.Scripts.{calls, decode}
 

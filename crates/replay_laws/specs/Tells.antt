@@ -5,7 +5,7 @@ use mathlib.Core.Path.{_≡_}
 use mathlib.Core.List.{List, [], _∷_}
 use lib.ListN.{length, take}
 use Rattle.numbers.specs.Limits as limit
-use Rattle.desk_laws.specs.Ledger.{Call, Reply, refused, told, counts, part, ledgerStep, freshLedger, run}
+use Rattle.desk_ledger.specs.Ledger.{Call, Reply, refused, told, counts, part, ledgerStep, freshLedger, run}
 use Rattle.replay_script.specs.Scripts.{callsIn}
 use Rattle.replay_log.specs.Logs.{written}
 use Rattle.replay.specs.Outcome.{replayOutcome}

@@ -12,8 +12,8 @@ use Rattle.reader.specs.declared.Verdict.the-variants.{Accepted, Refused as Unr
 use Rattle.desk_pool.specs.Pools.{patch}
 use Rattle.desk.specs.declared.Answer.{Answer}
 use Rattle.desk.specs.declared.Answer.the-variants.{Done, Refused}
-use Rattle.desk_laws.specs.Ledger.{adds, judges, shows, asks, releases, Call, opens, on, refused, told, counts, part, verdict}
-use Rattle.desk_laws.specs.Desks.{said}
+use Rattle.desk_ledger.specs.Ledger.{adds, judges, shows, asks, releases, Call, opens, on, refused, told, counts, part, verdict}
+use Rattle.desk_ledger.specs.Desks.{said}
 use Rattle.replay_script.specs.Words.{halfOctets, wordOctets}
 use Rattle.replay_script.specs.Counts.{showing, shown}
 use Rattle.replay_log.specs.Logs.{entry, callRoom, roomFor}

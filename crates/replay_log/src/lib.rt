@@ -7,8 +7,8 @@ ghost use mathlib.Core.Path.{_≡_};
 ghost use Prim.Native.Nat.{_+_, _*_, _≤_};
 ghost use lib.Dec.{leb};
 ghost use lib.ListN.{length};
-ghost use Rattle.desk_laws.specs.Ledger.{part, verdict};
-ghost use Rattle.desk_laws.specs.Desks.{said};
+ghost use Rattle.desk_ledger.specs.Ledger.{part, verdict};
+ghost use Rattle.desk_ledger.specs.Desks.{said};
 ghost use Rattle.replay_script.specs.Words.{wordOctets};
 ghost use Rattle.replay_log.specs.Logs.{entry, Put};
 

@@ -13,7 +13,7 @@ use Rattle.octets.specs.Pick.{pick}
 use Rattle.octets.specs.Classes.{within}
 use Rattle.octets.specs.Scan.{scan}
 use Rattle.octets.proofs.Scans.{scan-stop, scan-step, scan-end}
-use Rattle.desk_laws.specs.Ledger.{adds, judges, shows, asks, releases, Call, opens, on}
+use Rattle.desk_ledger.specs.Ledger.{adds, judges, shows, asks, releases, Call, opens, on}
 use Rattle.replay_script.specs.Words.{half, word}
 use Rattle.replay_script.specs.Scripts.{asked, width, callOf, callsIn, calls, decode}
 use Rattle.replay_script.specs.Counts.{showing, shown, counted}

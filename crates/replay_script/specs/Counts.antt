@@ -2,7 +2,7 @@
 use Prim.Native.Nat.{ℕ, _+_}
 use mathlib.Core.List.{List, [], _∷_}
 use lib.ListN.{length}
-use Rattle.desk_laws.specs.Ledger.{adds, judges, shows, asks, releases, Call, opens, on}
+use Rattle.desk_ledger.specs.Ledger.{adds, judges, shows, asks, releases, Call, opens, on}
 use Rattle.replay_script.specs.Scripts.{Decoded, calls, broken}
 use Rattle.replay_script.specs.declared.Counted.{Counted}
 use Rattle.replay_script.specs.declared.Counted.the-variants.{Calls, Broken}

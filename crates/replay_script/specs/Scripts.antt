@@ -8,7 +8,7 @@ use lib.ListN.{length, getD, take, drop}
 use Rattle.octets.specs.Pick.{pick}
 use Rattle.octets.specs.Scan.{scan}
 use Rattle.octets.specs.Classes.{within}
-use Rattle.desk_laws.specs.Ledger.{Deed, adds, judges, shows, asks, releases, Call, opens, on}
+use Rattle.desk_ledger.specs.Ledger.{Deed, adds, judges, shows, asks, releases, Call, opens, on}
 use Rattle.replay_script.specs.Words.{half, word}
 
 -- how many octets the call at the start of s asks for

@@ -6,10 +6,10 @@ use native.Mathlib.Omega.{arith}
 use lib.ListN.{length, length-set}
 use borrow.Author.Needs.{needs}
 use borrow.Author.Tests.{eq-eqb, ne-eqb, not-true, not-false}
-use Rattle.desk_tickets.specs.Search.{allAt}
+use Rattle.desk_entries.specs.Search.{allAt}
 use Rattle.desk_slots.specs.Sound.{goodAt, bounds, sound}
 use Rattle.desk_slots.specs.Slots.{lookOf}
-use Rattle.desk_tickets.proofs.Searches.{allAt-none, allAt-hit, allAt-miss}
+use Rattle.desk_entries.proofs.Searches.{allAt-none, allAt-hit, allAt-miss}
 use Rattle.desk_slots.proofs.SoundLaws.{bounds-are, unfit, repeated, good}
 use Rattle.desk_slots.proofs.SlotLaws.{Begun, begun-none, begun-more, begun-among, begun-first}
 use Rattle.desk_slots.proofs.look.Statement.{statement}

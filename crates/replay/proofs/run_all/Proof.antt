@@ -4,7 +4,7 @@ use mathlib.Core.Path.{_≡_, ap, _∙_}
 use native.Mathlib.Omega.{arith}
 use lib.ListN.{length, drop, length-take, length-drop}
 use borrow.Rule.Slice.PartMut.{putMid}
-use Rattle.desk_laws.specs.Desks.{deskStep}
+use Rattle.desk_ledger.specs.Desks.{deskStep}
 use Rattle.replay_script.specs.Scripts.{width, callOf}
 use Rattle.replay_log.specs.Logs.{entry}
 use Rattle.replay_call.specs.Stepped.{worldOf}

@@ -1,8 +1,8 @@
 -- `replay_call::look` meets its contract. Assumes nothing.
 use mathlib.Core.Path.{_≡_, sym, ap, _∙_}
 use denote.Ref.{now}
-use Rattle.desk_laws.specs.Ledger.{part, verdict}
-use Rattle.desk_laws.specs.Desks.{said, deedStep}
+use Rattle.desk_ledger.specs.Ledger.{part, verdict}
+use Rattle.desk_ledger.specs.Desks.{said, deedStep}
 use Rattle.replay_script.specs.Scripts.{lookOf}
 use Rattle.replay_call.specs.Stepped.{worldOf}
 use Rattle.replay_call.proofs.CallLaws.{look-judge, look-show, look-held}

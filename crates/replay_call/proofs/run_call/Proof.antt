@@ -5,8 +5,8 @@ use denote.Ref.{now}
 use native.Mathlib.Omega.{arith}
 use lib.ListN.{getD, take, drop}
 use Rattle.desk_pool.proofs.Patches.{part-size}
-use Rattle.desk_laws.specs.Ledger.{Out}
-use Rattle.desk_laws.specs.Desks.{World, deedStep, deskStep}
+use Rattle.desk_ledger.specs.Ledger.{Out}
+use Rattle.desk_ledger.specs.Desks.{World, deedStep, deskStep}
 use Rattle.replay_script.specs.Words.{half}
 use Rattle.replay_script.specs.Scripts.{lookOf, callOf}
 use Rattle.replay_call.specs.Stepped.{worldOf}

@@ -5,7 +5,7 @@ use Prim.Native.Nat.{ℕ}
 use lib.ListN.{length}
 use borrow.Author.Tests.{eq-eqb, ne-eqb}
 use Rattle.octets.specs.Ascii.{octets}
-use Rattle.octets_slices.specs.Parts.{part}
+use Rattle.octets.specs.Slices.{part}
 use Rattle.program_output.specs.Pages.{page, added}
 use Rattle.cabbook_columns.specs.Seen.{visible}
 use Rattle.program_output.proofs.PageLaws.{nothing, piece, pause}

@@ -1,5 +1,5 @@
 -- `cabbook_tables::fields::put_fields` meets its contract. Assumes nothing.
-use Rattle.octets_slices.specs.Parts.{part}
+use Rattle.octets.specs.Slices.{part}
 use Rattle.program_output.specs.Pages.{page}
 use Rattle.program_output.proofs.PageLaws.{nothing, piece}
 use borrow.Author.Needs.{needs}

@@ -1,2 +1,0 @@
--- The definitions that the contracts of `desk_sessions` cite. Assumes nothing.
-pub mod Entries
