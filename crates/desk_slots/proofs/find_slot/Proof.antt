@@ -1,4 +1,4 @@
--- `desk_slots::look` meets its contract. Assumes nothing.
+-- `desk_slots::find_slot` meets its contract. Assumes nothing.
 use Prim.Native.Nat.{_-_, _≤_}
 use mathlib.Core.Path.{_≡_, refl, sym, _∙_}
 use mathlib.Core.Bool.{true}
@@ -8,12 +8,12 @@ use borrow.Author.Needs.{needs}
 use borrow.Author.Tests.{eq-eqb, ne-eqb, not-true, not-false}
 use Rattle.desk_entries.specs.Search.{allAt}
 use Rattle.desk_slots.specs.Sound.{goodAt, bounds, sound}
-use Rattle.desk_slots.specs.Slots.{lookOf}
+use Rattle.desk_slots.specs.Slots.{placeOf}
 use Rattle.desk_entries.proofs.Searches.{allAt-none, allAt-hit, allAt-miss}
 use Rattle.desk_slots.proofs.SoundLaws.{bounds-are, unfit, repeated, good}
 use Rattle.desk_slots.proofs.SlotLaws.{Begun, begun-none, begun-more, begun-among, begun-first}
-use Rattle.desk_slots.proofs.look.Statement.{statement}
-use Rattle.desk_slots.proofs.look.Tie as tie
+use Rattle.desk_slots.proofs.find_slot.Statement.{statement}
+use Rattle.desk_slots.proofs.find_slot.Tie as tie
 
 abbrev Inv-loop : tie.InvT-loop
 Inv-loop slots next size t entries ts₀ i₀ ts i = (i ≤ 40) × (length ts ≡ 40) × (allAt (goodAt entries slots next) 0 40 ≡ allAt (goodAt entries slots next) i (40 - i)) × Begun entries ts i
@@ -28,7 +28,7 @@ in-bounds-requires : tie.Need-in-bounds-requires Inv-loop μ-loop
 in-bounds-requires c κs = search needs
 
 returns : tie.Need-returns Inv-loop μ-loop
-unfolding lookOf sound
+unfolding placeOf sound
 returns c = simp (sym (c .before .in-bounds .ensures) ∙ not-true _ (c .if1 .taken))
 
 loop-holds : tie.Need-loop-holds Inv-loop μ-loop
@@ -44,7 +44,7 @@ fits-requires : tie.Need-fits-requires Inv-loop μ-loop
 fits-requires c κs = search needs
 
 returns-2 : tie.Need-returns-2 Inv-loop μ-loop
-unfolding lookOf sound
+unfolding placeOf sound
 returns-2 c =
     let d = c .before .before .before .before .before .before .before .args in
     let l = c .before .before .before .before .loop in
@@ -58,7 +58,7 @@ stands-requires : tie.Need-stands-requires Inv-loop μ-loop
 stands-requires c κs = omega arith
 
 returns-3 : tie.Need-returns-3 Inv-loop μ-loop
-unfolding lookOf sound
+unfolding placeOf sound
 returns-3 c =
     let d = c .before .before .before .before .before .before .before .before .before .before .before .args in
     let l = c .before .before .before .before .before .before .before .before .loop in
@@ -90,7 +90,7 @@ mul-if4 : tie.Need-mul-if4 Inv-loop μ-loop
 mul-if4 c = let b = bounds-are _ _ (bounded (c .before .before)) in omega arith
 
 returns-4 : tie.Need-returns-4 Inv-loop μ-loop
-unfolding lookOf sound
+unfolding placeOf sound
 returns-4 c =
     let d = c .before .before .before .before .before .args in
     let l = c .before .before .loop in
@@ -101,7 +101,7 @@ find-requires c κs =
     let b = bounds-are _ _ (bounded (c .before .before .before .before)) in omega arith
 
 returns-5 : tie.Need-returns-5 Inv-loop μ-loop
-unfolding lookOf sound
+unfolding placeOf sound
 returns-5 c =
     let d = c .before .before .before .before .before .before .before .args in
     let l = c .before .before .before .before .loop in
@@ -109,8 +109,8 @@ returns-5 c =
     let f = begun-first (d .t1) (l .ts) (d .slots) (l .i) (c .before .before .before .before .before .before .before .args .t) (omega arith) (l .inv .3) in
     c .find .ensures ∙ f ∙ simp (bounded (c .before .before .before .before .before), l .inv .2 ∙ allAt-none (goodAt (d .t1) (d .slots) (d .next)) 40 (l .i) (search needs), eq-eqb _ _ (c .before .before .if4 .left))
 
-pub look-spec : {M : Type 1} → statement M
-look-spec =
+pub find-slot-spec : {M : Type 1} → statement M
+find-slot-spec =
     tie.close
     (tie.spec
     Inv-loop

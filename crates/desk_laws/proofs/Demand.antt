@@ -1,4 +1,4 @@
--- Demand 3, and what follows from it by name. Assumes nothing.
+-- Demand 3: refinement of the ledger and noninterference of uploads, and what follows from them by name. Assumes nothing.
 use Prim.Native.Nat.{ℕ, _*_, _<_}
 use mathlib.Core.Path.{_≡_, refl, sym, ap, _∙_}
 use mathlib.Core.Bool.{Bool, true, false}
@@ -27,22 +27,22 @@ use Rattle.desk_ledger.specs.Uploads.{keep, mine, own, solo, joined, unnamed}
 use Rattle.desk_ledger.specs.Desks.{World, deskStep, fresh, Proper, answers, world, ledger}
 use Rattle.desk_laws.specs.Demand.{OpenOn, OpenIn, Holds, Afterwards, Grants, ownAnswers, asked, Alike, Closed, used-up, no-slot, Opening, Demand3}
 use Rattle.desk_laws.proofs.Rows.{no}
-use Rattle.desk_laws.proofs.Steady.{Stands, View, seen, unseen, view}
-use Rattle.desk_laws.proofs.Agree.{octets-length, step-agrees, agree, after-stands, fresh-stands}
-use Rattle.desk_laws.proofs.Alone.{Given, same-slots, falls-after, starts, own-solo, fates, after-fates, solo-take, fates-append, fates-absent, mine-append, after-append, run-unnamed}
+use Rattle.desk_laws.proofs.Relation.{Refines, View, seen, unseen, view}
+use Rattle.desk_laws.proofs.Refinement.{octets-length, step-refines, run-refines, after-refines, fresh-refines}
+use Rattle.desk_laws.proofs.Noninterference.{Given, same-slots, falls-after, starts, own-solo, fates, after-fates, solo-take, fates-append, fates-absent, mine-append, after-append, run-unnamed}
 use Rattle.desk_laws.proofs.Joins.{joins}
 
 -- ---- desk and ledger after the same calls
 
 module _ (n : ℕ) (p : List ℕ) (f : Proper n p) where
-  at-first : Stands (newStep n .desk) p (freshLedger n)
-  at-first = fresh-stands n p (f .some) (f .most) (f .sized)
+  at-first : Refines (newStep n .desk) p (freshLedger n)
+  at-first = fresh-refines n p (f .some) (f .most) (f .sized)
 
-  pub then-stands : (cs : List Call) → Stands (world n p cs .desk) (world n p cs .pool) (ledger n cs)
-  then-stands cs = after-stands cs (fresh n p) (freshLedger n) at-first
+  pub then-refines : (cs : List Call) → Refines (world n p cs .desk) (world n p cs .pool) (ledger n cs)
+  then-refines cs = after-refines cs (fresh n p) (freshLedger n) at-first
 
   pub answered : (cs : List Call) → answers n p cs ≡ run ledgerStep (freshLedger n) cs
-  answered cs = agree cs (fresh n p) (freshLedger n) at-first
+  answered cs = run-refines cs (fresh n p) (freshLedger n) at-first
 
   -- what the ledger's rows say of an open ticket
   row-joined : (cs : List Call) (t : ℕ) (o : List ℕ) → lookup (ledger n cs .rows) t ≡ present o → o ≡ joined t cs (run ledgerStep (freshLedger n) cs)
@@ -64,8 +64,8 @@ module _ (n : ℕ) (p : List ℕ) (f : Proper n p) where
       w : World
       w = world n p cs
 
-      r : Stands (w .desk) (w .pool) (ledger n cs)
-      r = then-stands cs
+      r : Refines (w .desk) (w .pool) (ledger n cs)
+      r = then-refines cs
 
       slots : w .desk .slots ≡ n
       slots = sym (r .slots) ∙ same-slots cs (freshLedger n)
@@ -97,13 +97,13 @@ module _ (n : ℕ) (p : List ℕ) (f : Proper n p) where
     begun : (lookup (ledgerStep (ledger n xs) (opens m) .then .rows) t ≡ present []) × Given (ledgerStep (ledger n xs) (opens m) .then) t
     begun =
         starts (ledger n xs) m t (falls-after xs (freshLedger n) tt)
-        (sym (step-agrees (world n p xs) (ledger n xs) (opens m) (then-stands xs) .same) ∙ g)
+        (sym (step-refines (world n p xs) (ledger n xs) (opens m) (then-refines xs) .same) ∙ g)
 
     pub alone : (ys : List Call) → ownAnswers n p xs m t ys ≡ solo (present []) (mine t ys)
     alone ys =
         ap (own t ys)
-        (agree ys (deskStep (world n p xs) (opens m) .then) (ledgerStep (ledger n xs) (opens m) .then)
-        (step-agrees (world n p xs) (ledger n xs) (opens m) (then-stands xs) .keeps))
+        (run-refines ys (deskStep (world n p xs) (opens m) .then) (ledgerStep (ledger n xs) (opens m) .then)
+        (step-refines (world n p xs) (ledger n xs) (opens m) (then-refines xs) .keeps))
         ∙ own-solo ys (ledgerStep (ledger n xs) (opens m) .then) t (begun .1)
         ∙ ap (λ (f : Found). solo f (mine t ys)) (begun .0)
 
@@ -116,7 +116,7 @@ module _ (n : ℕ) (p : List ℕ) (f : Proper n p) where
 
     pub asked-so : (ys : List Call) (x : Deed) → asked n p xs m t ys x ≡ answer (fates (present []) (mine t ys)) x
     asked-so ys x =
-        step-agrees (world n p (xs ++ opens m ∷ ys)) (ledger n (xs ++ opens m ∷ ys)) (on t x) (then-stands (xs ++ opens m ∷ ys)) .same
+        step-refines (world n p (xs ++ opens m ∷ ys)) (ledger n (xs ++ opens m ∷ ys)) (on t x) (then-refines (xs ++ opens m ∷ ys)) .same
         ∙ ap (λ (f : Found). answer f x) (row-fates ys)
 
     first-part : (ys : List Call) (k : ℕ) → take k (ownAnswers n p xs m t ys) ≡ solo (present []) (take k (mine t ys))

@@ -1,4 +1,4 @@
--- An upload is answered by its own calls alone, and no identifier changes an answer of the ledger. Assumes nothing.
+-- Noninterference in the ledger: an upload is answered by its own calls alone, and no identifier changes an answer. Assumes nothing.
 use Prim.Native.Nat.{ℕ, zero, suc, _+_, _<_, _≤_}
 use mathlib.Core.Path.{_≡_, refl, sym, ap, _∙_}
 use mathlib.Core.Bool.{Bool, true, false}

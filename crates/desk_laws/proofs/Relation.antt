@@ -1,4 +1,4 @@
--- A sound desk stays sound when an entry is set, and the desk with its pool stands for the ledger. Assumes nothing.
+-- The refinement relation: what a desk with its pool and a ledger have in common, and that it holds on where an entry is set. Assumes nothing.
 use Prim.Native.Nat.{ℕ, _*_, _<_, _≤_}
 use mathlib.Core.Path.{_≡_, refl, sym, ap, _∙_}
 use mathlib.Core.Bool.{Bool, true, false, not}
@@ -74,7 +74,7 @@ sound-set d more i x g h l inside fit new =
     one j m kj km s u e f t false q false r =
         g .distinct j m kj km s u (sym (other-at (d .entries) i j x (eqb-false j i q)) ∙ e) (sym (other-at (d .entries) i m x (eqb-false m i r)) ∙ f) t
 
--- ---- the desk with its pool stands for the ledger
+-- ---- the desk with its pool refines the ledger
 
 -- each open entry has its row, and each row its open entry
 pub record Backed (es : List Entry) (p : List ℕ) (rs : List Row) : Type 0 where
@@ -84,7 +84,7 @@ pub record Backed (es : List Entry) (p : List ℕ) (rs : List Row) : Type 0 wher
 abbrev pub taken : List Entry → ℕ → Bool
 taken es i = not (isFree (stateAt es i))
 
-pub record Stands (d : Desk) (p : List ℕ) (l : Ledger) : Type 0 where
+pub record Refines (d : Desk) (p : List ℕ) (l : Ledger) : Type 0 where
   pub good : Sound d
   pub forty : length (d .entries) ≡ 40
   pub sized : length p ≡ d .slots * 16384
@@ -152,7 +152,7 @@ pub opened-there : (t : ℕ) (x : State) → (es : List Entry) (i : ℕ) → sta
 opened-there t Free es i q e = let z : false ≡ true = rw q at e in clash cc
 opened-there t (Open s) es i q e = (s, (q, eqb-true (s .ticket) t (rw q at e)))
 
-pub view : (d : Desk) (p : List ℕ) (l : Ledger) (t : ℕ) → Stands d p l → View d p l t
+pub view : (d : Desk) (p : List ℕ) (l : Ledger) (t : ℕ) → Refines d p l → View d p l t
 unfolding Rattle.desk_slots.specs.Slots.slotOf
 view d p l t r = go (firstAt (openAt (d .entries) t) 0 40) refl
   where

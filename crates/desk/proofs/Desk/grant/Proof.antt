@@ -1,8 +1,8 @@
--- `desk::Desk::granted` meets its contract. Assumes nothing.
+-- `desk::Desk::grant` meets its contract. Assumes nothing.
 use borrow.Author.Needs.{needs}
 use native.Mathlib.Omega.{arith}
-use Rattle.desk.proofs.Desk.granted.Statement.{statement}
-use Rattle.desk.proofs.Desk.granted.Tie as tie
+use Rattle.desk.proofs.Desk.grant.Statement.{statement}
+use Rattle.desk.proofs.Desk.grant.Tie as tie
 
 mul-t7 : tie.Need-mul-t7
 mul-t7 c = omega arith
@@ -13,8 +13,8 @@ element-set-from-self c = omega arith
 returns : tie.Need-returns
 returns c = search needs
 
-pub granted-spec : {M : Type 1} → statement M
-granted-spec =
+pub grant-spec : {M : Type 1} → statement M
+grant-spec =
     tie.close
     (tie.spec
     mul-t7

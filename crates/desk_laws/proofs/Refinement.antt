@@ -1,4 +1,4 @@
--- One call keeps the desk and the ledger in step; so does every list of calls. Assumes nothing.
+-- Refinement: each call is answered on the desk as in the ledger and keeps their relation; so is every list of calls. Assumes nothing.
 use Prim.Native.Nat.{ℕ, _+_, _*_, _<_, _≤_}
 use mathlib.Core.Path.{_≡_, refl, sym, ap, subst, _∙_}
 use mathlib.Core.Bool.{Bool, true, false, not}
@@ -31,12 +31,12 @@ use Rattle.desk_ledger.specs.Desks.{World, took, deedStep, deskStep}
 use Rattle.desk_laws.proofs.Rows.{no, change-same, change-other, change-absent, change-back, below-change, length-put, length-close}
 use Rattle.desk_laws.proofs.Patched.{patch-in, length-patch, patch-other}
 use Rattle.desk_laws.proofs.Counts.{count, count-same, count-le, count-zero, count-full, count-more}
-use Rattle.desk_laws.proofs.Steady.{same-at, other-at, sound-set, taken, Stands, is-open, is-free, backed-set, View, seen, unseen, view}
+use Rattle.desk_laws.proofs.Relation.{same-at, other-at, sound-set, taken, Refines, is-open, is-free, backed-set, View, seen, unseen, view}
 
--- the same answer, and still in step
-pub record Agrees (a : Out World) (b : Out Ledger) : Type 0 where
+-- the same answer, and the relation holds on
+pub record Simulates (a : Out World) (b : Out Ledger) : Type 0 where
   pub same : a .reply ≡ b .reply
-  pub keeps : Stands (a .then .desk) (a .then .pool) (b .then)
+  pub keeps : Refines (a .then .desk) (a .then .pool) (b .then)
 
 abbrev with : Ledger → List Row → Ledger
 with l rs = record { slots = l .slots; next = l .next; rows = rs }
@@ -59,7 +59,7 @@ taken-set es i j x l e true q =
     rw w (sym e ∙ sym (ap (λ (y : State). not (isFree y)) (same-at es i x l)))
 taken-set es i j x l e false q = sym (ap (λ (y : State). not (isFree y)) (other-at es i j x (eqb-false j i q)))
 
-module _ (d : Desk) (p : List ℕ) (l : Ledger) (r : Stands d p l) (t i : ℕ) (s : Session) (g : Granted d (length p) t i s) (lk : lookup (l .rows) t ≡ present (octetsIn p i s)) where
+module _ (d : Desk) (p : List ℕ) (l : Ledger) (r : Refines d p l) (t i : ℕ) (s : Session) (g : Granted d (length p) t i s) (lk : lookup (l .rows) t ≡ present (octetsIn p i s)) where
   in-list : i < length (d .entries)
   in-list = let a : i < 40 = g .short in let b = r .forty in omega arith
 
@@ -79,7 +79,7 @@ module _ (d : Desk) (p : List ℕ) (l : Ledger) (r : Stands d p l) (t i : ℕ) (
       patch-other p q i j a (u .held) n low high (omega arith) (r .good .each j k u e .room)
 
   added : (q : List ℕ) → s .held + length q ≤ 16384
-      → Stands (withState d i (Open (grown s (length q)))) (patch p (i * 16384 + s .held) q) (with l (change (l .rows) t (present (octetsIn p i s ++ q))))
+      → Refines (withState d i (Open (grown s (length q)))) (patch p (i * 16384 + s .held) q) (with l (change (l .rows) t (present (octetsIn p i s ++ q))))
   added q h =
       let b : length p ≡ d .slots * 16384 = g .sized in
       let c : i < d .slots = g .inside in
@@ -100,7 +100,7 @@ module _ (d : Desk) (p : List ℕ) (l : Ledger) (r : Stands d p l) (t i : ℕ) (
         falling = below-change (l .rows) (l .next) t (present (octetsIn p i s ++ q)) (r .falling);
       }
 
-  released : Stands (withState d i Free) (patch p (i * 16384) zeros) (with l (change (l .rows) t absent))
+  released : Refines (withState d i Free) (patch p (i * 16384) zeros) (with l (change (l .rows) t absent))
   released =
       let b : length p ≡ d .slots * 16384 = g .sized in
       let c : i < d .slots = g .inside in
@@ -125,44 +125,44 @@ module _ (d : Desk) (p : List ℕ) (l : Ledger) (r : Stands d p l) (t i : ℕ) (
 -- ---- each call
 
 -- a ticket that is not open: nothing changes
-shut-agrees : (d : Desk) (p : List ℕ) (l : Ledger) (t : ℕ) (x : Deed) → Stands d p l → slotOf d (length p) t ≡ No 22 → lookup (l .rows) t ≡ absent
-    → Agrees (deedStep (record { desk = d; pool = p }) t x) (ledgerStep l (on t x))
+shut-refines : (d : Desk) (p : List ℕ) (l : Ledger) (t : ℕ) (x : Deed) → Refines d p l → slotOf d (length p) t ≡ No 22 → lookup (l .rows) t ≡ absent
+    → Simulates (deedStep (record { desk = d; pool = p }) t x) (ledgerStep l (on t x))
 unfolding addStep releaseStep showStep heldStep judgeStep
-shut-agrees d p l t (adds q) r e f = rw (e, f, change-absent (l .rows) t absent f) (record { same = refl; keeps = r })
-shut-agrees d p l t judges r e f = rw (e, f, change-absent (l .rows) t absent f) (record { same = refl; keeps = r })
-shut-agrees d p l t shows r e f = rw (e, f, change-absent (l .rows) t absent f) (record { same = refl; keeps = r })
-shut-agrees d p l t asks r e f = rw (e, f, change-absent (l .rows) t absent f) (record { same = refl; keeps = r })
-shut-agrees d p l t releases r e f = rw (e, f, change-absent (l .rows) t absent f) (record { same = refl; keeps = r })
+shut-refines d p l t (adds q) r e f = rw (e, f, change-absent (l .rows) t absent f) (record { same = refl; keeps = r })
+shut-refines d p l t judges r e f = rw (e, f, change-absent (l .rows) t absent f) (record { same = refl; keeps = r })
+shut-refines d p l t shows r e f = rw (e, f, change-absent (l .rows) t absent f) (record { same = refl; keeps = r })
+shut-refines d p l t asks r e f = rw (e, f, change-absent (l .rows) t absent f) (record { same = refl; keeps = r })
+shut-refines d p l t releases r e f = rw (e, f, change-absent (l .rows) t absent f) (record { same = refl; keeps = r })
 
-open-agrees : (d : Desk) (p : List ℕ) (l : Ledger) (t : ℕ) (x : Deed) → Stands d p l → (i : ℕ) (s : Session) → slotOf d (length p) t ≡ Held i s → Granted d (length p) t i s
-    → lookup (l .rows) t ≡ present (octetsIn p i s) → Agrees (deedStep (record { desk = d; pool = p }) t x) (ledgerStep l (on t x))
+open-refines : (d : Desk) (p : List ℕ) (l : Ledger) (t : ℕ) (x : Deed) → Refines d p l → (i : ℕ) (s : Session) → slotOf d (length p) t ≡ Held i s → Granted d (length p) t i s
+    → lookup (l .rows) t ≡ present (octetsIn p i s) → Simulates (deedStep (record { desk = d; pool = p }) t x) (ledgerStep l (on t x))
 unfolding addStep releaseStep showStep heldStep judgeStep
-open-agrees d p l t (adds q) r i s e g lk = rw (e, lk) (go (ltb 16384 (s .held + length q)) refl)
+open-refines d p l t (adds q) r i s e g lk = rw (e, lk) (go (ltb 16384 (s .held + length q)) refl)
   where
     n : length (octetsIn p i s) ≡ s .held
     n = octets-length d p t i s g
 
     go : (b : Bool) → ltb 16384 (s .held + length q) ≡ b
-        → Agrees (took (addIn d p q (Held i s)))
+        → Simulates (took (addIn d p q (Held i s)))
         (record {
           reply = answer (present (octetsIn p i s)) (adds q);
           then = with l (change (l .rows) t (leaves (present (octetsIn p i s)) (adds q)));
         })
     go true h = rw (n, h, change-back (l .rows) t (octetsIn p i s) lk) (record { same = refl; keeps = r })
     go false h = rw (n, h) (record { same = refl; keeps = added d p l r t i s g lk q (ltb-false _ _ h) })
-open-agrees d p l t judges r i s e g lk = rw (e, lk, change-back (l .rows) t (octetsIn p i s) lk) (record { same = refl; keeps = r })
-open-agrees d p l t shows r i s e g lk = rw (e, lk, change-back (l .rows) t (octetsIn p i s) lk) (record { same = refl; keeps = r })
-open-agrees d p l t asks r i s e g lk = rw (e, lk, change-back (l .rows) t (octetsIn p i s) lk) (record { same = ap told (sym (octets-length d p t i s g)); keeps = r })
-open-agrees d p l t releases r i s e g lk = rw (e, lk) (record { same = refl; keeps = released d p l r t i s g lk })
+open-refines d p l t judges r i s e g lk = rw (e, lk, change-back (l .rows) t (octetsIn p i s) lk) (record { same = refl; keeps = r })
+open-refines d p l t shows r i s e g lk = rw (e, lk, change-back (l .rows) t (octetsIn p i s) lk) (record { same = refl; keeps = r })
+open-refines d p l t asks r i s e g lk = rw (e, lk, change-back (l .rows) t (octetsIn p i s) lk) (record { same = ap told (sym (octets-length d p t i s g)); keeps = r })
+open-refines d p l t releases r i s e g lk = rw (e, lk) (record { same = refl; keeps = released d p l r t i s g lk })
 
-on-agrees : (d : Desk) (p : List ℕ) (l : Ledger) (t : ℕ) (x : Deed) → Stands d p l → View d p l t
-    → Agrees (deedStep (record { desk = d; pool = p }) t x) (ledgerStep l (on t x))
-on-agrees d p l t x r (unseen e f) = shut-agrees d p l t x r e f
-on-agrees d p l t x r (seen i s e g lk) = open-agrees d p l t x r i s e g lk
+on-refines : (d : Desk) (p : List ℕ) (l : Ledger) (t : ℕ) (x : Deed) → Refines d p l → View d p l t
+    → Simulates (deedStep (record { desk = d; pool = p }) t x) (ledgerStep l (on t x))
+on-refines d p l t x r (unseen e f) = shut-refines d p l t x r e f
+on-refines d p l t x r (seen i s e g lk) = open-refines d p l t x r i s e g lk
 
 -- an opening in the free slot i
-granted-open : (d : Desk) (p : List ℕ) (l : Ledger) (m : ℕ) → Stands d p l → (i : ℕ) → freeAt (d .entries) i ≡ true → i < d .slots
-    → Stands (opened d m i) p (record { slots = l .slots; next = d .next + 1; rows = record { ticket = d .next; octets = [] } ∷ l .rows })
+granted-open : (d : Desk) (p : List ℕ) (l : Ledger) (m : ℕ) → Refines d p l → (i : ℕ) → freeAt (d .entries) i ≡ true → i < d .slots
+    → Refines (opened d m i) p (record { slots = l .slots; next = d .next + 1; rows = record { ticket = d .next; octets = [] } ∷ l .rows })
 unfolding lookup
 granted-open d p l m r i e c =
     let a : d .slots ≤ 40 = r .good .most in
@@ -188,21 +188,21 @@ granted-open d p l m r i e c =
       falling = (omega arith, rw (r .next) at (r .falling));
     }
 
-opening-agrees : (d : Desk) (p : List ℕ) (l : Ledger) (m : ℕ) → Stands d p l → Agrees (took (openStep d p m)) (opening l)
+opening-refines : (d : Desk) (p : List ℕ) (l : Ledger) (m : ℕ) → Refines d p l → Simulates (took (openStep d p m)) (opening l)
 unfolding openStep
-opening-agrees d p l m r =
+opening-refines d p l m r =
     rw (is-sound d (r .good), eq-eqb (length p) (d .slots * 16384) (r .sized)) (limit (eqb (d .next) 4294967295) refl)
   where
     same-limit : (b : Bool) → eqb (d .next) 4294967295 ≡ b → eqb (l .next) 4294967295 ≡ b
     same-limit b h = ap (λ (n : ℕ). eqb n 4294967295) (r .next) ∙ h
 
     grants : (i : ℕ) → freeAt (d .entries) i ≡ true → i < d .slots
-        → Stands (opened d m i) p (record { slots = l .slots; next = l .next + 1; rows = record { ticket = l .next; octets = [] } ∷ l .rows })
+        → Refines (opened d m i) p (record { slots = l .slots; next = l .next + 1; rows = record { ticket = l .next; octets = [] } ∷ l .rows })
     grants i e c =
-        subst (λ (n : ℕ). Stands (opened d m i) p (record { slots = l .slots; next = n + 1; rows = record { ticket = n; octets = [] } ∷ l .rows })) (sym (r .next))
+        subst (λ (n : ℕ). Refines (opened d m i) p (record { slots = l .slots; next = n + 1; rows = record { ticket = n; octets = [] } ∷ l .rows })) (sym (r .next))
         (granted-open d p l m r i e c)
 
-    place : (x : Place) → firstAt (freeAt (d .entries)) 0 (d .slots) ≡ x → eqb (d .next) 4294967295 ≡ false → Agrees (took (openIn d p m x)) (opening l)
+    place : (x : Place) → firstAt (freeAt (d .entries)) 0 (d .slots) ≡ x → eqb (d .next) 4294967295 ≡ false → Simulates (took (openIn d p m x)) (opening l)
     place (Barred n) e h = unbarred (freeAt (d .entries)) (d .slots) 0 n e
     place Nowhere e h =
         let k = count-full (taken (d .entries)) (d .slots) (λ j b. ap not (firstAt-not (freeAt (d .entries)) (d .slots) 0 e j (omega arith) (omega arith))) in
@@ -219,37 +219,37 @@ opening-agrees d p l m r =
         rw (same-limit false h, ne-eqb (length (l .rows)) (l .slots) (λ w. omega arith)) (record { same = ap told (sym (r .next)); keeps = g })
 
     limit : (b : Bool) → eqb (d .next) 4294967295 ≡ b
-        → Agrees (took (pick (eqb (d .next) 4294967295) (refusing d p 0 21) (openIn d p m (firstAt (freeAt (d .entries)) 0 (d .slots))))) (opening l)
+        → Simulates (took (pick (eqb (d .next) 4294967295) (refusing d p 0 21) (openIn d p m (firstAt (freeAt (d .entries)) 0 (d .slots))))) (opening l)
     limit true h = rw (h, same-limit true h) (record { same = refl; keeps = r })
     limit false h = rw h (place (firstAt (freeAt (d .entries)) 0 (d .slots)) refl h)
 
-pub step-agrees : (w : World) (l : Ledger) (c : Call) → Stands (w .desk) (w .pool) l → Agrees (deskStep w c) (ledgerStep l c)
-step-agrees w l (opens m) r = opening-agrees (w .desk) (w .pool) l m r
-step-agrees w l (on t x) r = on-agrees (w .desk) (w .pool) l t x r (view (w .desk) (w .pool) l t r)
+pub step-refines : (w : World) (l : Ledger) (c : Call) → Refines (w .desk) (w .pool) l → Simulates (deskStep w c) (ledgerStep l c)
+step-refines w l (opens m) r = opening-refines (w .desk) (w .pool) l m r
+step-refines w l (on t x) r = on-refines (w .desk) (w .pool) l t x r (view (w .desk) (w .pool) l t r)
 
 -- ---- a list of calls
 
-pub agree : (cs : List Call) (w : World) (l : Ledger) → Stands (w .desk) (w .pool) l → run deskStep w cs ≡ run ledgerStep l cs
+pub run-refines : (cs : List Call) (w : World) (l : Ledger) → Refines (w .desk) (w .pool) l → run deskStep w cs ≡ run ledgerStep l cs
 unfolding run
-agree [] w l r = refl
-agree (c ∷ cs) w l r =
-    let a = step-agrees w l c r in
-    rw (a .same, agree cs (deskStep w c .then) (ledgerStep l c .then) (a .keeps))
+run-refines [] w l r = refl
+run-refines (c ∷ cs) w l r =
+    let a = step-refines w l c r in
+    rw (a .same, run-refines cs (deskStep w c .then) (ledgerStep l c .then) (a .keeps))
 
-pub after-stands : (cs : List Call) (w : World) (l : Ledger) → Stands (w .desk) (w .pool) l
-    → Stands (after deskStep w cs .desk) (after deskStep w cs .pool) (after ledgerStep l cs)
+pub after-refines : (cs : List Call) (w : World) (l : Ledger) → Refines (w .desk) (w .pool) l
+    → Refines (after deskStep w cs .desk) (after deskStep w cs .pool) (after ledgerStep l cs)
 unfolding after
-after-stands [] w l r = r
-after-stands (c ∷ cs) w l r = after-stands cs (deskStep w c .then) (ledgerStep l c .then) (step-agrees w l c r .keeps)
+after-refines [] w l r = r
+after-refines (c ∷ cs) w l r = after-refines cs (deskStep w c .then) (ledgerStep l c .then) (step-refines w l c r .keeps)
 
 -- ---- a fresh desk
 
 all-free : (i : ℕ) → i < 40 → stateAt (replicate 40 none) i ≡ Free
 all-free i h = ap (λ (e : Entry). e .state) (getD-replicate 40 i none none h)
 
-pub fresh-stands : (n : ℕ) (p : List ℕ) → 1 ≤ n → n ≤ 40 → length p ≡ n * 16384 → Stands (newStep n .desk) p (freshLedger n)
+pub fresh-refines : (n : ℕ) (p : List ℕ) → 1 ≤ n → n ≤ 40 → length p ≡ n * 16384 → Refines (newStep n .desk) p (freshLedger n)
 unfolding newStep lookup
-fresh-stands n p a b c =
+fresh-refines n p a b c =
     rw (in-bounds n 1 a b (omega arith))
     (record {
       good = record {
