@@ -1,9 +1,9 @@
--- `replay_script::words::half` meets its contract. Assumes nothing.
+-- `replay_script::numerals::read_two` meets its contract. Assumes nothing.
 use native.Mathlib.Omega.{arith}
-use Rattle.replay_script.specs.Words.{half}
+use Rattle.replay_script.specs.Numerals.{twoAt}
 use borrow.Author.Needs.{needs}
-use Rattle.replay_script.proofs.words.half.Statement.{statement}
-use Rattle.replay_script.proofs.words.half.Tie as tie
+use Rattle.replay_script.proofs.numerals.read_two.Statement.{statement}
+use Rattle.replay_script.proofs.numerals.read_two.Tie as tie
 
 shared-slice-read-number : tie.Need-shared-slice-read-number
 shared-slice-read-number c = search needs
@@ -27,11 +27,11 @@ add-result : tie.Need-add-result
 add-result c = search needs
 
 returns : tie.Need-returns
-unfolding half
+unfolding twoAt
 returns c = (omega arith, omega arith)
 
-pub half-spec : {M : Type 1} → statement M
-half-spec =
+pub read-two-spec : {M : Type 1} → statement M
+read-two-spec =
     tie.close
     (tie.spec
     shared-slice-read-number

@@ -1,33 +1,33 @@
--- `replay_call::look` meets its contract. Assumes nothing.
+-- `replay_call::run_query` meets its contract. Assumes nothing.
 use mathlib.Core.Path.{_≡_, sym, ap, _∙_}
 use denote.Ref.{now}
 use Rattle.desk_ledger.specs.Ledger.{part, verdict}
 use Rattle.desk_ledger.specs.Desks.{said, deedStep}
-use Rattle.replay_script.specs.Scripts.{lookOf}
+use Rattle.replay_script.specs.Scripts.{queryOf}
 use Rattle.replay_call.specs.Stepped.{worldOf}
-use Rattle.replay_call.proofs.CallLaws.{look-judge, look-show, look-held}
+use Rattle.replay_call.proofs.CallLaws.{query-judge, query-show, query-held}
 use borrow.Author.Needs.{needs}
-use Rattle.replay_call.proofs.look.Statement.{statement}
-use Rattle.replay_call.proofs.look.Tie as tie
+use Rattle.replay_call.proofs.run_query.Statement.{statement}
+use Rattle.replay_call.proofs.run_query.Tie as tie
 
 -- the answer of each call
 judged : (c : tie.After-judge) → let a = c .before .before .before .before .before .args in
-    deedStep (worldOf (a .desk) (now (a .pool))) (a .t) (lookOf (a .name)) .reply ≡ verdict (c .judge .result)
+    deedStep (worldOf (a .desk) (now (a .pool))) (a .t) (queryOf (a .name)) .reply ≡ verdict (c .judge .result)
 judged c =
     let a = c .before .before .before .before .before .args in
-    look-judge (worldOf (a .desk) (now (a .pool))) (a .t) (a .name) (c .before .before .if1 .taken) ∙ ap verdict (sym (c .judge .ensures))
+    query-judge (worldOf (a .desk) (now (a .pool))) (a .t) (a .name) (c .before .before .if1 .taken) ∙ ap verdict (sym (c .judge .ensures))
 
 shown : (c : tie.After-show) → let a = c .before .before .before .before .before .before .args in
-    deedStep (worldOf (a .desk) (now (a .pool))) (a .t) (lookOf (a .name)) .reply ≡ part (now (c .show .result))
+    deedStep (worldOf (a .desk) (now (a .pool))) (a .t) (queryOf (a .name)) .reply ≡ part (now (c .show .result))
 shown c =
     let a = c .before .before .before .before .before .before .args in
-    look-show (worldOf (a .desk) (now (a .pool))) (a .t) (a .name) (c .before .before .if2 .taken) ∙ ap part (sym (c .show .ensures .octets))
+    query-show (worldOf (a .desk) (now (a .pool))) (a .t) (a .name) (c .before .before .if2 .taken) ∙ ap part (sym (c .show .ensures .octets))
 
 held : (c : tie.After-held) → let a = c .before .before .before .before .before .before .args in
-    deedStep (worldOf (a .desk) (now (a .pool))) (a .t) (lookOf (a .name)) .reply ≡ said (c .held .result)
+    deedStep (worldOf (a .desk) (now (a .pool))) (a .t) (queryOf (a .name)) .reply ≡ said (c .held .result)
 held c =
     let a = c .before .before .before .before .before .before .args in
-    look-held (worldOf (a .desk) (now (a .pool))) (a .t) (a .name) (c .before .before .before .if1 .left) (c .before .before .if2 .left) ∙ ap said (sym (c .held .ensures))
+    query-held (worldOf (a .desk) (now (a .pool))) (a .t) (a .name) (c .before .before .before .if1 .left) (c .before .before .if2 .left) ∙ ap said (sym (c .held .ensures))
 
 judge-requires : tie.Need-judge-requires
 judge-requires c κs = search needs
@@ -65,8 +65,8 @@ same-length-3 c = search needs
 returns-3 : tie.Need-returns-3
 returns-3 c = rw (held (c .before .before .before)) (c .before .before .put-answer .ensures)
 
-pub look-spec : {M : Type 1} → statement M
-look-spec =
+pub run-query-spec : {M : Type 1} → statement M
+run-query-spec =
     tie.close
     (tie.spec
     judge-requires

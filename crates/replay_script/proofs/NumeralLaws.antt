@@ -8,20 +8,20 @@ use lib.Dec.{leb}
 use lib.ListN.{set}
 use lib.Seq.{sets}
 use borrow.Author.Tests.{leb-true, le-leb}
-use Rattle.replay_script.specs.Words.{halfOctets, wordOctets}
+use Rattle.replay_script.specs.Numerals.{twoOctets, fourOctets}
 
-pub half-value : (n : ℕ) → n < 65536 → n / 256 % 256 * 256 + n % 256 ≡ n
-half-value n h = omega arith
+pub two-value : (n : ℕ) → n < 65536 → n / 256 % 256 * 256 + n % 256 ≡ n
+two-value n h = omega arith
 
-pub word-value : (n : ℕ) → n < 4294967296
+pub four-value : (n : ℕ) → n < 4294967296
     → (n / 65536 / 256 % 256 * 256 + n / 65536 % 256) * 65536 + (n / 256 % 256 * 256 + n % 256) ≡ n
-word-value n h = omega arith
+four-value n h = omega arith
 
--- a word stored octet by octet
-pub word-stores : (d : List ℕ) (at n a b c e : ℕ) → a ≡ n / 65536 / 256 % 256 → b ≡ n / 65536 % 256 → c ≡ n / 256 % 256 → e ≡ n % 256
-    → set (set (set (set d at a) (at + 1) b) (at + 2) c) (at + 3) e ≡ sets d at (wordOctets n)
-unfolding halfOctets wordOctets
-word-stores d at n a b c e p q r s =
+-- four octets stored one after the other
+pub four-stores : (d : List ℕ) (at n a b c e : ℕ) → a ≡ n / 65536 / 256 % 256 → b ≡ n / 65536 % 256 → c ≡ n / 256 % 256 → e ≡ n % 256
+    → set (set (set (set d at a) (at + 1) b) (at + 2) c) (at + 3) e ≡ sets d at (fourOctets n)
+unfolding twoOctets fourOctets
+four-stores d at n a b c e p q r s =
     let x : at + 1 ≡ suc at = omega arith in
     let y : at + 2 ≡ suc (suc at) = omega arith in
     let z : at + 3 ≡ suc (suc (suc at)) = omega arith in

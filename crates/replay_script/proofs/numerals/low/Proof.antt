@@ -1,7 +1,7 @@
--- `replay_script::words::low` meets its contract. Assumes nothing.
+-- `replay_script::numerals::low` meets its contract. Assumes nothing.
 use borrow.Author.Needs.{needs}
-use Rattle.replay_script.proofs.words.low.Statement.{statement}
-use Rattle.replay_script.proofs.words.low.Tie as tie
+use Rattle.replay_script.proofs.numerals.low.Statement.{statement}
+use Rattle.replay_script.proofs.numerals.low.Tie as tie
 
 cast-result : tie.Need-cast-result
 cast-result c = search needs

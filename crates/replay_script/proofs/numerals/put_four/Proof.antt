@@ -1,10 +1,10 @@
--- `replay_script::words::put_word` meets its contract. Assumes nothing.
+-- `replay_script::numerals::put_four` meets its contract. Assumes nothing.
 use native.Mathlib.Omega.{arith}
 use lib.ListN.{length-set}
-use Rattle.replay_script.proofs.WordLaws.{word-stores}
+use Rattle.replay_script.proofs.NumeralLaws.{four-stores}
 use borrow.Author.Needs.{needs}
-use Rattle.replay_script.proofs.words.put_word.Statement.{statement}
-use Rattle.replay_script.proofs.words.put_word.Tie as tie
+use Rattle.replay_script.proofs.numerals.put_four.Statement.{statement}
+use Rattle.replay_script.proofs.numerals.put_four.Tie as tie
 
 low-requires : tie.Need-low-requires
 low-requires c κs = search needs
@@ -45,10 +45,10 @@ same-length c = search needs
 returns : tie.Need-returns
 returns c =
     let a = c .before .before .before .before .before .args in
-    word-stores (a .d .now) (a .at) (a .n) _ _ _ _ (c .before .before .before .low .ensures) (c .before .before .low2 .ensures) (c .before .low3 .ensures) (c .low4 .ensures)
+    four-stores (a .d .now) (a .at) (a .n) _ _ _ _ (c .before .before .before .low .ensures) (c .before .before .low2 .ensures) (c .before .low3 .ensures) (c .low4 .ensures)
 
-pub put-word-spec : {M : Type 1} → statement M
-put-word-spec =
+pub put-four-spec : {M : Type 1} → statement M
+put-four-spec =
     tie.close
     (tie.spec
     low-requires
