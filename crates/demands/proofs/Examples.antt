@@ -1,12 +1,122 @@
 -- The marked examples of document 01, proved as one statement over their table: by computing a test of it. Assumes nothing.
 use mathlib.Core.Path.{_≡_, refl}
 use mathlib.Core.Bool.{true}
+use Rattle.octets.specs.Ascii as ascii
+use Rattle.octets.specs.Cases as letters
+use Rattle.octets.specs.Classes as classes
+use Rattle.octets.specs.Room as room
+use Rattle.octets.specs.Scan as scans
+use Rattle.utf8.specs.Characters as characters
+use Rattle.text_marks.specs.Marks as marks
+use Rattle.text_unescaping.specs.Unescaped as unescaped
+use Rattle.text.specs.Outcomes as texts
+use Rattle.line_breaks.specs.Lone as lone
+use Rattle.line_folds.specs.Folds as folds
+use Rattle.line_folds.specs.Logical as logical
+use Rattle.line_parser.specs.Grammar as grammar
 use Rattle.line_parser.specs.Grammar.{Each}
-use Rattle.demands.specs.Cases.{Holds, cases}
-use Rattle.demands.proofs.Tested.{allHold, tested}
+use Rattle.line_parser.specs.Parse as parse
+use Rattle.line_parser.specs.Rule as rule
+use Rattle.line_parameters.specs.First as parameters
+use Rattle.value_kinds.specs.Kinds as kinds
+use Rattle.value_kinds.specs.Octets as sets
+use Rattle.value_kinds.specs.Shapes as shapes
+use Rattle.property_table.specs.Rows as table
+use Rattle.card_line.specs.Parts as content
+use Rattle.card_state.specs.State as card
+use Rattle.card_judge.specs.Judge as judge
+use Rattle.reader_walk.specs.Walk as walk
+use Rattle.reader_records.specs.Records as records
+use Rattle.reader.specs.Outcome as reader
+use Rattle.folder_line.specs.Pieces as pieces
+use Rattle.folder.specs.Outcome as folder
+use Rattle.desk_pool.specs.Pools as pool
+use Rattle.desk_entries.specs.Search as search-in
+use Rattle.desk_slots.specs.Sound as sound
+use Rattle.desk_slots.specs.Slots as slots
+use Rattle.desk.specs.Steps as desk
+use Rattle.desk_ledger.specs.Ledger as ledger
+use Rattle.demands.specs.Cases.{Holds, cases, cardM, foldedM, recordsM}
+use Rattle.demands.proofs.Tested.{sameNumbers, sameAnswers, allHold, tested}
+
+-- ---- what the examples compute by: to unfold a name of this part is to unfold what its own line names
+
+by-octets : Unit {0}
+unfolding ascii.octets letters.lower letters.same classes.letter classes.digit classes.hyphen classes.valued classes.quoted classes.bare classes.named classes.run
+by-octets = tt
+
+by-scans : Unit {0}
+unfolding scans.scan scans.gather room.fill room.fillBounded
+by-scans = tt
+
+by-characters : Unit {0}
+unfolding characters.lengthBy characters.second characters.tail characters.rest characters.charLength characters.allowed characters.unit characters.firstBad
+by-characters = tt
+
+by-text : Unit {0}
+unfolding marks.special texts.checked texts.faultless texts.unescapeOutcome
+by-text = tt
+
+by-escapes : Unit {0}
+unfolding unescaped.code unescaped.meant unescaped.escapeAt unescaped.textStep unescaped.firstFault unescaped.passed unescaped.standing unescaped.unescaped
+by-escapes = tt
+
+by-folds : Unit {0}
+unfolding folds.foldAt folds.lineStep folds.lineLength folds.passed folds.kept folds.unfolded logical.linesBy logical.rawLines logical.logicalLines
+by-folds = tt
+
+by-lines : Unit {0}
+unfolding lone.loneStep lone.firstLone lone.endsCrLf grammar.groupText grammar.nameEnd parse.many parameters.firstNamed parameters.valueOctets
+by-lines = tt
+
+by-rule : Unit {0}
+unfolding rule.word rule.closing rule.value rule.ends rule.moreValues rule.values rule.param rule.head rule.isColon rule.params rule.parseLine
+by-rule = tt
+
+by-kinds : Unit {0}
+unfolding kinds.text kinds.texts kinds.uri kinds.component kinds.parts kinds.components kinds.gender kinds.pidmap kinds.shapeOf kinds.vcard kinds.version
+by-kinds = tt
+
+by-shapes : Unit {0}
+unfolding kinds.lineShape kinds.valueScan sets.holds shapes.mayEnd shapes.lost shapes.chain shapes.isNever shapes.fork shapes.after shapes.faultFrom
+by-shapes = tt
+
+by-table : Unit {0}
+unfolding table.rows table.search table.rowOf table.rowAt table.kindAt table.takesValue table.kindNamed table.lineKind table.isGroup
+by-table = tt
+
+by-cards : Unit {0}
+unfolding content.valueParam content.rowOfLine content.kindOfLine content.toldOf card.inOrder card.onceBit card.isSeen card.phaseAfter card.noted card.closed
+by-cards = tt
+
+by-judge : Unit {0}
+unfolding judge.framing judge.laden judge.entered judge.judgeParts judge.judgeLine walk.judgeLines records.recordBy records.recordOf records.recordsFrom
+by-judge = tt
+
+by-reader : Unit {0}
+unfolding reader.verdictOf reader.judgeOf reader.ended reader.copyOf reader.recordsOf reader.writeOutcome reader.outcomeBy reader.readOutcome
+by-reader = tt
+
+by-folder : Unit {0}
+unfolding pieces.over pieces.first pieces.later pieces.pieces pieces.joined pieces.folded pieces.foldedLines folder.foldBy folder.foldOutcome
+by-folder = tt
+
+by-desk : Unit {0}
+unfolding pool.patch pool.zeros search-in.firstAt search-in.allAt search-in.among sound.bounds sound.goodAt sound.sound slots.slotOf
+by-desk = tt
+
+by-calls : Unit {0}
+unfolding desk.newStep desk.openStep desk.releaseStep ledger.lookup ledger.change ledger.run ledger.after
+by-calls = tt
+
+by-cases : Unit {0}
+unfolding cardM foldedM recordsM sameNumbers sameAnswers allHold
+by-cases = tt
+
+-- ---- the test
 
 all-hold : allHold cases ≡ true
-unfolding Rattle.octets.specs.Cases.lower Rattle.octets.specs.Cases.same Rattle.utf8.specs.Characters.lengthBy Rattle.utf8.specs.Characters.second Rattle.utf8.specs.Characters.tail Rattle.utf8.specs.Characters.rest Rattle.utf8.specs.Characters.charLength Rattle.utf8.specs.Characters.allowed Rattle.utf8.specs.Characters.unit Rattle.utf8.specs.Characters.firstBad Rattle.octets.specs.Classes.letter Rattle.octets.specs.Classes.digit Rattle.octets.specs.Classes.hyphen Rattle.octets.specs.Classes.valued Rattle.octets.specs.Classes.quoted Rattle.octets.specs.Classes.bare Rattle.octets.specs.Classes.named Rattle.octets.specs.Classes.run Rattle.octets.specs.Room.fill Rattle.octets.specs.Room.fillBounded Rattle.octets.specs.Scan.scan Rattle.octets.specs.Scan.gather Rattle.text_marks.specs.Marks.special Rattle.text_unescaping.specs.Unescaped.code Rattle.text_unescaping.specs.Unescaped.meant Rattle.text_unescaping.specs.Unescaped.escapeAt Rattle.text_unescaping.specs.Unescaped.textStep Rattle.text_unescaping.specs.Unescaped.firstFault Rattle.text_unescaping.specs.Unescaped.passed Rattle.text_unescaping.specs.Unescaped.standing Rattle.text_unescaping.specs.Unescaped.unescaped Rattle.text.specs.Outcomes.checked Rattle.text.specs.Outcomes.faultless Rattle.text.specs.Outcomes.unescapeOutcome Rattle.line_parameters.specs.First.firstNamed Rattle.line_parameters.specs.First.valueOctets Rattle.line_folds.specs.Folds.foldAt Rattle.line_folds.specs.Folds.lineStep Rattle.line_folds.specs.Folds.lineLength Rattle.line_folds.specs.Folds.passed Rattle.line_folds.specs.Folds.kept Rattle.line_folds.specs.Folds.unfolded Rattle.line_parser.specs.Grammar.groupText Rattle.line_parser.specs.Grammar.nameEnd Rattle.line_folds.specs.Logical.linesBy Rattle.line_folds.specs.Logical.rawLines Rattle.line_parser.specs.Parse.many Rattle.line_parser.specs.Rule.word Rattle.line_parser.specs.Rule.closing Rattle.line_parser.specs.Rule.value Rattle.line_parser.specs.Rule.ends Rattle.line_parser.specs.Rule.moreValues Rattle.line_parser.specs.Rule.values Rattle.line_parser.specs.Rule.param Rattle.line_parser.specs.Rule.head Rattle.line_parser.specs.Rule.isColon Rattle.line_parser.specs.Rule.params Rattle.line_parser.specs.Rule.parseLine Rattle.octets.specs.Ascii.octets Rattle.value_kinds.specs.Kinds.text Rattle.value_kinds.specs.Kinds.texts Rattle.value_kinds.specs.Kinds.uri Rattle.value_kinds.specs.Kinds.component Rattle.value_kinds.specs.Kinds.parts Rattle.value_kinds.specs.Kinds.components Rattle.value_kinds.specs.Kinds.gender Rattle.value_kinds.specs.Kinds.pidmap Rattle.value_kinds.specs.Kinds.shapeOf Rattle.value_kinds.specs.Kinds.vcard Rattle.value_kinds.specs.Kinds.version Rattle.value_kinds.specs.Kinds.lineShape Rattle.value_kinds.specs.Kinds.valueScan Rattle.value_kinds.specs.Octets.holds Rattle.property_table.specs.Rows.rows Rattle.property_table.specs.Rows.search Rattle.property_table.specs.Rows.rowOf Rattle.property_table.specs.Rows.rowAt Rattle.property_table.specs.Rows.kindAt Rattle.property_table.specs.Rows.takesValue Rattle.property_table.specs.Rows.kindNamed Rattle.property_table.specs.Rows.lineKind Rattle.property_table.specs.Rows.isGroup Rattle.value_kinds.specs.Shapes.mayEnd Rattle.value_kinds.specs.Shapes.lost Rattle.value_kinds.specs.Shapes.chain Rattle.value_kinds.specs.Shapes.isNever Rattle.value_kinds.specs.Shapes.fork Rattle.value_kinds.specs.Shapes.after Rattle.value_kinds.specs.Shapes.faultFrom Rattle.card_judge.specs.Judge.framing Rattle.card_judge.specs.Judge.laden Rattle.card_judge.specs.Judge.entered Rattle.card_judge.specs.Judge.judgeParts Rattle.card_judge.specs.Judge.judgeLine Rattle.card_line.specs.Parts.valueParam Rattle.card_line.specs.Parts.rowOfLine Rattle.card_line.specs.Parts.kindOfLine Rattle.card_line.specs.Parts.toldOf Rattle.card_state.specs.State.inOrder Rattle.card_state.specs.State.onceBit Rattle.card_state.specs.State.isSeen Rattle.card_state.specs.State.phaseAfter Rattle.card_state.specs.State.noted Rattle.card_state.specs.State.closed Rattle.line_breaks.specs.Lone.loneStep Rattle.line_breaks.specs.Lone.firstLone Rattle.line_breaks.specs.Lone.endsCrLf Rattle.reader_walk.specs.Walk.judgeLines Rattle.reader.specs.Outcome.verdictOf Rattle.reader.specs.Outcome.judgeOf Rattle.line_folds.specs.Logical.logicalLines Rattle.reader.specs.Outcome.ended Rattle.reader.specs.Outcome.copyOf Rattle.reader_records.specs.Records.recordBy Rattle.reader_records.specs.Records.recordOf Rattle.reader_records.specs.Records.recordsFrom Rattle.reader.specs.Outcome.recordsOf Rattle.reader.specs.Outcome.writeOutcome Rattle.reader.specs.Outcome.outcomeBy Rattle.reader.specs.Outcome.readOutcome Rattle.folder.specs.Outcome.foldBy Rattle.folder.specs.Outcome.foldOutcome Rattle.folder_line.specs.Pieces.over Rattle.folder_line.specs.Pieces.first Rattle.folder_line.specs.Pieces.later Rattle.folder_line.specs.Pieces.pieces Rattle.folder_line.specs.Pieces.joined Rattle.folder_line.specs.Pieces.folded Rattle.folder_line.specs.Pieces.foldedLines Rattle.demands.specs.Cases.cardM Rattle.demands.specs.Cases.foldedM Rattle.demands.specs.Cases.recordsM Rattle.desk_entries.specs.Search.firstAt Rattle.desk_entries.specs.Search.allAt Rattle.desk_entries.specs.Search.among Rattle.desk_slots.specs.Sound.bounds Rattle.desk_slots.specs.Sound.goodAt Rattle.desk_slots.specs.Sound.sound Rattle.desk.specs.Steps.newStep Rattle.desk.specs.Steps.openStep Rattle.desk_pool.specs.Pools.patch Rattle.desk_pool.specs.Pools.zeros Rattle.desk_slots.specs.Slots.slotOf Rattle.desk.specs.Steps.releaseStep Rattle.desk_ledger.specs.Ledger.lookup Rattle.desk_ledger.specs.Ledger.change Rattle.desk_ledger.specs.Ledger.run Rattle.desk_ledger.specs.Ledger.after Rattle.demands.proofs.Tested.sameNumbers Rattle.demands.proofs.Tested.sameAnswers Rattle.demands.proofs.Tested.allHold
+unfolding by-octets by-scans by-characters by-text by-escapes by-folds by-lines by-rule by-kinds by-shapes by-table by-cards by-judge by-reader by-folder by-desk by-calls by-cases
 all-hold = refl
 
 pub examples : Each Holds cases

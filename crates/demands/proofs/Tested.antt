@@ -23,8 +23,8 @@ use Rattle.desk_entries.specs.declared.State.{State}
 use Rattle.desk_entries.specs.declared.State.the-variants.{Free, Open}
 use Rattle.desk_ledger.specs.Ledger.{Call, Reply, refused, told, counts, part, ledgerStep, freshLedger, run}
 use Rattle.desk_ledger.specs.Desks.{Proper, world}
-use Rattle.desk_laws.proofs.Claim.{demand3}
-use Rattle.desk_laws.proofs.Blind.{same-desk}
+use Rattle.desk_laws.proofs.Demand.{demand3}
+use Rattle.desk_laws.proofs.PoolNoninterference.{same-desk}
 use Rattle.demands.specs.Cases.{Case, reads, folds, unescapes, turns, Turns, Holds}
 
 -- ---- the tests

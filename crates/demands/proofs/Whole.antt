@@ -1,5 +1,5 @@
 -- The three demands and the marked examples, proved. Assumes nothing.
-use Rattle.desk_laws.proofs.Claim.{demand3}
+use Rattle.desk_laws.proofs.Demand.{demand3}
 use Rattle.demands.specs.Demands.{Demands}
 use Rattle.demands.proofs.Examples.{examples}
 use Rattle.demands.proofs.Total.{demand1}

@@ -8,10 +8,10 @@ use lib.ListN.{length}
 use borrow.Author.Tests.{lt-ltb, le-ltb}
 use Rattle.octets.specs.Pick.{pick}
 use Rattle.desk_entries.specs.Search.{firstAt}
-use Rattle.desk_slots.specs.Slots.{freeAt, lookOf}
+use Rattle.desk_slots.specs.Slots.{freeAt, placeOf}
 use Rattle.desk_entries.proofs.Searches.{unbarred}
 use Rattle.desk_slots.proofs.SoundLaws.{sound-is as soundness, is-sound as tested}
-use Rattle.desk_slots.proofs.SlotLaws.{Granted as GrantedIn, granted as grantedIn, free-look}
+use Rattle.desk_slots.proofs.SlotLaws.{Granted as GrantedIn, granted as grantedIn, free-place}
 use Rattle.desk_entries.specs.declared.tickets.Place.{Place}
 use Rattle.desk_entries.specs.declared.tickets.Place.the-variants.{At, Nowhere, Barred}
 use Rattle.desk_entries.specs.declared.Session.{Session}
@@ -45,10 +45,10 @@ openAfter d p m (Barred n) = refused d p 0 n
 openAfter d p m Nowhere = pick (eqb (d .next) 4294967295) (refused d p 0 21) (openIn d p m Nowhere)
 openAfter d p m (At i) = pick (eqb (d .next) 4294967295) (refused d p 0 21) (openIn d p m (At i))
 
-pub open-look : (d : Desk) (p : List ℕ) (m : ℕ) (x : Place) → lookOf (d .entries) (d .slots) (d .next) (length p) 0 ≡ x → openAfter d p m x ≡ openStep d p m
+pub open-place : (d : Desk) (p : List ℕ) (m : ℕ) (x : Place) → placeOf (d .entries) (d .slots) (d .next) (length p) 0 ≡ x → openAfter d p m x ≡ openStep d p m
 unfolding openStep
-open-look d p m x e =
-    ap (openAfter d p m) (sym e ∙ free-look (d .entries) (d .slots) (d .next) (length p)) ∙ go (sound d) (eqb (length p) (d .slots * 16384))
+open-place d p m x e =
+    ap (openAfter d p m) (sym e ∙ free-place (d .entries) (d .slots) (d .next) (length p)) ∙ go (sound d) (eqb (length p) (d .slots * 16384))
   where
     place : (r : Place) → firstAt (freeAt (d .entries)) 0 (d .slots) ≡ r
         → openAfter d p m r ≡ pick (eqb (d .next) 4294967295) (refused d p 0 21) (openIn d p m r)
@@ -64,10 +64,6 @@ open-look d p m x e =
     go false b = refl
 
 -- ---- calls that name a ticket
-
--- the slot that a call was told
-pub told : (d : Desk) (size t i : ℕ) (s : Session) (x : Slot) → x ≡ slotOf d size t → x ≡ Held i s → Granted d size t i s
-told d size t i s x e f = granted d size t i s (sym e ∙ f)
 
 module _ (d : Desk) (p : List ℕ) (t : ℕ) (x : Slot) (e : x ≡ slotOf d (length p) t) where
   pub add-barred : (q : List ℕ) (n : ℕ) → x ≡ No n → (r : Turn) → r ≡ refuse d n 0 → turned r p ≡ addStep d p t q

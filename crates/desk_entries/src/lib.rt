@@ -1,4 +1,5 @@
 // The entries of a desk: each is free or holds a session.
+use numbers::limit;
 ghost use mathlib.Core.Path.{_≡_};
 ghost use Rattle.desk_entries.specs.Entries.{ticketOf, fits};
 
@@ -11,11 +12,13 @@ pub struct Session {
     pub held: u32,
 }
 
+// What an entry is: free, or open with a session.
 pub enum State {
     Free,
     Open(Session),
 }
 
+// An entry of a desk's table.
 pub struct Entry {
     pub state: State,
 }
@@ -48,7 +51,7 @@ pub fn fits(e: Entry, i: usize, slots: usize, next: u32) -> bool
             if o.ticket >= next {
                 return false;
             }
-            o.held <= 16384
+            o.held <= limit::HELD
         }
     }
 }

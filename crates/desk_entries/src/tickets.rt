@@ -1,4 +1,5 @@
 // The tickets of a desk's entries side by side, 0 for a free one, and searches among them.
+use numbers::limit;
 ghost use mathlib.Core.Path.{_≡_};
 ghost use Prim.Native.Nat.{_≤_};
 ghost use Rattle.numbers.specs.Limits as limit;
@@ -12,7 +13,7 @@ pub enum Place {
 }
 
 // The first of n places that has a ticket; 0 stands at a free one.
-pub fn find(tickets: &[u32; 40], t: u32, n: usize) -> Place
+pub fn find(tickets: &[u32; limit::SLOTS], t: u32, n: usize) -> Place
     requires { ⌜ n ≤ limit.slots ⌝ }
     ensures { λ r. ⌜ r ≡ firstAt (sameAs (column (now (tickets .entry))) t) 0 n ⌝ }
 {
@@ -27,7 +28,7 @@ pub fn find(tickets: &[u32; 40], t: u32, n: usize) -> Place
 }
 
 // Whether a ticket, which 0 is none of, stands at one of the first n places.
-pub fn stands(tickets: &[u32; 40], t: u32, n: usize) -> bool
+pub fn stands(tickets: &[u32; limit::SLOTS], t: u32, n: usize) -> bool
     requires { ⌜ n ≤ limit.slots ⌝ }
     ensures { λ r. ⌜ r ≡ among (column (now (tickets .entry))) t n ⌝ }
 {

@@ -1,10 +1,10 @@
--- The desk keeps to the ledger, upload by upload. Assumes nothing.
+-- The desk refines the ledger, and no upload interferes with another. Assumes nothing.
 pub mod Rows
 pub mod Patched
 pub mod Counts
-pub mod Steady
-pub mod Agree
-pub mod Alone
+pub mod Relation
+pub mod Refinement
+pub mod Noninterference
 pub mod Joins
-pub mod Claim
-pub mod Blind
+pub mod Demand
+pub mod PoolNoninterference

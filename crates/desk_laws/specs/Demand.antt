@@ -1,4 +1,5 @@
--- Demand 3, whole: what holds of every list of calls on every fresh desk with its proper pool. Assumes nothing.
+-- Demand 3, whole: the desk refines the ledger, and no upload interferes with another, for every list of calls on every fresh desk with
+-- its proper pool. Assumes nothing.
 use Prim.Native.Nat.{ℕ, _*_, _<_, _≤_}
 use mathlib.Core.Path.{_≡_}
 use mathlib.Core.List.{List, [], _∷_, _++_, map}
@@ -51,8 +52,8 @@ ownAnswers n p xs m t ys = own t ys (run deskStep (deskStep (world n p xs) (open
 abbrev pub asked : ℕ → List ℕ → List Call → ℕ → ℕ → List Call → Deed → Reply
 asked n p xs m t ys x = deskStep (world n p (xs ++ opens m ∷ ys)) (on t x) .reply
 
--- two uploads, in one list or two, on desks of any size: while the first k of their calls agree, so do the answers; and after calls
--- that agree, what show, judge or any other deed answers
+-- two uploads, in one list or two, on desks of any size: while the first k of their calls run-refines, so do the answers; and after calls
+-- that run-refines, what show, judge or any other deed answers
 pub record Alike (n : ℕ) (p : List ℕ) (xs : List Call) (m t : ℕ) (n′ : ℕ) (p′ : List ℕ) (xs′ : List Call) (m′ t′ : ℕ) : Type 0 where
   pub answers : (ys ys′ : List Call) (k : ℕ) → take k (mine t ys) ≡ take k (mine t′ ys′) → take k (ownAnswers n p xs m t ys) ≡ take k (ownAnswers n′ p′ xs′ m′ t′ ys′)
   pub after : (ys ys′ : List Call) → mine t ys ≡ mine t′ ys′ → (x : Deed) → asked n p xs m t ys x ≡ asked n′ p′ xs′ m′ t′ ys′ x
@@ -70,10 +71,10 @@ pub record Opening (d : Desk) (p : List ℕ) (m : ℕ) : Type 0 where
   pub else : (Closed d → ⊥) → openStep d p m .answer ≡ Done (d .next)
 
 pub record Demand3 : Type 0 where
-  -- every list of calls is answered as the ledger answers it
+  -- refinement: every list of calls is answered as the ledger answers it
   pub answered : (n : ℕ) (p : List ℕ) → Proper n p → (cs : List Call) → answers n p cs ≡ run ledgerStep (freshLedger n) cs
   pub afterwards : (n : ℕ) (p : List ℕ) → Proper n p → (cs : List Call) → Afterwards n p cs
-  -- an upload is answered by its own calls alone, those after its release too
+  -- noninterference: an upload is answered by its own calls alone, those after its release too
   pub alone : (n : ℕ) (p : List ℕ) → Proper n p → (xs : List Call) (m t : ℕ) → Grants n p xs m t → (ys : List Call) → ownAnswers n p xs m t ys ≡ solo (present []) (mine t ys)
   pub alike : (n : ℕ) (p : List ℕ) → Proper n p → (xs : List Call) (m t : ℕ) → Grants n p xs m t
       → (n′ : ℕ) (p′ : List ℕ) → Proper n′ p′ → (xs′ : List Call) (m′ t′ : ℕ) → Grants n′ p′ xs′ m′ t′

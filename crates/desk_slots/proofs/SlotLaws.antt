@@ -12,7 +12,7 @@ use Rattle.octets.specs.Pick.{pick}
 use Rattle.desk_entries.specs.Search.{firstAt, column, sameAs, among}
 use Rattle.desk_slots.specs.Sound.{stateAt, Sound, ticketAt, sound}
 use Rattle.desk_entries.specs.Entries.{ticketOf}
-use Rattle.desk_slots.specs.Slots.{guarded, freeAt, openAt, inState, inPlace, lookOf, slotOf}
+use Rattle.desk_slots.specs.Slots.{guarded, freeAt, openAt, inState, inPlace, placeOf, slotOf, Within}
 use Rattle.desk_entries.proofs.Searches.{clash, firstAt-is, firstAt-not, firstAt-same, unbarred, among-same}
 use Rattle.desk_slots.proofs.SoundLaws.{sound-is}
 use Rattle.desk_entries.specs.declared.tickets.Place.{Place}
@@ -21,6 +21,7 @@ use Rattle.desk_entries.specs.declared.Session.{Session}
 use Rattle.desk_entries.specs.declared.State.{State}
 use Rattle.desk_entries.specs.declared.State.the-variants.{Free, Open}
 use Rattle.desk_entries.specs.declared.Entry.{Entry}
+use Rattle.desk_slots.specs.declared.Slot.{Slot}
 use Rattle.desk_slots.specs.declared.Slot.the-variants.{Held, No}
 
 -- ---- 25 and 24
@@ -149,9 +150,9 @@ module _ (es : List Entry) (slots next : ℕ) (s : Sound es slots next) where
 -- ---- a look
 
 -- barred, or clear with what was found
-pub look-place : (es : List Entry) (slots next : ℕ) (size t i : ℕ) → lookOf es slots next size t ≡ At i → i < 40
-unfolding lookOf
-look-place es slots next size t i e = go (eqb (guarded es slots next size (λ n. n) 0) 0) refl
+pub place-short : (es : List Entry) (slots next : ℕ) (size t i : ℕ) → placeOf es slots next size t ≡ At i → i < 40
+unfolding placeOf
+place-short es slots next size t i e = go (eqb (guarded es slots next size (λ n. n) 0) 0) refl
   where
     go : (b : Bool) → eqb (guarded es slots next size (λ n. n) 0) 0 ≡ b → i < 40
     go true b =
@@ -164,9 +165,9 @@ look-place es slots next size t i e = go (eqb (guarded es slots next size (λ n.
         clash cc
 
 -- a look for a ticket leads to its slot
-pub slot-look : (es : List Entry) (slots next : ℕ) (size t : ℕ) (p : Place) → lookOf es slots next size t ≡ p → inPlace es p ≡ slotOf es slots next size t
-unfolding lookOf slotOf
-slot-look es slots next size t p e = sym (ap (inPlace es) e) ∙ go (sound es slots next) refl (eqb size (slots * 16384)) refl
+slot-place : (es : List Entry) (slots next : ℕ) (size t : ℕ) (p : Place) → placeOf es slots next size t ≡ p → inPlace es p ≡ slotOf es slots next size t
+unfolding placeOf slotOf
+slot-place es slots next size t p e = sym (ap (inPlace es) e) ∙ go (sound es slots next) refl (eqb size (slots * 16384)) refl
   where
     go : (a : Bool) → sound es slots next ≡ a → (b : Bool) → eqb size (slots * 16384) ≡ b
         → inPlace es (pick a (pick b (firstAt (sameAs (ticketAt es) t) 0 slots) (Barred 24)) (Barred 25))
@@ -176,9 +177,9 @@ slot-look es slots next size t p e = sym (ap (inPlace es) e) ∙ go (sound es sl
     go false a b c = refl
 
 -- a look for 0 leads to the lowest free slot
-pub free-look : (es : List Entry) (slots next size : ℕ) → lookOf es slots next size 0 ≡ guarded es slots next size Barred (firstAt (freeAt es) 0 slots)
-unfolding lookOf
-free-look es slots next size = go (sound es slots next) refl
+pub free-place : (es : List Entry) (slots next size : ℕ) → placeOf es slots next size 0 ≡ guarded es slots next size Barred (firstAt (freeAt es) 0 slots)
+unfolding placeOf
+free-place es slots next size = go (sound es slots next) refl
   where
     go : (a : Bool) → sound es slots next ≡ a
         → pick a (pick (eqb size (slots * 16384)) (firstAt (sameAs (ticketAt es) 0) 0 slots) (Barred 24)) (Barred 25)
@@ -240,3 +241,14 @@ granted es slots next size t i s e = go (eqb (guarded es slots next size (λ n. 
     go false b =
         never (guarded es slots next size (λ n. n) 0) i s
         (sym (barred es slots next size No (inPlace es (firstAt (openAt es t) 0 40)) (eqb-false (guarded es slots next size (λ n. n) 0) 0 b)) ∙ e)
+
+-- what a look for a ticket leads to: its slot, which lies within desk and pool
+pub found : (es : List Entry) (slots next size t : ℕ) (q p : Place) → q ≡ placeOf es slots next size t → q ≡ p → (x : Slot) → inPlace es p ≡ x
+    → (x ≡ slotOf es slots next size t) × Within size x
+found es slots next size t q p e f x g = go x (sym g ∙ slot-place es slots next size t p (sym e ∙ f))
+  where
+    go : (x : Slot) → x ≡ slotOf es slots next size t → (x ≡ slotOf es slots next size t) × Within size x
+    go (No n) h = (h, tt)
+    go (Held i s) h =
+        let g = granted es slots next size t i s (sym h) in
+        (h, record { short = g .short; room = g .room; end = omega arith })

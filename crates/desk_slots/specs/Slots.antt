@@ -1,6 +1,6 @@
 -- The slot of a ticket and the lowest free slot, with the refusals 25, 24 and 22, for all entries of a desk, its slot count and its next
 -- ticket, every size of the pool and every ticket. Assumes nothing.
-use Prim.Native.Nat.{ℕ, _*_}
+use Prim.Native.Nat.{ℕ, _+_, _*_, _<_, _≤_}
 use mathlib.Core.Bool.{Bool, true, false}
 use mathlib.Core.List.{List}
 use lib.Dec.{eqb}
@@ -11,6 +11,7 @@ use Rattle.desk_entries.specs.Search.{firstAt, sameAs}
 use Rattle.desk_slots.specs.Sound.{stateAt, ticketAt, sound}
 use Rattle.desk_entries.specs.declared.tickets.Place.{Place}
 use Rattle.desk_entries.specs.declared.tickets.Place.the-variants.{At, Nowhere, Barred}
+use Rattle.desk_entries.specs.declared.Session.{Session}
 use Rattle.desk_entries.specs.declared.State.{State}
 use Rattle.desk_entries.specs.declared.State.the-variants.{Free, Open}
 use Rattle.desk_entries.specs.declared.Entry.{Entry}
@@ -45,9 +46,19 @@ inPlace es (At i) = inState i (stateAt es i)
 inPlace es (Barred n) = No n
 
 -- 25, 24, or the first slot that has a ticket; a free one has 0
-unfoldable pub lookOf : List Entry → ℕ → ℕ → ℕ → ℕ → Place
-lookOf es slots next size t = guarded es slots next size Barred (firstAt (sameAs (ticketAt es) t) 0 slots)
+unfoldable pub placeOf : List Entry → ℕ → ℕ → ℕ → ℕ → Place
+placeOf es slots next size t = guarded es slots next size Barred (firstAt (sameAs (ticketAt es) t) 0 slots)
 
 -- 25, 24, 22, or the slot of a ticket with its session
 unfoldable pub slotOf : List Entry → ℕ → ℕ → ℕ → ℕ → Slot
 slotOf es slots next size t = guarded es slots next size No (inPlace es (firstAt (openAt es t) 0 limit.slots))
+
+-- slot i lies within the desk and its pool of that size, and the octets held within the slot
+pub record Bounded (size i : ℕ) (s : Session) : Type 0 where
+  pub short : i < limit.slots
+  pub room : s .held ≤ limit.octets
+  pub end : i * limit.octets + limit.octets ≤ size
+
+abbrev pub Within : ℕ → Slot → Type 0
+Within size (Held i s) = Bounded size i s
+Within size (No n) = Unit {0}

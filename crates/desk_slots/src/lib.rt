@@ -7,9 +7,7 @@ use numbers::limit;
 use numbers::refusal;
 ghost use mathlib.Core.Path.{_≡_};
 ghost use Rattle.desk_slots.specs.Sound.{bounds};
-ghost use Rattle.desk_slots.specs.Slots.{lookOf, slotOf};
-
-pub const SLOTS: usize = 40;
+ghost use Rattle.desk_slots.specs.Slots.{placeOf, slotOf, Within};
 
 // The slot of a ticket with its session, or a refusal.
 pub enum Slot {
@@ -24,22 +22,28 @@ pub fn in_bounds(slots: usize, next: u32) -> bool
     if slots < 1 {
         return false;
     }
-    if slots > SLOTS {
+    if slots > limit::SLOTS {
         return false;
     }
     next >= 1
 }
 
-// 25, 24 by the pool's size, or the first slot that has a ticket; a free one has 0.
-pub fn look(entries: [Entry; SLOTS], slots: usize, next: u32, size: usize, t: u32) -> Place
-    ensures { λ r. ⌜ r ≡ lookOf entries slots next size t ⌝ }
+// Finds the first slot that has a ticket, where a free one has 0, or bars the call with 25 or 24.
+pub fn find_slot(
+    entries: [Entry; limit::SLOTS],
+    slots: usize,
+    next: u32,
+    size: usize,
+    t: u32,
+) -> Place
+    ensures { λ r. ⌜ r ≡ placeOf entries slots next size t ⌝ }
 {
     if !in_bounds(slots, next) {
         return Place::Barred(refusal::UNSOUND);
     }
-    let mut ts = [0u32; SLOTS];
+    let mut ts = [0u32; limit::SLOTS];
     let mut i: usize = 0;
-    while i < SLOTS {
+    while i < limit::SLOTS {
         let e = entries[i];
         if !desk_entries::fits(e, i, slots, next) {
             return Place::Barred(refusal::UNSOUND);
@@ -57,19 +61,26 @@ pub fn look(entries: [Entry; SLOTS], slots: usize, next: u32, size: usize, t: u3
     desk_entries::tickets::find(&ts, t, slots)
 }
 
-// 25, 24, 22, or the slot of a ticket.
-pub fn at_ticket(entries: [Entry; SLOTS], slots: usize, next: u32, size: usize, t: u32) -> Slot
-    ensures { λ r. ⌜ r ≡ slotOf entries slots next size t ⌝ }
+// Finds the slot of a ticket, or refuses with 25, 24 or 22.
+pub fn at_ticket(
+    entries: [Entry; limit::SLOTS],
+    slots: usize,
+    next: u32,
+    size: usize,
+    t: u32,
+) -> Slot
+    ensures slot { λ r. ⌜ r ≡ slotOf entries slots next size t ⌝ }
+    ensures within { λ r. ⌜ Within size r ⌝ }
 {
-    let p = look(entries, slots, next, size, t);
+    let p = find_slot(entries, slots, next, size, t);
     match p {
         Place::Barred(r) => Slot::No(r),
-        Place::Nowhere => Slot::No(22),
+        Place::Nowhere => Slot::No(refusal::NOT_OPEN),
         Place::At(i) => {
             let e = entries[i];
             let s = e.state;
             match s {
-                State::Free => Slot::No(22),
+                State::Free => Slot::No(refusal::NOT_OPEN),
                 State::Open(o) => Slot::Held(i, o),
             }
         }

@@ -1,15 +1,24 @@
 // Calls of one kind to a desk, one after the other, in turn over its tickets.
-ghost use mathlib.Core.Path.{_≡_};
-ghost use Rattle.desk.specs.Steps.{turned};
-ghost use Rattle.firmware_bench.specs.Calls.{following, verdictAnswer, callStep, run};
 use desk::Answer;
 use desk::Desk;
 use desk::Turn;
 use reader::Verdict;
+ghost use mathlib.Core.Path.{_≡_};
+ghost use Rattle.desk.specs.Steps.{turned};
+ghost use Rattle.firmware_bench.specs.Calls.{nextTicket, verdictAnswer, callStep, run};
 
-// The ticket after t, and 1 after the last.
-fn following(t: u32, last: u32) -> u32
-    ensures { λ r. ⌜ r ≡ following t last ⌝ }
+// The kinds of calls, as C numbers them; any other number judges.
+pub const OPEN: u32 = 0;
+
+pub const ADD: u32 = 1;
+
+const RELEASE: u32 = 2;
+
+const HELD: u32 = 3;
+
+// Takes the ticket after t, and 1 after the last.
+fn next_ticket(t: u32, last: u32) -> u32
+    ensures { λ r. ⌜ r ≡ nextTicket t last ⌝ }
 {
     if t < last {
         return t + 1;
@@ -17,7 +26,7 @@ fn following(t: u32, last: u32) -> u32
     1
 }
 
-// A verdict as the desk's other answers are: the count of cards, or the refusal.
+// Turns a verdict into an answer as the desk's others are: the count of cards, or the refusal.
 fn verdict_answer(v: Verdict) -> Answer
     ensures { λ r. ⌜ r ≡ verdictAnswer v ⌝ }
 {
@@ -27,15 +36,15 @@ fn verdict_answer(v: Verdict) -> Answer
     }
 }
 
-// One call: 0 opens, 1 adds, 2 releases, 3 asks for the octets held, any other judges.
+// Makes one call of a kind.
 fn call(d: Desk, pool: &mut [u8], chunk: &[u8], kind: u32, t: u32) -> Turn
     ensures { λ r. ⌜ turned r (now (pool .exit)) ≡ callStep d (now (pool .entry)) (now (chunk .entry)) kind t ⌝ }
 {
     match kind {
-        0 => d.open(pool, t),
-        1 => d.add(pool, t, chunk),
-        2 => d.release(pool, t),
-        3 => Turn {
+        OPEN => d.open(pool, t),
+        ADD => d.add(pool, t, chunk),
+        RELEASE => d.release(pool, t),
+        HELD => Turn {
             answer: d.held(pool, t),
             desk: d,
         },
@@ -46,7 +55,7 @@ fn call(d: Desk, pool: &mut [u8], chunk: &[u8], kind: u32, t: u32) -> Turn
     }
 }
 
-// The turn that n calls lead to, in turn over the tickets 1 to last.
+// Makes n calls of a kind, in turn over the tickets 1 to last, and answers the last turn.
 pub fn run(first: Turn, pool: &mut [u8], chunk: &[u8], kind: u32, last: u32, n: usize) -> Turn
     ensures { λ r. ⌜ turned r (now (pool .exit)) ≡ run (now (chunk .entry)) kind last 1 n (turned first (now (pool .entry))) ⌝ }
 {
@@ -56,7 +65,7 @@ pub fn run(first: Turn, pool: &mut [u8], chunk: &[u8], kind: u32, last: u32, n: 
     while i < n {
         let d = turn.desk;
         turn = call(d, pool, chunk, kind, t);
-        t = following(t, last);
+        t = next_ticket(t, last);
         i += 1;
     }
     turn

@@ -1,5 +1,6 @@
 -- Faults of the line rule: which part of a line breaks it. The refusal of each is lineRule. Assumes nothing.
 use Prim.Native.Nat.{ℕ}
+use mathlib.Core.List.{List, [], _∷_}
 
 -- no name, or a bad name or group
 abbrev pub name : ℕ
@@ -16,3 +17,7 @@ quote = 42
 -- no colon
 abbrev pub noColon : ℕ
 noColon = 43
+
+-- all of them
+abbrev pub faults : List ℕ
+faults = name ∷ parameter ∷ quote ∷ noColon ∷ []

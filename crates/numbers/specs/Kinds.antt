@@ -1,5 +1,6 @@
 -- Kinds of value: the number that a record has for each. Assumes nothing.
 use Prim.Native.Nat.{ℕ}
+use mathlib.Core.List.{List, [], _∷_}
 
 -- any octets
 abbrev pub anything : ℕ
@@ -40,3 +41,7 @@ pidmap = 8
 -- how many kinds there are
 abbrev pub count : ℕ
 count = 9
+
+-- all of them
+abbrev pub kinds : List ℕ
+kinds = anything ∷ text ∷ texts ∷ uri ∷ name ∷ address ∷ organization ∷ gender ∷ pidmap ∷ []

@@ -4,3 +4,4 @@ pub mod Refusals
 pub mod Faults
 pub mod Properties
 pub mod Kinds
+pub mod Distinct

@@ -1,6 +1,6 @@
 -- Property numbers: the row of each property in the table, and 0 for any other name. Assumes nothing.
 use Prim.Native.Nat.{ℕ}
-use mathlib.Core.List.{List, [], _∷_}
+use mathlib.Core.List.{List, [], _∷_, _++_}
 
 -- a name that is not in the table
 abbrev pub other : ℕ
@@ -127,4 +127,6 @@ count = 39
 -- all of them
 abbrev pub properties : List ℕ
 properties =
-    other ∷ begin ∷ end ∷ source ∷ kind ∷ xml ∷ fn ∷ n ∷ nickname ∷ photo ∷ bday ∷ anniversary ∷ gender ∷ adr ∷ tel ∷ email ∷ impp ∷ lang ∷ tz ∷ geo ∷ title ∷ role ∷ logo ∷ org ∷ member ∷ related ∷ categories ∷ note ∷ prodid ∷ rev ∷ sound ∷ uid ∷ clientpidmap ∷ url ∷ version ∷ key ∷ fburl ∷ caladruri ∷ caluri ∷ []
+    other ∷ begin ∷ end ∷ source ∷ kind ∷ xml ∷ fn ∷ n ∷ nickname ∷ photo ∷ bday ∷ anniversary ∷ gender ∷ adr ∷ tel ∷ email ∷ impp ∷ lang ∷ tz ∷ geo ∷ []
+    ++ title ∷ role ∷ logo ∷ org ∷ member ∷ related ∷ categories ∷ note ∷ prodid ∷ rev ∷ sound ∷ uid ∷ clientpidmap ∷ url ∷ version ∷ key ∷ fburl ∷ []
+    ++ caladruri ∷ caluri ∷ []

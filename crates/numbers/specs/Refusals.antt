@@ -1,6 +1,6 @@
 -- Refusals: the number of each, in the order of the table in docs/REFERENCE.md. Assumes nothing.
 use Prim.Native.Nat.{ℕ}
-use mathlib.Core.List.{List, [], _∷_}
+use mathlib.Core.List.{List, [], _∷_, _++_}
 
 -- an input or a text of over 16,384 octets; at 16,384
 abbrev pub tooLong : ℕ
@@ -102,7 +102,26 @@ escape = 30
 abbrev pub textOctet : ℕ
 textOctet = 31
 
--- all of them
+-- ---- a replay's own: no reader, desk or C routine answers them
+
+-- a call of a script that is unknown or cut off; at its first octet
+abbrev pub replayCall : ℕ
+replayCall = 90
+
+-- the pool's length is not slots times 16,384; that length
+abbrev pub replayPool : ℕ
+replayPool = 91
+
+-- the log may lack room for the answers; its length
+abbrev pub replayLog : ℕ
+replayLog = 92
+
+-- ---- all of them
+
 abbrev pub refusals : List ℕ
 refusals =
-    tooLong ∷ empty ∷ loneCrOrLf ∷ noEnd ∷ badOctet ∷ lineRule ∷ value ∷ laden ∷ order ∷ second ∷ noFn ∷ member ∷ copyRoom ∷ recordRoom ∷ room ∷ formTooLong ∷ noFreeSlot ∷ ticketsUsedUp ∷ notOpen ∷ slotFull ∷ poolLength ∷ unsound ∷ slotCount ∷ escape ∷ textOctet ∷ []
+    tooLong ∷ empty ∷ loneCrOrLf ∷ noEnd ∷ badOctet ∷ lineRule ∷ value ∷ laden ∷ order ∷ second ∷ noFn ∷ member ∷ []
+    ++ copyRoom ∷ recordRoom ∷ room ∷ formTooLong ∷ []
+    ++ noFreeSlot ∷ ticketsUsedUp ∷ notOpen ∷ slotFull ∷ poolLength ∷ unsound ∷ slotCount ∷ []
+    ++ escape ∷ textOctet ∷ []
+    ++ replayCall ∷ replayPool ∷ replayLog ∷ []

@@ -74,3 +74,14 @@ pub const ESCAPE: u32 = 30;
 
 // Text with an octet that is not allowed, or with bad UTF-8; at its first octet.
 pub const TEXT_OCTET: u32 = 31;
+
+// A replay's own refusals: no reader, desk or C routine answers them.
+
+// A call of a script that is unknown or cut off; at its first octet.
+pub const REPLAY_CALL: u32 = 90;
+
+// The pool's length is not slots times 16,384; that length.
+pub const REPLAY_POOL: u32 = 91;
+
+// The log may lack room for the answers; its length.
+pub const REPLAY_LOG: u32 = 92;

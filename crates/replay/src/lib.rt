@@ -2,6 +2,7 @@
 use desk::Answer;
 use desk::Desk;
 use numbers::limit;
+use numbers::refusal;
 use replay_script::Counted;
 ghost use mathlib.Core.Path.{_≡_};
 ghost use mathlib.Core.Bool.{true};
@@ -51,15 +52,15 @@ fn play(slots: usize, desk: Desk, script: &[u8], pool: &mut [u8], log: &mut [u8]
 {
     let counted = replay_script::count(script);
     match counted {
-        Counted::Broken(at) => Replayed::Refused(90, at),
+        Counted::Broken(at) => Replayed::Refused(refusal::REPLAY_CALL, at),
         Counted::Calls(calls, shows) => {
             let size = pool.len();
             if size != slots * limit::OCTETS {
-                return Replayed::Refused(91, size);
+                return Replayed::Refused(refusal::REPLAY_POOL, size);
             }
             let room = log.len();
             if !replay_log::has_room(calls, shows, room) {
-                return Replayed::Refused(92, room);
+                return Replayed::Refused(refusal::REPLAY_LOG, room);
             }
             let wrote = run_all(desk, script, pool, log);
             Replayed::Ran(calls, wrote)

@@ -3,4 +3,5 @@ pub mod EveryList
 pub mod UnwrittenLaws
 pub mod VerdictLaws
 pub mod SmallLaws
+pub mod Refinement
 pub mod TellLaws

@@ -5,18 +5,19 @@ use mathlib.Core.List.{List, [], _∷_, _++_}
 use lib.ListN.{length}
 use Rattle.numbers.specs.Limits as limit
 use Rattle.desk_ledger.specs.Ledger.{Deed, adds, judges, shows, asks, releases, Call, opens, on}
-use Rattle.replay_script.specs.Words.{halfOctets, wordOctets}
+use Rattle.replay_script.specs.Names as call
+use Rattle.replay_script.specs.Numerals.{twoOctets, fourOctets}
 use Rattle.replay_script.specs.Scripts.{calls, decode}
 
 abbrev pub encodeDeed : ℕ → Deed → List ℕ
-encodeDeed t (adds q) = 2 ∷ wordOctets t ++ halfOctets (length q) ++ q
-encodeDeed t judges = 3 ∷ wordOctets t
-encodeDeed t shows = 4 ∷ wordOctets t
-encodeDeed t asks = 5 ∷ wordOctets t
-encodeDeed t releases = 6 ∷ wordOctets t
+encodeDeed t (adds q) = call.adds ∷ fourOctets t ++ twoOctets (length q) ++ q
+encodeDeed t judges = call.judges ∷ fourOctets t
+encodeDeed t shows = call.shows ∷ fourOctets t
+encodeDeed t asks = call.asks ∷ fourOctets t
+encodeDeed t releases = call.releases ∷ fourOctets t
 
 abbrev pub encodeCall : Call → List ℕ
-encodeCall (opens m) = 1 ∷ wordOctets m
+encodeCall (opens m) = call.opens ∷ fourOctets m
 encodeCall (on t x) = encodeDeed t x
 
 unfoldable pub encode : List Call → List ℕ

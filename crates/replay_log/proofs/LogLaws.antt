@@ -14,18 +14,18 @@ use Rattle.desk.specs.declared.Answer.{Answer}
 use Rattle.desk.specs.declared.Answer.the-variants.{Done, Refused}
 use Rattle.desk_ledger.specs.Ledger.{adds, judges, shows, asks, releases, Call, opens, on, refused, told, counts, part, verdict}
 use Rattle.desk_ledger.specs.Desks.{said}
-use Rattle.replay_script.specs.Words.{halfOctets, wordOctets}
+use Rattle.replay_script.specs.Numerals.{twoOctets, fourOctets}
 use Rattle.replay_script.specs.Counts.{showing, shown}
 use Rattle.replay_log.specs.Logs.{entry, callRoom, roomFor}
 
 -- ---- lengths
 
-pub one-length : (name n : ℕ) → length (name ∷ wordOctets n) ≡ 5
-unfolding halfOctets wordOctets
+pub one-length : (name n : ℕ) → length (name ∷ fourOctets n) ≡ 5
+unfolding twoOctets fourOctets
 one-length name n = refl
 
-pub two-length : (name n m : ℕ) → length (name ∷ wordOctets n ++ wordOctets m) ≡ 9
-unfolding halfOctets wordOctets
+pub two-length : (name n m : ℕ) → length (name ∷ fourOctets n ++ fourOctets m) ≡ 9
+unfolding twoOctets fourOctets
 two-length name n m = refl
 
 pub told-length : (n : ℕ) → length (entry (told n)) ≡ 5
@@ -41,7 +41,7 @@ unfolding entry
 counts-length k n = two-length 2 k n
 
 pub part-length : (o : List ℕ) → length (entry (part o)) ≡ 5 + length o
-unfolding entry halfOctets wordOctets
+unfolding entry twoOctets fourOctets
 part-length o = omega arith
 
 pub said-room : (a : Answer) → length (entry (said a)) ≤ 9
@@ -57,13 +57,13 @@ verdict-room (Unread n p) = omega (arith, refused-length n p)
 overlaid : (xs d : List ℕ) → length xs ≤ length d → sets d 0 xs ≡ overlay xs d
 overlaid xs d h = sets-eq xs d 0 (rw zero-add h) ∙ ap (λ (k : ℕ). xs ++ drop k d) (zero-add (length xs))
 
-pub put-one-is : (d : List ℕ) (name n : ℕ) → 5 ≤ length d → sets (set d 0 name) 1 (wordOctets n) ≡ overlay (name ∷ wordOctets n) d
-put-one-is d name n h = overlaid (name ∷ wordOctets n) d (rw (one-length name n) h)
+pub put-one-is : (d : List ℕ) (name n : ℕ) → 5 ≤ length d → sets (set d 0 name) 1 (fourOctets n) ≡ overlay (name ∷ fourOctets n) d
+put-one-is d name n h = overlaid (name ∷ fourOctets n) d (rw (one-length name n) h)
 
 pub put-two-is : (d : List ℕ) (name n m : ℕ) → 9 ≤ length d
-    → sets (sets (set d 0 name) 1 (wordOctets n)) 5 (wordOctets m) ≡ overlay (name ∷ wordOctets n ++ wordOctets m) d
-unfolding halfOctets wordOctets
-put-two-is d name n m h = overlaid (name ∷ wordOctets n ++ wordOctets m) d (rw (two-length name n m) h)
+    → sets (sets (set d 0 name) 1 (fourOctets n)) 5 (fourOctets m) ≡ overlay (name ∷ fourOctets n ++ fourOctets m) d
+unfolding twoOctets fourOctets
+put-two-is d name n m h = overlaid (name ∷ fourOctets n ++ fourOctets m) d (rw (two-length name n m) h)
 
 -- o behind x
 pub put-behind : (d x o : List ℕ) (n : ℕ) → n ≡ length x → patch (overlay x d) n o ≡ overlay (x ++ o) d

@@ -14,8 +14,8 @@ use Rattle.octets.specs.Classes.{within}
 use Rattle.octets.specs.Scan.{scan}
 use Rattle.octets.proofs.Scans.{scan-stop, scan-step, scan-end}
 use Rattle.desk_ledger.specs.Ledger.{adds, judges, shows, asks, releases, Call, opens, on}
-use Rattle.replay_script.specs.Words.{half, word}
-use Rattle.replay_script.specs.Scripts.{asked, width, callOf, callsIn, calls, decode}
+use Rattle.replay_script.specs.Numerals.{twoAt, fourAt}
+use Rattle.replay_script.specs.Scripts.{needed, width, callOf, callsIn, calls, decode}
 use Rattle.replay_script.specs.Counts.{showing, shown, counted}
 use Rattle.replay_script.specs.declared.Counted.the-variants.{Calls, Broken}
 
@@ -40,21 +40,21 @@ both a b n e = go (leb a n) refl (leb n b) refl e
     go false p y q h = let z : _≡_ {A = ℕ} 0 1 = cc in absurd (omega arith)
 
 module _ (s : List ℕ) where
-  pub asked-five : 5 ≤ asked s
-  unfolding asked
-  asked-five = go (eqb (getD s 0 0) 2)
+  pub needed-five : 5 ≤ needed s
+  unfolding needed
+  needed-five = go (eqb (getD s 0 0) 2)
     where
-      go : (t : Bool) → 5 ≤ pick t (7 + half s 5) 5
+      go : (t : Bool) → 5 ≤ pick t (7 + twoAt s 5) 5
       go true = omega arith
       go false = omega arith
 
-  pub asked-add : getD s 0 0 ≡ 2 → asked s ≡ 7 + half s 5
-  unfolding asked
-  asked-add e = rw (eq-eqb (getD s 0 0) 2 e)
+  pub needed-add : getD s 0 0 ≡ 2 → needed s ≡ 7 + twoAt s 5
+  unfolding needed
+  needed-add e = rw (eq-eqb (getD s 0 0) 2 e)
 
-  pub width-cut : length s < asked s → width s ≡ 0
+  pub width-cut : length s < needed s → width s ≡ 0
   unfolding width
-  width-cut h = cut (within 1 6 (getD s 0 0)) (leb (asked s) (length s)) (asked s) (lt-leb (asked s) (length s) h)
+  width-cut h = cut (within 1 6 (getD s 0 0)) (leb (needed s) (length s)) (needed s) (lt-leb (needed s) (length s) h)
 
   pub width-low : getD s 0 0 < 1 → width s ≡ 0
   unfolding width
@@ -64,29 +64,29 @@ module _ (s : List ℕ) where
   unfolding width
   width-high h = rw (le-leb 1 (getD s 0 0) (omega arith), lt-leb (getD s 0 0) 6 h)
 
-  pub width-whole : 1 ≤ getD s 0 0 → getD s 0 0 ≤ 6 → asked s ≤ length s → width s ≡ asked s
+  pub width-whole : 1 ≤ getD s 0 0 → getD s 0 0 ≤ 6 → needed s ≤ length s → width s ≡ needed s
   unfolding width
-  width-whole l h f = rw (le-leb 1 (getD s 0 0) l, le-leb (getD s 0 0) 6 h, le-leb (asked s) (length s) f)
+  width-whole l h f = rw (le-leb 1 (getD s 0 0) l, le-leb (getD s 0 0) 6 h, le-leb (needed s) (length s) f)
 
-  pub asked-five-is : (getD s 0 0 ≡ 2 → ⊥) → asked s ≡ 5
-  unfolding asked
-  asked-five-is n = rw (ne-eqb (getD s 0 0) 2 n)
+  pub needed-five-is : (getD s 0 0 ≡ 2 → ⊥) → needed s ≡ 5
+  unfolding needed
+  needed-five-is n = rw (ne-eqb (getD s 0 0) 2 n)
 
 -- a call that is known and not cut off
 pub record Whole (s : List ℕ) : Type 0 where
   pub low : 1 ≤ getD s 0 0
   pub high : getD s 0 0 ≤ 6
-  pub fits : asked s ≤ length s
+  pub fits : needed s ≤ length s
   pub five : 5 ≤ length s
-  pub size : width s ≡ asked s
+  pub size : width s ≡ needed s
 
 pub whole : (s : List ℕ) → 1 ≤ width s → Whole s
 unfolding width
 whole s h =
-    let u = uncut (within 1 6 (getD s 0 0)) (leb (asked s) (length s)) (asked s) h in
+    let u = uncut (within 1 6 (getD s 0 0)) (leb (needed s) (length s)) (needed s) h in
     let b = both 1 6 (getD s 0 0) (u .0) in
-    let f = leb-true (asked s) (length s) (u .1) in
-    let v = asked-five s in
+    let f = leb-true (needed s) (length s) (u .1) in
+    let v = needed-five s in
     record { low = b .0; high = b .1; fits = f; five = omega arith; size = width-whole s (b .0) (b .1) f }
 
 -- the tail of a script as a part of it
@@ -129,7 +129,7 @@ unfolding callOf
 show-not s n = rw (ne-eqb (getD s 0 0) 4 n) (go (eqb (getD s 0 0) 1) (eqb (getD s 0 0) 2) (eqb (getD s 0 0) 6) (eqb (getD s 0 0) 3))
   where
     go : (a b c d : Bool)
-        → showing (pick a (opens (word s 1)) (on (word s 1) (pick b (adds (take (half s 5) (drop 7 s))) (pick c releases (pick d judges asks))))) ≡ 0
+        → showing (pick a (opens (fourAt s 1)) (on (fourAt s 1) (pick b (adds (take (twoAt s 5) (drop 7 s))) (pick c releases (pick d judges asks))))) ≡ 0
     go true b c d = refl
     go false true c d = refl
     go false false true d = refl

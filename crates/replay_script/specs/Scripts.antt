@@ -1,6 +1,5 @@
--- A script: calls one after the other in octets. A call is an octet that names it (1 open, 2 add, 3 judge, 4 show, 5 octets held,
--- 6 release), a word with the ticket (of open the tram's identifier) and, of add, a half word with the chunk's length and the chunk.
--- Assumes nothing.
+-- A script: calls one after the other in octets. A call is an octet that names it, four with the ticket (of open with the tram's
+-- identifier) and, of add, two with the chunk's length and the chunk. Assumes nothing.
 use Prim.Native.Nat.{ℕ, zero, suc, pred, _+_}
 use mathlib.Core.List.{List, [], _∷_}
 use lib.Dec.{leb, eqb}
@@ -9,26 +8,29 @@ use Rattle.octets.specs.Pick.{pick}
 use Rattle.octets.specs.Scan.{scan}
 use Rattle.octets.specs.Classes.{within}
 use Rattle.desk_ledger.specs.Ledger.{Deed, adds, judges, shows, asks, releases, Call, opens, on}
-use Rattle.replay_script.specs.Words.{half, word}
+use Rattle.replay_script.specs.Names as call
+use Rattle.replay_script.specs.Numerals.{twoAt, fourAt}
 
--- how many octets the call at the start of s asks for
-unfoldable pub asked : List ℕ → ℕ
-asked s = pick (eqb (getD s 0 0) 2) (7 + half s 5) 5
+-- how many octets the call at the start of s needs
+unfoldable pub needed : List ℕ → ℕ
+needed s = pick (eqb (getD s 0 0) call.adds) (call.chunk + twoAt s call.length) call.length
 
 -- how many octets the call at the start of s has; 0 where it is unknown or cut off
 unfoldable pub width : List ℕ → ℕ
-width s = pick (within 1 6 (getD s 0 0)) (pick (leb (asked s) (length s)) (asked s) 0) 0
+width s = pick (within call.opens call.releases (getD s 0 0)) (pick (leb (needed s) (length s)) (needed s) 0) 0
 
--- what only looks at an upload
-abbrev pub lookOf : ℕ → Deed
-lookOf b = pick (eqb b 3) judges (pick (eqb b 4) shows asks)
+-- a call that changes nothing, by its name
+abbrev pub queryOf : ℕ → Deed
+queryOf b = pick (eqb b call.judges) judges (pick (eqb b call.shows) shows asks)
 
 abbrev pub deedOf : List ℕ → Deed
-deedOf s = pick (eqb (getD s 0 0) 2) (adds (take (half s 5) (drop 7 s))) (pick (eqb (getD s 0 0) 6) releases (lookOf (getD s 0 0)))
+deedOf s =
+    pick (eqb (getD s 0 0) call.adds) (adds (take (twoAt s call.length) (drop call.chunk s)))
+    (pick (eqb (getD s 0 0) call.releases) releases (queryOf (getD s 0 0)))
 
 -- the call at the start of s, which has a width
 unfoldable pub callOf : List ℕ → Call
-callOf s = pick (eqb (getD s 0 0) 1) (opens (word s 1)) (on (word s 1) (deedOf s))
+callOf s = pick (eqb (getD s 0 0) call.opens) (opens (fourAt s 1)) (on (fourAt s 1) (deedOf s))
 
 -- past k octets of a call that was begun, the calls of s
 unfoldable pub callsIn : List ℕ → ℕ → List Call

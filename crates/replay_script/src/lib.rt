@@ -1,5 +1,6 @@
-// The calls of a script.
-pub mod words;
+// The calls of a script, counted and measured.
+pub mod call;
+pub mod numerals;
 
 ghost use mathlib.Core.Path.{_≡_};
 ghost use Prim.Native.Nat.{_≤_};
@@ -13,46 +14,46 @@ pub enum Counted {
     Broken(usize),
 }
 
-// How many octets the call at the start of s has; 0 where it is unknown or cut off.
+// Measures the call at the start of s in octets: 0 where it is unknown or cut off.
 pub fn width(s: &[u8]) -> usize
     ensures { λ r. ⌜ r ≡ width (now (s .entry)) ⌝ }
 {
     let n = s.len();
-    if n < 5 {
+    if n < call::LENGTH {
         return 0;
     }
     let b = s[0];
-    if b < 1 {
+    if b < call::OPEN {
         return 0;
     }
-    if 6 < b {
+    if call::RELEASE < b {
         return 0;
     }
-    if b != 2 {
-        return 5;
+    if b != call::ADD {
+        return call::LENGTH;
     }
-    if n < 7 {
+    if n < call::CHUNK {
         return 0;
     }
-    let w = 7 + words::half(s, 5) as usize;
+    let w = call::CHUNK + numerals::read_two(s, call::LENGTH) as usize;
     if n < w {
         return 0;
     }
     w
 }
 
-// 1 for a show, 0 for any other call.
-fn showing(s: &[u8]) -> usize
+// Counts a call that is a show as 1, and any other as 0.
+fn count_show(s: &[u8]) -> usize
     requires { ⌜ 1 ≤ length (now s) ⌝ }
     ensures { λ r. ⌜ r ≡ showing (callOf (now (s .entry))) ⌝ }
 {
-    if s[0] == 4 {
+    if s[0] == call::SHOW {
         return 1;
     }
     0
 }
 
-// Counts the calls of a script.
+// Counts the calls of a script and the shows among them, or finds its first broken call.
 pub fn count(script: &[u8]) -> Counted
     ensures { λ r. ⌜ r ≡ counted (decode (now (script .entry))) ⌝ }
 {
@@ -64,7 +65,7 @@ pub fn count(script: &[u8]) -> Counted
         if w == 0 {
             return Counted::Broken(at);
         }
-        shows += showing(&script[at..]);
+        shows += count_show(&script[at..]);
         calls += 1;
         at += w;
     }

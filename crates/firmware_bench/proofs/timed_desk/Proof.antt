@@ -35,8 +35,8 @@ enum-known-a c = search needs
 enum-known-a-2 : tie.Need-enum-known-a-2
 enum-known-a-2 c = search needs
 
-refusal-requires : tie.Need-refusal-requires
-refusal-requires c κs = search needs
+pack-refusal-requires : tie.Need-pack-refusal-requires
+pack-refusal-requires c κs = search needs
 
 same-length : tie.Need-same-length
 same-length c = search needs
@@ -56,7 +56,7 @@ returns-2 c =
     let b = c .before .before .before .before .before .before in
     let r = b .before .before .before .before in
     let e = by-turns _ _ _ _ _ _ (r .before .before .before .before .before .before .new .ensures) (r .before .before .before .before .run .ensures) (r .run2 .ensures) (b .run3 .ensures) in
-    (c .refusal .ensures ∙ ap answerNumber (sym (c .before .before .a2 .given .1)) ∙ ap (λ (s : Turned). answerNumber (s .answer)) e, ap (λ (s : Turned). s .pool) e)
+    (c .pack-refusal .ensures ∙ ap answerNumber (sym (c .before .before .a2 .given .1)) ∙ ap (λ (s : Turned). answerNumber (s .answer)) e, ap (λ (s : Turned). s .pool) e)
 
 pub timed-desk-spec : {M : Type 1} → statement M
 timed-desk-spec =
@@ -68,7 +68,7 @@ timed-desk-spec =
     run-requires-3
     enum-known-a
     enum-known-a-2
-    refusal-requires
+    pack-refusal-requires
     same-length
     returns
     same-length-2

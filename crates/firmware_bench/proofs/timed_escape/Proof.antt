@@ -15,8 +15,8 @@ enum-known-w c = search needs
 enum-known-w-2 : tie.Need-enum-known-w-2
 enum-known-w-2 c = search needs
 
-refusal-requires : tie.Need-refusal-requires
-refusal-requires c κs = search needs
+pack-refusal-requires : tie.Need-pack-refusal-requires
+pack-refusal-requires c κs = search needs
 
 same-length : tie.Need-same-length
 same-length c = search needs
@@ -32,7 +32,7 @@ same-length-2 c = search needs
 returns-2 : tie.Need-returns-2
 returns-2 c =
     let e = c .before .before .before .before .before .before .escape .ensures in
-    (c .refusal .ensures ∙ ap writtenNumber (sym (c .before .before .w2 .given .1)) ∙ ap (λ (f : Filled). writtenNumber (f .answer)) e, ap (λ (f : Filled). f .room) e)
+    (c .pack-refusal .ensures ∙ ap writtenNumber (sym (c .before .before .w2 .given .1)) ∙ ap (λ (f : Filled). writtenNumber (f .answer)) e, ap (λ (f : Filled). f .room) e)
 
 pub timed-escape-spec : {M : Type 1} → statement M
 timed-escape-spec =
@@ -41,7 +41,7 @@ timed-escape-spec =
     escape-requires
     enum-known-w
     enum-known-w-2
-    refusal-requires
+    pack-refusal-requires
     same-length
     returns
     same-length-2

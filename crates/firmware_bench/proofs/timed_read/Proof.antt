@@ -15,8 +15,8 @@ enum-known-v c = search needs
 enum-known-v-2 : tie.Need-enum-known-v-2
 enum-known-v-2 c = search needs
 
-refusal-requires : tie.Need-refusal-requires
-refusal-requires c κs = search needs
+pack-refusal-requires : tie.Need-pack-refusal-requires
+pack-refusal-requires c κs = search needs
 
 same-length : tie.Need-same-length
 same-length c = search needs
@@ -38,7 +38,7 @@ same-length-4 c = search needs
 returns-2 : tie.Need-returns-2
 returns-2 c =
     let e = c .before .before .before .before .before .before .before .before .read .ensures in
-    (c .refusal .ensures ∙ ap verdictNumber (sym (c .before .before .v2 .given .1)) ∙ ap (λ (f : Taken). verdictNumber (f .answer)) e, (ap (λ (f : Taken). f .copy) e, ap (λ (f : Taken). f .records) e))
+    (c .pack-refusal .ensures ∙ ap verdictNumber (sym (c .before .before .v2 .given .1)) ∙ ap (λ (f : Taken). verdictNumber (f .answer)) e, (ap (λ (f : Taken). f .copy) e, ap (λ (f : Taken). f .records) e))
 
 pub timed-read-spec : {M : Type 1} → statement M
 timed-read-spec =
@@ -47,7 +47,7 @@ timed-read-spec =
     read-requires
     enum-known-v
     enum-known-v-2
-    refusal-requires
+    pack-refusal-requires
     same-length
     same-length-2
     returns

@@ -56,7 +56,7 @@ returns-4 : tie.Need-returns-4
 returns-4 c =
     let c7 = c .before .before .before .before .before .before .before in
     let c17 = c7 .before .before .before .before .before .before .before .before .before .before in
-    let a = c17 .args in let r = c .before .before .before .before .run-all in played-ran (a .slots) (a .script .now) (a .pool .now) (a .log .now) _ _ (found (c7 .before .before .before .before)) (c17 .pre .0) (a .desk) (c17 .pre .1) (c7 .before .before .if1 .left) (roomy (c7)) (r .result) _ _ (r .ensures .0) (r .ensures .1)
+    let a = c17 .args in let r = c .before .before .before .before .run-all in played-ran (a .slots) (a .script .now) (a .pool .now) (a .log .now) _ _ (found (c7 .before .before .before .before)) (a .desk) (c17 .pre .1) (c7 .before .before .if1 .left) (roomy (c7)) (r .result) _ _ (r .ensures .0) (r .ensures .1)
 
 pub play-spec : {M : Type 1} → statement M
 play-spec =

@@ -3,7 +3,7 @@ use Prim.Native.Nat.{_+_, _-_, _*_, _/_}
 use mathlib.Core.Path.{sym}
 use native.Mathlib.Omega.{arith}
 use borrow.Author.Tests.{lt-leb}
-use Rattle.replay_script.proofs.WordLaws.{leb-same}
+use Rattle.replay_script.proofs.NumeralLaws.{leb-same}
 use borrow.Author.Needs.{needs}
 use Rattle.replay_log.proofs.has_room.Statement.{statement}
 use Rattle.replay_log.proofs.has_room.Tie as tie

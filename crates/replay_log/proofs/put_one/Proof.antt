@@ -10,14 +10,14 @@ use Rattle.replay_log.proofs.put_one.Tie as tie
 slice-write-d : tie.Need-slice-write-d
 slice-write-d c = search needs
 
-put-word-requires : tie.Need-put-word-requires
-put-word-requires c κs = search needs
+put-four-requires : tie.Need-put-four-requires
+put-four-requires c κs = search needs
 
 same-length : tie.Need-same-length
-same-length c = let z = length-set (c .before .before .before .before .before .args .d .now) 0 (c .before .before .before .before .before .args .name) in omega (arith, c .before .before .put-word .kept)
+same-length c = let z = length-set (c .before .before .before .before .before .args .d .now) 0 (c .before .before .before .before .before .args .name) in omega (arith, c .before .before .put-four .kept)
 
 returns : tie.Need-returns
-returns c = let a = c .before .before .before .before .before .args in record { wrote = sym (one-length (a .name) (a .n)); log = c .before .before .put-word .ensures ∙ put-one-is (a .d .now) (a .name) (a .n) (c .before .before .before .before .before .pre) }
+returns c = let a = c .before .before .before .before .before .args in record { wrote = sym (one-length (a .name) (a .n)); log = c .before .before .put-four .ensures ∙ put-one-is (a .d .now) (a .name) (a .n) (c .before .before .before .before .before .pre) }
 
 pub put-one-spec : {M : Type 1} → statement M
-put-one-spec = tie.close (tie.spec slice-write-d put-word-requires same-length returns)
+put-one-spec = tie.close (tie.spec slice-write-d put-four-requires same-length returns)

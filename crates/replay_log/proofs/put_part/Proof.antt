@@ -6,7 +6,7 @@ use native.Mathlib.Omega.{arith}
 use lib.ListN.{length, length-take, length-drop}
 use Rattle.desk_pool.specs.Pools.{patch}
 use Rattle.desk_pool.proofs.Patches.{put-copied}
-use Rattle.replay_script.specs.Words.{wordOctets}
+use Rattle.replay_script.specs.Numerals.{fourOctets}
 use Rattle.replay_log.specs.Logs.{entry}
 use Rattle.replay_log.proofs.LogLaws.{one-length, part-length, put-behind}
 use borrow.Author.Needs.{needs}
@@ -40,7 +40,7 @@ returns c =
     let c2 = c .before .before in
     let c6 = c2 .before .before .before .before in
     let c10 = c6 .before .before .before .before in
-    let a = c10 .args in let n = one-length 3 (length (a .octets .now)) in let e = c6 .put-one .ensures .wrote in let k = c6 .put-one .kept in let v = part-length (a .octets .now) in record { wrote = omega arith; log = put-copied _ (a .octets .now) _ _ (omega arith) (c2 .copy-in .ensures) ∙ ap (λ (l : List ℕ). patch l (c6 .put-one .result) (a .octets .now)) (c6 .put-one .ensures .log) ∙ put-behind (a .d .now) (3 ∷ wordOctets (length (a .octets .now))) (a .octets .now) _ e }
+    let a = c10 .args in let n = one-length 3 (length (a .octets .now)) in let e = c6 .put-one .ensures .wrote in let k = c6 .put-one .kept in let v = part-length (a .octets .now) in record { wrote = omega arith; log = put-copied _ (a .octets .now) _ _ (omega arith) (c2 .copy-in .ensures) ∙ ap (λ (l : List ℕ). patch l (c6 .put-one .result) (a .octets .now)) (c6 .put-one .ensures .log) ∙ put-behind (a .d .now) (3 ∷ fourOctets (length (a .octets .now))) (a .octets .now) _ e }
 
 pub put-part-spec : {M : Type 1} → statement M
 put-part-spec =

@@ -20,14 +20,14 @@ abbrev μ-loop : tie.MeasureT-loop
 wide : (c : tie.After-width Inv-loop μ-loop) → c .width .result ≡ width (drop (c .before .before .before .loop .at) (c .before .before .before .before .before .args .script .now))
 wide c = c .width .ensures ∙ ap width (tail-is (c .before .before .before .before .before .args .script .now) (c .before .before .before .loop .at))
 
-step : (c : tie.After-showing Inv-loop μ-loop)
+step : (c : tie.After-count-show Inv-loop μ-loop)
     → let l = c .before .before .before .before .before .before in
-    Counting (l .before .before .args .script .now) (l .loop .at + c .before .before .before .width .result) (l .loop .calls + 1) (l .loop .shows + c .showing .result)
+    Counting (l .before .before .args .script .now) (l .loop .at + c .before .before .before .width .result) (l .loop .calls + 1) (l .loop .shows + c .count-show .result)
 step c =
     let l = c .before .before .before .before .before .before in
     let s = l .before .before .args .script .now in
     let w = wide (c .before .before .before) in
-    let k : c .showing .result ≡ showing (callOf (drop (l .loop .at) s)) = c .showing .ensures ∙ ap (λ (x : List ℕ). showing (callOf x)) (tail-is s (l .loop .at)) in
+    let k : c .count-show .result ≡ showing (callOf (drop (l .loop .at) s)) = c .count-show .ensures ∙ ap (λ (x : List ℕ). showing (callOf x)) (tail-is s (l .loop .at)) in
     let p : 1 ≤ c .before .before .before .width .result = omega arith in
     rw (w, k) (count-step (l .loop .inv) (c .before .before .before .before .before .loop-test .taken) (rw w at p))
 
@@ -49,17 +49,17 @@ width-requires c κs = tt
 returns : tie.Need-returns Inv-loop μ-loop
 returns c = let l = c .before .before .before .before in count-stop (l .loop .inv) (c .before .before .before .loop-test .taken) (sym (wide (c .before)) ∙ c .if1 .taken)
 
-sub-showing : tie.Need-sub-showing Inv-loop μ-loop
-sub-showing c = omega arith
+sub-count-show : tie.Need-sub-count-show Inv-loop μ-loop
+sub-count-show c = omega arith
 
-part-showing-start : tie.Need-part-showing-start Inv-loop μ-loop
-part-showing-start c = omega arith
+part-count-show-start : tie.Need-part-count-show-start Inv-loop μ-loop
+part-count-show-start c = omega arith
 
-part-showing-end : tie.Need-part-showing-end Inv-loop μ-loop
-part-showing-end c = omega arith
+part-count-show-end : tie.Need-part-count-show-end Inv-loop μ-loop
+part-count-show-end c = omega arith
 
-showing-requires : tie.Need-showing-requires Inv-loop μ-loop
-showing-requires c κs = rw (tail-is _ _, length-drop) (omega arith)
+count-show-requires : tie.Need-count-show-requires Inv-loop μ-loop
+count-show-requires c κs = rw (tail-is _ _, length-drop) (omega arith)
 
 add-shows : tie.Need-add-shows Inv-loop μ-loop
 add-shows c = let i = step c in omega arith
@@ -91,10 +91,10 @@ count-spec =
     part-width-end
     width-requires
     returns
-    sub-showing
-    part-showing-start
-    part-showing-end
-    showing-requires
+    sub-count-show
+    part-count-show-start
+    part-count-show-end
+    count-show-requires
     add-shows
     add-calls
     add-at

@@ -7,17 +7,17 @@ use native.Mathlib.Numerals.{unary-clauses}
 use lib.ListN.{length}
 use borrow.Author.Needs.{needs}
 use Rattle.desk.specs.Steps.{Turned, turned}
-use Rattle.firmware_bench.specs.Calls.{following, callStep, run}
+use Rattle.firmware_bench.specs.Calls.{nextTicket, callStep, run}
 use Rattle.firmware_bench.proofs.calls.run.Statement.{statement}
 use Rattle.firmware_bench.proofs.calls.run.Tie as tie
 
 -- a call moves one turn on
-turn-on : (q : List ℕ) (kind last t t′ n i : ℕ) (s s′ : Turned) → i < n → s′ ≡ callStep (s .desk) (s .pool) q kind t → t′ ≡ following t last
+turn-on : (q : List ℕ) (kind last t t′ n i : ℕ) (s s′ : Turned) → i < n → s′ ≡ callStep (s .desk) (s .pool) q kind t → t′ ≡ nextTicket t last
     → run q kind last t′ (n - (i + 1)) s′ ≡ run q kind last t (n - i) s
 unfolding run
 turn-on q kind last t t′ n i s s′ h e f =
     let k : n - i ≡ suc (n - (i + 1)) = omega arith in
-    ap (λ (u : ℕ). run q kind last u (n - (i + 1)) s′) f ∙ ap (run q kind last (following t last) (n - (i + 1))) e ∙ ap (λ (m : ℕ). run q kind last t m s) (sym k)
+    ap (λ (u : ℕ). run q kind last u (n - (i + 1)) s′) f ∙ ap (run q kind last (nextTicket t last) (n - (i + 1))) e ∙ ap (λ (m : ℕ). run q kind last t m s) (sym k)
 
 turns-end : (q : List ℕ) (kind last t n i : ℕ) (s : Turned) → n ≤ i → run q kind last t (n - i) s ≡ s
 unfolding run
@@ -38,8 +38,8 @@ loop-holds c = (omega arith, refl, simp unary-clauses refl)
 call-requires : tie.Need-call-requires Inv-loop μ-loop
 call-requires c κs = search needs
 
-following-requires : tie.Need-following-requires Inv-loop μ-loop
-following-requires c κs = search needs
+next-ticket-requires : tie.Need-next-ticket-requires Inv-loop μ-loop
+next-ticket-requires c κs = search needs
 
 add-i : tie.Need-add-i Inv-loop μ-loop
 add-i c = omega arith
@@ -51,7 +51,7 @@ loop-again : tie.Need-loop-again Inv-loop μ-loop
 loop-again c =
     let l = c .before .before .before .before .before .before .before .loop in
     let k = c .before .before .before .call in
-    (omega arith, k .kept .1 .0 ∙ l .inv .1, turn-on _ _ _ _ _ _ _ _ _ (omega arith) (k .ensures) (c .following .ensures) ∙ l .inv .2)
+    (omega arith, k .kept .1 .0 ∙ l .inv .1, turn-on _ _ _ _ _ _ _ _ _ (omega arith) (k .ensures) (c .next-ticket .ensures) ∙ l .inv .2)
 
 same-length : tie.Need-same-length Inv-loop μ-loop
 same-length c = c .before .loop .inv .1
@@ -69,7 +69,7 @@ run-spec =
     μ-loop
     loop-holds
     call-requires
-    following-requires
+    next-ticket-requires
     add-i
     loop-less
     loop-again

@@ -1,0 +1,2 @@
+-- Worked examples of the ledger. Assumes nothing.
+pub mod Examples
