@@ -5,6 +5,8 @@ ghost use lib.ListN.{length, drop};
 ghost use Rattle.octets.specs.Classes.{Classes};
 ghost use Rattle.line_parameters.specs.First.{spanned, firstOf};
 use line_parser::rule::Part;
+use octets::classes;
+use octets::classes::ClassTable;
 
 // Where the octets of a parameter's value stand in a line, or that there is no such parameter.
 pub enum First {
@@ -13,7 +15,7 @@ pub enum First {
 }
 
 // Where the octets of a good value stand, quotes taken off.
-fn value_span(t: &[u8; 256], s: &[u8], at: usize) -> First
+fn value_span(t: &ClassTable, s: &[u8], at: usize) -> First
     requires { ⌜ Classes (now t) ⌝ }
     requires { ⌜ at ≤ length (now s) ⌝ }
     ensures { λ r. ⌜ r ≡ spanned at (drop at (now (s .entry))) ⌝ }
@@ -22,15 +24,15 @@ fn value_span(t: &[u8; 256], s: &[u8], at: usize) -> First
         return First::Between(at, at);
     }
     if s[at] != 34 {
-        let end = octets::classes::span(t, s, at, 8);
+        let end = classes::span(t, s, at, classes::BARE);
         return First::Between(at, end);
     }
-    let end = octets::classes::span(t, s, at + 1, 16);
+    let end = classes::span(t, s, at + 1, classes::QUOTED);
     First::Between(at + 1, end)
 }
 
 // The first value of the first parameter of that name, without case, from the end of the line's name on.
-pub fn param_first(t: &[u8; 256], s: &[u8], from: usize, name: &[u8]) -> First
+pub fn param_first(t: &ClassTable, s: &[u8], from: usize, name: &[u8]) -> First
     requires { ⌜ Classes (now t) ⌝ }
     ensures { λ r. ⌜ r ≡ firstOf (now (name .entry)) from (suc (length (drop from (now (s .entry))))) (drop from (now (s .entry))) ⌝ }
 {
@@ -44,7 +46,7 @@ pub fn param_first(t: &[u8; 256], s: &[u8], from: usize, name: &[u8]) -> First
         let Part::Upto(e) = p else {
             return First::Nothing;
         };
-        let end = octets::classes::span(t, s, start, 7);
+        let end = classes::span(t, s, start, classes::NAME);
         if octets::cases::same_name(&s[start..end], name) {
             return value_span(t, s, end + 1);
         }

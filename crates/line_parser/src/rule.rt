@@ -6,6 +6,8 @@ ghost use Rattle.octets.specs.Classes.{Classes};
 ghost use Rattle.line_parser.specs.Rule.{word, value, values, param, params, head, parseLine};
 ghost use Rattle.line_parser.specs.Places.{place, listed, headed, outcome};
 use numbers::fault;
+use octets::classes;
+use octets::classes::ClassTable;
 
 // What reading a part answers; a fault is handed up unchanged.
 pub enum Part {
@@ -22,12 +24,12 @@ pub enum Part {
 }
 
 // One or more letters, digits or hyphens.
-fn read_word(t: &[u8; 256], s: &[u8], at: usize, fault: u32) -> Part
+fn read_word(t: &ClassTable, s: &[u8], at: usize, fault: u32) -> Part
     requires { ⌜ Classes (now t) ⌝ }
     requires { ⌜ at ≤ length (now s) ⌝ }
     ensures { λ r. ⌜ r ≡ place at (word fault (drop at (now (s .entry)))) ⌝ }
 {
-    let e = octets::classes::span(t, s, at, 7);
+    let e = classes::span(t, s, at, classes::NAME);
     if e == at {
         return Part::Fault(fault);
     }
@@ -35,7 +37,7 @@ fn read_word(t: &[u8; 256], s: &[u8], at: usize, fault: u32) -> Part
 }
 
 // A quoted value with its quote marks, or a bare one, which may be empty.
-fn read_value(t: &[u8; 256], s: &[u8], at: usize) -> Part
+fn read_value(t: &ClassTable, s: &[u8], at: usize) -> Part
     requires { ⌜ Classes (now t) ⌝ }
     requires { ⌜ at ≤ length (now s) ⌝ }
     ensures { λ r. ⌜ r ≡ place at (value (drop at (now (s .entry)))) ⌝ }
@@ -44,10 +46,10 @@ fn read_value(t: &[u8; 256], s: &[u8], at: usize) -> Part
         return Part::Upto(at);
     }
     if s[at] != 34 {
-        let e = octets::classes::span(t, s, at, 8);
+        let e = classes::span(t, s, at, classes::BARE);
         return Part::Upto(e);
     }
-    let e = octets::classes::span(t, s, at + 1, 16);
+    let e = classes::span(t, s, at + 1, classes::QUOTED);
     if s.len() <= e {
         return Part::Fault(fault::QUOTE);
     }
@@ -58,7 +60,7 @@ fn read_value(t: &[u8; 256], s: &[u8], at: usize) -> Part
 }
 
 // One or more values split by commas, and then a `;` or a `:`.
-fn read_values(t: &[u8; 256], s: &[u8], from: usize) -> Part
+fn read_values(t: &ClassTable, s: &[u8], from: usize) -> Part
     requires { ⌜ Classes (now t) ⌝ }
     requires { ⌜ from ≤ length (now s) ⌝ }
     ensures { λ r. ⌜ r ≡ place from (values (drop from (now (s .entry)))) ⌝ }
@@ -89,7 +91,7 @@ fn read_values(t: &[u8; 256], s: &[u8], from: usize) -> Part
 }
 
 // A name, `=` and the values.
-pub fn read_param(t: &[u8; 256], s: &[u8], at: usize) -> Part
+pub fn read_param(t: &ClassTable, s: &[u8], at: usize) -> Part
     requires { ⌜ Classes (now t) ⌝ }
     requires { ⌜ at ≤ length (now s) ⌝ }
     ensures { λ r. ⌜ r ≡ place at (param (drop at (now (s .entry)))) ⌝ }
@@ -108,7 +110,7 @@ pub fn read_param(t: &[u8; 256], s: &[u8], at: usize) -> Part
 }
 
 // Any number of parameters, each after a semicolon, and then a colon.
-fn read_params(t: &[u8; 256], s: &[u8], from: usize) -> Part
+fn read_params(t: &ClassTable, s: &[u8], from: usize) -> Part
     requires { ⌜ Classes (now t) ⌝ }
     ensures { λ r. ⌜ r ≡ listed 0 from (params (suc (length (drop from (now (s .entry))))) (drop from (now (s .entry)))) ⌝ }
 {
@@ -133,7 +135,7 @@ fn read_params(t: &[u8; 256], s: &[u8], from: usize) -> Part
 }
 
 // The group and its dot, if there is one, and the name.
-fn read_head(t: &[u8; 256], s: &[u8]) -> Part
+fn read_head(t: &ClassTable, s: &[u8]) -> Part
     requires { ⌜ Classes (now t) ⌝ }
     ensures { λ r. ⌜ r ≡ headed (head (now (s .entry))) ⌝ }
 {
@@ -156,7 +158,7 @@ fn read_head(t: &[u8; 256], s: &[u8]) -> Part
 }
 
 // A whole line.
-pub fn read_line(t: &[u8; 256], s: &[u8]) -> Part
+pub fn read_line(t: &ClassTable, s: &[u8]) -> Part
     requires { ⌜ Classes (now t) ⌝ }
     ensures { λ r. ⌜ r ≡ outcome (parseLine (now (s .entry))) ⌝ }
 {

@@ -43,6 +43,19 @@ bit false n = 0
 abbrev pub mask : Bool → Bool → Bool → Bool → Bool → Bool → ℕ
 mask l d h b q v = bit l 1 + (bit d 2 + (bit h 4 + (bit b 8 + (bit q 16 + bit v 32))))
 
+-- the masks of an octet of a name, of a bare value, between quote marks, and of a property value
+abbrev pub nameMask : ℕ
+nameMask = 7
+
+abbrev pub bareMask : ℕ
+bareMask = 8
+
+abbrev pub quotedMask : ℕ
+quotedMask = 16
+
+abbrev pub valueMask : ℕ
+valueMask = 32
+
 -- the class mask of an octet
 unfoldable pub classOf : ℕ → ℕ
 classOf b = mask (letter b) (digit b) (hyphen b) (bare b) (quoted b) (valued b)
