@@ -62,10 +62,10 @@ fn kind_at(t: &ClassTable, rows: &[u8; 624], s: &[u8], row: usize, name: usize) 
         return kind;
     }
     let f = line_parameters::param_first(t, s, name, b"VALUE");
-    let First::Between(a, e) = f else {
+    let First::Between { start, end } = f else {
         return kind;
     };
-    property_table::kind_named(&s[a..e])
+    property_table::kind_named(&s[start..end])
 }
 
 // The parts of a line, or the fault by which it breaks the line rule.
@@ -76,7 +76,13 @@ pub fn parts_of(t: &ClassTable, rows: &[u8; 624], s: &[u8]) -> Told
     ensures { λ r. ⌜ r ≡ toldOf (now (s .entry)) ⌝ }
 {
     let p = line_parser::rule::read_line(t, s);
-    let Part::Parsed(group, name, params, value) = p else {
+    let Part::Parsed {
+        group_length: group,
+        name_end: name,
+        param_count: params,
+        value_start: value,
+    } = p
+    else {
         return Told::Fault(fault_of(p));
     };
     let start = name_start(group);

@@ -10,7 +10,7 @@ use octets::classes::ClassTable;
 
 // Where the octets of a parameter's value stand in a line, or that there is no such parameter.
 pub enum First {
-    Between(usize, usize),
+    Between { start: usize, end: usize },
     Nothing,
 }
 
@@ -21,14 +21,14 @@ fn value_span(t: &ClassTable, s: &[u8], at: usize) -> First
     ensures { λ r. ⌜ r ≡ spanned at (drop at (now (s .entry))) ⌝ }
 {
     if s.len() <= at {
-        return First::Between(at, at);
+        return First::Between { start: at, end: at };
     }
     if s[at] != 34 {
         let end = classes::span(t, s, at, classes::BARE);
-        return First::Between(at, end);
+        return First::Between { start: at, end };
     }
     let end = classes::span(t, s, at + 1, classes::QUOTED);
-    First::Between(at + 1, end)
+    First::Between { start: at + 1, end }
 }
 
 // The first value of the first parameter of that name, without case, from the end of the line's name on.

@@ -13,12 +13,23 @@ use octets::classes::ClassTable;
 pub enum Part {
     // The part ends here.
     Upto(usize),
-    // How long the group is, and where the name ends.
-    Named(usize, usize),
-    // How many parameters there are, and where they end.
-    Listed(usize, usize),
-    // Group length, end of the name, number of parameters, start of the value.
-    Parsed(usize, usize, usize, usize),
+    // A group and a name.
+    Named {
+        group_length: usize,
+        name_end: usize,
+    },
+    // Parameters.
+    Listed {
+        param_count: usize,
+        end: usize,
+    },
+    // A whole line.
+    Parsed {
+        group_length: usize,
+        name_end: usize,
+        param_count: usize,
+        value_start: usize,
+    },
     // 40 no name, or a bad name or group; 41 a bad parameter; 42 a bad quote; 43 no colon.
     Fault(u32),
 }
@@ -120,7 +131,10 @@ fn read_params(t: &ClassTable, s: &[u8], from: usize) -> Part
         let b = s[at];
         if b != 59 {
             if b == 58 {
-                return Part::Listed(count, at);
+                return Part::Listed {
+                    param_count: count,
+                    end: at,
+                };
             }
             return Part::Fault(fault::NAME);
         }
@@ -144,17 +158,26 @@ fn read_head(t: &ClassTable, s: &[u8]) -> Part
         return first;
     };
     if s.len() <= n {
-        return Part::Named(0, n);
+        return Part::Named {
+            group_length: 0,
+            name_end: n,
+        };
     }
     if s[n] != 46 {
-        return Part::Named(0, n);
+        return Part::Named {
+            group_length: 0,
+            name_end: n,
+        };
     }
     let start = n + 1;
     let second = read_word(t, s, start, fault::NAME);
     let Part::Upto(e) = second else {
         return second;
     };
-    Part::Named(n, e)
+    Part::Named {
+        group_length: n,
+        name_end: e,
+    }
 }
 
 // A whole line.
@@ -163,12 +186,21 @@ pub fn read_line(t: &ClassTable, s: &[u8]) -> Part
     ensures { λ r. ⌜ r ≡ outcome (parseLine (now (s .entry))) ⌝ }
 {
     let first = read_head(t, s);
-    let Part::Named(group, n) = first else {
+    let Part::Named {
+        group_length,
+        name_end,
+    } = first
+    else {
         return first;
     };
-    let rest = read_params(t, s, n);
-    let Part::Listed(count, e) = rest else {
+    let rest = read_params(t, s, name_end);
+    let Part::Listed { param_count, end } = rest else {
         return rest;
     };
-    Part::Parsed(group, n, count, e + 1)
+    Part::Parsed {
+        group_length,
+        name_end,
+        param_count,
+        value_start: end + 1,
+    }
 }
