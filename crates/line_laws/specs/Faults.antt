@@ -7,20 +7,16 @@ use mathlib.Core.List.{List, _∷_, _++_}
 use lib.Dec.{eqb}
 use lib.ListN.{length}
 use Rattle.numbers.specs.Faults as fault
-use Rattle.octets.specs.Classes.{named, quoted, bare}
+use Rattle.octets.specs.Classes.{named, quoted}
 use Rattle.line_parser.specs.Parse.{hd}
-use Rattle.line_parser.specs.Grammar.{Value, plain, inQuotes, Param, Each, Is, Word, GoodValue, GoodParam, valueText, paramText, groupText}
+use Rattle.line_parser.specs.Grammar.{Value, Param, Each, Is, Word, GoodValue, GoodParam, valueText, paramText, groupText}
 use Rattle.line_parser.specs.Rule.{ends, isColon, orEnd}
-
--- a value is not longer than it is written: no further octet of a bare one follows it, and no quote mark an empty one
-abbrev pub Full : Value → List ℕ → Type 0
-Full (inQuotes xs) r = Unit {0}
-Full (plain xs) r = (bare (hd r) ≡ false) × (length xs ≡ 0 → eqb (hd r) 34 ≡ false)
+use Rattle.line_parameters.specs.Whole.{Whole}
 
 -- from after `=` or a comma on: a quote left open; a value with something else after it than , ; : or the end; or a later value
 pub data ValuesFault : ℕ → List ℕ → Type 0 where
   open-quote : (xs r : List ℕ) → Each (Is quoted) xs → quoted (hd r) ≡ false → eqb (hd r) 34 ≡ false → ValuesFault fault.quote (34 ∷ (xs ++ r))
-  not-ended : (v : Value) (r : List ℕ) → GoodValue v → Full v r → eqb (hd r) 44 ≡ false → ends (hd r) ≡ false
+  not-ended : (v : Value) (r : List ℕ) → GoodValue v → Whole v r → eqb (hd r) 44 ≡ false → ends (hd r) ≡ false
       → ValuesFault (orEnd fault.quote fault.noColon r) (valueText v ++ r)
   later : (e : ℕ) (v : Value) (r : List ℕ) → GoodValue v → ValuesFault e r → ValuesFault e (valueText v ++ 44 ∷ r)
 
