@@ -23,7 +23,7 @@ fn value_span(t: &ClassTable, s: &[u8], at: usize) -> First
     if s.len() <= at {
         return First::Between { start: at, end: at };
     }
-    if s[at] != 34 {
+    if s[at] != b'"' {
         let end = classes::span(t, s, at, classes::BARE);
         return First::Between { start: at, end };
     }
@@ -38,7 +38,7 @@ pub fn param_first(t: &ClassTable, s: &[u8], from: usize, name: &[u8]) -> First
 {
     let mut at = from;
     while at < s.len() {
-        if s[at] != 59 {
+        if s[at] != b';' {
             return First::Nothing;
         }
         let start = at + 1;

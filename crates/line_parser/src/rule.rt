@@ -56,7 +56,7 @@ fn read_value(t: &ClassTable, s: &[u8], at: usize) -> Part
     if s.len() <= at {
         return Part::Upto(at);
     }
-    if s[at] != 34 {
+    if s[at] != b'"' {
         let e = classes::span(t, s, at, classes::BARE);
         return Part::Upto(e);
     }
@@ -64,7 +64,7 @@ fn read_value(t: &ClassTable, s: &[u8], at: usize) -> Part
     if s.len() <= e {
         return Part::Fault(fault::QUOTE);
     }
-    if s[e] != 34 {
+    if s[e] != b'"' {
         return Part::Fault(fault::QUOTE);
     }
     Part::Upto(e + 1)
@@ -83,11 +83,11 @@ fn read_values(t: &ClassTable, s: &[u8], from: usize) -> Part
     let mut at = start;
     while at < s.len() {
         let b = s[at];
-        if b != 44 {
-            if b == 59 {
+        if b != b',' {
+            if b == b';' {
                 return Part::Upto(at);
             }
-            if b == 58 {
+            if b == b':' {
                 return Part::Upto(at);
             }
             return Part::Fault(fault::QUOTE);
@@ -114,7 +114,7 @@ pub fn read_param(t: &ClassTable, s: &[u8], at: usize) -> Part
     if s.len() <= n {
         return Part::Fault(fault::PARAMETER);
     }
-    if s[n] != 61 {
+    if s[n] != b'=' {
         return Part::Fault(fault::PARAMETER);
     }
     read_values(t, s, n + 1)
@@ -129,8 +129,8 @@ fn read_params(t: &ClassTable, s: &[u8], from: usize) -> Part
     let mut count: usize = 0;
     while at < s.len() {
         let b = s[at];
-        if b != 59 {
-            if b == 58 {
+        if b != b';' {
+            if b == b':' {
                 return Part::Listed {
                     param_count: count,
                     end: at,
@@ -163,7 +163,7 @@ fn read_head(t: &ClassTable, s: &[u8]) -> Part
             name_end: n,
         };
     }
-    if s[n] != 46 {
+    if s[n] != b'.' {
         return Part::Named {
             group_length: 0,
             name_end: n,

@@ -18,7 +18,7 @@ pub fn unit_length(t: &ClassTable, s: &[u8], i: usize, lf: bool) -> usize
         if !lf {
             return 0;
         }
-        if b != 10 {
+        if b != b'\n' {
             return 0;
         }
         return 1;
