@@ -8,13 +8,8 @@ use crate::shown;
 use libc::STDERR_FILENO;
 use libc::STDOUT_FILENO;
 use numbers::limit;
+use octets::indices::wide_number;
 use reader::Verdict;
-
-fn wide(n: u32) -> usize
-    ensures { λ r. ⌜ r < limit.word ⌝ }
-{
-    n as usize
-}
 
 // The columns before the value, of a line that starts and has a group, a name and a value so.
 fn fields(copy: &[u8], start: u32, group: u32, name: u32, value: u32) {
@@ -32,8 +27,8 @@ fn row(copy: &[u8], r: &[u32]) {
         return;
     }
     fields(copy, r[1], r[3], r[4], r[6]);
-    let end = wide(r[1]) + wide(r[2]);
-    shown::value(octets::slices::part(copy, wide(r[6]), end), r[7]);
+    let end = wide_number(r[1]) + wide_number(r[2]);
+    shown::value(octets::slices::part(copy, wide_number(r[6]), end), r[7]);
     io::write_all(STDOUT_FILENO, b"\n");
 }
 

@@ -15,7 +15,7 @@ use Rattle.line_parser.specs.Grammar.{Line, nameEnd}
 use Rattle.line_parser.specs.Rule.{parseLine}
 use Rattle.line_parser.specs.Places.{outcome, nameStart}
 use Rattle.line_parser.proofs.Inside.{InLine, in-line}
-use Rattle.line_laws.proofs.PlacesLaw.{accepted-starts}
+use Rattle.line_parameters.proofs.PlacesLaw.{accepted-starts}
 use Rattle.property_table.specs.Rows.{isGroup}
 use Rattle.value_kinds.specs.Kinds.{valueScan}
 use Rattle.value_kinds.specs.declared.Fault.{Fault}

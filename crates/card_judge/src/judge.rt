@@ -17,6 +17,7 @@ use card_state::Card;
 use card_state::Step;
 use numbers::property;
 use numbers::refusal;
+use octets::classes::ClassTable;
 use value_kinds::Fault;
 
 // Whether a line of the row may stand here.
@@ -115,7 +116,7 @@ fn judge_parts(steps: &[u8; 1016], x: Parts, value: &[u8], at: usize, c: Card) -
 
 // Judges the line s, which starts at `at` in the input.
 pub fn judge_line(
-    t: &[u8; 256],
+    t: &ClassTable,
     rows: &[u8; 624],
     steps: &[u8; 1016],
     s: &[u8],

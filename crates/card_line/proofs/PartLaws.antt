@@ -20,11 +20,11 @@ use Rattle.line_parser.proofs.rule.Part.{the-type}
 use denote.Enum.Declared.{tagOf}
 use types.Run.{OneOf, miss}
 use Rattle.line_parser.proofs.Inside.{InLine, in-line}
-use Rattle.line_laws.specs.Placed.{Placed}
-use Rattle.line_laws.specs.Found.{Found}
-use Rattle.line_laws.proofs.Law.{line-law}
-use Rattle.line_laws.proofs.PlacesLaw.{places-law}
-use Rattle.line_laws.proofs.FirstLaw.{first-law}
+use Rattle.line_parameters.specs.Placed.{Placed}
+use Rattle.line_parameters.specs.Found.{Found}
+use Rattle.line_parameters.proofs.Law.{line-law}
+use Rattle.line_parameters.proofs.PlacesLaw.{places-law}
+use Rattle.line_parameters.proofs.FirstLaw.{first-law}
 use Rattle.octets.specs.Pick.{pick}
 use Rattle.octets.specs.Cases.{same}
 use Rattle.octets.specs.Ascii.{octets}

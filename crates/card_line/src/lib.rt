@@ -10,6 +10,7 @@ ghost use Rattle.line_parser.specs.Places.{nameStart};
 ghost use Rattle.card_line.specs.Parts.{faultOf, Accepted, firstValue, toldOf};
 use line_parameters::First;
 use line_parser::rule::Part;
+use octets::classes::ClassTable;
 
 pub struct Parts {
     // The property's number, 0 for a name that is not listed.
@@ -49,7 +50,7 @@ fn fault_of(p: Part) -> u32
 }
 
 // The kind of the value of a line whose name ends at `name`.
-fn kind_at(t: &[u8; 256], rows: &[u8; 624], s: &[u8], row: usize, name: usize) -> usize
+fn kind_at(t: &ClassTable, rows: &[u8; 624], s: &[u8], row: usize, name: usize) -> usize
     requires { ⌜ Classes (now t) ⌝ }
     requires { ⌜ Lists (now rows) ⌝ }
     requires { ⌜ row < property.count ⌝ }
@@ -61,21 +62,27 @@ fn kind_at(t: &[u8; 256], rows: &[u8; 624], s: &[u8], row: usize, name: usize) -
         return kind;
     }
     let f = line_parameters::param_first(t, s, name, b"VALUE");
-    let First::Between(a, e) = f else {
+    let First::Between { start, end } = f else {
         return kind;
     };
-    property_table::kind_named(&s[a..e])
+    property_table::kind_named(&s[start..end])
 }
 
 // The parts of a line, or the fault by which it breaks the line rule.
-pub fn parts_of(t: &[u8; 256], rows: &[u8; 624], s: &[u8]) -> Told
+pub fn parts_of(t: &ClassTable, rows: &[u8; 624], s: &[u8]) -> Told
     requires { ⌜ Classes (now t) ⌝ }
     requires { ⌜ Lists (now rows) ⌝ }
     requires { ⌜ length (now s) ≤ limit.octets ⌝ }
     ensures { λ r. ⌜ r ≡ toldOf (now (s .entry)) ⌝ }
 {
     let p = line_parser::rule::read_line(t, s);
-    let Part::Parsed(group, name, params, value) = p else {
+    let Part::Parsed {
+        group_length: group,
+        name_end: name,
+        param_count: params,
+        value_start: value,
+    } = p
+    else {
         return Told::Fault(fault_of(p));
     };
     let start = name_start(group);

@@ -3,6 +3,7 @@ ghost use mathlib.Core.Path.{_≡_};
 ghost use Prim.Native.Nat.{_<_, _≤_};
 ghost use Rattle.console_requests.specs.Names.{Lists, rowAt, fits, rowOf};
 use crate::Name;
+use octets::indices::wide;
 
 // Eleven entries for each row, and a last row for no request: name, its length, how many numbers stand after it, 1 where octets do.
 const ROWS: [u8; 165] = *b"\
@@ -27,12 +28,6 @@ pub fn table() -> [u8; 165]
     ensures { λ r. ⌜ Lists r ⌝ }
 {
     ROWS
-}
-
-fn wide(octet: u8) -> usize
-    ensures { λ r. ⌜ r ≡ octet ⌝ }
-{
-    octet as usize
 }
 
 // How many numbers stand after a row's name.

@@ -3,6 +3,7 @@ ghost use mathlib.Core.Path.{_≡_};
 ghost use Prim.Native.Nat.{_<_};
 ghost use lib.Dec.{eqb};
 ghost use lib.ListN.{length, drop};
+ghost use Rattle.octets.specs.Ascii as ascii;
 ghost use Rattle.octets.specs.Classes.{bit};
 ghost use Rattle.line_breaks.specs.Lone.{loneStep, firstLone, differ, paired, endsCrLf};
 
@@ -11,16 +12,16 @@ fn lone_step(s: &[u8], i: usize) -> usize
     requires { ⌜ i < length (now s) ⌝ }
     ensures { λ r. ⌜ r ≡ loneStep (drop i (now (s .entry))) ⌝ }
 {
-    if s[i] == 10 {
+    if s[i] == b'\n' {
         return 0;
     }
-    if s[i] != 13 {
+    if s[i] != b'\r' {
         return 1;
     }
     if s.len() - i < 2 {
         return 0;
     }
-    if s[i + 1] != 10 {
+    if s[i + 1] != b'\n' {
         return 0;
     }
     2
@@ -43,9 +44,9 @@ fn search(s: &[u8]) -> usize
 
 // 1 where only one of the two is half of a CR LF, else 0.
 fn split_bit(a: u8, b: u8) -> u8
-    ensures { λ r. ⌜ r ≡ bit (differ (eqb a 13) (eqb b 10)) 1 ⌝ }
+    ensures { λ r. ⌜ r ≡ bit (differ (eqb a ascii.cr) (eqb b ascii.lf)) 1 ⌝ }
 {
-    (a == 13) as u8 ^ (b == 10) as u8
+    (a == b'\r') as u8 ^ (b == b'\n') as u8
 }
 
 // Whether LF stands exactly after each CR: one look at each octet with no way out, so that it is compiled to vectors.
@@ -55,7 +56,7 @@ fn all_paired(s: &[u8]) -> bool
     if s.len() == 0 {
         return true;
     }
-    if s[0] == 10 {
+    if s[0] == b'\n' {
         return false;
     }
     let last = s.len() - 1;
@@ -65,7 +66,7 @@ fn all_paired(s: &[u8]) -> bool
         bad = bad | split_bit(s[i], s[i + 1]);
         i += 1;
     }
-    if s[last] == 13 {
+    if s[last] == b'\r' {
         return false;
     }
     bad == 0
@@ -89,8 +90,8 @@ pub fn ends_cr_lf(s: &[u8]) -> bool
     if n < 2 {
         return false;
     }
-    if s[n - 2] != 13 {
+    if s[n - 2] != b'\r' {
         return false;
     }
-    s[n - 1] == 10
+    s[n - 1] == b'\n'
 }

@@ -5,16 +5,17 @@ use mathlib.Core.Bool.{Bool, not, _&&_, _||_}
 use mathlib.Core.List.{List, [], _∷_}
 use lib.Dec.{eqb}
 use lib.ListN.{getD}
+use Rattle.octets.specs.Ascii as ascii
 use Rattle.octets.specs.Pick.{pick}
 use Rattle.octets.specs.Scan.{scan, gather}
 
 -- a fold starts here
 unfoldable pub foldAt : List ℕ → Bool
-foldAt l = eqb (getD l 0 0) 13 && (eqb (getD l 1 0) 10 && (eqb (getD l 2 0) 32 || eqb (getD l 2 0) 9))
+foldAt l = eqb (getD l 0 0) ascii.cr && (eqb (getD l 1 0) ascii.lf && (eqb (getD l 2 0) ascii.space || eqb (getD l 2 0) ascii.tab))
 
 -- a fold is passed whole, a CR of no fold ends the line
 unfoldable pub lineStep : List ℕ → ℕ
-lineStep l = pick (foldAt l) 3 (pick (eqb (getD l 0 0) 13) 0 1)
+lineStep l = pick (foldAt l) 3 (pick (eqb (getD l 0 0) ascii.cr) 0 1)
 
 -- the length of the first logical line, with its folds and without its end
 unfoldable pub lineLength : List ℕ → ℕ
@@ -33,4 +34,4 @@ unfoldable pub unfolded : List ℕ → List ℕ
 unfolded l = gather passed kept l 0
 
 unfoldable pub notCr : ℕ → Bool
-notCr b = not (eqb b 13)
+notCr b = not (eqb b ascii.cr)

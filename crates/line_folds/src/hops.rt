@@ -3,18 +3,19 @@ ghost use mathlib.Core.Path.{_≡_};
 ghost use mathlib.Core.Bool.{false};
 ghost use Prim.Native.Nat.{ℕ, _+_, _<_, _≤_};
 ghost use lib.ListN.{length, drop, getD};
+ghost use Rattle.octets.specs.Ascii as ascii;
 ghost use Rattle.octets.specs.Classes.{run};
 ghost use Rattle.line_folds.specs.Folds.{notCr};
 
 // False only where none of the sixteen octets from i is CR.
 fn near(s: &[u8], i: usize) -> bool
     requires { ⌜ i + 16 ≤ length (now s) ⌝ }
-    ensures { λ r. ⌜ (r ≡ false → (k : ℕ) → k < 16 → getD (now (s .entry)) (i + k) 0 ≡ 13 → ⊥) ⌝ }
+    ensures { λ r. ⌜ (r ≡ false → (k : ℕ) → k < 16 → getD (now (s .entry)) (i + k) 0 ≡ ascii.cr → ⊥) ⌝ }
 {
     let mut hit: u8 = 0;
     let mut k: usize = 0;
     while k < 16 {
-        hit = hit | (s[i + k] == 13) as u8;
+        hit = hit | (s[i + k] == b'\r') as u8;
         k += 1;
     }
     hit != 0
@@ -42,7 +43,7 @@ pub fn next_cr(s: &[u8], from: usize) -> usize
 {
     let mut i = hop(s, from);
     while i < s.len() {
-        if s[i] == 13 {
+        if s[i] == b'\r' {
             return i;
         }
         i += 1;

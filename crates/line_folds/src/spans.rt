@@ -16,19 +16,19 @@ pub fn fold_at(s: &[u8], i: usize) -> bool
     requires { ⌜ i < length (now s) ⌝ }
     ensures { λ r. ⌜ r ≡ foldAt (drop i (now (s .entry))) ⌝ }
 {
-    if s[i] != 13 {
+    if s[i] != b'\r' {
         return false;
     }
     if s.len() - i < 3 {
         return false;
     }
-    if s[i + 1] != 10 {
+    if s[i + 1] != b'\n' {
         return false;
     }
-    if s[i + 2] == 32 {
+    if s[i + 2] == b' ' {
         return true;
     }
-    s[i + 2] == 9
+    s[i + 2] == b'\t'
 }
 
 // The end of the logical line that starts at `from`: its last CR, or the end. Four octets after a fold are passed one by one, and the
@@ -40,7 +40,7 @@ pub fn line_end(s: &[u8], from: usize) -> usize
     let mut at = from;
     let mut met: usize = 0;
     while at < s.len() {
-        if s[at] == 13 {
+        if s[at] == b'\r' {
             let fold = fold_at(s, at);
             if !fold {
                 return at;

@@ -16,7 +16,7 @@ use Rattle.line_parser.specs.Grammar.{Value, Param, Each, Is, valueText, paramT
 use Rattle.line_parser.specs.Rule.{word, closing, value, ends, isColon, orEnd, moreValues, values, param, params, head, parseLine}
 use Rattle.line_parser.proofs.ParseLaws.{next-got, next-bad, guard-yes, guard-no, pick-yes, many-end}
 use Rattle.line_laws.specs.Faults.{ValuesFault, ParamsFault, LineFault}
-use Rattle.line_laws.proofs.Complete.{run-append, word-complete, value-whole, value-complete, comma, param-complete, semicolon, head-complete, equals-not, dot-not, named-not}
+use Rattle.line_parameters.proofs.Complete.{run-append, word-complete, value-whole, value-complete, comma, param-complete, semicolon, head-complete, equals-not, dot-not, named-not}
 use Rattle.line_laws.proofs.FaultSound.{line-fault}
 
 run-none : (p : ℕ → Bool) (l : List ℕ) → p (hd l) ≡ false → run p l ≡ 0

@@ -15,9 +15,10 @@ use Rattle.line_parser.specs.Grammar.{Value, plain, inQuotes, GoodValue, valueT
 use Rattle.line_parser.specs.Rule.{word, closing, value, ends, isColon, orEnd, moreValues, values, param, params, Head, head, parseLine}
 use Rattle.line_parser.proofs.ParseLaws.{bad-got, guard-inv, guard-yes, pick-inv, next-inv, many-end, drop-suc}
 use Rattle.line_parser.proofs.PartLaws.{run-le, word-taken, param-parts}
-use Rattle.line_laws.specs.Faults.{Full, ValuesFault, ParamsFault, LineFault}
-use Rattle.line_laws.proofs.Pieces.{hd-cons, part-then}
-use Rattle.line_laws.proofs.Sound.{run-each, word-sound, value-sound, param-sound, head-sound}
+use Rattle.line_parameters.specs.Whole.{Whole}
+use Rattle.line_laws.specs.Faults.{ValuesFault, ParamsFault, LineFault}
+use Rattle.line_parameters.proofs.Pieces.{hd-cons, part-then}
+use Rattle.line_parameters.proofs.Sound.{run-each, word-sound, value-sound, param-sound, head-sound}
 
 module _ {A C : Type 0} where
   guard-fault : (t : Bool) (x : ℕ) (p : Parse A) {e : ℕ} → guard t x p ≡ bad e → (t ≡ false → x ≡ e → C) → (t ≡ true → p ≡ bad e → C) → C
@@ -67,9 +68,9 @@ word-stop : (x : ℕ) (l a : List ℕ) (k : ℕ) → word x l ≡ got a k → na
 word-stop x l a k h = rw (word-taken x l a k h .whole) (run-stop named named-zero l)
 
 -- an accepted value is whole
-value-full : (l : List ℕ) (v : Value) (k : ℕ) → value l ≡ got v k → Full v (drop k l)
+value-whole-read : (l : List ℕ) (v : Value) (k : ℕ) → value l ≡ got v k → Whole v (drop k l)
 unfolding value closing
-value-full l v k h =
+value-whole-read l v k h =
     pick-inv (eqb (hd l) 34) _ _ h
     (λ t q. guard-inv (eqb (hd (drop (run quoted (drop 1 l)) (drop 1 l))) 34) 42 _ q (λ t₁ q₁.
     let ea : v ≡ inQuotes (take (run quoted (drop 1 l)) (drop 1 l)) = cc in
@@ -98,7 +99,7 @@ value-fault l e h =
     (λ t q. no-fault q)
 
 -- further values after a good one
-after-value : (n : ℕ) (v : Value) (r : List ℕ) (e : ℕ) → length r < n → GoodValue v → Full v r → moreValues n r ≡ bad e
+after-value : (n : ℕ) (v : Value) (r : List ℕ) (e : ℕ) → length r < n → GoodValue v → Whole v r → moreValues n r ≡ bad e
     → ValuesFault e (valueText v ++ r)
 unfolding moreValues many
 after-value zero v r e lt w f h = absurd (not-suc-le-zero lt)
@@ -114,7 +115,7 @@ after-value (suc n) v r e lt w f h =
     (λ b.
     let one = value-sound (drop 1 r) u i p₁ in
     let lt′ : length (drop i (drop 1 r)) < n = rw (length-drop, length-drop) (omega (arith, ap length start)) in
-    on (rw (one .1) (after-value n u (drop i (drop 1 r)) e lt′ (one .0) (value-full (drop 1 r) u i p₁) b)))
+    on (rw (one .1) (after-value n u (drop i (drop 1 r)) e lt′ (one .0) (value-whole-read (drop 1 r) u i p₁) b)))
     (λ us j p₂ q₂. no-fault q₂)))
     (λ t q. guard-fault (ends (hd r)) _ _ q
     (λ t₁ q₁. subst (λ (m : ℕ). ValuesFault m (valueText v ++ r)) q₁ (ValuesFault.not-ended v r w f t t₁))
@@ -127,7 +128,7 @@ values-fault l e h =
     (λ v i p₁ q₁.
     let one = value-sound l v i p₁ in
     next-fault (moreValues (suc (length (drop i l))) (drop i l)) _ q₁
-    (λ b. rw (one .1) (after-value (suc (length (drop i l))) v (drop i l) e (omega arith) (one .0) (value-full l v i p₁) b))
+    (λ b. rw (one .1) (after-value (suc (length (drop i l))) v (drop i l) e (omega arith) (one .0) (value-whole-read l v i p₁) b))
     (λ vs j p₂ q₂. no-fault q₂))
 
 param-fault : (l : List ℕ) (e : ℕ) → param l ≡ bad e → ParamsFault e l

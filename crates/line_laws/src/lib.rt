@@ -1,1 +1,1 @@
-// The language of lines: no code, only laws that tie the line rule's readings to its grammar.
+// The faults of a line: no code, only laws that say which lines are refused with which number.

@@ -10,7 +10,7 @@ use lib.Dec.{eqb}
 use lib.ListN.{length, getD, take, drop, drop-of-length-le}
 use lib.Seq.{drop-drop, length-take-le}
 use Rattle.octets.specs.Pick.{pick}
-use Rattle.octets.specs.Classes.{run, has, named, quoted, bare}
+use Rattle.octets.specs.Classes.{run, has, named, quoted, bare, bareMask, nameMask, quotedMask}
 use Rattle.octets.specs.Cases.{same}
 use Rattle.octets.proofs.Runs.{run-has}
 use Rattle.octets.proofs.Masks.{has-named, has-bare, has-quoted}
@@ -40,13 +40,13 @@ module _ (s : List ℕ) (at : ℕ) where
   unfolding spanned run
   spanned-none h = rw (drop-of-length-le s h, add-zero at)
 
-  pub spanned-bare : (e : ℕ) → (getD s at 0 ≡ 34 → ⊥) → e ≡ at + run (has 8) (drop at s) → spanned at (drop at s) ≡ Between at e
+  pub spanned-bare : (e : ℕ) → (getD s at 0 ≡ 34 → ⊥) → e ≡ at + run (has bareMask) (drop at s) → spanned at (drop at s) ≡ Between at e
   unfolding spanned
-  spanned-bare e q h = rw (isnt s at 34 q, h, run-has 8 bare has-bare (drop at s))
+  spanned-bare e q h = rw (isnt s at 34 q, h, run-has bareMask bare has-bare (drop at s))
 
-  pub spanned-quoted : (e : ℕ) → getD s at 0 ≡ 34 → e ≡ at + 1 + run (has 16) (drop (at + 1) s) → spanned at (drop at s) ≡ Between (at + 1) e
+  pub spanned-quoted : (e : ℕ) → getD s at 0 ≡ 34 → e ≡ at + 1 + run (has quotedMask) (drop (at + 1) s) → spanned at (drop at s) ≡ Between (at + 1) e
   unfolding spanned
-  spanned-quoted e q h = rw (is s at 34 q, h, run-has 16 quoted has-quoted (drop (at + 1) s), drop-drop 1 at s)
+  spanned-quoted e q h = rw (is s at 34 q, h, run-has quotedMask quoted has-quoted (drop (at + 1) s), drop-drop 1 at s)
 
 -- one turn of the walk
 module _ (name s : List ℕ) (at : ℕ) where
@@ -78,11 +78,11 @@ pub record NameEnd (s : List ℕ) (at : ℕ) (p : Param) (e : ℕ) : Type 0 wher
   pub within-line : e < length s
   pub first : spanned (e + 1) (drop (e + 1) s) ≡ spanOf (e + 1) (p .first)
 
-pub name-end : (s : List ℕ) (at : ℕ) (p : Param) (k e : ℕ) → param (drop at s) ≡ got p k → e ≡ at + run (has 7) (drop at s) → NameEnd s at p e
+pub name-end : (s : List ℕ) (at : ℕ) (p : Param) (k e : ℕ) → param (drop at s) ≡ got p k → e ≡ at + run (has nameMask) (drop at s) → NameEnd s at p e
 name-end s at p k e h he =
     param-parts (drop at s) p k h (λ n i w eq v stop.
     let a = word-taken 41 (drop at s) (p .name) n w in
-    let m : run (has 7) (drop at s) ≡ run named (drop at s) = run-has 7 named has-named (drop at s) in
+    let m : run (has nameMask) (drop at s) ≡ run named (drop at s) = run-has nameMask named has-named (drop at s) in
     let en : e ≡ at + n = omega arith in
     let sub : e - at ≡ n = omega arith in
     let rest : drop 1 (drop n (drop at s)) ≡ drop (e + 1) s =

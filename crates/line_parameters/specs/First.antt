@@ -5,6 +5,7 @@ use mathlib.Core.List.{List, [], _∷_}
 use mathlib.Core.Option.{Option, none, some}
 use lib.Dec.{eqb}
 use lib.ListN.{length, drop}
+use Rattle.octets.specs.Ascii as ascii
 use Rattle.octets.specs.Pick.{pick}
 use Rattle.octets.specs.Classes.{run, quoted, bare}
 use Rattle.octets.specs.Cases.{same}
@@ -44,10 +45,10 @@ firstStep name at (bad e) f = Nothing
 unfoldable pub firstOf : List ℕ → ℕ → ℕ → List ℕ → First
 firstOf name at zero l = Nothing
 firstOf name at (suc n) l =
-    pick (eqb (hd l) 59)
+    pick (eqb (hd l) ascii.semicolon)
     (firstStep name at (param (drop 1 l)) (λ k. firstOf name (at + 1 + k) n (drop k (drop 1 l))))
     Nothing
 
 -- where the octets of the value at the start of a list stand, the list being at a place
 unfoldable pub spanned : ℕ → List ℕ → First
-spanned at l = pick (eqb (hd l) 34) (Between (at + 1) (at + 1 + run quoted (drop 1 l))) (Between at (at + run bare l))
+spanned at l = pick (eqb (hd l) ascii.quote) (Between (at + 1) (at + 1 + run quoted (drop 1 l))) (Between at (at + run bare l))

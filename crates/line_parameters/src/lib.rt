@@ -5,38 +5,40 @@ ghost use lib.ListN.{length, drop};
 ghost use Rattle.octets.specs.Classes.{Classes};
 ghost use Rattle.line_parameters.specs.First.{spanned, firstOf};
 use line_parser::rule::Part;
+use octets::classes;
+use octets::classes::ClassTable;
 
 // Where the octets of a parameter's value stand in a line, or that there is no such parameter.
 pub enum First {
-    Between(usize, usize),
+    Between { start: usize, end: usize },
     Nothing,
 }
 
 // Where the octets of a good value stand, quotes taken off.
-fn value_span(t: &[u8; 256], s: &[u8], at: usize) -> First
+fn value_span(t: &ClassTable, s: &[u8], at: usize) -> First
     requires { ⌜ Classes (now t) ⌝ }
     requires { ⌜ at ≤ length (now s) ⌝ }
     ensures { λ r. ⌜ r ≡ spanned at (drop at (now (s .entry))) ⌝ }
 {
     if s.len() <= at {
-        return First::Between(at, at);
+        return First::Between { start: at, end: at };
     }
-    if s[at] != 34 {
-        let end = octets::classes::span(t, s, at, 8);
-        return First::Between(at, end);
+    if s[at] != b'"' {
+        let end = classes::span(t, s, at, classes::BARE);
+        return First::Between { start: at, end };
     }
-    let end = octets::classes::span(t, s, at + 1, 16);
-    First::Between(at + 1, end)
+    let end = classes::span(t, s, at + 1, classes::QUOTED);
+    First::Between { start: at + 1, end }
 }
 
 // The first value of the first parameter of that name, without case, from the end of the line's name on.
-pub fn param_first(t: &[u8; 256], s: &[u8], from: usize, name: &[u8]) -> First
+pub fn param_first(t: &ClassTable, s: &[u8], from: usize, name: &[u8]) -> First
     requires { ⌜ Classes (now t) ⌝ }
     ensures { λ r. ⌜ r ≡ firstOf (now (name .entry)) from (suc (length (drop from (now (s .entry))))) (drop from (now (s .entry))) ⌝ }
 {
     let mut at = from;
     while at < s.len() {
-        if s[at] != 59 {
+        if s[at] != b';' {
             return First::Nothing;
         }
         let start = at + 1;
@@ -44,7 +46,7 @@ pub fn param_first(t: &[u8; 256], s: &[u8], from: usize, name: &[u8]) -> First
         let Part::Upto(e) = p else {
             return First::Nothing;
         };
-        let end = octets::classes::span(t, s, start, 7);
+        let end = classes::span(t, s, start, classes::NAME);
         if octets::cases::same_name(&s[start..end], name) {
             return value_span(t, s, end + 1);
         }

@@ -9,7 +9,7 @@ use lib.Dec.{eqb}
 use lib.ListN.{length, getD, take, drop, drop-of-length-le, List·getD-eq-default, length-drop}
 use lib.Seq.{drop-drop, getD-drop}
 use borrow.Author.Tests.{eq-eqb, ne-eqb, lt-ltb, le-ltb}
-use Rattle.octets.specs.Classes.{run, has, named, quoted, bare}
+use Rattle.octets.specs.Classes.{run, has, named, quoted, bare, bareMask, nameMask, quotedMask}
 use Rattle.octets.proofs.Runs.{run-has}
 use Rattle.octets.proofs.Masks.{has-named, has-bare, has-quoted}
 use Rattle.line_parser.specs.Parse.{Parse, got, bad, next, guard, hd, many}
@@ -84,16 +84,16 @@ module _ (s : List ℕ) (at : ℕ) where
   past c pos h q = let z = List·getD-eq-default s 0 h in omega arith
 
   module _ (f : ℕ) where
-    pub word-none : (e : ℕ) → e ≡ at + run (has 7) (drop at s) → e ≡ at → place at (word f (drop at s)) ≡ Fault f
+    pub word-none : (e : ℕ) → e ≡ at + run (has nameMask) (drop at s) → e ≡ at → place at (word f (drop at s)) ≡ Fault f
     unfolding word
     word-none e h q =
-        let n : run (has 7) (drop at s) ≡ run named (drop at s) = run-has 7 named has-named (drop at s) in
+        let n : run (has nameMask) (drop at s) ≡ run named (drop at s) = run-has nameMask named has-named (drop at s) in
         ap (place at) (guard-no f _ (le-ltb 0 (run named (drop at s)) (omega arith)))
 
-    pub word-some : (e : ℕ) → e ≡ at + run (has 7) (drop at s) → (e ≡ at → ⊥) → place at (word f (drop at s)) ≡ Upto e
+    pub word-some : (e : ℕ) → e ≡ at + run (has nameMask) (drop at s) → (e ≡ at → ⊥) → place at (word f (drop at s)) ≡ Upto e
     unfolding word
     word-some e h q =
-        let n : run (has 7) (drop at s) ≡ run named (drop at s) = run-has 7 named has-named (drop at s) in
+        let n : run (has nameMask) (drop at s) ≡ run named (drop at s) = run-has nameMask named has-named (drop at s) in
         let w : at + run named (drop at s) ≡ e = omega arith in
         ap (place at) (guard-yes f _ (lt-ltb 0 (run named (drop at s)) (omega arith))) ∙ ap Upto w
 
@@ -101,19 +101,19 @@ module _ (s : List ℕ) (at : ℕ) where
   unfolding value run
   value-none h = rw drop-of-length-le (ap Upto (add-zero at))
 
-  pub value-bare : (e : ℕ) → (getD s at 0 ≡ 34 → ⊥) → e ≡ at + run (has 8) (drop at s) → place at (value (drop at s)) ≡ Upto e
+  pub value-bare : (e : ℕ) → (getD s at 0 ≡ 34 → ⊥) → e ≡ at + run (has bareMask) (drop at s) → place at (value (drop at s)) ≡ Upto e
   unfolding value
   value-bare e q h =
-      let n : run (has 8) (drop at s) ≡ run bare (drop at s) = run-has 8 bare has-bare (drop at s) in
+      let n : run (has bareMask) (drop at s) ≡ run bare (drop at s) = run-has bareMask bare has-bare (drop at s) in
       let w : at + run bare (drop at s) ≡ e = omega arith in
       ap (place at) (pick-no _ _ (isnt 34 q)) ∙ ap Upto w
 
-  module _ (e : ℕ) (q : getD s at 0 ≡ 34) (h : e ≡ at + 1 + run (has 16) (drop (at + 1) s)) where
+  module _ (e : ℕ) (q : getD s at 0 ≡ 34) (h : e ≡ at + 1 + run (has quotedMask) (drop (at + 1) s)) where
     after-quote : value (drop at s) ≡ guard (eqb (getD s e 0) 34) 42
         (got (inQuotes (take (run quoted (drop (at + 1) s)) (drop (at + 1) s))) (suc (run quoted (drop (at + 1) s) + 1)))
     unfolding value closing
     after-quote =
-        let n : run (has 16) (drop (at + 1) s) ≡ run quoted (drop (at + 1) s) = run-has 16 quoted has-quoted (drop (at + 1) s) in
+        let n : run (has quotedMask) (drop (at + 1) s) ≡ run quoted (drop (at + 1) s) = run-has quotedMask quoted has-quoted (drop (at + 1) s) in
         let w : at + 1 + run quoted (drop (at + 1) s) ≡ e = omega arith in
         pick-yes _ _ (is 34 q)
         ∙ rw (drop-drop 1 at s, drop-drop (run quoted (drop (at + 1) s)) (at + 1) s, w, getD-drop e s 0 0, add-zero e)
@@ -123,7 +123,7 @@ module _ (s : List ℕ) (at : ℕ) where
 
     pub value-quoted : getD s e 0 ≡ 34 → place at (value (drop at s)) ≡ Upto (e + 1)
     value-quoted g =
-        let n : run (has 16) (drop (at + 1) s) ≡ run quoted (drop (at + 1) s) = run-has 16 quoted has-quoted (drop (at + 1) s) in
+        let n : run (has quotedMask) (drop (at + 1) s) ≡ run quoted (drop (at + 1) s) = run-has quotedMask quoted has-quoted (drop (at + 1) s) in
         let w : at + suc (run quoted (drop (at + 1) s) + 1) ≡ e + 1 = omega arith in
         ap (place at) (after-quote ∙ guard-yes 42 _ (eq-eqb (getD s e 0) 34 g)) ∙ ap Upto w
 

@@ -5,6 +5,7 @@ use mathlib.Core.Path.{_≡_}
 use mathlib.Core.Bool.{Bool, true}
 use mathlib.Core.List.{List, [], _∷_, _++_}
 use lib.ListN.{length}
+use Rattle.octets.specs.Ascii as ascii
 use Rattle.octets.specs.Classes.{named, quoted, bare}
 
 -- "A value is quoted [..] or bare"; the quote marks are no part of it
@@ -61,20 +62,20 @@ led c o (a ∷ xs) = c ∷ (o a ++ led c o xs)
 
 unfoldable pub valueText : Value → List ℕ
 valueText (plain xs) = xs
-valueText (inQuotes xs) = 34 ∷ (xs ++ 34 ∷ [])
+valueText (inQuotes xs) = ascii.quote ∷ (xs ++ ascii.quote ∷ [])
 
 -- the name, `=`, and the values "split by commas"
 unfoldable pub paramText : Param → List ℕ
-paramText p = p .name ++ 61 ∷ (valueText (p .first) ++ led 44 valueText (p .more))
+paramText p = p .name ++ ascii.equals ∷ (valueText (p .first) ++ led ascii.comma valueText (p .more))
 
 -- `[group "."]`
 unfoldable pub groupText : List ℕ → List ℕ
 groupText [] = []
-groupText (x ∷ xs) = (x ∷ xs) ++ 46 ∷ []
+groupText (x ∷ xs) = (x ∷ xs) ++ ascii.dot ∷ []
 
 -- `[group "."] name *(";" parameter) ":"`
 unfoldable pub front : Line → List ℕ
-front x = groupText (x .group) ++ (x .name ++ (led 59 paramText (x .params) ++ 58 ∷ []))
+front x = groupText (x .group) ++ (x .name ++ (led ascii.semicolon paramText (x .params) ++ ascii.colon ∷ []))
 
 -- "The property value is the rest, possibly empty"
 unfoldable pub render : Line → List ℕ

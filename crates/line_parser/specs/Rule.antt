@@ -6,6 +6,7 @@ use mathlib.Core.List.{List, []}
 use lib.Dec.{eqb, ltb}
 use lib.ListN.{length, take, drop}
 use Rattle.numbers.specs.Faults as fault
+use Rattle.octets.specs.Ascii as ascii
 use Rattle.octets.specs.Pick.{pick}
 use Rattle.octets.specs.Classes.{run, named, quoted, bare}
 use Rattle.line_parser.specs.Parse.{Parse, got, next, guard, hd, many}
@@ -17,11 +18,11 @@ word e l = guard (ltb 0 (run named l)) e (got (take (run named l) l) (run named 
 
 -- a quoted value, from after its first quote mark on, which is counted
 unfoldable pub closing : List ℕ → Parse Value
-closing l = guard (eqb (hd (drop (run quoted l) l)) 34) fault.quote (got (inQuotes (take (run quoted l) l)) (suc (run quoted l + 1)))
+closing l = guard (eqb (hd (drop (run quoted l) l)) ascii.quote) fault.quote (got (inQuotes (take (run quoted l) l)) (suc (run quoted l + 1)))
 
 -- a value, quoted where a quote mark stands first
 unfoldable pub value : List ℕ → Parse Value
-value l = pick (eqb (hd l) 34) (closing (drop 1 l)) (got (plain (take (run bare l) l)) (run bare l))
+value l = pick (eqb (hd l) ascii.quote) (closing (drop 1 l)) (got (plain (take (run bare l) l)) (run bare l))
 
 -- a where a line goes on, b where it ends
 abbrev pub orEnd : ℕ → ℕ → List ℕ → ℕ
@@ -33,11 +34,11 @@ pub record Values : Type 0 where
 
 -- `;` or `:`
 unfoldable pub ends : ℕ → Bool
-ends c = eqb c 59 || eqb c 58
+ends c = eqb c ascii.semicolon || eqb c ascii.colon
 
 -- further values, each after a comma, and then a `;` or a `:`
 unfoldable pub moreValues : ℕ → List ℕ → Parse (List Value)
-moreValues n l = many 44 value ends (orEnd fault.quote fault.noColon) n l
+moreValues n l = many ascii.comma value ends (orEnd fault.quote fault.noColon) n l
 
 -- one or more values split by commas
 unfoldable pub values : List ℕ → Parse Values
@@ -47,7 +48,7 @@ values l =
 -- a name, `=` and the values
 unfoldable pub param : List ℕ → Parse Param
 param l =
-    next (word fault.parameter l) (λ a n. guard (eqb (hd (drop n l)) 61) fault.parameter
+    next (word fault.parameter l) (λ a n. guard (eqb (hd (drop n l)) ascii.equals) fault.parameter
     (next (values (drop 1 (drop n l))) (λ vs k. got (record { name = a; first = vs .first; more = vs .more }) (n + suc k))))
 
 pub record Head : Type 0 where
@@ -57,16 +58,16 @@ pub record Head : Type 0 where
 -- `[group "."] name`
 unfoldable pub head : List ℕ → Parse Head
 head l =
-    next (word fault.name l) (λ a n. pick (eqb (hd (drop n l)) 46)
+    next (word fault.name l) (λ a n. pick (eqb (hd (drop n l)) ascii.dot)
     (next (word fault.name (drop 1 (drop n l))) (λ b m. got (record { group = a; name = b }) (n + suc m)))
     (got (record { group = []; name = a }) n))
 
 unfoldable pub isColon : ℕ → Bool
-isColon c = eqb c 58
+isColon c = eqb c ascii.colon
 
 -- any number of parameters, each after a semicolon, and then a colon
 unfoldable pub params : ℕ → List ℕ → Parse (List Param)
-params n l = many 59 param isColon (orEnd fault.name fault.noColon) n l
+params n l = many ascii.semicolon param isColon (orEnd fault.name fault.noColon) n l
 
 -- the whole line, and where its value starts
 unfoldable pub parseLine : List ℕ → Parse Line

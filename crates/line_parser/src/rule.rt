@@ -6,28 +6,41 @@ ghost use Rattle.octets.specs.Classes.{Classes};
 ghost use Rattle.line_parser.specs.Rule.{word, value, values, param, params, head, parseLine};
 ghost use Rattle.line_parser.specs.Places.{place, listed, headed, outcome};
 use numbers::fault;
+use octets::classes;
+use octets::classes::ClassTable;
 
 // What reading a part answers; a fault is handed up unchanged.
 pub enum Part {
     // The part ends here.
     Upto(usize),
-    // How long the group is, and where the name ends.
-    Named(usize, usize),
-    // How many parameters there are, and where they end.
-    Listed(usize, usize),
-    // Group length, end of the name, number of parameters, start of the value.
-    Parsed(usize, usize, usize, usize),
+    // A group and a name.
+    Named {
+        group_length: usize,
+        name_end: usize,
+    },
+    // Parameters.
+    Listed {
+        param_count: usize,
+        end: usize,
+    },
+    // A whole line.
+    Parsed {
+        group_length: usize,
+        name_end: usize,
+        param_count: usize,
+        value_start: usize,
+    },
     // 40 no name, or a bad name or group; 41 a bad parameter; 42 a bad quote; 43 no colon.
     Fault(u32),
 }
 
 // One or more letters, digits or hyphens.
-fn read_word(t: &[u8; 256], s: &[u8], at: usize, fault: u32) -> Part
+fn read_word(t: &ClassTable, s: &[u8], at: usize, fault: u32) -> Part
     requires { ⌜ Classes (now t) ⌝ }
     requires { ⌜ at ≤ length (now s) ⌝ }
     ensures { λ r. ⌜ r ≡ place at (word fault (drop at (now (s .entry)))) ⌝ }
 {
-    let e = octets::classes::span(t, s, at, 7);
+    let e = classes::span(t, s, at, classes::NAME);
     if e == at {
         return Part::Fault(fault);
     }
@@ -35,7 +48,7 @@ fn read_word(t: &[u8; 256], s: &[u8], at: usize, fault: u32) -> Part
 }
 
 // A quoted value with its quote marks, or a bare one, which may be empty.
-fn read_value(t: &[u8; 256], s: &[u8], at: usize) -> Part
+fn read_value(t: &ClassTable, s: &[u8], at: usize) -> Part
     requires { ⌜ Classes (now t) ⌝ }
     requires { ⌜ at ≤ length (now s) ⌝ }
     ensures { λ r. ⌜ r ≡ place at (value (drop at (now (s .entry)))) ⌝ }
@@ -43,22 +56,22 @@ fn read_value(t: &[u8; 256], s: &[u8], at: usize) -> Part
     if s.len() <= at {
         return Part::Upto(at);
     }
-    if s[at] != 34 {
-        let e = octets::classes::span(t, s, at, 8);
+    if s[at] != b'"' {
+        let e = classes::span(t, s, at, classes::BARE);
         return Part::Upto(e);
     }
-    let e = octets::classes::span(t, s, at + 1, 16);
+    let e = classes::span(t, s, at + 1, classes::QUOTED);
     if s.len() <= e {
         return Part::Fault(fault::QUOTE);
     }
-    if s[e] != 34 {
+    if s[e] != b'"' {
         return Part::Fault(fault::QUOTE);
     }
     Part::Upto(e + 1)
 }
 
 // One or more values split by commas, and then a `;` or a `:`.
-fn read_values(t: &[u8; 256], s: &[u8], from: usize) -> Part
+fn read_values(t: &ClassTable, s: &[u8], from: usize) -> Part
     requires { ⌜ Classes (now t) ⌝ }
     requires { ⌜ from ≤ length (now s) ⌝ }
     ensures { λ r. ⌜ r ≡ place from (values (drop from (now (s .entry)))) ⌝ }
@@ -70,11 +83,11 @@ fn read_values(t: &[u8; 256], s: &[u8], from: usize) -> Part
     let mut at = start;
     while at < s.len() {
         let b = s[at];
-        if b != 44 {
-            if b == 59 {
+        if b != b',' {
+            if b == b';' {
                 return Part::Upto(at);
             }
-            if b == 58 {
+            if b == b':' {
                 return Part::Upto(at);
             }
             return Part::Fault(fault::QUOTE);
@@ -89,7 +102,7 @@ fn read_values(t: &[u8; 256], s: &[u8], from: usize) -> Part
 }
 
 // A name, `=` and the values.
-pub fn read_param(t: &[u8; 256], s: &[u8], at: usize) -> Part
+pub fn read_param(t: &ClassTable, s: &[u8], at: usize) -> Part
     requires { ⌜ Classes (now t) ⌝ }
     requires { ⌜ at ≤ length (now s) ⌝ }
     ensures { λ r. ⌜ r ≡ place at (param (drop at (now (s .entry)))) ⌝ }
@@ -101,14 +114,14 @@ pub fn read_param(t: &[u8; 256], s: &[u8], at: usize) -> Part
     if s.len() <= n {
         return Part::Fault(fault::PARAMETER);
     }
-    if s[n] != 61 {
+    if s[n] != b'=' {
         return Part::Fault(fault::PARAMETER);
     }
     read_values(t, s, n + 1)
 }
 
 // Any number of parameters, each after a semicolon, and then a colon.
-fn read_params(t: &[u8; 256], s: &[u8], from: usize) -> Part
+fn read_params(t: &ClassTable, s: &[u8], from: usize) -> Part
     requires { ⌜ Classes (now t) ⌝ }
     ensures { λ r. ⌜ r ≡ listed 0 from (params (suc (length (drop from (now (s .entry))))) (drop from (now (s .entry)))) ⌝ }
 {
@@ -116,9 +129,12 @@ fn read_params(t: &[u8; 256], s: &[u8], from: usize) -> Part
     let mut count: usize = 0;
     while at < s.len() {
         let b = s[at];
-        if b != 59 {
-            if b == 58 {
-                return Part::Listed(count, at);
+        if b != b';' {
+            if b == b':' {
+                return Part::Listed {
+                    param_count: count,
+                    end: at,
+                };
             }
             return Part::Fault(fault::NAME);
         }
@@ -133,7 +149,7 @@ fn read_params(t: &[u8; 256], s: &[u8], from: usize) -> Part
 }
 
 // The group and its dot, if there is one, and the name.
-fn read_head(t: &[u8; 256], s: &[u8]) -> Part
+fn read_head(t: &ClassTable, s: &[u8]) -> Part
     requires { ⌜ Classes (now t) ⌝ }
     ensures { λ r. ⌜ r ≡ headed (head (now (s .entry))) ⌝ }
 {
@@ -142,31 +158,49 @@ fn read_head(t: &[u8; 256], s: &[u8]) -> Part
         return first;
     };
     if s.len() <= n {
-        return Part::Named(0, n);
+        return Part::Named {
+            group_length: 0,
+            name_end: n,
+        };
     }
-    if s[n] != 46 {
-        return Part::Named(0, n);
+    if s[n] != b'.' {
+        return Part::Named {
+            group_length: 0,
+            name_end: n,
+        };
     }
     let start = n + 1;
     let second = read_word(t, s, start, fault::NAME);
     let Part::Upto(e) = second else {
         return second;
     };
-    Part::Named(n, e)
+    Part::Named {
+        group_length: n,
+        name_end: e,
+    }
 }
 
 // A whole line.
-pub fn read_line(t: &[u8; 256], s: &[u8]) -> Part
+pub fn read_line(t: &ClassTable, s: &[u8]) -> Part
     requires { ⌜ Classes (now t) ⌝ }
     ensures { λ r. ⌜ r ≡ outcome (parseLine (now (s .entry))) ⌝ }
 {
     let first = read_head(t, s);
-    let Part::Named(group, n) = first else {
+    let Part::Named {
+        group_length,
+        name_end,
+    } = first
+    else {
         return first;
     };
-    let rest = read_params(t, s, n);
-    let Part::Listed(count, e) = rest else {
+    let rest = read_params(t, s, name_end);
+    let Part::Listed { param_count, end } = rest else {
         return rest;
     };
-    Part::Parsed(group, n, count, e + 1)
+    Part::Parsed {
+        group_length,
+        name_end,
+        param_count,
+        value_start: end + 1,
+    }
 }

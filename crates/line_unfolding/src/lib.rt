@@ -13,7 +13,7 @@ use line_folds::spans::fold_at;
 fn fold_bit(a: u8, b: u8, c: u8) -> u8
     ensures { λ r. ⌜ r ≡ bit (foldAt (a ∷ b ∷ c ∷ [])) 1 ⌝ }
 {
-    (a == 13) as u8 & ((b == 10) as u8 & ((c == 32) as u8 | (c == 9) as u8))
+    (a == b'\r') as u8 & ((b == b'\n') as u8 & ((c == b' ') as u8 | (c == b'\t') as u8))
 }
 
 // The length of s without its folds: they are counted with no way out, so that it is compiled to vectors.
@@ -73,13 +73,13 @@ pub fn unfold(s: &[u8], d: &mut [u8]) -> usize
     let mut j: usize = 0;
     let mut met: usize = 0;
     while i < s.len() {
-        if s[i] == 13 {
+        if s[i] == b'\r' {
             let fold = fold_at(s, i);
             if fold {
                 i += 3;
                 met = 0;
             } else {
-                d[j] = 13;
+                d[j] = b'\r';
                 j += 1;
                 i += 1;
             }

@@ -9,7 +9,7 @@ use borrow.Author.Tests.{le-ltb, eq-eqb, ne-eqb}
 use Rattle.line_folds.specs.Folds.{unfolded}
 use Rattle.line_folds.specs.Logical.{linesBy, rawLines, logicalLines}
 use Rattle.line_parser.specs.Grammar.{Line, Each, render}
-use Rattle.line_laws.proofs.Law.{line-unique}
+use Rattle.line_parameters.proofs.Law.{line-unique}
 use Rattle.card_state.specs.State.{freshCard}
 use Rattle.card_state.specs.declared.Card.{Card}
 use Rattle.card_state.specs.declared.Step.{Step}

@@ -20,8 +20,8 @@ use Rattle.line_folds.specs.Folds.{foldAt, lineStep, lineLength, passed, kept, 
 use Rattle.line_folds.specs.Logical.{linesBy, rawLines}
 use Rattle.line_parser.specs.Grammar.{Line, Each, front, render}
 use Rattle.line_folds.proofs.LineLaws.{lines-step}
-use Rattle.line_laws.proofs.Law.{line-law}
-use Rattle.line_laws.proofs.PlacesLaw.{accepted-starts}
+use Rattle.line_parameters.proofs.Law.{line-law}
+use Rattle.line_parameters.proofs.PlacesLaw.{accepted-starts}
 use Rattle.octets.proofs.Bools.{by, and-both}
 use Rattle.line_breaks.specs.Lone.{loneStep, firstLone, endsCrLf}
 use Rattle.reader.specs.Outcome.{ended}

@@ -13,7 +13,7 @@ use Rattle.utf8.specs.Characters.{allowed, firstBad}
 use Rattle.line_parser.specs.Parse.{Parse, got, bad}
 use Rattle.line_parser.specs.Grammar.{Line, front}
 use Rattle.line_parser.specs.Rule.{parseLine}
-use Rattle.line_laws.proofs.Law.{line-law, refused-law}
+use Rattle.line_parameters.proofs.Law.{line-law, refused-law}
 use Rattle.property_table.specs.Rows.{rows, rowAt, single, isGroup}
 use Rattle.value_kinds.specs.Kinds.{valueScan}
 use Rattle.value_kinds.specs.declared.Fault.{Fault}

@@ -10,9 +10,9 @@ use Rattle.line_parser.specs.Grammar.{Line, Each, WellFormed, front, render, na
 use Rattle.line_parser.specs.Rule.{parseLine}
 use Rattle.line_parser.specs.Places.{outcome, nameStart}
 use Rattle.line_parser.proofs.Inside.{InLine, in-line}
-use Rattle.line_laws.specs.Placed.{Placed}
-use Rattle.line_laws.proofs.Law.{line-law, line-unique}
-use Rattle.line_laws.proofs.PlacesLaw.{places-law}
+use Rattle.line_parameters.specs.Placed.{Placed}
+use Rattle.line_parameters.proofs.Law.{line-law, line-unique}
+use Rattle.line_parameters.proofs.PlacesLaw.{places-law}
 use Rattle.card_line.specs.Parts.{told, toldOf, rowOfLine, kindOfLine}
 use Rattle.card_judge.proofs.CardLaws.{told-fits}
 use Rattle.reader_records.specs.Records.{recordBy, recordOf, recordsFrom}

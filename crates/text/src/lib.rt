@@ -83,7 +83,7 @@ fn escape_each(text: &[u8], out: &mut [u8]) -> Written
 pub fn escape(text: &[u8], out: &mut [u8]) -> Written
     ensures { λ r. ⌜ filled r (now (out .exit)) ≡ escapeOutcome (now (text .entry)) (now (out .entry)) ⌝ }
 {
-    let s = screen(text, 59, 10, true);
+    let s = screen(text, b';', b'\n', true);
     match s {
         Screened::Refused(n, p) => Written::Refused(n, p),
         Screened::Saw(look) => {
@@ -117,7 +117,7 @@ fn unescape_each(text: &[u8], out: &mut [u8]) -> Written
 pub fn unescape(text: &[u8], out: &mut [u8]) -> Written
     ensures { λ r. ⌜ filled r (now (out .exit)) ≡ unescapeOutcome (now (text .entry)) (now (out .entry)) ⌝ }
 {
-    let s = screen(text, 44, 44, false);
+    let s = screen(text, b',', b',', false);
     match s {
         Screened::Refused(n, p) => Written::Refused(n, p),
         Screened::Saw(look) => {

@@ -4,16 +4,17 @@ use mathlib.Core.Path.{_≡_}
 use mathlib.Core.List.{List, [], _∷_, _++_}
 use lib.Dec.{eqb}
 use lib.ListN.{getD}
+use Rattle.octets.specs.Ascii as ascii
 use Rattle.octets.specs.Pick.{pick}
 use Rattle.text_marks.specs.Marks.{marked}
 
 -- what follows the backslash where an octet is escaped: `n` for 0A, else the octet itself
 unfoldable pub letter : ℕ → ℕ
-letter b = pick (eqb b 10) 110 b
+letter b = pick (eqb b ascii.lf) ascii.smallN b
 
 -- what escaping writes for an octet
 unfoldable pub inEscape : ℕ → List ℕ
-inEscape b = pick (marked b) (92 ∷ letter b ∷ []) (b ∷ [])
+inEscape b = pick (marked b) (ascii.backslash ∷ letter b ∷ []) (b ∷ [])
 
 -- a table of 256 entries has the letters, and 0 for an octet that stays as it is
 unfoldable pub Letters : List ℕ → Type 0

@@ -10,10 +10,10 @@ pub fn letters() -> [u8; 256]
     ensures { λ r. ⌜ Letters r ⌝ }
 {
     let mut t = [0u8; 256];
-    t[10] = 110;
-    t[44] = 44;
-    t[59] = 59;
-    t[92] = 92;
+    t[b'\n' as usize] = b'n';
+    t[b',' as usize] = b',';
+    t[b';' as usize] = b';';
+    t[b'\\' as usize] = b'\\';
     t
 }
 
@@ -33,7 +33,7 @@ pub fn write(t: &[u8; 256], text: &[u8], out: &mut [u8])
             j += 1;
             i += 1;
         } else {
-            out[j] = 92;
+            out[j] = b'\\';
             out[j + 1] = x;
             j += 2;
             i += 1;

@@ -14,7 +14,7 @@ pub fn marks(s: &[u8]) -> usize
     let mut n: u16 = 0;
     let mut i: usize = 0;
     while i < s.len() {
-        n += crate::held_bit(s[i], 59, 10) as u16;
+        n += crate::held_bit(s[i], b';', b'\n') as u16;
         i += 1;
     }
     n as usize
@@ -28,7 +28,7 @@ pub fn backslashes(s: &[u8]) -> usize
     let mut n: u16 = 0;
     let mut i: usize = 0;
     while i < s.len() {
-        n += (s[i] == 92) as u16;
+        n += (s[i] == b'\\') as u16;
         i += 1;
     }
     n as usize

@@ -12,7 +12,7 @@ ghost use Rattle.text_marks.specs.Looks.{held, seen};
 pub fn held_bit(b: u8, x: u8, y: u8) -> u8
     ensures { λ r. ⌜ r ≡ bit (held x y b) 1 ⌝ }
 {
-    ((b == 92) as u8 | (b == 44) as u8) | ((b == x) as u8 | (b == y) as u8)
+    ((b == b'\\') as u8 | (b == b',') as u8) | ((b == x) as u8 | (b == y) as u8)
 }
 
 // What is seen of one octet.

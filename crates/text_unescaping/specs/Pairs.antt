@@ -4,12 +4,14 @@ use Prim.Native.Nat.{ℕ}
 use mathlib.Core.Bool.{Bool, not, _&&_, _||_}
 use mathlib.Core.List.{List, [], _∷_}
 use lib.Dec.{eqb}
+use Rattle.octets.specs.Ascii as ascii
 use Rattle.text_marks.specs.Marks.{backslash}
 
 -- after a backslash, what ends no escape or is a backslash itself; after any other octet, a comma
 unfoldable pub unsettled : ℕ → ℕ → Bool
 unsettled before b =
-    (backslash before && not ((eqb b 44 || eqb b 59) || (eqb b 110 || eqb b 78))) || (not (backslash before) && eqb b 44)
+    (backslash before && not ((eqb b ascii.comma || eqb b ascii.semicolon) || (eqb b ascii.smallN || eqb b ascii.capitalN)))
+    || (not (backslash before) && eqb b ascii.comma)
 
 -- no octet is so, and the last one is no backslash
 unfoldable pub settled : ℕ → List ℕ → Bool

@@ -4,17 +4,18 @@ use mathlib.Core.Bool.{Bool, _&&_, _||_}
 use mathlib.Core.List.{List, [], _∷_}
 use lib.Dec.{eqb}
 use lib.ListN.{getD}
+use Rattle.octets.specs.Ascii as ascii
 use Rattle.octets.specs.Pick.{pick}
 use Rattle.octets.specs.Scan.{scan, gather}
 use Rattle.text_marks.specs.Marks.{backslash, special}
 
 -- what may follow the backslash of an escape: `\`, `,`, `;`, `n` or `N`
 unfoldable pub code : ℕ → Bool
-code b = special b || (eqb b 110 || eqb b 78)
+code b = special b || (eqb b ascii.smallN || eqb b ascii.capitalN)
 
 -- the octet that such an escape stands for: 0A for `n` and `N`, else what follows the backslash
 unfoldable pub meant : ℕ → ℕ
-meant b = pick (eqb b 110 || eqb b 78) 10 b
+meant b = pick (eqb b ascii.smallN || eqb b ascii.capitalN) ascii.lf b
 
 -- an escape starts here
 unfoldable pub escapeAt : List ℕ → Bool
@@ -22,7 +23,7 @@ escapeAt l = backslash (getD l 0 0) && code (getD l 1 0)
 
 -- an escape is passed whole; a bare comma and a backslash of no escape are faults; any other octet stands for itself
 unfoldable pub textStep : List ℕ → ℕ
-textStep l = pick (escapeAt l) 2 (pick (backslash (getD l 0 0) || eqb (getD l 0 0) 44) 0 1)
+textStep l = pick (escapeAt l) 2 (pick (backslash (getD l 0 0) || eqb (getD l 0 0) ascii.comma) 0 1)
 
 -- the offset of the first fault; the length where there is none
 unfoldable pub firstFault : List ℕ → ℕ

@@ -19,19 +19,19 @@ pub struct Measured {
 fn is_code(b: u8) -> bool
     ensures { λ r. ⌜ r ≡ code b ⌝ }
 {
-    if b == 92 {
+    if b == b'\\' {
         return true;
     }
-    if b == 44 {
+    if b == b',' {
         return true;
     }
-    if b == 59 {
+    if b == b';' {
         return true;
     }
-    if b == 110 {
+    if b == b'n' {
         return true;
     }
-    b == 78
+    b == b'N'
 }
 
 // Whether an escape starts at i.
@@ -39,7 +39,7 @@ fn escape_at(s: &[u8], i: usize) -> bool
     requires { ⌜ i < length (now s) ⌝ }
     ensures { λ r. ⌜ r ≡ escapeAt (drop i (now (s .entry))) ⌝ }
 {
-    if s[i] != 92 {
+    if s[i] != b'\\' {
         return false;
     }
     if s.len() - i < 2 {
@@ -52,11 +52,11 @@ fn escape_at(s: &[u8], i: usize) -> bool
 fn meant_by(b: u8) -> u8
     ensures { λ r. ⌜ r ≡ meant b ⌝ }
 {
-    if b == 110 {
-        return 10;
+    if b == b'n' {
+        return b'\n';
     }
-    if b == 78 {
-        return 10;
+    if b == b'N' {
+        return b'\n';
     }
     b
 }
@@ -65,8 +65,8 @@ fn meant_by(b: u8) -> u8
 fn pair_bit(before: u8, b: u8) -> u8
     ensures { λ r. ⌜ r ≡ bit (unsettled before b) 1 ⌝ }
 {
-    let coded = ((b == 44) as u8 | (b == 59) as u8) | ((b == 110) as u8 | (b == 78) as u8);
-    ((before == 92) as u8 & (coded == 0) as u8) | ((before != 92) as u8 & (b == 44) as u8)
+    let coded = ((b == b',') as u8 | (b == b';') as u8) | ((b == b'n') as u8 | (b == b'N') as u8);
+    ((before == b'\\') as u8 & (coded == 0) as u8) | ((before != b'\\') as u8 & (b == b',') as u8)
 }
 
 // Whether each octet fits the one before it: one look at each with no way out, so that it is compiled to vectors.
@@ -84,7 +84,7 @@ fn all_pairs(s: &[u8]) -> bool
     if bad != 0 {
         return false;
     }
-    before != 92
+    before != b'\\'
 }
 
 // Measures a text, escape by escape.
@@ -94,7 +94,7 @@ fn measure_each(text: &[u8]) -> Measured
     let mut i: usize = 0;
     let mut kept: usize = 0;
     while i < text.len() {
-        if text[i] == 92 {
+        if text[i] == b'\\' {
             let whole = escape_at(text, i);
             if !whole {
                 return Measured { fault: i, kept: 0 };
@@ -102,7 +102,7 @@ fn measure_each(text: &[u8]) -> Measured
             kept += 1;
             i += 2;
         } else {
-            if text[i] == 44 {
+            if text[i] == b',' {
                 return Measured { fault: i, kept: 0 };
             }
             kept += 1;
@@ -141,7 +141,7 @@ pub fn write(text: &[u8], out: &mut [u8])
     let mut i: usize = 0;
     let mut j: usize = 0;
     while i < text.len() {
-        if text[i] == 92 {
+        if text[i] == b'\\' {
             out[j] = meant_by(text[i + 1]);
             j += 1;
             i += 2;

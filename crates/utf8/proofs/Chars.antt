@@ -11,7 +11,7 @@ use lib.Seq.{getD-drop}
 use borrow.Author.Tests.{not-true, not-false, lt-ltb, le-leb, leb-true, eq-eqb, ne-eqb}
 use Rattle.utf8.specs.Characters.{lengthBy, second, tail, rest, charLength, allowed, unit, firstBad}
 use Rattle.octets.specs.Pick.{pick}
-use Rattle.octets.specs.Classes.{has}
+use Rattle.octets.specs.Classes.{has, valueMask}
 use Rattle.octets.proofs.Masks.{has-valued}
 use Rattle.octets.proofs.Scans.{scan-stop, scan-step, scan-end, scan-le}
 
@@ -37,19 +37,19 @@ module _ (s : List ℕ) (i : ℕ) where
   ascii h b = char-at s i 1 (simp (lt-ltb _ _ b)) ∙ simp (le-leb 1 (length s - i) (omega arith))
 
   -- an octet of a value is allowed, LF where lf is set, and nothing else
-  pub unit-yes : (lf : Bool) → has 32 (getD s i 0) ≡ true → unit (allowed lf) (drop i s) ≡ charLength (drop i s)
+  pub unit-yes : (lf : Bool) → has valueMask (getD s i 0) ≡ true → unit (allowed lf) (drop i s) ≡ charLength (drop i s)
   unfolding unit allowed
   unit-yes lf e = simp (getD-drop, add-zero, sym (has-valued (getD s i 0)), e)
 
-  pub unit-lf : has 32 (getD s i 0) ≡ false → getD s i 0 ≡ 10 → unit (allowed true) (drop i s) ≡ charLength (drop i s)
+  pub unit-lf : has valueMask (getD s i 0) ≡ false → getD s i 0 ≡ 10 → unit (allowed true) (drop i s) ≡ charLength (drop i s)
   unfolding unit allowed
   unit-lf e q = simp (getD-drop, add-zero, sym (has-valued (getD s i 0)), e, eq-eqb (getD s i 0) 10 q)
 
-  pub unit-no-lf : has 32 (getD s i 0) ≡ false → unit (allowed false) (drop i s) ≡ 0
+  pub unit-no-lf : has valueMask (getD s i 0) ≡ false → unit (allowed false) (drop i s) ≡ 0
   unfolding unit allowed
   unit-no-lf e = simp (getD-drop, add-zero, sym (has-valued (getD s i 0)), e)
 
-  pub unit-not : (lf : Bool) → has 32 (getD s i 0) ≡ false → (getD s i 0 ≡ 10 → ⊥) → unit (allowed lf) (drop i s) ≡ 0
+  pub unit-not : (lf : Bool) → has valueMask (getD s i 0) ≡ false → (getD s i 0 ≡ 10 → ⊥) → unit (allowed lf) (drop i s) ≡ 0
   unfolding unit allowed
   unit-not lf e q = simp (getD-drop, add-zero, sym (has-valued (getD s i 0)), e, ne-eqb (getD s i 0) 10 q, and-false)
 

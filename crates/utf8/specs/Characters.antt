@@ -5,6 +5,7 @@ use mathlib.Core.Bool.{Bool, _&&_, _||_}
 use mathlib.Core.List.{List}
 use lib.Dec.{leb, ltb, eqb}
 use lib.ListN.{length, getD}
+use Rattle.octets.specs.Ascii as ascii
 use Rattle.octets.specs.Pick.{pick}
 use Rattle.octets.specs.Scan.{scan}
 use Rattle.octets.specs.Classes.{within, valued}
@@ -36,7 +37,7 @@ charLength l = pick (leb (lengthBy (getD l 0 0)) (length l) && rest (lengthBy (g
 
 -- the octets that a text may have: those of a value, and LF where it is allowed
 unfoldable pub allowed : Bool → ℕ → Bool
-allowed lf b = valued b || (lf && eqb b 10)
+allowed lf b = valued b || (lf && eqb b ascii.lf)
 
 -- the length of the character at the start of a list, where an octet that p forbids counts as none
 unfoldable pub unit : (ℕ → Bool) → List ℕ → ℕ

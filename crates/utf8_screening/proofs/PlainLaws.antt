@@ -11,7 +11,7 @@ use lib.ListN.{length, getD, take, drop, drop-of-length-le, length-drop, take-ap
 use lib.Seq.{drop-cons, drop-drop, length-take-le}
 use native.Mathlib.Nat.{zero-add, add-zero, suc-add}
 use borrow.Author.Tests.{ne-eqb, eqb-true, ltb-false, lt-ltb, le-ltb, le-leb}
-use Rattle.octets.specs.Classes.{bit, has, valued}
+use Rattle.octets.specs.Classes.{bit, has, valued, valueMask}
 use Rattle.octets.proofs.Masks.{has-valued}
 use Rattle.octets.proofs.Marks.{mark-step}
 use Rattle.octets.specs.Scan.{after, scan}
@@ -73,7 +73,7 @@ module _ (s : List ℕ) (i : ℕ) where
     two-second c =
         simp (ne-eqb (getD s i 0) 0xE0 (λ e. omega arith), ne-eqb (getD s i 0) 0xED (λ e. omega arith), ne-eqb (getD s i 0) 0xF0 (λ e. omega arith), ne-eqb (getD s i 0) 0xF4 (λ e. omega arith))
 
-    high : has 32 (getD s i 0) ≡ true
+    high : has valueMask (getD s i 0) ≡ true
     unfolding valued
     high = has-valued (getD s i 0) ∙ simp (le-leb 128 (getD s i 0) (omega arith), or-true)
 

@@ -5,6 +5,7 @@ use mathlib.Core.Bool.{Bool, true, not, _&&_, _||_}
 use mathlib.Core.List.{List, [], _∷_}
 use lib.Dec.{ltb, eqb}
 use lib.ListN.{length, drop}
+use Rattle.octets.specs.Ascii as ascii
 use Rattle.utf8.specs.Characters.{allowed, unit, firstBad}
 
 -- n octets from i on can be passed in the search of the first bad one; none where one stands there
@@ -24,7 +25,7 @@ pub record Reached (s : List ℕ) (n : ℕ) : Type 0 where
 
 -- an octet that is neither a tab nor one of 20-7E
 unfoldable pub odd : ℕ → Bool
-odd b = ltb 126 b || (ltb b 32 && not (eqb b 9))
+odd b = ltb 0x7E b || (ltb b 0x20 && not (eqb b ascii.tab))
 
 -- each octet is a tab or one of 20-7E
 unfoldable pub allPlain : List ℕ → Bool

@@ -7,7 +7,7 @@ ghost use Rattle.utf8_screening.specs.Plain.{odd, allPlain};
 pub fn odd_bit(b: u8) -> u8
     ensures { λ r. ⌜ r ≡ bit (odd b) 1 ⌝ }
 {
-    (126 < b) as u8 | ((b < 32) as u8 & (b != 9) as u8)
+    (b'~' < b) as u8 | ((b < b' ') as u8 & (b != b'\t') as u8)
 }
 
 // Whether every octet is a tab or one of 20-7E.

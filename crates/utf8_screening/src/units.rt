@@ -5,19 +5,20 @@ ghost use lib.ListN.{length, drop};
 ghost use Rattle.octets.specs.Classes.{Classes};
 ghost use Rattle.utf8.specs.Characters.{allowed, unit, firstBad};
 ghost use Rattle.utf8_screening.specs.Plain.{Strides};
+use octets::classes::ClassTable;
 
 // The length of the character at i, or 0 where none or a control starts there; tab is no such control, and LF is none where lf is set.
-pub fn unit_length(t: &[u8; 256], s: &[u8], i: usize, lf: bool) -> usize
+pub fn unit_length(t: &ClassTable, s: &[u8], i: usize, lf: bool) -> usize
     requires { ⌜ Classes (now t) ⌝ }
     requires { ⌜ i < length (now s) ⌝ }
     ensures { λ r. ⌜ r ≡ unit (allowed lf) (drop i (now (s .entry))) ⌝ }
 {
     let b = s[i];
-    if t[b as usize] & 32 == 0 {
+    if t[b as usize] & octets::classes::VALUE == 0 {
         if !lf {
             return 0;
         }
-        if b != 10 {
+        if b != b'\n' {
             return 0;
         }
         return 1;
@@ -29,7 +30,7 @@ pub fn unit_length(t: &[u8; 256], s: &[u8], i: usize, lf: bool) -> usize
 }
 
 // How far the exact scan goes at i: over sixteen plain octets at once, or over one character; 0 where none or a control starts there.
-fn stride(t: &[u8; 256], s: &[u8], i: usize, lf: bool) -> usize
+fn stride(t: &ClassTable, s: &[u8], i: usize, lf: bool) -> usize
     requires { ⌜ Classes (now t) ⌝ }
     requires { ⌜ i < length (now s) ⌝ }
     ensures { λ r. ⌜ Strides (allowed lf) (now (s .entry)) i r ⌝ }
@@ -44,7 +45,7 @@ fn stride(t: &[u8; 256], s: &[u8], i: usize, lf: bool) -> usize
 }
 
 // The exact scan of first_bad.
-fn first_unfit(t: &[u8; 256], s: &[u8], lf: bool) -> usize
+fn first_unfit(t: &ClassTable, s: &[u8], lf: bool) -> usize
     requires { ⌜ Classes (now t) ⌝ }
     ensures { λ r. ⌜ r ≡ firstBad (allowed lf) (now (s .entry)) ⌝ }
 {
@@ -60,7 +61,7 @@ fn first_unfit(t: &[u8; 256], s: &[u8], lf: bool) -> usize
 }
 
 // The first octet that is a control other than tab (and LF, where lf is set) or that starts no character; the length where there is none.
-pub fn first_bad(t: &[u8; 256], s: &[u8], lf: bool) -> usize
+pub fn first_bad(t: &ClassTable, s: &[u8], lf: bool) -> usize
     requires { ⌜ Classes (now t) ⌝ }
     ensures { λ r. ⌜ r ≡ firstBad (allowed lf) (now (s .entry)) ⌝ }
 {

@@ -1,4 +1,4 @@
--- `crate::slices::numbers` meets its contract. Assumes nothing.
+-- `octets::slices::numbers` meets its contract. Assumes nothing.
 use denote.Ref.{now}
 use native.Mathlib.Omega.{arith}
 use lib.ListN.{length}

@@ -1,4 +1,4 @@
--- `crate::slices::part` meets its contract. Assumes nothing.
+-- `octets::slices::part` meets its contract. Assumes nothing.
 use denote.Ref.{now}
 use lib.ListN.{length}
 use borrow.Author.Needs.{needs}

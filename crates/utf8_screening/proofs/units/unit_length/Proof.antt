@@ -7,7 +7,7 @@ use mathlib.Core.List.{List}
 use Prim.Native.Nat.{ℕ, _<_}
 use native.Mathlib.Omega.{arith}
 use lib.ListN.{getD, drop}
-use Rattle.octets.specs.Classes.{has}
+use Rattle.octets.specs.Classes.{has, valueMask}
 use Rattle.utf8.specs.Characters.{allowed, unit}
 use Rattle.octets.proofs.Runs.{has-not, has-yes}
 use Rattle.utf8.proofs.Chars.{ascii, unit-not, unit-no-lf, unit-lf, unit-yes}
@@ -30,13 +30,13 @@ element-copy-out-if1 : tie.Need-element-copy-out-if1
 element-copy-out-if1 c = omega (arith, c .shared-slice-known2 .given (c .before .before .args .i))
 
 -- what the table says of the octet
-no : (c : tie.Then1) → has 32 (B (c .before .before .before .before)) ≡ false
+no : (c : tie.Then1) → has valueMask (B (c .before .before .before .before)) ≡ false
 no c =
     let a = c .before .before .before .before .args in
     has-not (a .t .now) 32 (getD (a .s .now) (a .i) 0) (c .before .before .before .before .pre .0)
     (omega (arith, c .before .before .shared-slice-known2 .given (a .i))) (c .if1 .taken)
 
-yes : (c : tie.Else1) → has 32 (B (c .before .before .before .before)) ≡ true
+yes : (c : tie.Else1) → has valueMask (B (c .before .before .before .before)) ≡ true
 yes c =
     let a = c .before .before .before .before .args in
     has-yes (a .t .now) 32 (getD (a .s .now) (a .i) 0) (c .before .before .before .before .pre .0)

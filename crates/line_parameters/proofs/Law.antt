@@ -9,8 +9,8 @@ use Rattle.line_parser.specs.Parse.{Parse, got, bad}
 use Rattle.line_parser.specs.Grammar.{Line, WellFormed, front, render}
 use Rattle.line_parser.specs.Rule.{parseLine}
 use Rattle.line_parser.proofs.ParseLaws.{bad-got}
-use Rattle.line_laws.proofs.Sound.{line-sound}
-use Rattle.line_laws.proofs.Complete.{line-complete}
+use Rattle.line_parameters.proofs.Sound.{line-sound}
+use Rattle.line_parameters.proofs.Complete.{line-complete}
 
 -- a line is read as x, with its value at k, exactly when it is x written out, and k is what stands before the value
 pub line-law : (l : List ℕ) (x : Line) (k : ℕ)

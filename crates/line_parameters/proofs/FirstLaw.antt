@@ -14,14 +14,14 @@ use Rattle.octets.specs.Cases.{same}
 use Rattle.line_parser.specs.Parse.{got, hd, many}
 use Rattle.line_parser.specs.Grammar.{Value, plain, inQuotes, Param, Line, led, valueText, paramText, groupText, front, render, nameEnd, WellFormed}
 use Rattle.line_parser.specs.Rule.{ends, isColon, orEnd, param, params, head, parseLine}
 use Rattle.line_parameters.specs.First.{spanOf, firstPlace, firstOf, valueOctets, firstNamed}
 use Rattle.line_parameters.specs.declared.First.{First}
 use Rattle.line_parser.proofs.ParseLaws.{bad-got, guard-inv, pick-inv, next-inv}
 use Rattle.line_parser.proofs.PartLaws.{param-parts, head-count}
-use Rattle.line_laws.specs.Found.{Found}
-use Rattle.line_laws.proofs.Sound.{param-sound}
-use Rattle.line_laws.proofs.Complete.{AfterParam, semicolon, colon, param-complete, line-complete}
-use Rattle.line_laws.proofs.PlacesLaw.{between}
+use Rattle.line_parameters.specs.Found.{Found}
+use Rattle.line_parameters.proofs.Sound.{param-sound}
+use Rattle.line_parameters.proofs.Complete.{AfterParam, semicolon, colon, param-complete, line-complete}
+use Rattle.line_parameters.proofs.PlacesLaw.{between}
 
 -- where a parameter ends
 after-ends : (c : ℕ) → ends c ≡ true → AfterParam c

@@ -1,9 +1,9 @@
--- `octets::cases::small` meets its contract. Assumes nothing.
+-- `octets::cases::lower` meets its contract. Assumes nothing.
 use Rattle.octets.proofs.CaseLaws.{lower-below, lower-above, lower-capital}
 use mathlib.Core.Path.{sym}
 use borrow.Author.Needs.{needs}
-use Rattle.octets.proofs.cases.small.Statement.{statement}
-use Rattle.octets.proofs.cases.small.Tie as tie
+use Rattle.octets.proofs.cases.lower.Statement.{statement}
+use Rattle.octets.proofs.cases.lower.Tie as tie
 
 returns : tie.Need-returns
 returns c =
@@ -20,5 +20,5 @@ returns-3 : tie.Need-returns-3
 returns-3 c =
     sym (lower-capital (c .before .before .args .b) (c .before .if1 .left) (c .if2 .left))
 
-pub small-spec : {M : Type 1} → statement M
-small-spec = tie.close (tie.spec returns returns-2 add-result returns-3)
+pub lower-spec : {M : Type 1} → statement M
+lower-spec = tie.close (tie.spec returns returns-2 add-result returns-3)

@@ -15,7 +15,7 @@ use Rattle.line_parser.specs.Grammar.{led, valueText, paramText, groupText, fro
 use Rattle.line_parser.specs.Rule.{word, closing, value, Values, ends, orEnd, isColon, moreValues, values, param, params, Head, head, parseLine}
 use Rattle.line_parser.proofs.ParseLaws.{guard-inv, pick-inv, next-inv}
 use Rattle.line_parser.proofs.PartLaws.{word-taken, group-dot, params-stop}
-use Rattle.line_laws.proofs.Pieces.{chain, lead, valuesText, many-sound}
+use Rattle.line_parameters.proofs.Pieces.{chain, lead, valuesText, many-sound}
 
 front-more : (p : ℕ → Bool) (x : ℕ) (xs : List ℕ) (b : Bool) → p x ≡ b → Each (Is p) (take (run p xs) xs)
     → Each (Is p) (take (more b (run p xs)) (x ∷ xs))

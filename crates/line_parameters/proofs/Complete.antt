@@ -15,8 +15,8 @@ use Rattle.line_parser.specs.Grammar.{led, valueText, paramText, groupText, fro
 use Rattle.line_parser.specs.Rule.{word, closing, value, Values, ends, orEnd, isColon, moreValues, values, param, params, Head, head, parseLine}
 use Rattle.line_parser.proofs.ParseLaws.{pick-no}
 use Rattle.line_parser.proofs.PartLaws.{group-dot}
-use Rattle.line_laws.specs.Faults.{Full}
-use Rattle.line_laws.proofs.Pieces.{valuesText, many-complete}
+use Rattle.line_parameters.specs.Whole.{Whole}
+use Rattle.line_parameters.proofs.Pieces.{valuesText, many-complete}
 
 pub run-append : (p : ℕ → Bool) (xs r : List ℕ) → Each (Is p) xs → p (hd r) ≡ false → run p (xs ++ r) ≡ length xs
 unfolding run Each
@@ -83,19 +83,19 @@ quote-not : quoted 34 ≡ false
 unfolding quoted valued
 quote-not = refl
 
-pub value-whole : (v : Value) (r : List ℕ) → GoodValue v → Full v r → value (valueText v ++ r) ≡ got v (length (valueText v))
+pub value-whole : (v : Value) (r : List ℕ) → GoodValue v → Whole v r → value (valueText v ++ r) ≡ got v (length (valueText v))
 unfolding value closing GoodValue valueText
 value-whole (plain xs) r w f =
     pick-no _ _ (start-bare xs r w (f .1)) ∙ rw (run-append bare xs r w (f .0), take-append-seam xs r)
 value-whole (inQuotes xs) r w f =
     rw (append-assoc, run-append quoted xs (34 ∷ r) w quote-not, take-append-seam xs (34 ∷ r), drop-append-seam xs (34 ∷ r), length-append)
 
-ended-full : (v : Value) (r : List ℕ) → AfterValue (hd r) → Full v r
-ended-full (plain xs) r s = (not-bare s, λ e. not-quote s)
-ended-full (inQuotes xs) r s = tt
+ended-whole : (v : Value) (r : List ℕ) → AfterValue (hd r) → Whole v r
+ended-whole (plain xs) r s = (not-bare s, λ e. not-quote s)
+ended-whole (inQuotes xs) r s = tt
 
 pub value-complete : (v : Value) (r : List ℕ) → GoodValue v → AfterValue (hd r) → value (valueText v ++ r) ≡ got v (length (valueText v))
-value-complete v r w s = value-whole v r w (ended-full v r s)
+value-complete v r w s = value-whole v r w (ended-whole v r s)
 
 start-led : (xs : List Value) (r : List ℕ) → AfterParam (hd r) → AfterValue (hd (led 44 valueText xs ++ r))
 unfolding led

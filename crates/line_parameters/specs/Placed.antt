@@ -4,6 +4,7 @@ use mathlib.Core.Bool.{true}
 use mathlib.Core.List.{List}
 use Prim.Native.Nat.{ℕ, _-_, _<_}
 use lib.ListN.{length, take, drop}
+use Rattle.octets.specs.Ascii as ascii
 use Rattle.octets.specs.Classes.{named}
 use Rattle.line_parser.specs.Parse.{hd}
 use Rattle.line_parser.specs.Grammar.{Line, front, nameEnd}
@@ -23,5 +24,5 @@ pub record Placed (l : List ℕ) (x : Line) (g n c v : ℕ) : Type 0 where
 pub record Starts (l : List ℕ) : Type 0 where
   pub named-first : named (hd l) ≡ true
   pub some : 0 < length l
-  pub no-space : hd l ≡ 32 → ⊥
-  pub no-tab : hd l ≡ 9 → ⊥
+  pub no-space : hd l ≡ ascii.space → ⊥
+  pub no-tab : hd l ≡ ascii.tab → ⊥

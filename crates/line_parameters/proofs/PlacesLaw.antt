@@ -16,9 +16,9 @@ use Rattle.line_parser.specs.Places.{outcome, nameStart}
 use Rattle.line_parser.specs.declared.rule.Part.the-variants.{Parsed}
 use Rattle.line_parser.proofs.ParseLaws.{next-inv}
 use Rattle.line_parser.proofs.PartLaws.{word-taken, group-dot}
-use Rattle.line_laws.specs.Placed.{Placed, Starts}
-use Rattle.line_laws.proofs.Sound.{line-sound}
-use Rattle.line_laws.proofs.Complete.{line-complete}
+use Rattle.line_parameters.specs.Placed.{Placed, Starts}
+use Rattle.line_parameters.proofs.Sound.{line-sound}
+use Rattle.line_parameters.proofs.Complete.{line-complete}
 
 -- a part of a list between two others
 pub between : (a b c : List ℕ) (i j : ℕ) → i ≡ length a → j ≡ i + length b → take (j - i) (drop i (a ++ (b ++ c))) ≡ b
