@@ -15,7 +15,6 @@ use Rattle.octets.specs.Scan.{scan, gather}
 use Rattle.octets.specs.Classes.{valued}
 use Rattle.utf8.specs.Characters.{allowed}
 use Rattle.utf8_laws.specs.Texts.{Each as EachOctet}
-use Rattle.line_parser.specs.Parse.{hd}
 use Rattle.line_folds.specs.Folds.{foldAt, lineStep, lineLength, passed, kept, unfolded}
 use Rattle.line_folds.specs.Logical.{linesBy, rawLines}
 use Rattle.line_parser.specs.Grammar.{Line, Each, front, render}
@@ -24,14 +23,9 @@ use Rattle.line_laws.proofs.Law.{line-law}
 use Rattle.line_laws.proofs.PlacesLaw.{accepted-starts}
 use Rattle.octets.proofs.Bools.{by, and-both}
 use Rattle.line_breaks.specs.Lone.{loneStep, firstLone, endsCrLf}
-use Rattle.reader.specs.Outcome.{ended}
 use Rattle.reader_grammar.specs.Cards.{Readable}
-use Rattle.reader_grammar.specs.Inputs.{Blank, Folded, end, octet, fold, Written, none, more}
+use Rattle.reader_grammar.specs.Inputs.{Blank, Folded, end, octet, fold, Unbroken, Unled, Lined, no-line, and-then, Written, none, more}
 use Rattle.reader_grammar.specs.Refusals.{EndsCrLf}
-
--- neither CR nor LF
-abbrev Unbroken : ℕ → Type 0
-Unbroken b = (b ≡ 13 → ⊥) × (b ≡ 10 → ⊥)
 
 clean-inner : (l : List ℕ) → EachOctet (allowed false) l → Each Unbroken l
 unfolding EachOctet Each allowed valued
@@ -60,10 +54,6 @@ folded-lone end h t e = e
 folded-lone (octet {b = b} {r = r} f) h t e = lone-inner b (r ++ t) (h .0) ∙ ap suc (folded-lone f (h .1) t e)
 folded-lone (fold {b = b} {r = r} w f) h t e =
     lone-pair (b ∷ (r ++ t)) ∙ ap (λ (n : ℕ). suc (suc n)) (lone-inner b (r ++ t) (blank-inner b w) ∙ ap suc (folded-lone f h t e))
-
--- the next line starts with neither space nor tab
-abbrev Unled : List ℕ → Type 0
-Unled i = (hd i ≡ 32 → ⊥) × (hd i ≡ 9 → ⊥)
 
 fold-here : (b : ℕ) (s : List ℕ) → Blank b → foldAt (13 ∷ 10 ∷ b ∷ s) ≡ true
 unfolding foldAt
@@ -282,21 +272,32 @@ paired-text i e (j, q) = subst Text (sym q) (text-of j (subst (λ (l : List ℕ)
 pub lines-written : (xs : List Line) (i : List ℕ) → firstLone i ≡ length i → EndsCrLf i → map unfolded (rawLines i) ≡ map render xs → Written xs i
 lines-written xs i e h q = lines-from xs i (inr (paired-text i e h)) q
 
--- the raw lines, each ended by CR LF, are the input, and each is its logical line with folds in it
-raw-from : (n : ℕ) (i : List ℕ) → length i ≤ n → (i ≡ []) ⊎ Text i → (ended (rawLines i) ≡ i) × Each (λ (r : List ℕ). Folded (unfolded r) r) (rawLines i)
-unfolding rawLines linesBy ended Each
-raw-from zero i h (inl q) = rw q (refl, tt)
-raw-from zero i h (inr t) =
+-- the walk splits the input as document 01 does, and there is no other such splitting
+lined-from : (n : ℕ) (i : List ℕ) → length i ≤ n → (i ≡ []) ⊎ Text i → Lined i (rawLines i) (map unfolded (rawLines i))
+unfolding rawLines linesBy
+lined-from zero i h (inl q) = rw q no-line
+lined-from zero i h (inr t) =
     let s = split t in
     absurd (omega (arith, ap length (s .whole), length-append (s .raw) (13 ∷ 10 ∷ s .rest)))
-raw-from (suc n) i h (inl q) = rw q (refl, tt)
-raw-from (suc n) i h (inr t) =
+lined-from (suc n) i h (inl q) = rw q no-line
+lined-from (suc n) i h (inr t) =
     let s = split t in
-    let r = raw-from n (s .rest) (omega (arith, ap length (s .whole), length-append (s .raw) (13 ∷ 10 ∷ s .rest))) (s .next) in
-    let f : Folded (unfolded (s .raw)) (s .raw) = subst (λ (l : List ℕ). Folded l (s .raw)) (sym (folded-unfolds (s .folded) (s .each))) (s .folded) in (
-      ap ended (split-raw i s) ∙ ap (λ (l : List ℕ). s .raw ++ (13 ∷ 10 ∷ l)) (r .0) ∙ sym (s .whole),
-      subst (Each (λ (r : List ℕ). Folded (unfolded r) r)) (sym (split-raw i s)) (f, r .1),
-    )
+    let r = lined-from n (s .rest) (omega (arith, ap length (s .whole), length-append (s .raw) (13 ∷ 10 ∷ s .rest))) (s .next) in
+    let rs = rawLines (s .rest) in
+    subst (λ (xs : List (List ℕ)). Lined i xs (map unfolded xs)) (sym (split-raw i s))
+    (subst (λ (l : List ℕ). Lined i (s .raw ∷ rs) (l ∷ map unfolded rs)) (sym (folded-unfolds (s .folded) (s .each)))
+    (subst (λ (x : List ℕ). Lined x (s .raw ∷ rs) (s .line ∷ map unfolded rs)) (sym (s .whole))
+    (and-then (s .folded) (s .each) (s .unled) r)))
 
-pub raw-law : (i : List ℕ) → firstLone i ≡ length i → EndsCrLf i → (ended (rawLines i) ≡ i) × Each (λ (r : List ℕ). Folded (unfolded r) r) (rawLines i)
-raw-law i e h = raw-from (length i) i (omega arith) (inr (paired-text i e h))
+pub lined-law : (i : List ℕ) → firstLone i ≡ length i → EndsCrLf i → Lined i (rawLines i) (map unfolded (rawLines i))
+lined-law i e h = lined-from (length i) i (omega arith) (inr (paired-text i e h))
+
+pub lined-only : {i : List ℕ} {rs ls : List (List ℕ)} → Lined i rs ls → (rs ≡ rawLines i) × (ls ≡ map unfolded (rawLines i))
+unfolding rawLines linesBy
+lined-only no-line = (refl, refl)
+lined-only (and-then {i = i} {l = l} {r = r} {rs = rs} {ls = ls} f e u t) =
+    let k = lined-only t in
+    let q = first-raw r i (folded-length f e i u) in (
+      ap (λ (x : List (List ℕ)). r ∷ x) (k .0) ∙ sym q,
+      ap (λ (x : List (List ℕ)). l ∷ x) (k .1) ∙ ap (λ (x : List ℕ). x ∷ map unfolded (rawLines i)) (sym (folded-unfolds f e)) ∙ sym (ap (map unfolded) q),
+    )
