@@ -17,6 +17,7 @@ use Rattle.utf8.specs.Characters.{allowed}
 use Rattle.utf8_laws.specs.Texts.{Each as EachOctet}
 use Rattle.line_folds.specs.Folds.{foldAt, lineStep, lineLength, passed, kept, unfolded}
 use Rattle.line_folds.specs.Logical.{linesBy, rawLines}
+use Rattle.line_parser.specs.Parse.{hd}
 use Rattle.line_parser.specs.Grammar.{Line, Each, front, render}
 use Rattle.line_folds.proofs.LineLaws.{lines-step}
 use Rattle.line_laws.proofs.Law.{line-law}

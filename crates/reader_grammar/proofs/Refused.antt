@@ -69,14 +69,14 @@ has-some [] f = absurd (f refl)
 has-some (y ∷ ys) f = omega arith
 
 -- lists that are joined alike, the first parts as long as each other, are alike
-same-parts : {A : Type 0} (as bs xs ys : List A) → length as ≡ length bs → as ++ xs ≡ bs ++ ys → (as ≡ bs) × (xs ≡ ys)
+same-parts : {A : Type 0} (us vs xs ys : List A) → length us ≡ length vs → us ++ xs ≡ vs ++ ys → (us ≡ vs) × (xs ≡ ys)
 same-parts [] [] xs ys n e = (refl, e)
-same-parts [] (b ∷ bs) xs ys n e = absurd (omega arith)
-same-parts (a ∷ as) [] xs ys n e = absurd (omega arith)
-same-parts (a ∷ as) (b ∷ bs) xs ys n e =
+same-parts [] (b ∷ vs) xs ys n e = absurd (omega arith)
+same-parts (a ∷ us) [] xs ys n e = absurd (omega arith)
+same-parts (a ∷ us) (b ∷ vs) xs ys n e =
     let h : a ≡ b = cc in
-    let q : as ++ xs ≡ bs ++ ys = cc in
-    let r = same-parts as bs xs ys (omega arith) q in
+    let q : us ++ xs ≡ vs ++ ys = cc in
+    let r = same-parts us vs xs ys (omega arith) q in
     (ap2 h (r .0), r .1)
   where
     ap2 : {c d : A} {cs ds : List A} → c ≡ d → cs ≡ ds → c ∷ cs ≡ d ∷ ds
