@@ -77,10 +77,7 @@ same-parts (a ∷ us) (b ∷ vs) xs ys n e =
     let h : a ≡ b = cc in
     let q : us ++ xs ≡ vs ++ ys = cc in
     let r = same-parts us vs xs ys (omega arith) q in
-    (ap2 h (r .0), r .1)
-  where
-    ap2 : {c d : A} {cs ds : List A} → c ≡ d → cs ≡ ds → c ∷ cs ≡ d ∷ ds
-    ap2 p q = rw (p, q)
+    (ap (λ (z : _). z ∷ us) h ∙ ap (λ (zs : List _). b ∷ zs) (r .0), r .1)
 
 -- in lines that are split so, the logical line at a place is the raw one there without its folds
 module _ {i : List ℕ} (ds es ls ms : List (List ℕ)) (r l : List ℕ) (h : Lined i (ds ++ (r ∷ es)) (ls ++ (l ∷ ms))) (n : length ls ≡ length ds) where
