@@ -1,12 +1,12 @@
 -- Demand 2, whole. Assumes nothing.
 use Prim.Native.Nat.{ℕ, _*_, _≤_}
-use mathlib.Core.Path.{_≡_, refl, sym, ap, _∙_}
+use mathlib.Core.Path.{_≡_, refl, sym, ap, subst, _∙_}
 use mathlib.Core.Bool.{Bool, true, false}
 use mathlib.Core.List.{List, _∷_}
 use mathlib.Core.Logic.{_↔_}
 use native.Mathlib.Omega.{arith}
 use lib.Dec.{ltb}
-use lib.ListN.{length, drop, length-append}
+use lib.ListN.{length, take, drop, length-append}
 use lib.Seq.{take-at, drop-at}
 use borrow.Author.Tests.{ltb-true, ltb-false, le-ltb}
 use Rattle.octets.specs.Pick.{pick}
@@ -31,6 +31,10 @@ use Rattle.folder.specs.Outcome.{foldOutcome}
 use Rattle.folder_laws.specs.Cuttings.{Cutting}
 use Rattle.folder_laws.proofs.CutLaws.{cutting}
 use Rattle.folder_laws.proofs.Greedy.{only as no-other}
+use Rattle.line_folds.specs.Logical.{logicalLines}
+use Rattle.line_folds.specs.Lined.{Lined}
+use Rattle.reader_grammar.proofs.FoldLaws.{lined-only}
+use Rattle.folder_laws.specs.Written.{Folds}
 use Rattle.folder_laws.proofs.WrittenLaws.{wrote as written, wrote-accepted, fold-written}
 use Rattle.folder_laws.proofs.Again.{read-again}
 use Rattle.firmware.specs.Word.{wordOutcome}
@@ -159,6 +163,11 @@ unescape-low t out after n e =
     let l : length (unescaped t) ≡ n = cc in
     omega (arith, ltb-false 16384 (length t) a, stands-low (stands-exactly t (unescaped t) .1 (z, refl)))))))
 
+-- the lines that document 01 splits an input into are those that the folder's outcome names
+physical : (i out after : List ℕ) (n : ℕ) → foldOutcome i out ≡ filled (Wrote n) after → (rs ls : List (List ℕ)) → Lined i rs ls → Folds ls (take n after)
+unfolding logicalLines
+physical i out after n e rs ls h = subst (λ (xs : List (List ℕ)). Folds xs (take n after)) (sym (lined-only h .1)) (fold-written i out after n (sym e))
+
 -- ---- the whole
 
 pub demand2 : Demand2
@@ -170,7 +179,7 @@ demand2 =
       only = only;
       folds = λ i out k n h s l. (fold-form i out k n h ∙ bounded-so (folded h) out s l);
       greedy = greedy;
-      physical = λ i out after n e. fold-written i out after n (sym e);
+      physical = physical;
       read-again = λ i out after n e. read-again i out after n (sym e);
       escapes = escapes;
       unescapes = unescapes;

@@ -25,7 +25,7 @@ use Rattle.reader_walk.specs.Walk.{onward, judgeLines}
 use Rattle.reader.specs.Outcome.{verdictOf, judgeOf, ended}
 use Rattle.reader.specs.declared.Verdict.the-variants.{Accepted, Refused}
 use Rattle.reader_laws.proofs.LoneLaws.{lone-here, lone-none}
-use Rattle.reader_grammar.specs.Inputs.{Lined}
+use Rattle.line_folds.specs.Lined.{Lined}
 use Rattle.reader_grammar.specs.Refusals.{EndsCrLf, Framed, SoFar, LineRefused, RefusedBy, long, empty, lone, unended, line, unfinished}
 use Rattle.reader_grammar.proofs.Known.{phaseOf, Known, fresh-known}
 use Rattle.reader_grammar.proofs.LineLaws.{refused, outcome}

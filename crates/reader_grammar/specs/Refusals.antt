@@ -14,7 +14,7 @@ use Rattle.card_line.specs.Parts.{rowOfLine, kindOfLine}
 use Rattle.reader.specs.Outcome.{ended}
 use Rattle.reader_laws.specs.Lone.{Lone}
 use Rattle.reader_grammar.specs.Values.{Fitting}
-use Rattle.reader_grammar.specs.Inputs.{Lined}
+use Rattle.line_folds.specs.Lined.{Lined}
 use Rattle.reader_grammar.specs.Cards.{Clean, Readable, Bare, Begins, Versions, Inner, Cards, linesOf, groupLines}
 
 -- "last two octets" are CR LF
