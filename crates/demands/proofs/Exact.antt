@@ -26,11 +26,10 @@ use Rattle.reader.specs.declared.Verdict.{Verdict}
 use Rattle.reader.specs.declared.Verdict.the-variants.{Accepted, Refused}
 use Rattle.reader.proofs.AcceptLaws.{lines-few, lines-counted}
 use Rattle.reader.proofs.ReadLaws.{read-refused, numbers-counted, read-written, read-13, read-14}
-use Rattle.folder_line.specs.Pieces.{pieces, first, later, Clean}
+use Rattle.folder_line.specs.Pieces.{pieces, Clean}
 use Rattle.folder.specs.Outcome.{foldOutcome}
 use Rattle.folder_laws.specs.Cuttings.{Cutting}
-use Rattle.folder_laws.proofs.CutLaws.{cutting}
-use Rattle.folder_laws.proofs.Greedy.{only as no-other}
+use Rattle.folder_laws.proofs.CuttingLaws.{cutting-law}
 use Rattle.line_folds.specs.Logical.{logicalLines}
 use Rattle.line_folds.specs.Lined.{Lined}
 use Rattle.reader_grammar.proofs.FoldLaws.{lined-only}
@@ -105,14 +104,7 @@ unfolding Clean
 line-clean x r = allowed-only false (render x) .1 (r .clean .characters, r .clean .octets)
 
 greedy : (x : Line) → Readable x → (p : List ℕ) (ps : List (List ℕ)) → Cutting (render x) p ps ↔ (p ∷ ps ≡ pieces (render x))
-unfolding pieces
-greedy x r p ps = (no-other (render x) p ps, λ e. so e)
-  where
-    so : p ∷ ps ≡ first (render x) 75 ∷ later (render x) 75 → Cutting (render x) p ps
-    so e =
-        let a : p ≡ first (render x) 75 = cc in
-        let b : ps ≡ later (render x) 75 = cc in
-        rw (a, b) (cutting (render x) (line-clean x r))
+greedy x r p ps = cutting-law (render x) p ps (line-clean x r)
 
 -- ---- text
 

@@ -138,9 +138,11 @@ unfolding foldedLines folded All
 lined-back [] c u = ([], no-line)
 lined-back (l ∷ ls) c u =
     let k = lined-back ls (c .1) (u .1) in
-    let f : Folded l (joined (pieces l)) = whole-line l in
-    (joined (pieces l) ∷ k .0, subst (λ (t : List ℕ). Lined t (joined (pieces l) ∷ k .0) (l ∷ ls)) (sym (append-assoc (joined (pieces l)) (13 ∷ 10 ∷ []) (foldedLines ls)))
-    (and-then f (unbroken (no-end (clean-chars l (c .0)))) (unled-text ls (c .1) (u .1)) (k .1)))
+    let f : Folded l (joined (pieces l)) = whole-line l in (
+      joined (pieces l) ∷ k .0,
+      subst (λ (t : List ℕ). Lined t (joined (pieces l) ∷ k .0) (l ∷ ls)) (sym (append-assoc (joined (pieces l)) (13 ∷ 10 ∷ []) (foldedLines ls)))
+          (and-then f (unbroken (no-end (clean-chars l (c .0)))) (unled-text ls (c .1) (u .1)) (k .1)),
+    )
 
 -- Folding a copy, and reading the octets that were written, gives that copy again.
 pub read-again : (ls : List (List ℕ)) → All Clean ls → All Unled ls → ended (map unfolded (rawLines (foldedLines (rawLines (ended ls))))) ≡ ended ls

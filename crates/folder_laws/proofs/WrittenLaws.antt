@@ -24,13 +24,15 @@ use Rattle.folder_line.specs.Pieces.{foldedLines, Clean, All}
 use Rattle.folder.specs.Outcome.{foldBy, foldOutcome}
 use Rattle.folder.proofs.Accepted.{all-lines, accepted}
 use Rattle.line_folds.specs.Lined.{Unled}
+use Rattle.folder_laws.specs.Physical.{physical}
 use Rattle.folder_laws.specs.Written.{Folds}
 use Rattle.folder_laws.proofs.BackLaws.{lined-back, lines-back}
+use Rattle.folder_laws.proofs.CuttingLaws.{all-characters}
 use Rattle.folder_laws.proofs.PhysicalLaws.{short-lines, whole-lines}
 
 -- The folded form of clean lines, none led by a space or tab.
 pub folds : (ls : List (List ℕ)) → All Clean ls → All Unled ls → Folds ls (foldedLines ls)
-folds ls c u = record { short = short-lines ls c; whole = whole-lines ls c; back = lined-back ls c u; again = refl }
+folds ls c u = record { short = short-lines ls c; whole = all-characters (physical (foldedLines ls)) (whole-lines ls c); back = lined-back ls c u; again = refl }
 
 -- t stands at the start of the room, in n octets, and behind it the room is as it was
 pub record InRoom (t room after : List ℕ) (n : ℕ) : Type 0 where
