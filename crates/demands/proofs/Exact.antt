@@ -1,12 +1,12 @@
 -- Demand 2, whole. Assumes nothing.
 use Prim.Native.Nat.{ℕ, _*_, _≤_}
-use mathlib.Core.Path.{_≡_, refl, sym, ap, _∙_}
+use mathlib.Core.Path.{_≡_, refl, sym, ap, subst, _∙_}
 use mathlib.Core.Bool.{Bool, true, false}
 use mathlib.Core.List.{List, _∷_}
 use mathlib.Core.Logic.{_↔_}
 use native.Mathlib.Omega.{arith}
 use lib.Dec.{ltb}
-use lib.ListN.{length, drop, length-append}
+use lib.ListN.{length, take, drop, length-append}
 use lib.Seq.{take-at, drop-at}
 use borrow.Author.Tests.{ltb-true, ltb-false, le-ltb}
 use Rattle.octets.specs.Pick.{pick}
@@ -26,11 +26,14 @@ use Rattle.reader.specs.declared.Verdict.{Verdict}
 use Rattle.reader.specs.declared.Verdict.the-variants.{Accepted, Refused}
 use Rattle.reader.proofs.AcceptLaws.{lines-few, lines-counted}
 use Rattle.reader.proofs.ReadLaws.{read-refused, numbers-counted, read-written, read-13, read-14}
-use Rattle.folder_line.specs.Pieces.{pieces, first, later, Clean}
+use Rattle.folder_line.specs.Pieces.{pieces, Clean}
 use Rattle.folder.specs.Outcome.{foldOutcome}
 use Rattle.folder_laws.specs.Cuttings.{Cutting}
-use Rattle.folder_laws.proofs.CutLaws.{cutting}
-use Rattle.folder_laws.proofs.Greedy.{only as no-other}
+use Rattle.folder_laws.proofs.CuttingLaws.{cutting-law}
+use Rattle.line_folds.specs.Logical.{logicalLines}
+use Rattle.line_folds.specs.Lined.{Lined}
+use Rattle.reader_grammar.proofs.FoldLaws.{lined-only}
+use Rattle.folder_laws.specs.Written.{Folds}
 use Rattle.folder_laws.proofs.WrittenLaws.{wrote as written, wrote-accepted, fold-written}
 use Rattle.folder_laws.proofs.Again.{read-again}
 use Rattle.firmware.specs.Word.{wordOutcome}
@@ -101,14 +104,7 @@ unfolding Clean
 line-clean x r = allowed-only false (render x) .1 (r .clean .characters, r .clean .octets)
 
 greedy : (x : Line) → Readable x → (p : List ℕ) (ps : List (List ℕ)) → Cutting (render x) p ps ↔ (p ∷ ps ≡ pieces (render x))
-unfolding pieces
-greedy x r p ps = (no-other (render x) p ps, λ e. so e)
-  where
-    so : p ∷ ps ≡ first (render x) 75 ∷ later (render x) 75 → Cutting (render x) p ps
-    so e =
-        let a : p ≡ first (render x) 75 = cc in
-        let b : ps ≡ later (render x) 75 = cc in
-        rw (a, b) (cutting (render x) (line-clean x r))
+greedy x r p ps = cutting-law (render x) p ps (line-clean x r)
 
 -- ---- text
 
@@ -159,6 +155,11 @@ unescape-low t out after n e =
     let l : length (unescaped t) ≡ n = cc in
     omega (arith, ltb-false 16384 (length t) a, stands-low (stands-exactly t (unescaped t) .1 (z, refl)))))))
 
+-- the lines that document 01 splits an input into are those that the folder's outcome names
+physical : (i out after : List ℕ) (n : ℕ) → foldOutcome i out ≡ filled (Wrote n) after → (rs ls : List (List ℕ)) → Lined i rs ls → Folds ls (take n after)
+unfolding logicalLines
+physical i out after n e rs ls h = subst (λ (xs : List (List ℕ)). Folds xs (take n after)) (sym (lined-only h .1)) (fold-written i out after n (sym e))
+
 -- ---- the whole
 
 pub demand2 : Demand2
@@ -170,7 +171,7 @@ demand2 =
       only = only;
       folds = λ i out k n h s l. (fold-form i out k n h ∙ bounded-so (folded h) out s l);
       greedy = greedy;
-      physical = λ i out after n e. fold-written i out after n (sym e);
+      physical = physical;
       read-again = λ i out after n e. read-again i out after n (sym e);
       escapes = escapes;
       unescapes = unescapes;

@@ -14,7 +14,7 @@ use Rattle.text.specs.Outcomes.{escapeOutcome, unescapeOutcome}
 use Rattle.text_laws.specs.Stands.{Stands}
 use Rattle.line_parser.specs.Grammar.{Line, render}
 use Rattle.reader.specs.Outcome.{judgeOf, Taken, readOutcome}
-use Rattle.line_folds.specs.Logical.{logicalLines}
+use Rattle.line_folds.specs.Lined.{Lined}
 use Rattle.reader.specs.declared.Verdict.the-variants.{Accepted}
 use Rattle.folder_line.specs.Pieces.{pieces}
 use Rattle.folder.specs.Outcome.{foldOutcome}
@@ -54,7 +54,8 @@ pub record Demand2 : Type 0 where
   pub folds : (i out : List ℕ) (k n : ℕ) (h : InputOf i k n) → length (folded h) ≤ limit.octets → length (folded h) ≤ length out → foldOutcome i out ≡ wrote (folded h) out
   pub greedy : (x : Line) → Readable x → (p : List ℕ) (ps : List (List ℕ)) → Cutting (render x) p ps ↔ (p ∷ ps ≡ pieces (render x))
   -- what it wrote has physical lines of at most 75 octets, with no character split,
-  pub physical : (i out after : List ℕ) (n : ℕ) → foldOutcome i out ≡ filled (Wrote n) after → Folds (logicalLines i) (take n after)
+  pub physical : (i out after : List ℕ) (n : ℕ) → foldOutcome i out ≡ filled (Wrote n) after
+      → (rs ls : List (List ℕ)) → Lined i rs ls → Folds ls (take n after)
   -- and read again gives the same answer, copy and records
   pub read-again : (i out after : List ℕ) (n : ℕ) → foldOutcome i out ≡ filled (Wrote n) after
       → (copy records : List ℕ) → readOutcome (take n after) copy records ≡ readOutcome i copy records

@@ -22,7 +22,7 @@ use Rattle.folder.specs.Outcome.{foldBy, foldOutcome}
 use Rattle.folder_line.proofs.Turns.{clean-chars}
 use Rattle.folder.proofs.Accepted.{accepted}
 use Rattle.folder_laws.proofs.PhysicalLaws.{physicalOf, lines-ended, clean-lines}
-use Rattle.folder_laws.proofs.WrittenLaws.{wrote, wrote-accepted, fold-written}
+use Rattle.folder_laws.proofs.WrittenLaws.{wrote, wrote-accepted, fold-lines}
 
 -- folded text passes 3 and 4
 unlone : (ps : List (List ℕ)) → All Clean ps → firstLone (ended ps) ≡ length (ended ps)
@@ -47,7 +47,7 @@ module _ (i room after : List ℕ) (n : ℕ) (e : filled (Wrote n) after ≡ fol
   -- what was written has the lines of the input
   lines-kept : logicalLines (take n after) ≡ logicalLines i
   unfolding logicalLines
-  lines-kept = fold-written i room after n e .back
+  lines-kept = fold-lines i room after n e
 
   -- and it is accepted as the input is
   kept : {A : Type 0} → ((k m : ℕ) → judgeOf i ≡ Accepted k m → judgeOf (take n after) ≡ Accepted k m → A) → A

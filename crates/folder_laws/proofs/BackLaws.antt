@@ -1,7 +1,8 @@
 -- Folded text read again: its logical lines, unfolded, are the lines that were folded. Assumes nothing.
-use mathlib.Core.Path.{_≡_, refl, sym, ap, _∙_}
+use mathlib.Core.Path.{_≡_, refl, sym, ap, subst, _∙_}
 use mathlib.Core.Bool.{false}
 use mathlib.Core.List.{List, [], _∷_, _++_, map, flatten, append-nil, append-assoc}
+use mathlib.Core.Logic.{inl}
 use Prim.Native.Nat.{ℕ, _+_}
 use native.Mathlib.Omega.{arith}
 use lib.ListN.{length, length-append}
@@ -14,7 +15,7 @@ use Rattle.line_folds.proofs.FoldLaws.{not-cr}
 use Rattle.line_folds.proofs.LineLaws.{lines-end}
 use Rattle.folder_line.specs.Pieces.{first, later, pieces, joined, folded, foldedLines, Clean, All}
 use Rattle.reader.specs.Outcome.{ended}
-use Rattle.folder_laws.specs.Leads.{Unled}
+use Rattle.line_folds.specs.Lined.{Folded, end as nothing, octet, fold, Unbroken, Unled, Lined, no-line, and-then}
 use Rattle.folder_line.proofs.PieceLaws.{rejoin, first-goes, over-no}
 use Rattle.folder_line.proofs.Turns.{clean-chars}
 use Rattle.folder_laws.proofs.CopyLaws.{line-run, line-stop, first-line, unled-none, unled-line, copy-lines}
@@ -113,9 +114,35 @@ lines-back (l ∷ ls) c u =
     ∙ ap (λ (r : List ℕ). r ∷ map unfolded (rawLines (foldedLines ls))) (unfold-joined l (c .0))
     ∙ ap (λ (r : List (List ℕ)). l ∷ r) (lines-back ls (c .1) (u .1))
 
--- Folding what was folded gives the same octets.
-pub twice : (ls : List (List ℕ)) → All Clean ls → All Unled ls → foldedLines (map unfolded (rawLines (foldedLines ls))) ≡ foldedLines ls
-twice ls c u = ap foldedLines (lines-back ls c u)
+-- The folded text is split into the lines: each raw line is its line with folds in it.
+folded-run : (p : List ℕ) {l r : List ℕ} → Folded l r → Folded (p ++ l) (p ++ r)
+folded-run [] f = f
+folded-run (b ∷ p) f = octet (folded-run p f)
+
+folded-joined : (p : List ℕ) (ps : List (List ℕ)) → Folded (flatten (p ∷ ps)) (joined (p ∷ ps))
+unfolding joined flatten
+folded-joined p [] = subst (λ (r : List ℕ). Folded (p ++ []) r) (append-nil p) (folded-run p nothing)
+folded-joined p (q ∷ qs) = folded-run p (fold (inl refl) (folded-joined q qs))
+
+unbroken : {l : List ℕ} → NoEnd l → Unbroken l
+unfolding Unbroken
+unbroken none = tt
+unbroken (more a b n) = ((a, b), unbroken n)
+
+whole-line : (l : List ℕ) → Folded l (joined (pieces l))
+unfolding pieces flatten
+whole-line l = subst (λ (m : List ℕ). Folded m (joined (first l 75 ∷ later l 75))) (rejoin l 75) (folded-joined (first l 75) (later l 75))
+
+pub lined-back : (ls : List (List ℕ)) → All Clean ls → All Unled ls → (rs : List (List ℕ)) × Lined (foldedLines ls) rs ls
+unfolding foldedLines folded All
+lined-back [] c u = ([], no-line)
+lined-back (l ∷ ls) c u =
+    let k = lined-back ls (c .1) (u .1) in
+    let f : Folded l (joined (pieces l)) = whole-line l in (
+      joined (pieces l) ∷ k .0,
+      subst (λ (t : List ℕ). Lined t (joined (pieces l) ∷ k .0) (l ∷ ls)) (sym (append-assoc (joined (pieces l)) (13 ∷ 10 ∷ []) (foldedLines ls)))
+          (and-then f (unbroken (no-end (clean-chars l (c .0)))) (unled-text ls (c .1) (u .1)) (k .1)),
+    )
 
 -- Folding a copy, and reading the octets that were written, gives that copy again.
 pub read-again : (ls : List (List ℕ)) → All Clean ls → All Unled ls → ended (map unfolded (rawLines (foldedLines (rawLines (ended ls))))) ≡ ended ls

@@ -10,7 +10,8 @@ use Rattle.utf8.proofs.Chains.{Chars, end, start, inner, char-four, char-less, 
 use Rattle.folder_line.specs.Pieces.{first, later, Clean, All}
 use Rattle.folder_line.proofs.PieceLaws.{Room, short, roomy, room, first-over, first-goes, later-over, later-goes, over-yes, over-no, over-tail, rejoin, first-fits}
 use Rattle.folder_line.proofs.Turns.{clean-chars, chars-clean}
-use Rattle.folder_laws.specs.Cuttings.{UpTo, Full, AllFull, Cutting}
+use Rattle.folder_laws.specs.Cuttings.{UpTo}
+use Rattle.folder_laws.proofs.Cut.{Tight, AllTight, Cut}
 
 -- a character stays whole in its piece
 stays : (x m r : ℕ) (xs : List ℕ) → charLength (x ∷ xs) ≡ suc m → m ≤ length (first xs r) → charLength (x ∷ first xs r) ≡ suc m
@@ -66,16 +67,16 @@ to-pieces n [] c f = nil
 to-pieces n (q ∷ qs) c f = one (clean-chars q (c .0)) (f .0) (to-pieces n qs (c .1) (f .1))
 
 -- each cut is the last that fits
-full-more : (x r : ℕ) (p : List ℕ) (ps : List (List ℕ)) → Full (pred r) p ps → 1 ≤ r → Full r (x ∷ p) ps
+full-more : (x r : ℕ) (p : List ℕ) (ps : List (List ℕ)) → Tight (pred r) p ps → 1 ≤ r → Tight r (x ∷ p) ps
 full-more x r p [] f h = tt
 full-more x r p (q ∷ qs) f h = omega arith
 
-full-first : {p : ℕ → Bool} {k : ℕ} {l : List ℕ} → Chars p k l → (r : ℕ) → k ≤ r → Full r (first l r) (later l r)
+full-first : {p : ℕ → Bool} {k : ℕ} {l : List ℕ} → Chars p k l → (r : ℕ) → k ≤ r → Tight r (first l r) (later l r)
 unfolding first later
 full-first end r h = tt
 full-first (start {x} {m} {xs} a e c) r h = go (room m r) (λ f. full-first c (pred r) f)
   where
-    go : Room m r → (m ≤ pred r → Full (pred r) (first xs (pred r)) (later xs (pred r))) → Full r (first (x ∷ xs) r) (later (x ∷ xs) r)
+    go : Room m r → (m ≤ pred r → Tight (pred r) (first xs (pred r)) (later xs (pred r))) → Tight r (first (x ∷ xs) r) (later (x ∷ xs) r)
     go (short p) f =
         let o = over-yes x xs r m e p in
         let w = chars-fit (first-whole c 73 (omega (arith, char-four (x ∷ xs) m e))) in
@@ -87,12 +88,12 @@ full-first (inner {x} {k} {xs} e c) r h =
     let o = over-tail x xs r e in
     rw (first-goes x xs r o, later-goes x xs r o) (full-more x r (first xs (pred r)) (later xs (pred r)) (full-first c (pred r) (omega arith)) (omega arith))
 
-full-later : {p : ℕ → Bool} {k : ℕ} {l : List ℕ} → Chars p k l → (r : ℕ) → k ≤ r → AllFull (later l r)
-unfolding later AllFull
+full-later : {p : ℕ → Bool} {k : ℕ} {l : List ℕ} → Chars p k l → (r : ℕ) → k ≤ r → AllTight (later l r)
+unfolding later AllTight
 full-later end r h = tt
 full-later (start {x} {m} {xs} a e c) r h = go (room m r) (λ q f. full-later c q f)
   where
-    go : Room m r → ((q : ℕ) → m ≤ q → AllFull (later xs q)) → AllFull (later (x ∷ xs) r)
+    go : Room m r → ((q : ℕ) → m ≤ q → AllTight (later xs q)) → AllTight (later (x ∷ xs) r)
     go (short p) f =
         let b : m ≤ 73 = omega (arith, char-four (x ∷ xs) m e) in
         rw (later-over x xs r (over-yes x xs r m e p)) (full-more x 74 (first xs 73) (later xs 73) (full-first c 73 b) (omega arith), f 73 b)
@@ -100,7 +101,7 @@ full-later (start {x} {m} {xs} a e c) r h = go (room m r) (λ q f. full-later c 
 full-later (inner {x} {k} {xs} e c) r h = rw (later-goes x xs r (over-tail x xs r e)) (full-later c (pred r) (omega arith))
 
 -- The pieces are a greedy cutting.
-pub cutting : (l : List ℕ) → Clean l → Cutting l (first l 75) (later l 75)
+pub cutting : (l : List ℕ) → Clean l → Cut l (first l 75) (later l 75)
 unfolding All flatten
 cutting l clean =
     let c = clean-chars l clean in

@@ -1,7 +1,7 @@
 -- The laws of the octets that folding a text has written. Assumes nothing.
 use mathlib.Core.Path.{_≡_, refl, ap}
 use mathlib.Core.Bool.{Bool, true, false}
-use mathlib.Core.List.{List}
+use mathlib.Core.List.{List, map}
 use Prim.Native.Nat.{ℕ, _≤_}
 use native.Mathlib.Omega.{arith}
 use lib.Dec.{ltb}
@@ -16,20 +16,23 @@ use Rattle.card_state.specs.declared.Card.{Card}
 use Rattle.card_state.specs.declared.Step.the-variants.{Next}
 use Rattle.card_judge.proofs.CardLaws.{line-clean}
 use Rattle.reader.specs.Outcome.{judgeOf}
-use Rattle.line_folds.specs.Logical.{logicalLines}
+use Rattle.line_folds.specs.Folds.{unfolded}
+use Rattle.line_folds.specs.Logical.{rawLines, logicalLines}
 use Rattle.reader.specs.declared.Verdict.{Verdict}
 use Rattle.reader.specs.declared.Verdict.the-variants.{Accepted, Refused as Denied}
 use Rattle.folder_line.specs.Pieces.{foldedLines, Clean, All}
 use Rattle.folder.specs.Outcome.{foldBy, foldOutcome}
 use Rattle.folder.proofs.Accepted.{all-lines, accepted}
-use Rattle.folder_laws.specs.Leads.{Unled}
+use Rattle.line_folds.specs.Lined.{Unled}
+use Rattle.folder_laws.specs.Physical.{physical}
 use Rattle.folder_laws.specs.Written.{Folds}
-use Rattle.folder_laws.proofs.BackLaws.{lines-back, twice}
+use Rattle.folder_laws.proofs.BackLaws.{lined-back, lines-back}
+use Rattle.folder_laws.proofs.CuttingLaws.{all-characters}
 use Rattle.folder_laws.proofs.PhysicalLaws.{short-lines, whole-lines}
 
 -- The folded form of clean lines, none led by a space or tab.
 pub folds : (ls : List (List ℕ)) → All Clean ls → All Unled ls → Folds ls (foldedLines ls)
-folds ls c u = record { short = short-lines ls c; whole = whole-lines ls c; back = lines-back ls c u; again = twice ls c u }
+folds ls c u = record { short = short-lines ls c; whole = all-characters (physical (foldedLines ls)) (whole-lines ls c); back = lined-back ls c u; again = refl }
 
 -- t stands at the start of the room, in n octets, and behind it the room is as it was
 pub record InRoom (t room after : List ℕ) (n : ℕ) : Type 0 where
@@ -81,3 +84,10 @@ unfolding foldOutcome
 fold-written i room after n e =
     wrote-accepted (judgeOf i) i room after n e
     (λ k m a f. rw (wrote (foldedLines (logicalLines i)) room after n f .written) (folds (logicalLines i) (accepted i k m a .0) (all-lines Unled line-unled i k m a)))
+
+-- and the walk finds the same logical lines in them
+pub fold-lines : (i room after : List ℕ) (n : ℕ) → filled (Wrote n) after ≡ foldOutcome i room → map unfolded (rawLines (take n after)) ≡ logicalLines i
+unfolding foldOutcome
+fold-lines i room after n e =
+    wrote-accepted (judgeOf i) i room after n e
+    (λ k m a f. rw (wrote (foldedLines (logicalLines i)) room after n f .written) (lines-back (logicalLines i) (accepted i k m a .0) (all-lines Unled line-unled i k m a)))

@@ -24,6 +24,7 @@ use Rattle.reader_grammar.specs.Inputs.{InputOf}
 use Rattle.reader_grammar.specs.Refusals.{Framed}
 use Rattle.reader_grammar.proofs.Known.{phaseOf, fresh-known}
 use Rattle.reader_grammar.proofs.Runs.{steps-run, cards-run}
+use Rattle.reader_grammar.proofs.PairedLaws.{paired-law}
 use Rattle.reader_grammar.proofs.FoldLaws.{written-lines, written-paired, written-ends, ends-law, lines-written}
 use Rattle.reader_grammar.proofs.Walks.{Reached, fresh-reached, Walked, finished, stopped, walk}
 
@@ -34,7 +35,7 @@ judge-framed i h =
     rw (
       le-ltb 16384 (length i) (h .short),
       ne-eqb (length i) 0 (λ e. omega (arith, h .some)),
-      le-ltb (firstLone i) (length i) (omega (arith, h .paired)),
+      le-ltb (firstLone i) (length i) (omega (arith, paired-law i .1 (h .paired))),
       ends-law i .1 (h .ends),
     )
 
@@ -114,7 +115,7 @@ module _ (i : List ℕ) (k n : ℕ) where
       record {
         short = h .short;
         some = omega (arith, ap length (e .1), length-append (e .0) (13 ∷ 10 ∷ []));
-        paired = written-paired (h .written) (h .readable);
+        paired = paired-law i .0 (written-paired (h .written) (h .readable));
         ends = e;
       }
 

@@ -15,38 +15,38 @@ use Rattle.octets.specs.Scan.{scan, gather}
 use Rattle.octets.specs.Classes.{valued}
 use Rattle.utf8.specs.Characters.{allowed}
 use Rattle.utf8_laws.specs.Texts.{Each as EachOctet}
-use Rattle.line_parser.specs.Parse.{hd}
 use Rattle.line_folds.specs.Folds.{foldAt, lineStep, lineLength, passed, kept, unfolded}
 use Rattle.line_folds.specs.Logical.{linesBy, rawLines}
+use Rattle.line_parser.specs.Parse.{hd}
 use Rattle.line_parser.specs.Grammar.{Line, Each, front, render}
 use Rattle.line_folds.proofs.LineLaws.{lines-step}
 use Rattle.line_parameters.proofs.Law.{line-law}
 use Rattle.line_parameters.proofs.PlacesLaw.{accepted-starts}
 use Rattle.octets.proofs.Bools.{by, and-both}
 use Rattle.line_breaks.specs.Lone.{loneStep, firstLone, endsCrLf}
-use Rattle.reader.specs.Outcome.{ended}
 use Rattle.reader_grammar.specs.Cards.{Readable}
-use Rattle.reader_grammar.specs.Inputs.{Blank, Folded, end, octet, fold, Written, none, more}
+use Rattle.line_folds.specs.Lined.{Blank, Folded, end, octet, fold, Unbroken, Unled, Lined, no-line, and-then}
+use Rattle.reader_grammar.specs.Inputs.{Written, none, more}
 use Rattle.reader_grammar.specs.Refusals.{EndsCrLf}
 
 -- neither CR nor LF
-abbrev Unbroken : ℕ → Type 0
-Unbroken b = (b ≡ 13 → ⊥) × (b ≡ 10 → ⊥)
+abbrev Inner : ℕ → Type 0
+Inner b = (b ≡ 13 → ⊥) × (b ≡ 10 → ⊥)
 
-clean-inner : (l : List ℕ) → EachOctet (allowed false) l → Each Unbroken l
-unfolding EachOctet Each allowed valued
+clean-inner : (l : List ℕ) → EachOctet (allowed false) l → Unbroken l
+unfolding EachOctet Unbroken allowed valued
 clean-inner [] h = tt
 clean-inner (b ∷ l) h = (
   (λ e. false≢true (subst (λ (x : ℕ). allowed false x ≡ true) e (h .0)), λ e. false≢true (subst (λ (x : ℕ). allowed false x ≡ true) e (h .0))),
   clean-inner l (h .1),
 )
 
-blank-inner : (b : ℕ) → Blank b → Unbroken b
+blank-inner : (b : ℕ) → Blank b → Inner b
 blank-inner b (inl e) = (λ q. omega arith, λ q. omega arith)
 blank-inner b (inr e) = (λ q. omega arith, λ q. omega arith)
 
 -- the check for a lone CR or LF
-lone-inner : (b : ℕ) (s : List ℕ) → Unbroken b → scan loneStep (b ∷ s) 0 ≡ suc (scan loneStep s 0)
+lone-inner : (b : ℕ) (s : List ℕ) → Inner b → scan loneStep (b ∷ s) 0 ≡ suc (scan loneStep s 0)
 unfolding scan loneStep
 lone-inner b s h = rw (ne-eqb b 10 (h .1), ne-eqb b 13 (h .0))
 
@@ -54,16 +54,12 @@ lone-pair : (s : List ℕ) → scan loneStep (13 ∷ 10 ∷ s) 0 ≡ suc (suc (s
 unfolding scan loneStep
 lone-pair s = refl
 
-folded-lone : {l r : List ℕ} → Folded l r → Each Unbroken l → (t : List ℕ) → scan loneStep t 0 ≡ length t → scan loneStep (r ++ t) 0 ≡ length (r ++ t)
-unfolding Each
+folded-lone : {l r : List ℕ} → Folded l r → Unbroken l → (t : List ℕ) → scan loneStep t 0 ≡ length t → scan loneStep (r ++ t) 0 ≡ length (r ++ t)
+unfolding Unbroken
 folded-lone end h t e = e
 folded-lone (octet {b = b} {r = r} f) h t e = lone-inner b (r ++ t) (h .0) ∙ ap suc (folded-lone f (h .1) t e)
 folded-lone (fold {b = b} {r = r} w f) h t e =
     lone-pair (b ∷ (r ++ t)) ∙ ap (λ (n : ℕ). suc (suc n)) (lone-inner b (r ++ t) (blank-inner b w) ∙ ap suc (folded-lone f h t e))
-
--- the next line starts with neither space nor tab
-abbrev Unled : List ℕ → Type 0
-Unled i = (hd i ≡ 32 → ⊥) × (hd i ≡ 9 → ⊥)
 
 fold-here : (b : ℕ) (s : List ℕ) → Blank b → foldAt (13 ∷ 10 ∷ b ∷ s) ≡ true
 unfolding foldAt
@@ -71,16 +67,16 @@ fold-here b s (inl e) = rw e
 fold-here b s (inr e) = rw e
 
 no-fold-here : (i : List ℕ) → Unled i → foldAt (13 ∷ 10 ∷ i) ≡ false
-unfolding foldAt
+unfolding foldAt Unled
 no-fold-here i h = rw (ne-eqb (hd i) 32 (h .0), ne-eqb (hd i) 9 (h .1))
 
-inner-fold : (b : ℕ) (s : List ℕ) → Unbroken b → foldAt (b ∷ s) ≡ false
+inner-fold : (b : ℕ) (s : List ℕ) → Inner b → foldAt (b ∷ s) ≡ false
 unfolding foldAt
 inner-fold b s h = rw (ne-eqb b 13 (h .0))
 
 -- a line ends before its CR LF
-folded-length : {l r : List ℕ} → Folded l r → Each Unbroken l → (i : List ℕ) → Unled i → scan lineStep (r ++ (13 ∷ 10 ∷ i)) 0 ≡ length r
-unfolding Each scan lineStep
+folded-length : {l r : List ℕ} → Folded l r → Unbroken l → (i : List ℕ) → Unled i → scan lineStep (r ++ (13 ∷ 10 ∷ i)) 0 ≡ length r
+unfolding Unbroken scan lineStep
 folded-length end h i u = rw (no-fold-here i u)
 folded-length (octet {b = b} {r = r} f) h i u =
     rw (inner-fold b (r ++ (13 ∷ 10 ∷ i)) (h .0), ne-eqb b 13 (h .0 .0)) (ap suc (folded-length f (h .1) i u))
@@ -88,8 +84,8 @@ folded-length (fold {b = b} {r = r} w f) h i u =
     rw (fold-here b (r ++ (13 ∷ 10 ∷ i)) w) (ap (λ (n : ℕ). suc (suc (suc n))) (folded-length f h i u))
 
 -- and unfolds to itself without its folds
-folded-unfolds : {l r : List ℕ} → Folded l r → Each Unbroken l → unfolded r ≡ l
-unfolding Each unfolded gather passed kept
+folded-unfolds : {l r : List ℕ} → Folded l r → Unbroken l → unfolded r ≡ l
+unfolding Unbroken unfolded gather passed kept
 folded-unfolds end h = refl
 folded-unfolds (octet {b = b} {r = r} f) h = rw (inner-fold b r (h .0)) (ap (λ (l : List ℕ). b ∷ l) (folded-unfolds f (h .1)))
 folded-unfolds (fold {b = b} {r = r} w f) h = rw (fold-here b r w) (folded-unfolds f h)
@@ -106,15 +102,16 @@ first-raw r i e =
     ∙ ap (λ (x : List ℕ). r ∷ rawLines x) (drop-append-add r (13 ∷ 10 ∷ i) 2)
 
 folded-first : {l r : List ℕ} → Folded l r → (t : List ℕ) → Unled l → 0 < length l → Unled (r ++ t)
+unfolding Unled
 folded-first end t u h = absurd (omega arith)
 folded-first (octet f) t u h = u
 folded-first (fold w f) t u h = (λ e. omega arith, λ e. omega arith)
 
-readable-inner : (x : Line) → Readable x → Each Unbroken (render x)
+readable-inner : (x : Line) → Readable x → Unbroken (render x)
 readable-inner x r = clean-inner (render x) (r .clean .octets)
 
 written-unled : {xs : List Line} {i : List ℕ} → Written xs i → Each Readable xs → Unled i
-unfolding Each
+unfolding Each Unled
 written-unled none h = (λ e. omega arith, λ e. omega arith)
 written-unled (more {x = x} {i = i} f w) h =
     let s = accepted-starts (render x) x (length (front x)) (line-law (render x) x (length (front x)) .1 (h .0 .formed, refl, refl)) in
@@ -184,7 +181,7 @@ ends-law i = (to, from)
 -- octets without lone CR or LF that end in CR LF
 data Text : List ℕ → Type 0 where
   last : Text (13 ∷ 10 ∷ [])
-  inner : {b : ℕ} {s : List ℕ} → Unbroken b → Text s → Text (b ∷ s)
+  inner : {b : ℕ} {s : List ℕ} → Inner b → Text s → Text (b ∷ s)
   pair : {s : List ℕ} → Text s → Text (13 ∷ 10 ∷ s)
 
 module _ (b c : ℕ) (s : List ℕ) where
@@ -211,17 +208,17 @@ record Split (i : List ℕ) : Type 0 where
   rest : List ℕ
   whole : i ≡ raw ++ (13 ∷ 10 ∷ rest)
   folded : Folded line raw
-  each : Each Unbroken line
+  each : Unbroken line
   next : (rest ≡ []) ⊎ Text rest
   unled : Unled rest
 
 -- a CR LF that is no fold
 here : (s : List ℕ) → (s ≡ []) ⊎ Text s → Unled s → Split (13 ∷ 10 ∷ s)
-unfolding Each
+unfolding Unbroken
 here s t u = record { line = []; raw = []; rest = s; whole = refl; folded = end; each = tt; next = t; unled = u }
 
-further : (b : ℕ) (s : List ℕ) → Unbroken b → Split s → Split (b ∷ s)
-unfolding Each
+further : (b : ℕ) (s : List ℕ) → Inner b → Split s → Split (b ∷ s)
+unfolding Unbroken
 further b s h t = record {
   line = b ∷ t .line;
   raw = b ∷ t .raw;
@@ -246,6 +243,7 @@ past-fold b s w t = record {
 }
 
 split : {i : List ℕ} → Text i → Split i
+unfolding Unled
 split last = here [] (inl refl) (λ e. omega arith, λ e. omega arith)
 split (inner {b = b} {s = s} h t) = further b s h (split t)
 split (pair last) = here (13 ∷ 10 ∷ []) (inr last) (λ e. omega arith, λ e. omega arith)
@@ -282,21 +280,32 @@ paired-text i e (j, q) = subst Text (sym q) (text-of j (subst (λ (l : List ℕ)
 pub lines-written : (xs : List Line) (i : List ℕ) → firstLone i ≡ length i → EndsCrLf i → map unfolded (rawLines i) ≡ map render xs → Written xs i
 lines-written xs i e h q = lines-from xs i (inr (paired-text i e h)) q
 
--- the raw lines, each ended by CR LF, are the input, and each is its logical line with folds in it
-raw-from : (n : ℕ) (i : List ℕ) → length i ≤ n → (i ≡ []) ⊎ Text i → (ended (rawLines i) ≡ i) × Each (λ (r : List ℕ). Folded (unfolded r) r) (rawLines i)
-unfolding rawLines linesBy ended Each
-raw-from zero i h (inl q) = rw q (refl, tt)
-raw-from zero i h (inr t) =
+-- the walk splits the input as document 01 does, and there is no other such splitting
+lined-from : (n : ℕ) (i : List ℕ) → length i ≤ n → (i ≡ []) ⊎ Text i → Lined i (rawLines i) (map unfolded (rawLines i))
+unfolding rawLines linesBy
+lined-from zero i h (inl q) = rw q no-line
+lined-from zero i h (inr t) =
     let s = split t in
     absurd (omega (arith, ap length (s .whole), length-append (s .raw) (13 ∷ 10 ∷ s .rest)))
-raw-from (suc n) i h (inl q) = rw q (refl, tt)
-raw-from (suc n) i h (inr t) =
+lined-from (suc n) i h (inl q) = rw q no-line
+lined-from (suc n) i h (inr t) =
     let s = split t in
-    let r = raw-from n (s .rest) (omega (arith, ap length (s .whole), length-append (s .raw) (13 ∷ 10 ∷ s .rest))) (s .next) in
-    let f : Folded (unfolded (s .raw)) (s .raw) = subst (λ (l : List ℕ). Folded l (s .raw)) (sym (folded-unfolds (s .folded) (s .each))) (s .folded) in (
-      ap ended (split-raw i s) ∙ ap (λ (l : List ℕ). s .raw ++ (13 ∷ 10 ∷ l)) (r .0) ∙ sym (s .whole),
-      subst (Each (λ (r : List ℕ). Folded (unfolded r) r)) (sym (split-raw i s)) (f, r .1),
-    )
+    let r = lined-from n (s .rest) (omega (arith, ap length (s .whole), length-append (s .raw) (13 ∷ 10 ∷ s .rest))) (s .next) in
+    let rs = rawLines (s .rest) in
+    subst (λ (xs : List (List ℕ)). Lined i xs (map unfolded xs)) (sym (split-raw i s))
+    (subst (λ (l : List ℕ). Lined i (s .raw ∷ rs) (l ∷ map unfolded rs)) (sym (folded-unfolds (s .folded) (s .each)))
+    (subst (λ (x : List ℕ). Lined x (s .raw ∷ rs) (s .line ∷ map unfolded rs)) (sym (s .whole))
+    (and-then (s .folded) (s .each) (s .unled) r)))
 
-pub raw-law : (i : List ℕ) → firstLone i ≡ length i → EndsCrLf i → (ended (rawLines i) ≡ i) × Each (λ (r : List ℕ). Folded (unfolded r) r) (rawLines i)
-raw-law i e h = raw-from (length i) i (omega arith) (inr (paired-text i e h))
+pub lined-law : (i : List ℕ) → firstLone i ≡ length i → EndsCrLf i → Lined i (rawLines i) (map unfolded (rawLines i))
+lined-law i e h = lined-from (length i) i (omega arith) (inr (paired-text i e h))
+
+pub lined-only : {i : List ℕ} {rs ls : List (List ℕ)} → Lined i rs ls → (rs ≡ rawLines i) × (ls ≡ map unfolded (rawLines i))
+unfolding rawLines linesBy
+lined-only no-line = (refl, refl)
+lined-only (and-then {i = i} {l = l} {r = r} {rs = rs} {ls = ls} f e u t) =
+    let k = lined-only t in
+    let q = first-raw r i (folded-length f e i u) in (
+      ap (λ (x : List (List ℕ)). r ∷ x) (k .0) ∙ sym q,
+      ap (λ (x : List (List ℕ)). l ∷ x) (k .1) ∙ ap (λ (x : List ℕ). x ∷ map unfolded (rawLines i)) (sym (folded-unfolds f e)) ∙ sym (ap (map unfolded) q),
+    )

@@ -6,6 +6,7 @@ pub mod LineLaws
 pub mod BegunLaws
 pub mod Runs
 pub mod Walks
+pub mod PairedLaws
 pub mod FoldLaws
 pub mod Accepted
 pub mod RecordLaws

@@ -30,7 +30,7 @@ pub record Reached (ds : List (List ℕ)) (c : Card) : Type 0 where
   pub k : ℕ
   pub zs : List Line
   pub ys : List Line
-  pub lines : SoFar ds k zs ys
+  pub lines : SoFar (map unfolded ds) k zs ys
   pub known : Known c ys
   pub cards : c .cards ≡ k
   pub count : c .lines ≡ length (zs ++ ys)

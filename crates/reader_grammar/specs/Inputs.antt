@@ -2,21 +2,11 @@
 use Prim.Native.Nat.{ℕ, _≤_}
 use mathlib.Core.Path.{_≡_}
 use mathlib.Core.List.{List, [], _∷_, _++_}
-use mathlib.Core.Logic.{_⊎_}
 use lib.ListN.{length}
 use Rattle.numbers.specs.Limits as limit
+use Rattle.line_folds.specs.Lined.{Folded}
 use Rattle.line_parser.specs.Grammar.{Line, Each, render}
 use Rattle.reader_grammar.specs.Cards.{Readable, Cards}
-
--- a space or a tab
-abbrev pub Blank : ℕ → Type 0
-Blank b = (b ≡ 32) ⊎ (b ≡ 9)
-
--- r is the line l with any number of folds in it, each "CR LF followed by one space or tab"
-pub data Folded : List ℕ → List ℕ → Type 0 where
-  end : Folded [] []
-  octet : {b : ℕ} {l r : List ℕ} → Folded l r → Folded (b ∷ l) (b ∷ r)
-  fold : {b : ℕ} {l r : List ℕ} → Blank b → Folded l r → Folded l (13 ∷ 10 ∷ b ∷ r)
 
 -- i is the lines in order, each with any number of folds in it and ended by CR LF
 pub data Written : List Line → List ℕ → Type 0 where

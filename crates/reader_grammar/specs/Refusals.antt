@@ -8,25 +8,28 @@ use lib.ListN.{length}
 use Rattle.numbers.specs.Limits as limit
 use Rattle.numbers.specs.Refusals as refusal
 use Rattle.numbers.specs.Properties as property
-use Rattle.line_folds.specs.Folds.{unfolded}
-use Rattle.line_folds.specs.Logical.{rawLines}
 use Rattle.line_parser.specs.Grammar.{Line, Each, WellFormed, render}
 use Rattle.property_table.specs.Rows.{single}
 use Rattle.card_line.specs.Parts.{rowOfLine, kindOfLine}
-use Rattle.line_breaks.specs.Lone.{firstLone}
 use Rattle.reader.specs.Outcome.{ended}
+use Rattle.reader_laws.specs.Lone.{Lone}
 use Rattle.reader_grammar.specs.Values.{Fitting}
+use Rattle.line_folds.specs.Lined.{Lined}
 use Rattle.reader_grammar.specs.Cards.{Clean, Readable, Bare, Begins, Versions, Inner, Cards, linesOf, groupLines}
 
 -- "last two octets" are CR LF
 abbrev pub EndsCrLf : List ℕ → Type 0
 EndsCrLf i = (j : List ℕ) × (i ≡ j ++ (13 ∷ 10 ∷ []))
 
+-- no "CR without LF after it, or LF without CR before it"
+abbrev pub Paired : List ℕ → Type 0
+Paired i = (p : ℕ) → Lone i p → ⊥
+
 -- none of 1 to 4 holds
 pub record Framed (i : List ℕ) : Type 0 where
   pub short : length i ≤ limit.octets
   pub some : 0 < length i
-  pub paired : firstLone i ≡ length i
+  pub paired : Paired i
   pub ends : EndsCrLf i
 
 -- the lines of a card that has not ended: none, BEGIN, or BEGIN, VERSION and others
@@ -35,9 +38,9 @@ pub data Begun : List Line → Type 0 where
   first : {b : Line} → Begins b → Begun (b ∷ [])
   within : {b v : Line} {ys : List Line} → Begins b → Versions v → Inner ys → Begun (b ∷ v ∷ ys)
 
--- the raw lines ds, unfolded, are k cards zs and then the lines ys of a card that has not ended
-pub record SoFar (ds : List (List ℕ)) (k : ℕ) (zs ys : List Line) : Type 0 where
-  pub written : map unfolded ds ≡ map render (zs ++ ys)
+-- the lines ls are k cards zs and then the lines ys of a card that has not ended
+pub record SoFar (ls : List (List ℕ)) (k : ℕ) (zs ys : List Line) : Type 0 where
+  pub written : ls ≡ map render (zs ++ ys)
   pub readable : Each Readable (zs ++ ys)
   pub cards : Cards k zs
   pub begun : Begun ys
@@ -79,12 +82,13 @@ pub data LineRefused (ys : List Line) (l : List ℕ) : ℕ → Type 0 where
   nameless : (x : Line) → Sound ys l x → rowOfLine x ≡ property.end → linesOf property.fn ys ≡ 0 → LineRefused ys l refusal.noFn
   no-group : (x : Line) → Sound ys l x → rowOfLine x ≡ property.end → 1 ≤ linesOf property.fn ys → 1 ≤ linesOf property.member ys → groupLines ys ≡ 0 → LineRefused ys l refusal.member
 
--- 1, 2, 3, 4 over the whole input; then the first line that is refused, at its start; then 9 where the input ends inside a card
+-- 1, 2, 3, 4 over the whole input; then the first line that is refused, its raw line r, its logical line l, at its start; then 9 where the input
+-- ends inside a card
 pub data RefusedBy (i : List ℕ) : ℕ → ℕ → Type 0 where
   long : limit.octets < length i → RefusedBy i refusal.tooLong limit.octets
   empty : length i ≡ 0 → RefusedBy i refusal.empty 0
-  lone : length i ≤ limit.octets → 0 < length i → firstLone i < length i → RefusedBy i refusal.loneCrOrLf (firstLone i)
-  unended : length i ≤ limit.octets → 0 < length i → firstLone i ≡ length i → (EndsCrLf i → ⊥) → RefusedBy i refusal.noEnd (length i)
-  line : (ds : List (List ℕ)) (l : List ℕ) (es : List (List ℕ)) (n k : ℕ) (zs ys : List Line) → Framed i → rawLines i ≡ ds ++ (l ∷ es)
-      → SoFar ds k zs ys → LineRefused ys (unfolded l) n → RefusedBy i n (length (ended ds))
-  unfinished : (k : ℕ) (zs ys : List Line) → Framed i → SoFar (rawLines i) k zs ys → 0 < length ys → RefusedBy i refusal.order (length i)
+  lone : {p : ℕ} → length i ≤ limit.octets → 0 < length i → Lone i p → ((q : ℕ) → q < p → Lone i q → ⊥) → RefusedBy i refusal.loneCrOrLf p
+  unended : length i ≤ limit.octets → 0 < length i → Paired i → (EndsCrLf i → ⊥) → RefusedBy i refusal.noEnd (length i)
+  line : (ds es ls ms : List (List ℕ)) (r l : List ℕ) (n k : ℕ) (zs ys : List Line) → Framed i → Lined i (ds ++ (r ∷ es)) (ls ++ (l ∷ ms)) → length ls ≡ length ds
+      → SoFar ls k zs ys → LineRefused ys l n → RefusedBy i n (length (ended ds))
+  unfinished : (rs ls : List (List ℕ)) (k : ℕ) (zs ys : List Line) → Framed i → Lined i rs ls → SoFar ls k zs ys → 0 < length ys → RefusedBy i refusal.order (length i)

@@ -47,10 +47,10 @@ line-number ys l n (no-group x h k m g f) = omega arith
 number : (i : List ℕ) (n p : ℕ) → RefusedBy i n p → n ≤ 12
 number i n p (long h) = omega arith
 number i n p (empty h) = omega arith
-number i n p (lone h k m) = omega arith
+number i n p (lone h k m f) = omega arith
 number i n p (unended h k m g) = omega arith
-number i n p (line ds l es m k zs ys f q s r) = line-number ys (unfolded l) m r
-number i n p (unfinished k zs ys f s h) = omega arith
+number i n p (line ds es ls ms r l m k zs ys f q c s h) = line-number ys l m h
+number i n p (unfinished rs ls k zs ys f e s h) = omega arith
 
 pub verdict-small : (i : List ℕ) → Small (verdict (judgeOf i))
 verdict-small i = go (judgeOf i) refl
