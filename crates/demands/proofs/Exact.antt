@@ -31,8 +31,8 @@ use Rattle.folder.specs.Outcome.{foldOutcome}
 use Rattle.folder_laws.specs.Cuttings.{Cutting}
 use Rattle.folder_laws.proofs.CuttingLaws.{cutting-law}
 use Rattle.line_folds.specs.Logical.{logicalLines}
-use Rattle.line_folds.specs.Lined.{Lined}
-use Rattle.reader_grammar.proofs.FoldLaws.{lined-only}
+use Rattle.line_laws.specs.Lined.{Lined}
+use Rattle.line_laws.proofs.LinedLaws.{lined-only}
 use Rattle.folder_laws.specs.Written.{Folds}
 use Rattle.folder_laws.proofs.WrittenLaws.{wrote as written, wrote-accepted, fold-written}
 use Rattle.folder_laws.proofs.Again.{read-again}

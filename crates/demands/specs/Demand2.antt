@@ -14,7 +14,7 @@ use Rattle.text.specs.Outcomes.{escapeOutcome, unescapeOutcome}
 use Rattle.text_laws.specs.Stands.{Stands}
 use Rattle.line_parser.specs.Grammar.{Line, render}
 use Rattle.reader.specs.Outcome.{judgeOf, Taken, readOutcome}
-use Rattle.line_folds.specs.Lined.{Lined}
+use Rattle.line_laws.specs.Lined.{Lined}
 use Rattle.reader.specs.declared.Verdict.the-variants.{Accepted}
 use Rattle.folder_line.specs.Pieces.{pieces}
 use Rattle.folder.specs.Outcome.{foldOutcome}

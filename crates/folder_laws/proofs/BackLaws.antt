@@ -15,7 +15,7 @@ use Rattle.line_folds.proofs.FoldLaws.{not-cr}
 use Rattle.line_folds.proofs.LineLaws.{lines-end}
 use Rattle.folder_line.specs.Pieces.{first, later, pieces, joined, folded, foldedLines, Clean, All}
 use Rattle.reader.specs.Outcome.{ended}
-use Rattle.line_folds.specs.Lined.{Folded, end as nothing, octet, fold, Unbroken, Unled, Lined, no-line, and-then}
+use Rattle.line_laws.specs.Lined.{Folded, end as nothing, octet, fold, Unbroken, Unled, Lined, no-line, and-then}
 use Rattle.folder_line.proofs.PieceLaws.{rejoin, first-goes, over-no}
 use Rattle.folder_line.proofs.Turns.{clean-chars}
 use Rattle.folder_laws.proofs.CopyLaws.{line-run, line-stop, first-line, unled-none, unled-line, copy-lines}

@@ -16,7 +16,7 @@ use Rattle.line_folds.proofs.LineLaws.{lines-step, lines-end}
 use Rattle.folder_line.specs.Pieces.{Clean, All}
 use Rattle.folder_line.proofs.Turns.{clean-chars}
 use Rattle.reader.specs.Outcome.{ended}
-use Rattle.line_folds.specs.Lined.{Unled}
+use Rattle.line_laws.specs.Lined.{Unled}
 
 length-goes : (x : ℕ) (xs : List ℕ) → (x ≡ 13 → ⊥) → lineLength (x ∷ xs) ≡ suc (lineLength xs)
 unfolding lineLength scan

@@ -23,7 +23,7 @@ use Rattle.reader.specs.declared.Verdict.the-variants.{Accepted, Refused as Den
 use Rattle.folder_line.specs.Pieces.{foldedLines, Clean, All}
 use Rattle.folder.specs.Outcome.{foldBy, foldOutcome}
 use Rattle.folder.proofs.Accepted.{all-lines, accepted}
-use Rattle.line_folds.specs.Lined.{Unled}
+use Rattle.line_laws.specs.Lined.{Unled}
 use Rattle.folder_laws.specs.Physical.{physical}
 use Rattle.folder_laws.specs.Written.{Folds}
 use Rattle.folder_laws.proofs.BackLaws.{lined-back, lines-back}

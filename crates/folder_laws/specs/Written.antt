@@ -3,7 +3,7 @@ use Prim.Native.Nat.{ℕ}
 use mathlib.Core.Path.{_≡_}
 use mathlib.Core.List.{List}
 use Rattle.numbers.specs.Limits as limit
-use Rattle.line_folds.specs.Lined.{Lined}
+use Rattle.line_laws.specs.Lined.{Lined}
 use Rattle.utf8.specs.Rfc3629.{Characters}
 use Rattle.folder_line.specs.Pieces.{foldedLines, All}
 use Rattle.folder_laws.specs.Cuttings.{UpTo}

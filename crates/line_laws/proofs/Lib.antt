@@ -2,3 +2,4 @@
 pub mod FaultSound
 pub mod FaultComplete
 pub mod Examples
+pub mod LinedLaws

@@ -1,1 +1,1 @@
-// The faults of a line: no code, only laws that say which lines are refused with which number.
+// The faults of a line, and raw lines and logical lines in plain words: no code, only laws.

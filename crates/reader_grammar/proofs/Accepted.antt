@@ -25,7 +25,8 @@ use Rattle.reader_grammar.specs.Refusals.{Framed}
 use Rattle.reader_grammar.proofs.Known.{phaseOf, fresh-known}
 use Rattle.reader_grammar.proofs.Runs.{steps-run, cards-run}
 use Rattle.reader_grammar.proofs.PairedLaws.{paired-law}
-use Rattle.reader_grammar.proofs.FoldLaws.{written-lines, written-paired, written-ends, ends-law, lines-written}
+use Rattle.line_laws.proofs.LinedLaws.{ends-law}
+use Rattle.reader_grammar.proofs.FoldLaws.{written-lines, written-paired, written-ends, lines-written}
 use Rattle.reader_grammar.proofs.Walks.{Reached, fresh-reached, Walked, finished, stopped, walk}
 
 -- past 1 to 4 the lines decide

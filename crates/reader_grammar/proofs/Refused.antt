@@ -25,14 +25,14 @@ use Rattle.reader_walk.specs.Walk.{onward, judgeLines}
 use Rattle.reader.specs.Outcome.{verdictOf, judgeOf, ended}
 use Rattle.reader.specs.declared.Verdict.the-variants.{Accepted, Refused}
 use Rattle.reader_laws.proofs.LoneLaws.{lone-here, lone-none}
-use Rattle.line_folds.specs.Lined.{Lined}
-use Rattle.reader_grammar.specs.Refusals.{EndsCrLf, Framed, SoFar, LineRefused, RefusedBy, long, empty, lone, unended, line, unfinished}
+use Rattle.line_laws.specs.Lined.{Lined, EndsCrLf}
+use Rattle.reader_grammar.specs.Refusals.{Framed, SoFar, LineRefused, RefusedBy, long, empty, lone, unended, line, unfinished}
 use Rattle.reader_grammar.proofs.Known.{phaseOf, Known, fresh-known}
 use Rattle.reader_grammar.proofs.LineLaws.{refused, outcome}
 use Rattle.reader_grammar.proofs.Runs.{steps-run, prefix-run}
 use Rattle.reader_grammar.proofs.Walks.{Walked, finished, stopped}
 use Rattle.reader_grammar.proofs.PairedLaws.{lone-within, paired-law, lone-first}
-use Rattle.reader_grammar.proofs.FoldLaws.{ends-law, lined-law, lined-only}
+use Rattle.line_laws.proofs.LinedLaws.{ends-law, lined-law, lined-only}
 use Rattle.reader_grammar.proofs.Accepted.{judge-framed, walk-all, phase-none}
 
 -- after the lines ds, which lead to d, the next are judged from where they start

@@ -4,7 +4,7 @@ use mathlib.Core.Path.{_≡_}
 use mathlib.Core.List.{List, [], _∷_, _++_}
 use lib.ListN.{length}
 use Rattle.numbers.specs.Limits as limit
-use Rattle.line_folds.specs.Lined.{Folded}
+use Rattle.line_laws.specs.Lined.{Folded}
 use Rattle.line_parser.specs.Grammar.{Line, Each, render}
 use Rattle.reader_grammar.specs.Cards.{Readable, Cards}
 

@@ -14,12 +14,8 @@ use Rattle.card_line.specs.Parts.{rowOfLine, kindOfLine}
 use Rattle.reader.specs.Outcome.{ended}
 use Rattle.reader_laws.specs.Lone.{Lone}
 use Rattle.reader_grammar.specs.Values.{Fitting}
-use Rattle.line_folds.specs.Lined.{Lined}
+use Rattle.line_laws.specs.Lined.{Lined, EndsCrLf}
 use Rattle.reader_grammar.specs.Cards.{Clean, Readable, Bare, Begins, Versions, Inner, Cards, linesOf, groupLines}
-
--- "last two octets" are CR LF
-abbrev pub EndsCrLf : List ℕ → Type 0
-EndsCrLf i = (j : List ℕ) × (i ≡ j ++ (13 ∷ 10 ∷ []))
 
 -- no "CR without LF after it, or LF without CR before it"
 abbrev pub Paired : List ℕ → Type 0

@@ -29,3 +29,7 @@ Unled l = (getD l 0 0 ≡ 32 → ⊥) × (getD l 0 0 ≡ 9 → ⊥)
 pub data Lined : List ℕ → List (List ℕ) → List (List ℕ) → Type 0 where
   no-line : Lined [] [] []
   and-then : {i l r : List ℕ} {rs ls : List (List ℕ)} → Folded l r → Unbroken l → Unled i → Lined i rs ls → Lined (r ++ (13 ∷ 10 ∷ i)) (r ∷ rs) (l ∷ ls)
+
+-- "last two octets" are CR LF
+abbrev pub EndsCrLf : List ℕ → Type 0
+EndsCrLf i = (j : List ℕ) × (i ≡ j ++ (13 ∷ 10 ∷ []))
