@@ -2,7 +2,7 @@
 use native.Mathlib.Omega.{arith}
 use Rattle.utf8_screening.specs.Plain.{odd}
 use Rattle.text_marks.specs.Looks.{held}
-use Rattle.text_marks.proofs.BitLaws.{bit-le}
+use Rattle.octets.proofs.BitLaws.{bit-le}
 use Rattle.text_marks.proofs.LookLaws.{seen-one}
 use borrow.Author.Needs.{needs}
 use Rattle.text_marks.proofs.look_octet.Statement.{statement}

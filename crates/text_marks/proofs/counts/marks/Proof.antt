@@ -11,7 +11,7 @@ use Rattle.text_marks.specs.Marks.{marked}
 use Rattle.text_marks.specs.Looks.{held}
 use Rattle.octets.specs.Counts.{count}
 use Rattle.octets.proofs.CountLaws.{count-step, count-end}
-use Rattle.text_marks.proofs.BitLaws.{bit-le}
+use Rattle.octets.proofs.BitLaws.{bit-le}
 use Rattle.text_marks.proofs.LookLaws.{held-marked}
 use Rattle.text_marks.proofs.counts.marks.Statement.{statement}
 use Rattle.text_marks.proofs.counts.marks.Tie as tie
