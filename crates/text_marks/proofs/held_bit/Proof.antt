@@ -1,6 +1,6 @@
 -- `text_marks::held_bit` meets its contract. Assumes nothing.
 use lib.Dec.{eqb}
-use Rattle.text_marks.specs.Looks.{held}
+use Rattle.text_marks.specs.Seen.{held}
 use mathlib.Core.Path.{_∙_}
 use Rattle.octets.proofs.BitLaws.{or-four, byte-bit}
 use borrow.Author.Needs.{needs}
