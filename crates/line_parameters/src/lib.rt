@@ -14,7 +14,7 @@ pub enum First {
     Nothing,
 }
 
-// Where the octets of a good value stand, quotes taken off.
+// Where the octets of a well-formed value stand, without its quote marks.
 fn value_span(t: &ClassTable, s: &[u8], at: usize) -> First
     requires { ⌜ Classes (now t) ⌝ }
     requires { ⌜ at ≤ length (now s) ⌝ }
@@ -43,14 +43,14 @@ pub fn param_first(t: &ClassTable, s: &[u8], from: usize, name: &[u8]) -> First
         }
         let start = at + 1;
         let p = line_parser::rule::read_param(t, s, start);
-        let Part::Upto(e) = p else {
+        let Part::Upto(param_end) = p else {
             return First::Nothing;
         };
-        let end = classes::span(t, s, start, classes::NAME);
-        if octets::cases::same_name(&s[start..end], name) {
-            return value_span(t, s, end + 1);
+        let name_end = classes::span(t, s, start, classes::NAME);
+        if octets::cases::same_name(&s[start..name_end], name) {
+            return value_span(t, s, name_end + 1);
         }
-        at = e;
+        at = param_end;
     }
     First::Nothing
 }
