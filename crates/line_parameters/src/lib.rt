@@ -3,7 +3,7 @@ ghost use mathlib.Core.Path.{_≡_};
 ghost use Prim.Native.Nat.{suc, _≤_};
 ghost use lib.ListN.{length, drop};
 ghost use Rattle.octets.specs.Classes.{Classes};
-ghost use Rattle.line_parameters.specs.First.{spanned, firstOf};
+ghost use Rattle.line_parameters.specs.First.{spanned, findFirst};
 use line_parser::rule::Part;
 use octets::classes;
 use octets::classes::ClassTable;
@@ -34,7 +34,7 @@ fn value_span(t: &ClassTable, s: &[u8], at: usize) -> First
 // The first value of the first parameter of that name, without case, from the end of the line's name on.
 pub fn param_first(t: &ClassTable, s: &[u8], from: usize, name: &[u8]) -> First
     requires { ⌜ Classes (now t) ⌝ }
-    ensures { λ r. ⌜ r ≡ firstOf (now (name .entry)) from (suc (length (drop from (now (s .entry))))) (drop from (now (s .entry))) ⌝ }
+    ensures { λ r. ⌜ r ≡ findFirst (now (name .entry)) from (suc (length (drop from (now (s .entry))))) (drop from (now (s .entry))) ⌝ }
 {
     let mut at = from;
     while at < s.len() {

@@ -1,7 +1,7 @@
 -- `line_parameters::param_first` meets its contract. Assumes nothing.
 use Rattle.line_parser.proofs.Steps.{place-upto, place-fault, past}
 use Rattle.line_parameters.proofs.FirstSteps.{NameEnd, first-none, first-bad, name-end, first-hit, first-on}
-use Rattle.line_parameters.specs.First.{firstOf}
+use Rattle.line_parameters.specs.First.{findFirst}
 use Rattle.line_parser.specs.Parse.{got}
 use Rattle.line_parser.specs.Grammar.{Param}
 use Rattle.line_parser.specs.Rule.{param}
@@ -17,7 +17,7 @@ use Rattle.line_parameters.proofs.param_first.Tie as tie
 abbrev Inv-loop : tie.InvT-loop
 Inv-loop t s from name at₀ at =
     (n : ℕ) × (length s - at < n)
-    × (firstOf name from (suc (length (drop from s))) (drop from s) ≡ firstOf name at n (drop at s))
+    × (findFirst name from (suc (length (drop from s))) (drop from s) ≡ findFirst name at n (drop at s))
 
 abbrev μ-loop : tie.MeasureT-loop
 μ-loop t s from name at₀ at =
@@ -119,7 +119,7 @@ loop-again c =
       l .inv .0 - 1,
       omega arith,
       l .inv .2 ∙ first-on _ (S m) (l .at) (l .inv .0) (omega arith) (R m .before .if1 .left) p k q (m .span .result) w other
-          ∙ ap (λ (i : ℕ). firstOf (L m .before .before .before .args .name .now) i (l .inv .0 - 1) (drop i (S m))) (sym h),
+          ∙ ap (λ (i : ℕ). findFirst (L m .before .before .before .args .name .now) i (l .inv .0 - 1) (drop i (S m))) (sym h),
     ))
 
 returns-4 : tie.Need-returns-4 Inv-loop μ-loop
