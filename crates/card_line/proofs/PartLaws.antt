@@ -11,7 +11,7 @@ use Rattle.line_parser.specs.Parse.{Parse, got, bad}
 use Rattle.line_parser.specs.Grammar.{Value, Line, nameEnd}
 use Rattle.line_parser.specs.Rule.{parseLine}
 use Rattle.line_parser.specs.Places.{outcome}
-use Rattle.line_parameters.specs.First.{firstNamed, firstOf}
+use Rattle.line_parameters.specs.First.{firstNamed, findFirst}
 use Rattle.line_parameters.specs.declared.First.{First}
 use Rattle.line_parameters.specs.declared.First.the-variants.{Between, Nothing}
 use Rattle.line_parser.specs.declared.rule.Part.{Part as Answer}
@@ -92,7 +92,7 @@ some-by l (some v) r a e f q =
 
 module _ (l : List ℕ) (name : ℕ) (a : Accepted l name) where
   abbrev asked : First
-  asked = firstOf valueName name (suc (length (drop name l))) (drop name l)
+  asked = findFirst valueName name (suc (length (drop name l))) (drop name l)
 
   found : Found l (firstNamed valueName (a .parts .params)) asked
   found =

@@ -27,8 +27,8 @@ fn lone_step(s: &[u8], i: usize) -> usize
     2
 }
 
-// The first lone CR or LF, or the length, octet by octet.
-fn search(s: &[u8]) -> usize
+// Finds the first lone CR or LF, or the length, octet by octet.
+fn find_lone(s: &[u8]) -> usize
     ensures { λ r. ⌜ r ≡ firstLone (now (s .entry)) ⌝ }
 {
     let mut i: usize = 0;
@@ -49,7 +49,7 @@ fn split_bit(a: u8, b: u8) -> u8
     (a == b'\r') as u8 ^ (b == b'\n') as u8
 }
 
-// Whether LF stands exactly after each CR: one look at each octet with no way out, so that it is compiled to vectors.
+// Whether LF stands exactly after each CR: one pass with no early exit, so that it compiles to vector instructions.
 fn all_paired(s: &[u8]) -> bool
     ensures { λ r. ⌜ r ≡ paired (now (s .entry)) ⌝ }
 {
@@ -79,7 +79,7 @@ pub fn first_lone(s: &[u8]) -> usize
     if all_paired(s) {
         return s.len();
     }
-    search(s)
+    find_lone(s)
 }
 
 // Whether the last two octets are CR LF.

@@ -29,7 +29,7 @@ passed l = pick (foldAt l) 3 1
 unfoldable pub kept : List ℕ → List ℕ
 kept l = pick (foldAt l) [] (getD l 0 0 ∷ [])
 
--- the list without its folds; each CR LF is looked at once
+-- the list without its folds; each CR LF is read once
 unfoldable pub unfolded : List ℕ → List ℕ
 unfolded l = gather passed kept l 0
 

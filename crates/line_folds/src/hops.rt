@@ -1,4 +1,4 @@
-// The next CR, sixteen octets at a look.
+// The next CR, sixteen octets at a time.
 ghost use mathlib.Core.Path.{_≡_};
 ghost use mathlib.Core.Bool.{false};
 ghost use Prim.Native.Nat.{ℕ, _+_, _<_, _≤_};
@@ -8,7 +8,7 @@ ghost use Rattle.octets.specs.Classes.{run};
 ghost use Rattle.line_folds.specs.Folds.{notCr};
 
 // False only where none of the sixteen octets from i is CR.
-fn near(s: &[u8], i: usize) -> bool
+fn has_cr(s: &[u8], i: usize) -> bool
     requires { ⌜ i + 16 ≤ length (now s) ⌝ }
     ensures { λ r. ⌜ (r ≡ false → (k : ℕ) → k < 16 → getD (now (s .entry)) (i + k) 0 ≡ ascii.cr → ⊥) ⌝ }
 {
@@ -22,13 +22,13 @@ fn near(s: &[u8], i: usize) -> bool
 }
 
 // A place up to which no octet from `from` on is CR.
-fn hop(s: &[u8], from: usize) -> usize
+fn skip_to_cr(s: &[u8], from: usize) -> usize
     requires { ⌜ from ≤ length (now s) ⌝ }
     ensures { λ r. ⌜ (r ≤ length (now (s .entry))) × (from + run notCr (drop from (now (s .entry))) ≡ r + run notCr (drop r (now (s .entry)))) ⌝ }
 {
     let mut i = from;
     while 16 <= s.len() - i {
-        if near(s, i) {
+        if has_cr(s, i) {
             return i;
         }
         i += 16;
@@ -41,7 +41,7 @@ pub fn next_cr(s: &[u8], from: usize) -> usize
     requires { ⌜ from ≤ length (now s) ⌝ }
     ensures { λ r. ⌜ (r ≤ length (now (s .entry))) × (r ≡ from + run notCr (drop from (now (s .entry)))) ⌝ }
 {
-    let mut i = hop(s, from);
+    let mut i = skip_to_cr(s, from);
     while i < s.len() {
         if s[i] == b'\r' {
             return i;

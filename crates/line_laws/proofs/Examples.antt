@@ -11,7 +11,7 @@ use Rattle.line_parser.specs.Parse.{many}
 use Rattle.line_parser.specs.Grammar.{groupText, nameEnd}
 use Rattle.line_parser.specs.Rule.{word, closing, value, ends, isColon, moreValues, values, param, params, head, parseLine}
 use Rattle.line_parser.specs.Places.{outcome}
-use Rattle.line_parameters.specs.First.{firstOf}
+use Rattle.line_parameters.specs.First.{findFirst}
 use Rattle.line_parser.specs.declared.rule.Part.{Part}
 use Rattle.line_parser.specs.declared.rule.Part.the-variants.{Parsed, Fault}
 use Rattle.line_parameters.specs.declared.First.{First}
@@ -73,7 +73,7 @@ questions =
     ∷ asked ":VALUE=uri" "VALUE" Nothing
     ∷ []
 
-pub questions-answered : map (λ (x : Asked). firstOf (octets (x .name)) 2 (suc (length (octets (x .params)))) (octets (x .params))) questions
+pub questions-answered : map (λ (x : Asked). findFirst (octets (x .name)) 2 (suc (length (octets (x .params)))) (octets (x .params))) questions
     ≡ map (λ (x : Asked). x .answer) questions
-unfolding octets lower same run named letter digit hyphen bare quoted valued many word closing value ends moreValues values param firstOf
+unfolding octets lower same run named letter digit hyphen bare quoted valued many word closing value ends moreValues values param findFirst
 questions-answered = refl

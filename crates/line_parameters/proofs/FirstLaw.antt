@@ -14,7 +14,7 @@ use Rattle.octets.specs.Cases.{same}
 use Rattle.line_parser.specs.Parse.{got, hd, many}
 use Rattle.line_parser.specs.Grammar.{Value, plain, inQuotes, Param, Line, led, valueText, paramText, groupText, front, render, nameEnd, WellFormed}
 use Rattle.line_parser.specs.Rule.{ends, isColon, orEnd, param, params, head, parseLine}
-use Rattle.line_parameters.specs.First.{spanOf, firstPlace, firstOf, valueOctets, firstNamed}
+use Rattle.line_parameters.specs.First.{spanOf, firstPlace, findFirst, valueOctets, firstNamed}
 use Rattle.line_parameters.specs.declared.First.{First}
 use Rattle.line_parser.proofs.ParseLaws.{bad-got, guard-inv, pick-inv, next-inv}
 use Rattle.line_parser.proofs.PartLaws.{param-parts, head-count}
@@ -43,8 +43,8 @@ param-count l p k h =
 
 -- in an accepted list of parameters the walk finds what the parts say
 walk-law : (name : List ℕ) (n at : ℕ) (l : List ℕ) (ps : List Param) (k : ℕ) → params n l ≡ got ps k
-    → firstOf name at n l ≡ firstPlace name at ps
-unfolding params many firstOf firstPlace
+    → findFirst name at n l ≡ firstPlace name at ps
+unfolding params many findFirst firstPlace
 walk-law name zero at l ps k h = absurd (bad-got h)
 walk-law name (suc n) at l ps k h =
     pick-inv (eqb (hd l) 59) _ _ h
@@ -59,7 +59,7 @@ walk-law name (suc n) at l ps k h =
 
 -- in an accepted line the walk from the end of the name finds what the parts say
 parsed-law : (name l : List ℕ) (x : Line) (k : ℕ) → parseLine l ≡ got x k
-    → firstOf name (nameEnd x) (suc (length (drop (nameEnd x) l))) (drop (nameEnd x) l) ≡ firstPlace name (nameEnd x) (x .params)
+    → findFirst name (nameEnd x) (suc (length (drop (nameEnd x) l))) (drop (nameEnd x) l) ≡ firstPlace name (nameEnd x) (x .params)
 unfolding parseLine nameEnd
 parsed-law name l x k h =
     next-inv (head l) _ h (λ y n p₁ q₁. next-inv (params (suc (length (drop n l))) (drop n l)) _ q₁ (λ ps j p₂ q₂.
@@ -117,7 +117,7 @@ params-hold name (p ∷ ps) pre r at hp =
 
 -- in a well-formed line written out, whose name ends at n
 pub first-law : (name : List ℕ) (x : Line) → WellFormed x
-    → Found (render x) (firstNamed name (x .params)) (firstOf name (nameEnd x) (suc (length (drop (nameEnd x) (render x)))) (drop (nameEnd x) (render x)))
+    → Found (render x) (firstNamed name (x .params)) (findFirst name (nameEnd x) (suc (length (drop (nameEnd x) (render x)))) (drop (nameEnd x) (render x)))
 unfolding render front nameEnd
 first-law name x w =
     let line : render x ≡ (groupText (x .group) ++ x .name) ++ (led 59 paramText (x .params) ++ 58 ∷ x .value) = simp append-assoc in

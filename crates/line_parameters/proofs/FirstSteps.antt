@@ -17,7 +17,7 @@ use Rattle.octets.proofs.Masks.{has-named, has-bare, has-quoted}
 use Rattle.line_parser.specs.Parse.{got, bad, hd}
 use Rattle.line_parser.specs.Grammar.{Value, plain, inQuotes, Param}
 use Rattle.line_parser.specs.Rule.{closing, value, param}
-use Rattle.line_parameters.specs.First.{spanOf, firstOf, spanned}
+use Rattle.line_parameters.specs.First.{spanOf, findFirst, spanned}
 use Rattle.line_parameters.specs.declared.First.the-variants.{Between, Nothing}
 use Rattle.line_parser.proofs.ParseLaws.{guard-inv, pick-inv}
 use Rattle.line_parser.proofs.PartLaws.{run-le, word-taken, param-parts}
@@ -50,24 +50,24 @@ module _ (s : List ℕ) (at : ℕ) where
 
 -- one turn of the walk
 module _ (name s : List ℕ) (at : ℕ) where
-  pub first-bad : (n x : ℕ) → getD s at 0 ≡ 59 → param (drop (at + 1) s) ≡ bad x → firstOf name at n (drop at s) ≡ Nothing
-  unfolding firstOf
+  pub first-bad : (n x : ℕ) → getD s at 0 ≡ 59 → param (drop (at + 1) s) ≡ bad x → findFirst name at n (drop at s) ≡ Nothing
+  unfolding findFirst
   first-bad zero x h q = refl
   first-bad (suc n) x h q =
       let w : param (drop 1 (drop at s)) ≡ bad x = rw drop-drop q in
       rw (is s at 59 h, w)
 
   pub first-got : (n : ℕ) (p : Param) (k : ℕ) → 0 < n → getD s at 0 ≡ 59 → param (drop (at + 1) s) ≡ got p k
-      → firstOf name at n (drop at s) ≡ pick (same (p .name) name) (spanOf (at + 1 + length (p .name) + 1) (p .first))
-      (firstOf name (at + 1 + k) (n - 1) (drop (at + 1 + k) s))
-  unfolding firstOf
+      → findFirst name at n (drop at s) ≡ pick (same (p .name) name) (spanOf (at + 1 + length (p .name) + 1) (p .first))
+      (findFirst name (at + 1 + k) (n - 1) (drop (at + 1 + k) s))
+  unfolding findFirst
   first-got zero p k pos h q = absurd (not-suc-le-zero pos)
   first-got (suc n) p k pos h q =
       let w : param (drop 1 (drop at s)) ≡ got p k = rw drop-drop q in
       rw (is s at 59 h, w, sub-one, drop-drop 1 at s, drop-drop k (at + 1) s)
 
-  pub first-none : (n : ℕ) → (getD s at 0 ≡ 59 → ⊥) → firstOf name at n (drop at s) ≡ Nothing
-  unfolding firstOf
+  pub first-none : (n : ℕ) → (getD s at 0 ≡ 59 → ⊥) → findFirst name at n (drop at s) ≡ Nothing
+  unfolding findFirst
   first-none zero h = refl
   first-none (suc n) h = rw (isnt s at 59 h)
 
@@ -96,14 +96,14 @@ name-end s at p k e h he =
 
 module _ (name s : List ℕ) (at n : ℕ) (pos : 0 < n) (h : getD s at 0 ≡ 59) (p : Param) (k : ℕ) (q : param (drop (at + 1) s) ≡ got p k)
     (e : ℕ) (w : NameEnd s (at + 1) p e) where
-  pub first-hit : same (take (e - (at + 1)) (drop (at + 1) s)) name ≡ true → firstOf name at n (drop at s) ≡ spanned (e + 1) (drop (e + 1) s)
+  pub first-hit : same (take (e - (at + 1)) (drop (at + 1) s)) name ≡ true → findFirst name at n (drop at s) ≡ spanned (e + 1) (drop (e + 1) s)
   first-hit t =
       let u : same (p .name) name ≡ true = ap (λ (x : List ℕ). same x name) (sym (w .octets)) ∙ t in
       let g = first-got name s at n p k pos h q in
       g ∙ rw u (ap (λ (i : ℕ). spanOf (i + 1) (p .first)) (sym (w .there)) ∙ sym (w .first))
 
   pub first-on : same (take (e - (at + 1)) (drop (at + 1) s)) name ≡ false
-      → firstOf name at n (drop at s) ≡ firstOf name (at + 1 + k) (n - 1) (drop (at + 1 + k) s)
+      → findFirst name at n (drop at s) ≡ findFirst name (at + 1 + k) (n - 1) (drop (at + 1 + k) s)
   first-on t =
       let u : same (p .name) name ≡ false = ap (λ (x : List ℕ). same x name) (sym (w .octets)) ∙ t in
       first-got name s at n p k pos h q ∙ rw u

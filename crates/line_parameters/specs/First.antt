@@ -41,12 +41,12 @@ abbrev pub firstStep : List ℕ → ℕ → Parse Param → (ℕ → First) → 
 firstStep name at (got p k) f = pick (same (p .name) name) (spanOf (at + 1 + length (p .name) + 1) (p .first)) (f k)
 firstStep name at (bad e) f = Nothing
 
--- the same by a walk over the octets from a place on; n bounds the count of parameters
-unfoldable pub firstOf : List ℕ → ℕ → ℕ → List ℕ → First
-firstOf name at zero l = Nothing
-firstOf name at (suc n) l =
+-- the same, found by a walk over the octets from a place on; n bounds the count of parameters
+unfoldable pub findFirst : List ℕ → ℕ → ℕ → List ℕ → First
+findFirst name at zero l = Nothing
+findFirst name at (suc n) l =
     pick (eqb (hd l) ascii.semicolon)
-    (firstStep name at (param (drop 1 l)) (λ k. firstOf name (at + 1 + k) n (drop k (drop 1 l))))
+    (firstStep name at (param (drop 1 l)) (λ k. findFirst name (at + 1 + k) n (drop k (drop 1 l))))
     Nothing
 
 -- where the octets of the value at the start of a list stand, the list being at a place

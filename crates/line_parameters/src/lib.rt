@@ -3,7 +3,7 @@ ghost use mathlib.Core.Path.{_≡_};
 ghost use Prim.Native.Nat.{suc, _≤_};
 ghost use lib.ListN.{length, drop};
 ghost use Rattle.octets.specs.Classes.{Classes};
-ghost use Rattle.line_parameters.specs.First.{spanned, firstOf};
+ghost use Rattle.line_parameters.specs.First.{spanned, findFirst};
 use line_parser::rule::Part;
 use octets::classes;
 use octets::classes::ClassTable;
@@ -14,7 +14,7 @@ pub enum First {
     Nothing,
 }
 
-// Where the octets of a good value stand, quotes taken off.
+// Where the octets of a well-formed value stand, without its quote marks.
 fn value_span(t: &ClassTable, s: &[u8], at: usize) -> First
     requires { ⌜ Classes (now t) ⌝ }
     requires { ⌜ at ≤ length (now s) ⌝ }
@@ -34,7 +34,7 @@ fn value_span(t: &ClassTable, s: &[u8], at: usize) -> First
 // The first value of the first parameter of that name, without case, from the end of the line's name on.
 pub fn param_first(t: &ClassTable, s: &[u8], from: usize, name: &[u8]) -> First
     requires { ⌜ Classes (now t) ⌝ }
-    ensures { λ r. ⌜ r ≡ firstOf (now (name .entry)) from (suc (length (drop from (now (s .entry))))) (drop from (now (s .entry))) ⌝ }
+    ensures { λ r. ⌜ r ≡ findFirst (now (name .entry)) from (suc (length (drop from (now (s .entry))))) (drop from (now (s .entry))) ⌝ }
 {
     let mut at = from;
     while at < s.len() {
@@ -43,14 +43,14 @@ pub fn param_first(t: &ClassTable, s: &[u8], from: usize, name: &[u8]) -> First
         }
         let start = at + 1;
         let p = line_parser::rule::read_param(t, s, start);
-        let Part::Upto(e) = p else {
+        let Part::Upto(param_end) = p else {
             return First::Nothing;
         };
-        let end = classes::span(t, s, start, classes::NAME);
-        if octets::cases::same_name(&s[start..end], name) {
-            return value_span(t, s, end + 1);
+        let name_end = classes::span(t, s, start, classes::NAME);
+        if octets::cases::same_name(&s[start..name_end], name) {
+            return value_span(t, s, name_end + 1);
         }
-        at = e;
+        at = param_end;
     }
     First::Nothing
 }

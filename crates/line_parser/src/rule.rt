@@ -1,4 +1,4 @@
-// The line rule: one unfolded logical line taken apart. The table of classes is lent, and places are offsets in the line.
+// The line rule: one unfolded logical line taken apart. The table of classes is lent, and positions are offsets in the line.
 ghost use mathlib.Core.Path.{_≡_};
 ghost use Prim.Native.Nat.{suc, _≤_};
 ghost use lib.ListN.{length, drop};
@@ -9,7 +9,7 @@ use numbers::fault;
 use octets::classes;
 use octets::classes::ClassTable;
 
-// What reading a part answers; a fault is handed up unchanged.
+// What reading a part of a line answers; a fault is handed up unchanged.
 pub enum Part {
     // The part ends here.
     Upto(usize),
@@ -30,24 +30,24 @@ pub enum Part {
         param_count: usize,
         value_start: usize,
     },
-    // 40 no name, or a bad name or group; 41 a bad parameter; 42 a bad quote; 43 no colon.
+    // The number of the fault (`numbers::fault`).
     Fault(u32),
 }
 
-// One or more letters, digits or hyphens.
+// Reads one or more letters, digits or hyphens.
 fn read_word(t: &ClassTable, s: &[u8], at: usize, fault: u32) -> Part
     requires { ⌜ Classes (now t) ⌝ }
     requires { ⌜ at ≤ length (now s) ⌝ }
     ensures { λ r. ⌜ r ≡ place at (word fault (drop at (now (s .entry)))) ⌝ }
 {
-    let e = classes::span(t, s, at, classes::NAME);
-    if e == at {
+    let end = classes::span(t, s, at, classes::NAME);
+    if end == at {
         return Part::Fault(fault);
     }
-    Part::Upto(e)
+    Part::Upto(end)
 }
 
-// A quoted value with its quote marks, or a bare one, which may be empty.
+// Reads a quoted value with its quote marks, or a bare one, which may be empty.
 fn read_value(t: &ClassTable, s: &[u8], at: usize) -> Part
     requires { ⌜ Classes (now t) ⌝ }
     requires { ⌜ at ≤ length (now s) ⌝ }
@@ -57,20 +57,20 @@ fn read_value(t: &ClassTable, s: &[u8], at: usize) -> Part
         return Part::Upto(at);
     }
     if s[at] != b'"' {
-        let e = classes::span(t, s, at, classes::BARE);
-        return Part::Upto(e);
+        let end = classes::span(t, s, at, classes::BARE);
+        return Part::Upto(end);
     }
-    let e = classes::span(t, s, at + 1, classes::QUOTED);
-    if s.len() <= e {
+    let end = classes::span(t, s, at + 1, classes::QUOTED);
+    if s.len() <= end {
         return Part::Fault(fault::QUOTE);
     }
-    if s[e] != b'"' {
+    if s[end] != b'"' {
         return Part::Fault(fault::QUOTE);
     }
-    Part::Upto(e + 1)
+    Part::Upto(end + 1)
 }
 
-// One or more values split by commas, and then a `;` or a `:`.
+// Reads one or more values split by commas, up to a `;` or a `:`.
 fn read_values(t: &ClassTable, s: &[u8], from: usize) -> Part
     requires { ⌜ Classes (now t) ⌝ }
     requires { ⌜ from ≤ length (now s) ⌝ }
@@ -93,34 +93,34 @@ fn read_values(t: &ClassTable, s: &[u8], from: usize) -> Part
             return Part::Fault(fault::QUOTE);
         }
         let v = read_value(t, s, at + 1);
-        let Part::Upto(e) = v else {
+        let Part::Upto(end) = v else {
             return v;
         };
-        at = e;
+        at = end;
     }
     Part::Fault(fault::NO_COLON)
 }
 
-// A name, `=` and the values.
+// Reads a parameter: a name, `=` and the values.
 pub fn read_param(t: &ClassTable, s: &[u8], at: usize) -> Part
     requires { ⌜ Classes (now t) ⌝ }
     requires { ⌜ at ≤ length (now s) ⌝ }
     ensures { λ r. ⌜ r ≡ place at (param (drop at (now (s .entry)))) ⌝ }
 {
     let name = read_word(t, s, at, fault::PARAMETER);
-    let Part::Upto(n) = name else {
+    let Part::Upto(name_end) = name else {
         return name;
     };
-    if s.len() <= n {
+    if s.len() <= name_end {
         return Part::Fault(fault::PARAMETER);
     }
-    if s[n] != b'=' {
+    if s[name_end] != b'=' {
         return Part::Fault(fault::PARAMETER);
     }
-    read_values(t, s, n + 1)
+    read_values(t, s, name_end + 1)
 }
 
-// Any number of parameters, each after a semicolon, and then a colon.
+// Reads any number of parameters, each after a semicolon, up to a colon.
 fn read_params(t: &ClassTable, s: &[u8], from: usize) -> Part
     requires { ⌜ Classes (now t) ⌝ }
     ensures { λ r. ⌜ r ≡ listed 0 from (params (suc (length (drop from (now (s .entry))))) (drop from (now (s .entry)))) ⌝ }
@@ -139,48 +139,48 @@ fn read_params(t: &ClassTable, s: &[u8], from: usize) -> Part
             return Part::Fault(fault::NAME);
         }
         let p = read_param(t, s, at + 1);
-        let Part::Upto(e) = p else {
+        let Part::Upto(end) = p else {
             return p;
         };
-        at = e;
+        at = end;
         count += 1;
     }
     Part::Fault(fault::NO_COLON)
 }
 
-// The group and its dot, if there is one, and the name.
+// Reads the group and its dot, if there is one, and the name.
 fn read_head(t: &ClassTable, s: &[u8]) -> Part
     requires { ⌜ Classes (now t) ⌝ }
     ensures { λ r. ⌜ r ≡ headed (head (now (s .entry))) ⌝ }
 {
     let first = read_word(t, s, 0, fault::NAME);
-    let Part::Upto(n) = first else {
+    let Part::Upto(end) = first else {
         return first;
     };
-    if s.len() <= n {
+    if s.len() <= end {
         return Part::Named {
             group_length: 0,
-            name_end: n,
+            name_end: end,
         };
     }
-    if s[n] != b'.' {
+    if s[end] != b'.' {
         return Part::Named {
             group_length: 0,
-            name_end: n,
+            name_end: end,
         };
     }
-    let start = n + 1;
+    let start = end + 1;
     let second = read_word(t, s, start, fault::NAME);
-    let Part::Upto(e) = second else {
+    let Part::Upto(name_end) = second else {
         return second;
     };
     Part::Named {
-        group_length: n,
-        name_end: e,
+        group_length: end,
+        name_end,
     }
 }
 
-// A whole line.
+// Reads a whole line.
 pub fn read_line(t: &ClassTable, s: &[u8]) -> Part
     requires { ⌜ Classes (now t) ⌝ }
     ensures { λ r. ⌜ r ≡ outcome (parseLine (now (s .entry))) ⌝ }

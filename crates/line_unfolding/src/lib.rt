@@ -16,7 +16,7 @@ fn fold_bit(a: u8, b: u8, c: u8) -> u8
     (a == b'\r') as u8 & ((b == b'\n') as u8 & ((c == b' ') as u8 | (c == b'\t') as u8))
 }
 
-// The length of s without its folds: they are counted with no way out, so that it is compiled to vectors.
+// The length of s without its folds: they are counted with no early exit, so that it compiles to vector instructions.
 pub fn unfolded_length(s: &[u8]) -> usize
     requires { ⌜ length (now s) ≤ limit.octets ⌝ }
     ensures { λ r. ⌜ r ≡ length (unfolded (now (s .entry))) ⌝ }
@@ -35,7 +35,7 @@ pub fn unfolded_length(s: &[u8]) -> usize
 }
 
 // False only where no fold starts at one of the sixteen octets from i.
-fn near(s: &[u8], i: usize) -> bool
+fn has_fold(s: &[u8], i: usize) -> bool
     requires { ⌜ i + 18 ≤ length (now s) ⌝ }
     ensures { λ r. ⌜ (r ≡ false → (k : ℕ) → k < 16 → foldAt (drop (i + k) (now (s .entry))) ≡ false) ⌝ }
 {
@@ -48,14 +48,14 @@ fn near(s: &[u8], i: usize) -> bool
     hit != 0
 }
 
-// A place up to which no fold starts from `from` on, sixteen octets at a look.
-fn hop(s: &[u8], from: usize) -> usize
+// A place up to which no fold starts from `from` on, sixteen octets at a time.
+fn skip_to_fold(s: &[u8], from: usize) -> usize
     requires { ⌜ from ≤ length (now s) ⌝ }
     ensures { λ r. ⌜ (from ≤ r) × (r ≤ length (now (s .entry))) × ((k : ℕ) → from ≤ k → k < r → foldAt (drop k (now (s .entry))) ≡ false) ⌝ }
 {
     let mut i = from;
     while 18 <= s.len() - i {
-        if near(s, i) {
+        if has_fold(s, i) {
             return line_folds::hops::next_cr(s, i);
         }
         i += 16;
@@ -89,7 +89,7 @@ pub fn unfold(s: &[u8], d: &mut [u8]) -> usize
             i += 1;
             met += 1;
         } else {
-            let e = hop(s, i + 1);
+            let e = skip_to_fold(s, i + 1);
             octets::copying::copy_in(&mut d[j..], &s[i..e]);
             j += e - i;
             i = e;

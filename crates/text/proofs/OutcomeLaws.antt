@@ -13,13 +13,13 @@ use Rattle.utf8.specs.Characters.{allowed, firstBad}
 use Rattle.text_escaping.specs.Escaped.{escaped}
 use Rattle.text_unescaping.specs.Unescaped.{firstFault, unescaped}
 use Rattle.octets.specs.Counts.{any}
-use Rattle.text_marks.specs.Looks.{held, seen}
+use Rattle.text_marks.specs.Seen.{held, seen}
 use Rattle.text.specs.declared.Screened.{Screened}
 use Rattle.text.specs.declared.Screened.the-variants.{Saw, Refused}
 use Rattle.text.specs.Screened.{screened}
 use Rattle.text.specs.Outcomes.{checked, faultless}
 use Rattle.octets.proofs.RoomLaws.{within-bound}
-use Rattle.text_marks.proofs.LookLaws.{seen-low}
+use Rattle.text_marks.proofs.SeenLaws.{seen-low}
 use Rattle.text_escaping.proofs.LengthLaws.{same-unmarked}
 use Rattle.text_unescaping.proofs.BareLaws.{bare}
 

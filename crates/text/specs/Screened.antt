@@ -1,4 +1,4 @@
--- Refusals 1 and 31 of a text, or what a look at it sees. Assumes nothing.
+-- Refusals 1 and 31 of a text, or what is seen in it. Assumes nothing.
 use Prim.Native.Nat.{ℕ}
 use mathlib.Core.Bool.{Bool}
 use mathlib.Core.List.{List}
@@ -8,7 +8,7 @@ use Rattle.numbers.specs.Limits as limit
 use Rattle.numbers.specs.Refusals as refusal
 use Rattle.octets.specs.Pick.{pick}
 use Rattle.utf8.specs.Characters.{allowed, firstBad}
-use Rattle.text_marks.specs.Looks.{seen}
+use Rattle.text_marks.specs.Seen.{seen}
 use Rattle.text.specs.declared.Screened.{Screened}
 use Rattle.text.specs.declared.Screened.the-variants.{Saw, Refused}
 

@@ -16,21 +16,21 @@ use numbers::limit;
 use numbers::refusal;
 use octets::rooms::Written;
 
-// The first bad octet, or the length; a look that saw only plain octets has told that there is none.
-fn bad_octet(text: &[u8], look: u8, lf: bool) -> usize
-    requires { ⌜ (look ≡ 0 → any odd (now text) ≡ false) × (look ≡ 2 → any odd (now text) ≡ false) ⌝ }
+// The first bad octet, or the length; where only plain octets were seen there is none.
+fn bad_octet(text: &[u8], seen: u8, lf: bool) -> usize
+    requires { ⌜ (seen ≡ 0 → any odd (now text) ≡ false) × (seen ≡ 2 → any odd (now text) ≡ false) ⌝ }
     ensures { λ r. ⌜ r ≡ firstBad (allowed lf) (now (text .entry)) ⌝ }
 {
-    if look == 0 {
+    if seen == 0 {
         return text.len();
     }
-    if look == 2 {
+    if seen == 2 {
         return text.len();
     }
     utf8_screening::texts::first_bad(text, lf)
 }
 
-// What screening a text answers: what the look at it saw, or a refusal's number and place.
+// What screening a text answers: what is seen in it, or a refusal's number and place.
 pub enum Screened {
     Saw(u8),
     Refused(u32, usize),
@@ -43,12 +43,12 @@ fn screen(text: &[u8], x: u8, y: u8, lf: bool) -> Screened
     if limit::OCTETS < text.len() {
         return Screened::Refused(refusal::TOO_LONG, limit::OCTETS);
     }
-    let look = text_marks::look(text, x, y);
-    let bad = bad_octet(text, look, lf);
+    let seen = text_marks::see(text, x, y);
+    let bad = bad_octet(text, seen, lf);
     if bad < text.len() {
         return Screened::Refused(refusal::TEXT_OCTET, bad);
     }
-    Screened::Saw(look)
+    Screened::Saw(seen)
 }
 
 // Writes the text as it is, or refuses with 15.
@@ -86,8 +86,8 @@ pub fn escape(text: &[u8], out: &mut [u8]) -> Written
     let s = screen(text, b';', b'\n', true);
     match s {
         Screened::Refused(n, p) => Written::Refused(n, p),
-        Screened::Saw(look) => {
-            if look < 2 {
+        Screened::Saw(seen) => {
+            if seen < 2 {
                 return put(text, out);
             }
             escape_each(text, out)
@@ -101,11 +101,11 @@ fn unescape_each(text: &[u8], out: &mut [u8]) -> Written
     ensures { λ r. ⌜ filled r (now (out .exit)) ≡ faultless (now (text .entry)) (now (out .entry)) (fill (unescaped (now (text .entry))) (now (out .entry))) ⌝ }
 {
     let m = text_unescaping::measure(text);
-    let fault = m.fault;
+    let fault = m.first_fault;
     if fault < text.len() {
         return Written::Refused(refusal::ESCAPE, fault);
     }
-    let kept = m.kept;
+    let kept = m.length;
     if out.len() < kept {
         return Written::Refused(refusal::ROOM, kept);
     }
@@ -120,8 +120,8 @@ pub fn unescape(text: &[u8], out: &mut [u8]) -> Written
     let s = screen(text, b',', b',', false);
     match s {
         Screened::Refused(n, p) => Written::Refused(n, p),
-        Screened::Saw(look) => {
-            if look < 2 {
+        Screened::Saw(seen) => {
+            if seen < 2 {
                 return put(text, out);
             }
             unescape_each(text, out)

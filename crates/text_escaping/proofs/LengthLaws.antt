@@ -8,8 +8,8 @@ use lib.ListN.{length, length-append}
 use Rattle.octets.specs.Pick.{pick}
 use Rattle.octets.specs.Classes.{bit}
 use Rattle.text_marks.specs.Marks.{marked}
-use Rattle.text_marks.specs.Looks.{held}
-use Rattle.text_marks.proofs.LookLaws.{unmarked}
+use Rattle.text_marks.specs.Seen.{held}
+use Rattle.text_marks.proofs.SeenLaws.{unmarked}
 use Rattle.text_escaping.specs.Escaped.{letter, inEscape, escaped}
 use Rattle.octets.specs.Counts.{any, count}
 

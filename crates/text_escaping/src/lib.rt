@@ -6,7 +6,10 @@ ghost use Rattle.octets.specs.Room.{overlay};
 ghost use Rattle.text_escaping.specs.Escaped.{Letters, escaped};
 
 // What follows the backslash in the escape of each octet, and 0 for one that stays as it is.
-pub fn letters() -> [u8; 256]
+pub type LetterTable = [u8; 256];
+
+// The table as a value, which its users are lent.
+pub fn letters() -> LetterTable
     ensures { λ r. ⌜ Letters r ⌝ }
 {
     let mut t = [0u8; 256];
@@ -17,8 +20,8 @@ pub fn letters() -> [u8; 256]
     t
 }
 
-// Writes the escaped form to the start of out.
-pub fn write(t: &[u8; 256], text: &[u8], out: &mut [u8])
+// Writes the escaped form to the start of `out`.
+pub fn write(t: &LetterTable, text: &[u8], out: &mut [u8])
     requires { ⌜ Letters (now t) ⌝ }
     requires { ⌜ length (escaped (now text)) ≤ length (now out) ⌝ }
     ensures { λ _. ⌜ now (out .exit) ≡ overlay (escaped (now (text .entry))) (now (out .entry)) ⌝ }

@@ -1,4 +1,4 @@
-// Counting octets: one look at each with no way out, in 16 bits, so that it is compiled to vectors.
+// Counting octets: one pass with no early exit, in 16 bits, so that it compiles to vector instructions.
 ghost use mathlib.Core.Path.{_≡_};
 ghost use Prim.Native.Nat.{_≤_};
 ghost use lib.ListN.{length};

@@ -1,4 +1,4 @@
-// One look at a text: whether an octet is not plain, and whether one is a backslash, a comma or one of two octets more; and counts.
+// What is seen in a text: whether an octet is not plain, and whether one is a backslash, a comma or one of two octets more; and counts.
 pub mod counts;
 
 ghost use mathlib.Core.Path.{_≡_};
@@ -6,7 +6,7 @@ ghost use mathlib.Core.List.{[], _∷_};
 ghost use Prim.Native.Nat.{_≤_};
 ghost use lib.ListN.{length};
 ghost use Rattle.octets.specs.Classes.{bit};
-ghost use Rattle.text_marks.specs.Looks.{held, seen};
+ghost use Rattle.text_marks.specs.Seen.{held, seen};
 
 // 1 for a backslash, a comma or one of the two octets, 0 for any other.
 pub fn held_bit(b: u8, x: u8, y: u8) -> u8
@@ -16,51 +16,51 @@ pub fn held_bit(b: u8, x: u8, y: u8) -> u8
 }
 
 // What is seen of one octet.
-fn look_octet(b: u8, x: u8, y: u8) -> u8
+fn see_octet(b: u8, x: u8, y: u8) -> u8
     ensures { λ r. ⌜ r ≡ seen x y (b ∷ []) ⌝ }
 {
     utf8_screening::plain::odd_bit(b) + 2 * held_bit(b, x, y)
 }
 
-// What is seen, octet by octet with no way out, so that it is compiled to vectors.
-fn look_each(s: &[u8], x: u8, y: u8) -> u8
+// What is seen, octet by octet with no early exit, so that it compiles to vector instructions.
+fn see_each(s: &[u8], x: u8, y: u8) -> u8
     ensures { λ r. ⌜ r ≡ seen x y (now (s .entry)) ⌝ }
 {
     let mut bits: u8 = 0;
     let mut i: usize = 0;
     while i < s.len() {
-        bits = bits | look_octet(s[i], x, y);
+        bits = bits | see_octet(s[i], x, y);
         i += 1;
     }
     bits
 }
 
 // What is seen in the octets before `end` and in those from `from` on, which are all of them.
-fn look_parts(s: &[u8], end: usize, from: usize, x: u8, y: u8) -> u8
+fn see_parts(s: &[u8], end: usize, from: usize, x: u8, y: u8) -> u8
     requires { ⌜ from ≤ end ⌝ }
     requires { ⌜ end ≤ length (now s) ⌝ }
     ensures { λ r. ⌜ r ≡ seen x y (now (s .entry)) ⌝ }
 {
-    look_each(&s[0..end], x, y) | look_each(&s[from..], x, y)
+    see_each(&s[0..end], x, y) | see_each(&s[from..], x, y)
 }
 
 // What is seen: 1 where an octet is not plain, 2 where one is a backslash, a comma, x or y, 3 where both, else 0. The two parts
 // have lengths that the compiler knows, or a multiple of 32, and may overlap, so that no octet is left over from its vectors.
-pub fn look(s: &[u8], x: u8, y: u8) -> u8
+pub fn see(s: &[u8], x: u8, y: u8) -> u8
     ensures { λ r. ⌜ r ≡ seen x y (now (s .entry)) ⌝ }
 {
     let n = s.len();
     if n < 4 {
-        return look_each(s, x, y);
+        return see_each(s, x, y);
     }
     if n < 8 {
-        return look_parts(s, 4, n - 4, x, y);
+        return see_parts(s, 4, n - 4, x, y);
     }
     if n < 16 {
-        return look_parts(s, 8, n - 8, x, y);
+        return see_parts(s, 8, n - 8, x, y);
     }
     if n < 32 {
-        return look_parts(s, 16, n - 16, x, y);
+        return see_parts(s, 16, n - 16, x, y);
     }
-    look_parts(s, n / 32 * 32, n - 32, x, y)
+    see_parts(s, n / 32 * 32, n - 32, x, y)
 }

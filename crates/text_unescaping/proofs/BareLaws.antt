@@ -8,8 +8,8 @@ use lib.ListN.{length}
 use Rattle.octets.specs.Counts.{any}
 use Rattle.octets.specs.Scan.{scan, gather}
 use Rattle.text_marks.specs.Marks.{backslash}
-use Rattle.text_marks.specs.Looks.{held}
-use Rattle.text_marks.proofs.LookLaws.{or-left, or-right}
+use Rattle.text_marks.specs.Seen.{held}
+use Rattle.text_marks.proofs.SeenLaws.{or-left, or-right}
 use Rattle.text_unescaping.specs.Unescaped.{firstFault, unescaped}
 use Rattle.text_unescaping.proofs.UnescapeLaws.{first-octet}
 use Rattle.text_unescaping.proofs.PairLaws.{flat, fault-past}

@@ -1,4 +1,4 @@
-// Reading text with escapes: the first fault, the length without escapes, and writing what the text stands for.
+// Text with escapes: its first fault, how many octets it stands for, and writing those.
 ghost use mathlib.Core.Path.{_≡_};
 ghost use mathlib.Core.Bool.{true};
 ghost use Prim.Native.Nat.{_+_, _<_, _≤_};
@@ -9,10 +9,10 @@ ghost use Rattle.octets.specs.Room.{overlay};
 ghost use Rattle.text_unescaping.specs.Unescaped.{code, meant, escapeAt, firstFault, unescaped};
 ghost use Rattle.text_unescaping.specs.Pairs.{unsettled, settled};
 
-// The first fault of a text, or its length; and, where it has none, how many octets it stands for.
+// The place of the first fault of a text, or its length; and, where it has none, how many octets it stands for.
 pub struct Measured {
-    pub fault: usize,
-    pub kept: usize,
+    pub first_fault: usize,
+    pub length: usize,
 }
 
 // Whether an octet makes an escape of the backslash before it.
@@ -69,7 +69,7 @@ fn pair_bit(before: u8, b: u8) -> u8
     ((before == b'\\') as u8 & (coded == 0) as u8) | ((before != b'\\') as u8 & (b == b',') as u8)
 }
 
-// Whether each octet fits the one before it: one look at each with no way out, so that it is compiled to vectors.
+// Whether each octet fits the one before it: one pass with no early exit, so that it compiles to vector instructions.
 fn all_pairs(s: &[u8]) -> bool
     ensures { λ r. ⌜ r ≡ settled 0 (now (s .entry)) ⌝ }
 {
@@ -89,7 +89,7 @@ fn all_pairs(s: &[u8]) -> bool
 
 // Measures a text, escape by escape.
 fn measure_each(text: &[u8]) -> Measured
-    ensures { λ r. ⌜ (r .fault ≡ firstFault (now (text .entry))) × (r .fault ≡ length (now (text .entry)) → r .kept ≡ length (unescaped (now (text .entry)))) ⌝ }
+    ensures { λ r. ⌜ (r .«first_fault» ≡ firstFault (now (text .entry))) × (r .«first_fault» ≡ length (now (text .entry)) → r .length ≡ length (unescaped (now (text .entry)))) ⌝ }
 {
     let mut i: usize = 0;
     let mut kept: usize = 0;
@@ -97,42 +97,48 @@ fn measure_each(text: &[u8]) -> Measured
         if text[i] == b'\\' {
             let whole = escape_at(text, i);
             if !whole {
-                return Measured { fault: i, kept: 0 };
+                return Measured {
+                    first_fault: i,
+                    length: 0,
+                };
             }
             kept += 1;
             i += 2;
         } else {
             if text[i] == b',' {
-                return Measured { fault: i, kept: 0 };
+                return Measured {
+                    first_fault: i,
+                    length: 0,
+                };
             }
             kept += 1;
             i += 1;
         }
     }
     Measured {
-        fault: i,
-        kept: kept,
+        first_fault: i,
+        length: kept,
     }
 }
 
 // Measures a text.
 pub fn measure(text: &[u8]) -> Measured
     requires { ⌜ length (now text) ≤ limit.octets ⌝ }
-    ensures { λ r. ⌜ (r .fault ≡ firstFault (now (text .entry))) × (r .fault ≡ length (now (text .entry)) → r .kept ≡ length (unescaped (now (text .entry)))) ⌝ }
+    ensures { λ r. ⌜ (r .«first_fault» ≡ firstFault (now (text .entry))) × (r .«first_fault» ≡ length (now (text .entry)) → r .length ≡ length (unescaped (now (text .entry)))) ⌝ }
 {
     if text.len() < 32 {
         return measure_each(text);
     }
     if all_pairs(text) {
         return Measured {
-            fault: text.len(),
-            kept: text.len() - text_marks::counts::backslashes(text),
+            first_fault: text.len(),
+            length: text.len() - text_marks::counts::backslashes(text),
         };
     }
     measure_each(text)
 }
 
-// Writes what a text without faults stands for to the start of out.
+// Writes what a text without faults stands for to the start of `out`.
 pub fn write(text: &[u8], out: &mut [u8])
     requires { ⌜ firstFault (now text) ≡ length (now text) ⌝ }
     requires { ⌜ length (unescaped (now text)) ≤ length (now out) ⌝ }

@@ -1,13 +1,13 @@
 -- RFC 3629, section 4: `charLength` and `firstBad` say of every list what the grammar says. No list is left out: a number above
 -- 255 is in no range of the grammar. Assumes nothing.
 use Prim.Native.Nat.{ℕ, zero, suc, _≤_}
-use mathlib.Core.Path.{_≡_, refl, sym, _∙_}
+use mathlib.Core.Path.{_≡_, refl, _∙_}
 use mathlib.Core.Logic.{_↔_}
 use mathlib.Core.Bool.{Bool, true, false}
 use mathlib.Core.List.{List, [], _∷_}
 use native.Mathlib.Omega.{arith}
 use lib.ListN.{length, take, drop}
-use lib.Seq.{take-append-seam, take-length}
+use lib.Seq.{take-length}
 use Rattle.octets.specs.Scan.{scan}
 use Rattle.octets.specs.Classes.{valued}
 use Rattle.utf8.specs.Characters.{lengthBy, second, tail, rest, charLength, allowed, unit, firstBad}
@@ -15,7 +15,7 @@ use Rattle.utf8.specs.Rfc3629.{Characters}
 use Rattle.utf8.proofs.Chars.{bad-le}
 use Rattle.utf8_laws.specs.Texts.{Begins, Text, Stops, Each}
 use Rattle.utf8_laws.proofs.Starts.{char-found, char-parts}
-use Rattle.utf8_laws.proofs.Walks.{begins, stops-zero, bad-none, place-parts, past-prefix, each-any, text-of, text-characters, text-each, allowed-high}
+use Rattle.utf8_laws.proofs.Walks.{begins, stops-zero, bad-none, place-parts, past-prefix, text-of, text-characters, text-each, allowed-high}
 
 -- UTF8-char: the answer n + 1 is given exactly where a character of n + 1 octets begins the list
 pub begins-length : (l : List ℕ) (n : ℕ) → (charLength l ≡ suc n) ↔ ((c : List ℕ) × Begins l c × (length c ≡ suc n))
@@ -28,13 +28,6 @@ begins-none l = (λ e c g. omega (arith, e, begins l c g, char-parts c (g .0) .0
     by : (n : ℕ) → charLength l ≡ n → ((c : List ℕ) → Begins l c → ⊥) → charLength l ≡ 0
     by zero e no-one = e
     by (suc n) e no-one = let f = char-found l n e in absurd (no-one (f .0) (f .1))
-
--- the character is what the answer takes off the list, so no two characters begin a list
-pub begins-taken : (l c : List ℕ) → Begins l c → take (charLength l) l ≡ c
-begins-taken l c g = rw (begins l c g, g .1 .1) (take-append-seam c (g .1 .0))
-
-pub begins-once : (l c d : List ℕ) → Begins l c → Begins l d → c ≡ d
-begins-once l c d g h = sym (begins-taken l c g) ∙ begins-taken l d h
 
 module _ (p : ℕ → Bool) (l : List ℕ) where
   -- the place k is answered exactly where the octets before it are allowed characters and none begins at it
@@ -54,12 +47,6 @@ module _ (p : ℕ → Bool) (l : List ℕ) where
     λ e. rw take-length at (place-parts p l (length l) e .1),
     λ t. omega (arith, bad-longest (length l) (omega arith) (rw take-length t), bad-le p l),
   )
-
--- with every octet allowed, exactly at UTF8-octets
-pub characters-only : (l : List ℕ) → (firstBad (λ (b : ℕ). true) l ≡ length l) ↔ Characters l
-characters-only l =
-    let p : ℕ → Bool = λ b. true in
-    (λ e. text-characters p l (bad-nowhere p l .0 e), λ t. bad-nowhere p l .1 (text-of p l t (each-any p (λ b. refl) l)))
 
 -- with the octets of a value (and LF) allowed, exactly at UTF8-octets of allowed octets
 pub allowed-only : (lf : Bool) (l : List ℕ) → (firstBad (allowed lf) l ≡ length l) ↔ (Characters l × Each (allowed lf) l)

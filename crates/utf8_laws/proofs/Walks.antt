@@ -117,11 +117,6 @@ module _ (p : ℕ → Bool) where
       ap (firstBad p) (sym (take-append-drop k l)) ∙ text-passed (take k l) (drop k l) t
       ∙ ap (λ (n : ℕ). n + firstBad p (drop k l)) (length-take-le k l h)
 
-  pub each-any : ((b : ℕ) → p b ≡ true) → (l : List ℕ) → Each p l
-  unfolding Each
-  each-any h [] = tt
-  each-any h (x ∷ xs) = (h x, each-any h xs)
-
   each-append : (a b : List ℕ) → Each p a → Each p b → Each p (a ++ b)
   unfolding Each
   each-append [] b g h = h

@@ -1,4 +1,4 @@
-// Plain text: one look at each octet with no way out, so that it is compiled to vectors.
+// Plain text: one pass with no early exit, so that it compiles to vector instructions.
 ghost use mathlib.Core.Path.{_≡_};
 ghost use Rattle.octets.specs.Classes.{bit};
 ghost use Rattle.utf8_screening.specs.Plain.{odd, allPlain};

@@ -1,4 +1,4 @@
-// The first bad octet of a text that is not plain; a short one is first looked at with no table of classes, which costs more than the look.
+// The first bad octet of a text that is not plain; a short text is first scanned without the table of classes, which costs more than the scan.
 ghost use mathlib.Core.Path.{_≡_};
 ghost use Prim.Native.Nat.{_<_};
 ghost use lib.ListN.{length};

@@ -12,11 +12,11 @@ returns : tie.Need-returns
 returns c =
     sym (paired-all (c .before .before .before .args .s .now) (sym (c .before .all-paired .ensures) ∙ c .if1 .taken))
 
-search-requires : tie.Need-search-requires
-search-requires c κs = search needs
+find-lone-requires : tie.Need-find-lone-requires
+find-lone-requires c κs = search needs
 
 returns-2 : tie.Need-returns-2
 returns-2 c = search needs
 
 pub first-lone-spec : {M : Type 1} → statement M
-first-lone-spec = tie.close (tie.spec all-paired-requires returns search-requires returns-2)
+first-lone-spec = tie.close (tie.spec all-paired-requires returns find-lone-requires returns-2)

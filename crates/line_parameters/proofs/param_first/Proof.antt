@@ -1,8 +1,11 @@
 -- `line_parameters::param_first` meets its contract. Assumes nothing.
 use Rattle.line_parser.proofs.Steps.{place-upto, place-fault, past}
-use Rattle.line_parameters.proofs.FirstSteps.{first-none, first-bad, name-end, first-hit, first-on}
-use Rattle.line_parameters.specs.First.{firstOf}
+use Rattle.line_parameters.proofs.FirstSteps.{NameEnd, first-none, first-bad, name-end, first-hit, first-on}
+use Rattle.line_parameters.specs.First.{findFirst}
+use Rattle.line_parser.specs.Parse.{got}
+use Rattle.line_parser.specs.Grammar.{Param}
 use Rattle.line_parser.specs.Rule.{param}
+use mathlib.Core.List.{List}
 use lib.ListN.{length, drop, length-drop}
 use native.Mathlib.Omega.{arith}
 use Prim.Native.Nat.{ℕ, suc, _+_, _-_, _<_}
@@ -14,11 +17,31 @@ use Rattle.line_parameters.proofs.param_first.Tie as tie
 abbrev Inv-loop : tie.InvT-loop
 Inv-loop t s from name at₀ at =
     (n : ℕ) × (length s - at < n)
-    × (firstOf name from (suc (length (drop from s))) (drop from s) ≡ firstOf name at n (drop at s))
+    × (findFirst name from (suc (length (drop from s))) (drop from s) ≡ findFirst name at n (drop at s))
 
 abbrev μ-loop : tie.MeasureT-loop
 μ-loop t s from name at₀ at =
     length s - at
+
+-- after a parameter that was read, and the end of its name
+module _ (m : tie.After-span Inv-loop μ-loop) where
+  abbrev R : tie.After-read-param Inv-loop μ-loop
+  R = m .before .before .before .before
+
+  abbrev L : tie.At-loop Inv-loop μ-loop
+  L = R .before .before .before .before
+
+  abbrev S : List ℕ
+  S = L .before .before .before .args .s .now
+
+  abbrev At : ℕ
+  At = L .loop .at
+
+  taken : {C : Type 0}
+      → ((p : Param) (k : ℕ) → param (drop (At + 1) S) ≡ got p k → m .before .before .p .given .0 .0 ≡ At + 1 + k → NameEnd S (At + 1) p (m .span .result) → C) → C
+  taken f =
+      place-upto (At + 1) (param (drop (At + 1) S)) (R .read-param .ensures) (m .before .before .p .given .1) (λ p k q h.
+      f p k q h (name-end S (At + 1) p k (m .span .result) q (m .span .ensures .0)))
 
 loop-holds : tie.Need-loop-holds Inv-loop μ-loop
 loop-holds c =
@@ -70,55 +93,33 @@ add-value-span : tie.Need-add-value-span Inv-loop μ-loop
 add-value-span c = search needs
 
 value-span-requires : tie.Need-value-span-requires Inv-loop μ-loop
-value-span-requires c κs =
-    let m = c .before .before .before in
-    let r = m .before .before .before .before in
-    let s = r .before .before .before .before .before .before .before .args .s .now in
-    let l = r .before .before .before .before .loop in
-    place-upto (l .at + 1) (param (drop (l .at + 1) s)) (r .read-param .ensures) (m .before .before .p .given .1) (λ p k q h.
-    let w = name-end s (l .at + 1) p k (m .span .result) q (m .span .ensures .0) in
-    let i = w .within-line in
-    search needs)
+value-span-requires c κs = taken (c .before .before .before) (λ p k q h w. let i = w .within-line in search needs)
 
 returns-3 : tie.Need-returns-3 Inv-loop μ-loop
 returns-3 c =
     let m = c .before .before .before .before in
-    let r = m .before .before .before .before in
-    let a = r .before .before .before .before .before .before .before .args in
-    let s = a .s .now in
-    let l = r .before .before .before .before .loop in
-    let pos : 0 < l .inv .0 = omega arith in
+    let l = L m .loop in
     let found = sym (c .before .before .same-name .ensures) ∙ c .before .if2 .taken in
-    place-upto (l .at + 1) (param (drop (l .at + 1) s)) (r .read-param .ensures) (m .before .before .p .given .1) (λ p k q h.
-    let w = name-end s (l .at + 1) p k (m .span .result) q (m .span .ensures .0) in
-    c .value-span .ensures
-    ∙ sym (l .inv .2 ∙ first-hit (a .name .now) s (l .at) (l .inv .0) pos (r .before .if1 .left) p k q (m .span .result) w found))
+    taken m (λ p k q h w.
+    c .value-span .ensures ∙ sym (l .inv .2 ∙ first-hit _ (S m) (l .at) (l .inv .0) (omega arith) (R m .before .if1 .left) p k q (m .span .result) w found))
 
 loop-less : tie.Need-loop-less Inv-loop μ-loop
 loop-less c =
     let m = c .before .before .before in
-    let r = m .before .before .before .before in
-    let s = r .before .before .before .before .before .before .before .args .s .now in
-    let l = r .before .before .before .before .loop in
-    let lt = r .before .before .before .loop-test .taken in
-    place-upto (l .at + 1) (param (drop (l .at + 1) s)) (r .read-param .ensures) (m .before .before .p .given .1) (λ p k q h. omega arith)
+    let lt = R m .before .before .before .loop-test .taken in
+    taken m (λ p k q h w. omega arith)
 
 loop-again : tie.Need-loop-again Inv-loop μ-loop
 loop-again c =
     let m = c .before .before .before in
-    let r = m .before .before .before .before in
-    let a = r .before .before .before .before .before .before .before .args in
-    let s = a .s .now in
-    let l = r .before .before .before .before .loop in
-    let pos : 0 < l .inv .0 = omega arith in
-    let lt = r .before .before .before .loop-test .taken in
+    let l = L m .loop in
+    let lt = R m .before .before .before .loop-test .taken in
     let other = sym (c .before .same-name .ensures) ∙ c .if2 .left in
-    place-upto (l .at + 1) (param (drop (l .at + 1) s)) (r .read-param .ensures) (m .before .before .p .given .1) (λ p k q h.
-    let w = name-end s (l .at + 1) p k (m .span .result) q (m .span .ensures .0) in (
+    taken m (λ p k q h w. (
       l .inv .0 - 1,
       omega arith,
-      l .inv .2 ∙ first-on (a .name .now) s (l .at) (l .inv .0) pos (r .before .if1 .left) p k q (m .span .result) w other
-          ∙ ap (λ (i : ℕ). firstOf (a .name .now) i (l .inv .0 - 1) (drop i s)) (sym h),
+      l .inv .2 ∙ first-on _ (S m) (l .at) (l .inv .0) (omega arith) (R m .before .if1 .left) p k q (m .span .result) w other
+          ∙ ap (λ (i : ℕ). findFirst (L m .before .before .before .args .name .now) i (l .inv .0 - 1) (drop i (S m))) (sym h),
     ))
 
 returns-4 : tie.Need-returns-4 Inv-loop μ-loop

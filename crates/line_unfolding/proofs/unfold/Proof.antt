@@ -52,25 +52,25 @@ module _ (c : tie.Else2 Inv-loop μ-loop) where
   lone = sym (c .before .fold-at .ensures) ∙ c .if2 .left
 
 -- the octets up to the next fold
-module _ (c : tie.After-hop Inv-loop μ-loop) where
+module _ (c : tie.After-skip-to-fold Inv-loop μ-loop) where
   abbrev H : tie.At-loop Inv-loop μ-loop
   H = c .before .before .before .before .before
 
   abbrev X : List ℕ
-  X = take (c .hop .result - I H) (drop (I H) (S H))
+  X = take (c .skip-to-fold .result - I H) (drop (I H) (S H))
 
-  run : gather passed kept (drop (I H) (S H)) 0 ≡ X ++ gather passed kept (drop (c .hop .result) (S H)) 0
+  run : gather passed kept (drop (I H) (S H)) 0 ≡ X ++ gather passed kept (drop (c .skip-to-fold .result) (S H)) 0
   run =
-      let e = c .hop .ensures in
+      let e = c .skip-to-fold .ensures in
       let flat = flat-one (S H) (I H) (not-cr (S H) (I H) (c .before .before .if1 .left)) in
-      flat-kept (S H) (I H) (c .hop .result) (omega (arith, e .0)) (e .1) (flat-join (S H) (I H) (I H + 1) (c .hop .result) flat (e .2))
+      flat-kept (S H) (I H) (c .skip-to-fold .result) (omega (arith, e .0)) (e .1) (flat-join (S H) (I H) (I H + 1) (c .skip-to-fold .result) flat (e .2))
 
-  run-length : length X ≡ c .hop .result - I H
+  run-length : length X ≡ c .skip-to-fold .result - I H
   run-length =
-      length-take-le (c .hop .result - I H) (drop (I H) (S H)) (rw (length-drop (I H) (S H)) (omega (arith, c .hop .ensures .1)))
+      length-take-le (c .skip-to-fold .result - I H) (drop (I H) (S H)) (rw (length-drop (I H) (S H)) (omega (arith, c .skip-to-fold .ensures .1)))
 
   run-fits : H .loop .j + length X ≤ length (H .loop .d)
-  run-fits = omega (arith, roomy H, ap length run ∙ length-append X (gather passed kept (drop (c .hop .result) (S H)) 0))
+  run-fits = omega (arith, roomy H, ap length run ∙ length-append X (gather passed kept (drop (c .skip-to-fold .result) (S H)) 0))
 
 loop-holds : tie.Need-loop-holds Inv-loop μ-loop
 loop-holds c = (search needs, start _ _)
@@ -143,11 +143,11 @@ loop-again-3 c =
     let f = not-cr (a .s .now) (c5 .loop .i) (c2 .if1 .left) in
     (omega arith, put-octet (c5 .loop .inv .1) _ _ (next (c5) h f) (fits (c5) h f))
 
-add-hop : tie.Need-add-hop Inv-loop μ-loop
-add-hop c = search needs
+add-skip-to-fold : tie.Need-add-skip-to-fold Inv-loop μ-loop
+add-skip-to-fold c = search needs
 
-hop-requires : tie.Need-hop-requires Inv-loop μ-loop
-hop-requires c κs = search needs
+skip-to-fold-requires : tie.Need-skip-to-fold-requires Inv-loop μ-loop
+skip-to-fold-requires c κs = search needs
 
 sub-copy-in : tie.Need-sub-copy-in Inv-loop μ-loop
 sub-copy-in c = omega (arith, run-fits c)
@@ -159,30 +159,30 @@ part-copy-in-end : tie.Need-part-copy-in-end Inv-loop μ-loop
 part-copy-in-end c = omega (arith, run-fits c)
 
 sub-copy-in-2 : tie.Need-sub-copy-in-2 Inv-loop μ-loop
-sub-copy-in-2 c = omega (arith, c .before .hop .ensures .0)
+sub-copy-in-2 c = omega (arith, c .before .skip-to-fold .ensures .0)
 
 part-copy-in-start-2 : tie.Need-part-copy-in-start-2 Inv-loop μ-loop
-part-copy-in-start-2 c = omega (arith, c .before .hop .ensures .0, c .before .hop .ensures .1)
+part-copy-in-start-2 c = omega (arith, c .before .skip-to-fold .ensures .0, c .before .skip-to-fold .ensures .1)
 
 part-copy-in-end-2 : tie.Need-part-copy-in-end-2 Inv-loop μ-loop
-part-copy-in-end-2 c = omega (arith, c .before .hop .ensures .0, c .before .hop .ensures .1)
+part-copy-in-end-2 c = omega (arith, c .before .skip-to-fold .ensures .0, c .before .skip-to-fold .ensures .1)
 
 copy-in-requires : tie.Need-copy-in-requires Inv-loop μ-loop
 copy-in-requires c κs = rw (run-length (c .before .before)) (simp (length-take, length-drop) (omega (arith, run-fits (c .before .before), run-length (c .before .before))))
 
 sub-j : tie.Need-sub-j Inv-loop μ-loop
-sub-j c = omega (arith, c .before .before .before .before .before .hop .ensures .0)
+sub-j c = omega (arith, c .before .before .before .before .before .skip-to-fold .ensures .0)
 
 add-j-3 : tie.Need-add-j-3 Inv-loop μ-loop
 add-j-3 c = omega (arith, run-fits (c .before .before .before .before .before), run-length (c .before .before .before .before .before))
 
 loop-less-4 : tie.Need-loop-less-4 Inv-loop μ-loop
-loop-less-4 c = omega (arith, c .before .before .before .before .before .hop .ensures .0, c .before .before .before .before .before .hop .ensures .1)
+loop-less-4 c = omega (arith, c .before .before .before .before .before .skip-to-fold .ensures .0, c .before .before .before .before .before .skip-to-fold .ensures .1)
 
 loop-again-4 : tie.Need-loop-again-4 Inv-loop μ-loop
 loop-again-4 c =
     let t = c .before .before .before .before .before in
-    (c .before .before .before .before .before .hop .ensures .1, rw (run-length t) at (put-part (c .before .before .before .before .before .before .before .before .before .before .loop .inv .1) (X t) _ _ (run t) (run-fits t) (c .before .before .copy-in .ensures)))
+    (c .before .before .before .before .before .skip-to-fold .ensures .1, rw (run-length t) at (put-part (c .before .before .before .before .before .before .before .before .before .before .loop .inv .1) (X t) _ _ (run t) (run-fits t) (c .before .before .copy-in .ensures)))
 
 same-length : tie.Need-same-length Inv-loop μ-loop
 same-length c = c .before .loop .inv .1 .same
@@ -218,8 +218,8 @@ unfold-spec =
     add-met
     loop-less-3
     loop-again-3
-    add-hop
-    hop-requires
+    add-skip-to-fold
+    skip-to-fold-requires
     sub-copy-in
     part-copy-in-start
     part-copy-in-end

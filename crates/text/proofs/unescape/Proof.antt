@@ -22,9 +22,8 @@ same-length c = search needs
 
 returns : tie.Need-returns
 unfolding unescapeOutcome
-returns c =
-    let m = c .before .before .before .before .before .before in
-    told-same unescaping _ _ (m .before .before .screen .ensures) (m .s2 .given .1) (c .before .before .before .before .if1 .taken) (c .before .before .put .ensures)
+returns c = told-same unescaping _ _ (c .before .before .before .before .before .before .before .before .screen .ensures)
+    (c .before .before .before .before .before .before .s2 .given .1) (c .before .before .before .before .if1 .taken) (c .before .before .put .ensures)
 
 unescape-each-requires : tie.Need-unescape-each-requires
 unescape-each-requires c κs = let m = c .before .before .before in told-short unescaping _ (m .before .before .screen .ensures) (m .s2 .given .1)

@@ -1,7 +1,8 @@
 -- `text_marks::held_bit` meets its contract. Assumes nothing.
 use lib.Dec.{eqb}
-use Rattle.text_marks.specs.Looks.{held}
-use Rattle.text_marks.proofs.BitLaws.{held-bits}
+use Rattle.text_marks.specs.Seen.{held}
+use mathlib.Core.Path.{_∙_}
+use Rattle.octets.proofs.BitLaws.{or-four, byte-bit}
 use borrow.Author.Needs.{needs}
 use Rattle.text_marks.proofs.held_bit.Statement.{statement}
 use Rattle.text_marks.proofs.held_bit.Tie as tie
@@ -20,9 +21,7 @@ cast-result-4 c = search needs
 
 returns : tie.Need-returns
 unfolding held
-returns c =
-    let a = c .args in
-    held-bits (eqb (a .b) 92) (eqb (a .b) 44) (eqb (a .b) (a .x)) (eqb (a .b) (a .y))
+returns c = or-four (eqb (c .args .b) 92) (eqb (c .args .b) 44) (eqb (c .args .b) (c .args .x)) (eqb (c .args .b) (c .args .y)) ∙ byte-bit (held (c .args .x) (c .args .y) (c .args .b))
 
 pub held-bit-spec : {M : Type 1} → statement M
 held-bit-spec =

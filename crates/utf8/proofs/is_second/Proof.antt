@@ -1,4 +1,8 @@
 -- `utf8::is_second` meets its contract. Assumes nothing.
+use mathlib.Core.Path.{_≡_, sym, _∙_}
+use lib.Dec.{eqb}
+use Rattle.octets.specs.Pick.{pick}
+use Rattle.octets.specs.Classes.{within}
 use borrow.Author.Needs.{needs}
 use borrow.Author.Tests.{eq-eqb, ne-eqb}
 use Rattle.utf8.specs.Characters.{second}
@@ -31,31 +35,22 @@ returns-3 c =
       eq-eqb _ _ (c .before .if3 .taken),
     ) (c .in-range3 .ensures)
 
+-- after the first three tests
+others : (c : tie.Else3) → let a = c .before .before .before .args in second (a .b) (a .c) ≡ pick (eqb (a .b) 0xF4) (within 0x80 0x8F (a .c)) (within 0x80 0xBF (a .c))
+unfolding second
+others c = simp (ne-eqb _ _ (c .before .before .if1 .left), ne-eqb _ _ (c .before .if2 .left), ne-eqb _ _ (c .if3 .left))
+
 in-range-requires-4 : tie.Need-in-range-requires-4
 in-range-requires-4 c κs = search needs
 
 returns-4 : tie.Need-returns-4
-unfolding second
-returns-4 c =
-    simp (
-      ne-eqb _ _ (c .before .before .before .before .if1 .left),
-      ne-eqb _ _ (c .before .before .before .if2 .left),
-      ne-eqb _ _ (c .before .before .if3 .left),
-      eq-eqb _ _ (c .before .if4 .taken),
-    ) (c .in-range4 .ensures)
+returns-4 c = c .in-range4 .ensures ∙ sym (others (c .before .before) ∙ simp (eq-eqb _ _ (c .before .if4 .taken)))
 
 in-range-requires-5 : tie.Need-in-range-requires-5
 in-range-requires-5 c κs = search needs
 
 returns-5 : tie.Need-returns-5
-unfolding second
-returns-5 c =
-    simp (
-      ne-eqb _ _ (c .before .before .before .before .if1 .left),
-      ne-eqb _ _ (c .before .before .before .if2 .left),
-      ne-eqb _ _ (c .before .before .if3 .left),
-      ne-eqb _ _ (c .before .if4 .left),
-    ) (c .in-range5 .ensures)
+returns-5 c = c .in-range5 .ensures ∙ sym (others (c .before .before) ∙ simp (ne-eqb _ _ (c .before .if4 .left)))
 
 pub is-second-spec : {M : Type 1} → statement M
 is-second-spec =

@@ -17,11 +17,11 @@ Inv-loop s from i₀ i = (i ≤ length s) × (from + run notCr (drop from s) ≡
 abbrev μ-loop : tie.MeasureT-loop
 μ-loop s from i₀ i = length s - i
 
-hop-requires : tie.Need-hop-requires Inv-loop μ-loop
-hop-requires c κs = search needs
+skip-to-cr-requires : tie.Need-skip-to-cr-requires Inv-loop μ-loop
+skip-to-cr-requires c κs = search needs
 
 loop-holds : tie.Need-loop-holds Inv-loop μ-loop
-loop-holds c = c .hop .ensures
+loop-holds c = c .skip-to-cr .ensures
 
 shared-slice-read-if1 : tie.Need-shared-slice-read-if1 Inv-loop μ-loop
 shared-slice-read-if1 c = search needs
@@ -56,7 +56,7 @@ next-cr-spec =
     (tie.spec
     Inv-loop
     μ-loop
-    hop-requires
+    skip-to-cr-requires
     loop-holds
     shared-slice-read-if1
     returns

@@ -9,7 +9,7 @@ use mir.Val.{boolByte}
 use Rattle.text_marks.specs.Marks.{backslash}
 use Rattle.octets.specs.Counts.{count}
 use Rattle.octets.proofs.CountLaws.{count-step, count-end}
-use Rattle.text_marks.proofs.BitLaws.{byte-bit, bit-le}
+use Rattle.octets.proofs.BitLaws.{byte-bit, bit-le}
 use Rattle.text_marks.proofs.counts.backslashes.Statement.{statement}
 use Rattle.text_marks.proofs.counts.backslashes.Tie as tie
 

@@ -8,11 +8,11 @@ use native.Mathlib.Omega.{arith}
 use lib.ListN.{length, drop, getD}
 use Rattle.octets.specs.Classes.{bit}
 use Rattle.text_marks.specs.Marks.{marked}
-use Rattle.text_marks.specs.Looks.{held}
+use Rattle.text_marks.specs.Seen.{held}
 use Rattle.octets.specs.Counts.{count}
 use Rattle.octets.proofs.CountLaws.{count-step, count-end}
-use Rattle.text_marks.proofs.BitLaws.{bit-le}
-use Rattle.text_marks.proofs.LookLaws.{held-marked}
+use Rattle.octets.proofs.BitLaws.{bit-le}
+use Rattle.text_marks.proofs.SeenLaws.{held-marked}
 use Rattle.text_marks.proofs.counts.marks.Statement.{statement}
 use Rattle.text_marks.proofs.counts.marks.Tie as tie
 

@@ -1,4 +1,4 @@
--- `line_breaks::search` meets its contract. Assumes nothing.
+-- `line_breaks::find_lone` meets its contract. Assumes nothing.
 use borrow.Author.Needs.{needs}
 use mathlib.Core.Path.{_≡_, sym, _∙_}
 use Prim.Native.Nat.{_+_, _-_, _≤_}
@@ -9,8 +9,8 @@ use Rattle.octets.specs.Scan.{scan}
 use Rattle.octets.proofs.Scans.{scan-stop, scan-step, scan-end}
 use Rattle.line_breaks.specs.Lone.{loneStep, firstLone}
 use Rattle.line_breaks.proofs.EndLaws.{step-inside}
-use Rattle.line_breaks.proofs.search.Statement.{statement}
-use Rattle.line_breaks.proofs.search.Tie as tie
+use Rattle.line_breaks.proofs.find_lone.Statement.{statement}
+use Rattle.line_breaks.proofs.find_lone.Tie as tie
 
 abbrev Inv-loop : tie.InvT-loop
 Inv-loop s i₀ i =
@@ -49,8 +49,8 @@ unfolding firstLone
 returns-2 c =
     sym (c .before .loop .inv .1 ∙ scan-end loneStep (c .before .before .before .args .s .now) (c .before .loop .i) (c .loop-test .left))
 
-pub search-spec : {M : Type 1} → statement M
-search-spec =
+pub find-lone-spec : {M : Type 1} → statement M
+find-lone-spec =
     tie.close
     (tie.spec
     Inv-loop

@@ -16,7 +16,7 @@ use Rattle.utf8_screening.specs.Plain.{odd, allPlain}
 use Rattle.utf8_screening.proofs.PlainLaws.{plain-all}
 use Rattle.octets.specs.Counts.{any, count}
 use Rattle.text_marks.specs.Marks.{backslash, special, marked}
-use Rattle.text_marks.specs.Looks.{held, seen}
+use Rattle.text_marks.specs.Seen.{held, seen}
 
 pub or-left : (a b : Bool) → (a || b) ≡ false → a ≡ false
 or-left true b e = e

@@ -1,14 +1,14 @@
--- `text_marks::look_each` meets its contract. Assumes nothing.
+-- `text_marks::see_each` meets its contract. Assumes nothing.
 use mathlib.Core.Path.{_≡_, sym}
 use Prim.Native.Nat.{_≤_, _-_}
 use native.Mathlib.Omega.{arith}
 use lib.ListN.{length, take}
 use lib.Seq.{take-all}
-use Rattle.text_marks.specs.Looks.{seen}
-use Rattle.text_marks.proofs.LookLaws.{seen-none, seen-step}
+use Rattle.text_marks.specs.Seen.{seen}
+use Rattle.text_marks.proofs.SeenLaws.{seen-none, seen-step}
 use borrow.Author.Needs.{needs}
-use Rattle.text_marks.proofs.look_each.Statement.{statement}
-use Rattle.text_marks.proofs.look_each.Tie as tie
+use Rattle.text_marks.proofs.see_each.Statement.{statement}
+use Rattle.text_marks.proofs.see_each.Tie as tie
 
 abbrev Inv-loop : tie.InvT-loop
 Inv-loop s x y bits₀ i₀ bits i = (i ≤ length s) × (bits ≡ seen x y (take i s))
@@ -21,11 +21,11 @@ loop-holds c =
     let a = c .before .args in
     (search needs, sym (seen-none (a .x) (a .y)))
 
-shared-slice-read-look-octet : tie.Need-shared-slice-read-look-octet Inv-loop μ-loop
-shared-slice-read-look-octet c = search needs
+shared-slice-read-see-octet : tie.Need-shared-slice-read-see-octet Inv-loop μ-loop
+shared-slice-read-see-octet c = search needs
 
-look-octet-requires : tie.Need-look-octet-requires Inv-loop μ-loop
-look-octet-requires c κs = search needs
+see-octet-requires : tie.Need-see-octet-requires Inv-loop μ-loop
+see-octet-requires c κs = search needs
 
 add-i : tie.Need-add-i Inv-loop μ-loop
 add-i c = search needs
@@ -37,7 +37,7 @@ loop-again : tie.Need-loop-again Inv-loop μ-loop
 loop-again c =
     let a = c .before .before .before .before .before .args in
     let l = c .before .before .before .loop in
-    (omega arith, seen-step (a .x) (a .y) (a .s .now) (l .i) (l .bits) (c .look-octet .result) (c .before .before .loop-test .taken) (l .inv .1) (c .look-octet .ensures))
+    (omega arith, seen-step (a .x) (a .y) (a .s .now) (l .i) (l .bits) (c .see-octet .result) (c .before .before .loop-test .taken) (l .inv .1) (c .see-octet .ensures))
 
 returns : tie.Need-returns Inv-loop μ-loop
 returns c =
@@ -45,15 +45,15 @@ returns c =
     let s = c .before .before .before .args .s .now in
     rw (take-all (l .i) s (c .loop-test .left)) at (l .inv .1)
 
-pub look-each-spec : {M : Type 1} → statement M
-look-each-spec =
+pub see-each-spec : {M : Type 1} → statement M
+see-each-spec =
     tie.close
     (tie.spec
     Inv-loop
     μ-loop
     loop-holds
-    shared-slice-read-look-octet
-    look-octet-requires
+    shared-slice-read-see-octet
+    see-octet-requires
     add-i
     loop-less
     loop-again

@@ -1,12 +1,12 @@
--- `text_marks::look_octet` meets its contract. Assumes nothing.
+-- `text_marks::see_octet` meets its contract. Assumes nothing.
 use native.Mathlib.Omega.{arith}
 use Rattle.utf8_screening.specs.Plain.{odd}
-use Rattle.text_marks.specs.Looks.{held}
-use Rattle.text_marks.proofs.BitLaws.{bit-le}
-use Rattle.text_marks.proofs.LookLaws.{seen-one}
+use Rattle.text_marks.specs.Seen.{held}
+use Rattle.octets.proofs.BitLaws.{bit-le}
+use Rattle.text_marks.proofs.SeenLaws.{seen-one}
 use borrow.Author.Needs.{needs}
-use Rattle.text_marks.proofs.look_octet.Statement.{statement}
-use Rattle.text_marks.proofs.look_octet.Tie as tie
+use Rattle.text_marks.proofs.see_octet.Statement.{statement}
+use Rattle.text_marks.proofs.see_octet.Tie as tie
 
 odd-bit-requires : tie.Need-odd-bit-requires
 odd-bit-requires c κs = search needs
@@ -29,8 +29,8 @@ returns c =
     let a = c .before .before .args in
     seen-one (a .x) (a .y) (a .b) (c .before .odd-bit .result) (c .held-bit .result) (c .before .odd-bit .ensures) (c .held-bit .ensures)
 
-pub look-octet-spec : {M : Type 1} → statement M
-look-octet-spec =
+pub see-octet-spec : {M : Type 1} → statement M
+see-octet-spec =
     tie.close
     (tie.spec
     odd-bit-requires

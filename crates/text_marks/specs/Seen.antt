@@ -1,4 +1,4 @@
--- One look at a text: whether an octet is not plain, and whether one is a backslash, a comma or one of two octets more.
+-- What is seen in a text: whether an octet is not plain, and whether one is a backslash, a comma or one of two octets more.
 -- Assumes nothing.
 use Prim.Native.Nat.{ℕ, _+_}
 use mathlib.Core.Bool.{Bool, _||_}

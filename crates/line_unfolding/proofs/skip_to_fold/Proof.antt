@@ -1,11 +1,11 @@
--- `line_unfolding::hop` meets its contract. Assumes nothing.
+-- `line_unfolding::skip_to_fold` meets its contract. Assumes nothing.
 use borrow.Author.Needs.{needs}
 use Prim.Native.Nat.{_≤_, _+_, _-_}
 use native.Mathlib.Omega.{arith}
 use lib.ListN.{length}
 use Rattle.line_unfolding.proofs.RunLaws.{Flat, flat-none, flat-join, flat-sixteen, flat-run}
-use Rattle.line_unfolding.proofs.hop.Statement.{statement}
-use Rattle.line_unfolding.proofs.hop.Tie as tie
+use Rattle.line_unfolding.proofs.skip_to_fold.Statement.{statement}
+use Rattle.line_unfolding.proofs.skip_to_fold.Tie as tie
 
 abbrev Inv-loop : tie.InvT-loop
 Inv-loop s from i₀ i =
@@ -22,8 +22,8 @@ loop-holds c =
 sub-loop : tie.Need-sub-loop Inv-loop μ-loop
 sub-loop c = search needs
 
-near-requires : tie.Need-near-requires Inv-loop μ-loop
-near-requires c κs = search needs
+has-fold-requires : tie.Need-has-fold-requires Inv-loop μ-loop
+has-fold-requires c κs = search needs
 
 next-cr-requires : tie.Need-next-cr-requires Inv-loop μ-loop
 next-cr-requires c κs = search needs
@@ -45,21 +45,21 @@ loop-again : tie.Need-loop-again Inv-loop μ-loop
 loop-again c =
     let a = c .before .before .before .before .before .args in
     let l = c .before .before .before .loop in
-    (omega arith, omega arith, flat-join (a .s .now) (a .from) (l .i) (l .i + 16) (l .inv .2) (flat-sixteen (a .s .now) (l .i) (c .before .near .ensures (c .if1 .left))))
+    (omega arith, omega arith, flat-join (a .s .now) (a .from) (l .i) (l .i + 16) (l .inv .2) (flat-sixteen (a .s .now) (l .i) (c .before .has-fold .ensures (c .if1 .left))))
 
 returns-2 : tie.Need-returns-2 Inv-loop μ-loop
 returns-2 c =
     c .before .loop .inv
 
-pub hop-spec : {M : Type 1} → statement M
-hop-spec =
+pub skip-to-fold-spec : {M : Type 1} → statement M
+skip-to-fold-spec =
     tie.close
     (tie.spec
     Inv-loop
     μ-loop
     loop-holds
     sub-loop
-    near-requires
+    has-fold-requires
     next-cr-requires
     returns
     add-i

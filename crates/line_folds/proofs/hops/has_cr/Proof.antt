@@ -1,4 +1,4 @@
--- `line_folds::hops::near` meets its contract. Assumes nothing.
+-- `line_folds::hops::has_cr` meets its contract. Assumes nothing.
 use borrow.Author.Needs.{needs}
 use mathlib.Core.Path.{_≡_}
 use Prim.Native.Nat.{ℕ, _≤_, _<_, _+_, _-_}
@@ -7,8 +7,8 @@ use lib.ListN.{getD}
 use borrow.Author.Count.{below-none, below-more}
 use borrow.Author.Tests.{not-false, eqb-true}
 use Rattle.line_folds.proofs.HopLaws.{or-left, unmarked}
-use Rattle.line_folds.proofs.hops.near.Statement.{statement}
-use Rattle.line_folds.proofs.hops.near.Tie as tie
+use Rattle.line_folds.proofs.hops.has_cr.Statement.{statement}
+use Rattle.line_folds.proofs.hops.has_cr.Tie as tie
 
 abbrev Inv-loop : tie.InvT-loop
 Inv-loop s i hit₀ k₀ hit k = (k ≤ 16) × (hit ≡ 0 → (m : ℕ) → m < k → getD s (i + m) 0 ≡ 13 → ⊥)
@@ -43,8 +43,8 @@ loop-again c =
 returns : tie.Need-returns Inv-loop μ-loop
 returns c = λ e m h. c .before .loop .inv .1 (eqb-true (c .before .loop .hit) 0 (not-false _ e)) m (omega arith)
 
-pub near-spec : {M : Type 1} → statement M
-near-spec =
+pub has-cr-spec : {M : Type 1} → statement M
+has-cr-spec =
     tie.close
     (tie.spec
     Inv-loop

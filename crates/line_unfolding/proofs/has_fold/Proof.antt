@@ -1,4 +1,4 @@
--- `line_unfolding::near` meets its contract. Assumes nothing.
+-- `line_unfolding::has_fold` meets its contract. Assumes nothing.
 use borrow.Author.Needs.{needs}
 use mathlib.Core.Path.{_≡_, sym, _∙_}
 use mathlib.Core.Bool.{false}
@@ -11,8 +11,8 @@ use borrow.Author.Tests.{not-false, eqb-true}
 use Rattle.line_folds.specs.Folds.{foldAt}
 use Rattle.line_folds.proofs.HopLaws.{or-left, or-right}
 use Rattle.line_folds.proofs.FoldLaws.{fold-three}
-use Rattle.line_unfolding.proofs.near.Statement.{statement}
-use Rattle.line_unfolding.proofs.near.Tie as tie
+use Rattle.line_unfolding.proofs.has_fold.Statement.{statement}
+use Rattle.line_unfolding.proofs.has_fold.Tie as tie
 
 abbrev Inv-loop : tie.InvT-loop
 Inv-loop s i hit₀ k₀ hit k =
@@ -72,8 +72,8 @@ returns : tie.Need-returns Inv-loop μ-loop
 returns c =
     λ e m h. c .before .loop .inv .1 (eqb-true (c .before .loop .hit) 0 (not-false _ e)) m (omega arith)
 
-pub near-spec : {M : Type 1} → statement M
-near-spec =
+pub has-fold-spec : {M : Type 1} → statement M
+has-fold-spec =
     tie.close
     (tie.spec
     Inv-loop
