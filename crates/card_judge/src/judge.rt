@@ -17,6 +17,8 @@ use card_state::Card;
 use card_state::Step;
 use numbers::property;
 use numbers::refusal;
+use property_table::PropertyTable;
+use value_automaton::scanner::Transitions;
 use value_kinds::Fault;
 
 // Whether a line of the row may stand here.
@@ -62,7 +64,7 @@ fn is_laden(x: Parts) -> bool
 }
 
 // Whether a value breaks its kind.
-fn breaks_kind(steps: &[u8; 1016], row: usize, kind: usize, value: &[u8]) -> bool
+fn breaks_kind(steps: &Transitions, row: usize, kind: usize, value: &[u8]) -> bool
     requires { ⌜ Scanner (now steps) ⌝ }
     requires { ⌜ kind < kinds.count ⌝ }
     ensures { λ r. ⌜ r ≡ broken (valueScan row kind (now (value .entry))) ⌝ }
@@ -88,7 +90,7 @@ fn enter(c: Card, at: usize, row: usize, value: &[u8]) -> Step
 }
 
 // The checks of a line whose parts are known: 9, 8, 7, 10, and at END those of the card.
-fn judge_parts(steps: &[u8; 1016], x: Parts, value: &[u8], at: usize, c: Card) -> Step
+fn judge_parts(steps: &Transitions, x: Parts, value: &[u8], at: usize, c: Card) -> Step
     requires { ⌜ Scanner (now steps) ⌝ }
     requires { ⌜ x .kind < kinds.count ⌝ }
     requires { ⌜ (c .cards ≤ c .lines) × (c .lines < 65536) ⌝ }
@@ -116,8 +118,8 @@ fn judge_parts(steps: &[u8; 1016], x: Parts, value: &[u8], at: usize, c: Card) -
 // Judges the line s, which starts at `at` in the input.
 pub fn judge_line(
     t: &[u8; 256],
-    rows: &[u8; 624],
-    steps: &[u8; 1016],
+    rows: &PropertyTable,
+    steps: &Transitions,
     s: &[u8],
     at: usize,
     c: Card,

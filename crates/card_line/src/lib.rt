@@ -10,6 +10,7 @@ ghost use Rattle.line_parser.specs.Places.{nameStart};
 ghost use Rattle.card_line.specs.Parts.{faultOf, Accepted, firstValue, toldOf};
 use line_parameters::First;
 use line_parser::rule::Part;
+use property_table::PropertyTable;
 
 pub struct Parts {
     // The property's number, 0 for a name that is not listed.
@@ -49,7 +50,7 @@ fn fault_of(p: Part) -> u32
 }
 
 // The kind of the value of a line whose name ends at `name`.
-fn kind_at(t: &[u8; 256], rows: &[u8; 624], s: &[u8], row: usize, name: usize) -> usize
+fn kind_at(t: &[u8; 256], rows: &PropertyTable, s: &[u8], row: usize, name: usize) -> usize
     requires { ⌜ Classes (now t) ⌝ }
     requires { ⌜ Lists (now rows) ⌝ }
     requires { ⌜ row < property.count ⌝ }
@@ -68,7 +69,7 @@ fn kind_at(t: &[u8; 256], rows: &[u8; 624], s: &[u8], row: usize, name: usize) -
 }
 
 // The parts of a line, or the fault by which it breaks the line rule.
-pub fn parts_of(t: &[u8; 256], rows: &[u8; 624], s: &[u8]) -> Told
+pub fn parts_of(t: &[u8; 256], rows: &PropertyTable, s: &[u8]) -> Told
     requires { ⌜ Classes (now t) ⌝ }
     requires { ⌜ Lists (now rows) ⌝ }
     requires { ⌜ length (now s) ≤ limit.octets ⌝ }

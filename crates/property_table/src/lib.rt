@@ -9,9 +9,12 @@ ghost use Rattle.property_table.specs.Rows.{rowOf, rowAt, firstOf, nextO
 use octets::cases::same_name;
 use octets::indices::wide;
 
+// The table's octets, as its users are lent them.
+pub type PropertyTable = [u8; 624];
+
 // Sixteen entries for each row: name, length of the name, kind, next row whose name is as long, 1 where VALUE sets the kind. The row for
 // no name comes first, and has the first row of each length from 1 to 12 in its name's place.
-pub const ROWS: [u8; 624] = *b"\
+pub const ROWS: PropertyTable = *b"\
     \x07\x06\x02\x04\x01\x03\x19\x08\x25\x1a\x0b\x20\x00\x00\x00\x00\
     BEGIN.......\x05\x00\x09\x00\
     END.........\x03\x00\x05\x00\
@@ -53,14 +56,14 @@ pub const ROWS: [u8; 624] = *b"\
     CALURI......\x06\x03\x00\x01";
 
 // The table as a value, which its users are lent: a use of the constant in a loop would build it there at each turn.
-pub fn table() -> [u8; 624]
+pub fn table() -> PropertyTable
     ensures { λ r. ⌜ Lists r ⌝ }
 {
     ROWS
 }
 
 // The first row whose name has n octets, 0 for none.
-fn first_sized(rows: &[u8; 624], n: usize) -> usize
+fn first_sized(rows: &PropertyTable, n: usize) -> usize
     requires { ⌜ Lists (now rows) ⌝ }
     requires { ⌜ (0 < n) × (n ≤ 12) ⌝ }
     ensures { λ r. ⌜ r ≡ firstOf n ⌝ }
@@ -69,7 +72,7 @@ fn first_sized(rows: &[u8; 624], n: usize) -> usize
 }
 
 // The next row whose name is as long as this one's, 0 for none.
-fn next_sized(rows: &[u8; 624], row: usize) -> usize
+fn next_sized(rows: &PropertyTable, row: usize) -> usize
     requires { ⌜ Lists (now rows) ⌝ }
     requires { ⌜ row < property.count ⌝ }
     ensures { λ r. ⌜ r ≡ nextOf row ⌝ }
@@ -78,7 +81,7 @@ fn next_sized(rows: &[u8; 624], row: usize) -> usize
 }
 
 // Whether the row's name, which is as long, is this one without case: a capital and an octet differ at most in the bit of 32.
-fn spells(rows: &[u8; 624], row: usize, name: &[u8]) -> bool
+fn spells(rows: &PropertyTable, row: usize, name: &[u8]) -> bool
     requires { ⌜ Lists (now rows) ⌝ }
     requires { ⌜ row < property.count ⌝ }
     requires { ⌜ length (rowAt row .name) ≡ length (now name) ⌝ }
@@ -96,7 +99,7 @@ fn spells(rows: &[u8; 624], row: usize, name: &[u8]) -> bool
 }
 
 // The number of the row with this name without case, or 0: only rows whose name is as long are looked at.
-pub fn find_row(rows: &[u8; 624], name: &[u8]) -> usize
+pub fn find_row(rows: &PropertyTable, name: &[u8]) -> usize
     requires { ⌜ Lists (now rows) ⌝ }
     ensures { λ r. ⌜ r ≡ rowOf (now (name .entry)) ⌝ }
     ensures { λ r. ⌜ r < property.count ⌝ }
@@ -118,7 +121,7 @@ pub fn find_row(rows: &[u8; 624], name: &[u8]) -> usize
 }
 
 // The kind of a row's value.
-pub fn kind_of(rows: &[u8; 624], row: usize) -> usize
+pub fn kind_of(rows: &PropertyTable, row: usize) -> usize
     requires { ⌜ Lists (now rows) ⌝ }
     requires { ⌜ row < property.count ⌝ }
     ensures { λ r. ⌜ r ≡ kindAt row ⌝ }
@@ -128,7 +131,7 @@ pub fn kind_of(rows: &[u8; 624], row: usize) -> usize
 }
 
 // Whether a VALUE parameter sets the kind of a row's line.
-pub fn takes_value(rows: &[u8; 624], row: usize) -> bool
+pub fn takes_value(rows: &PropertyTable, row: usize) -> bool
     requires { ⌜ Lists (now rows) ⌝ }
     requires { ⌜ row < property.count ⌝ }
     ensures { λ r. ⌜ r ≡ takesValue row ⌝ }

@@ -11,6 +11,7 @@ ghost use Rattle.line_folds.specs.Logical.{rawLines};
 ghost use Rattle.property_table.specs.Rows.{Lists};
 ghost use Rattle.reader_records.specs.Records.{numbers, recordOf, recordsFrom};
 use card_line::Told;
+use property_table::PropertyTable;
 
 // One record: eight numbers.
 pub struct Record {
@@ -25,7 +26,7 @@ pub struct Record {
 }
 
 // The record of the logical line l, which starts at w in the copy.
-fn record_of(t: &[u8; 256], rows: &[u8; 624], l: &[u8], w: usize) -> Record
+fn record_of(t: &[u8; 256], rows: &PropertyTable, l: &[u8], w: usize) -> Record
     requires { ⌜ Classes (now t) ⌝ }
     requires { ⌜ Lists (now rows) ⌝ }
     requires { ⌜ w + length (now l) ≤ limit.octets ⌝ }
@@ -73,7 +74,7 @@ fn put_record(out: &mut [u32], at: usize, r: Record)
 }
 
 // Writes the records of the lines of s, which has no folds, to the start of out.
-fn write_records(t: &[u8; 256], rows: &[u8; 624], s: &[u8], out: &mut [u32])
+fn write_records(t: &[u8; 256], rows: &PropertyTable, s: &[u8], out: &mut [u32])
     requires { ⌜ Classes (now t) ⌝ }
     requires { ⌜ Lists (now rows) ⌝ }
     requires { ⌜ length (now s) ≤ limit.octets ⌝ }
@@ -93,7 +94,7 @@ fn write_records(t: &[u8; 256], rows: &[u8; 624], s: &[u8], out: &mut [u32])
 }
 
 // Writes s without its folds to the start of copy, and the records of the lines there to the start of out.
-pub fn write_lines(t: &[u8; 256], rows: &[u8; 624], s: &[u8], copy: &mut [u8], out: &mut [u32])
+pub fn write_lines(t: &[u8; 256], rows: &PropertyTable, s: &[u8], copy: &mut [u8], out: &mut [u32])
     requires { ⌜ Classes (now t) ⌝ }
     requires { ⌜ Lists (now rows) ⌝ }
     requires { ⌜ length (now s) ≤ limit.octets ⌝ }

@@ -17,12 +17,14 @@ ghost use Rattle.reader_walk.specs.Walk.{judgeLines};
 use card_state::Card;
 use card_state::Step;
 use numbers::limit;
+use property_table::PropertyTable;
+use value_automaton::scanner::Transitions;
 
 // Judges the logical line s, which starts at `at` in the input: as it is where it has no fold, else unfolded into the scratch.
 fn judge_span(
     t: &[u8; 256],
-    rows: &[u8; 624],
-    steps: &[u8; 1016],
+    rows: &PropertyTable,
+    steps: &Transitions,
     s: &[u8],
     folded: bool,
     scratch: &mut [u8],
@@ -47,7 +49,7 @@ fn judge_span(
 }
 
 // Judges the lines one after the other, up to the first refusal.
-pub fn walk(t: &[u8; 256], rows: &[u8; 624], steps: &[u8; 1016], s: &[u8]) -> Step
+pub fn walk(t: &[u8; 256], rows: &PropertyTable, steps: &Transitions, s: &[u8]) -> Step
     requires { ⌜ Classes (now t) ⌝ }
     requires { ⌜ Lists (now rows) ⌝ }
     requires { ⌜ Scanner (now steps) ⌝ }

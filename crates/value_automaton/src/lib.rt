@@ -8,10 +8,11 @@ ghost use Rattle.value_automaton.specs.States.{Scanner};
 pub mod scanner;
 
 use numbers::property;
+use scanner::Transitions;
 use value_kinds::Fault;
 
 // Whether s satisfies its kind: `Breaks` has the first octet from which nothing could, or the end.
-pub fn value_fault(steps: &[u8; 1016], kind: usize, s: &[u8]) -> Fault
+pub fn value_fault(steps: &Transitions, kind: usize, s: &[u8]) -> Fault
     requires { ⌜ Scanner (now steps) ⌝ }
     requires { ⌜ kind < kinds.count ⌝ }
     ensures { λ r. ⌜ r ≡ kindScan kind (now (s .entry)) ⌝ }
@@ -24,7 +25,7 @@ pub fn value_fault(steps: &[u8; 1016], kind: usize, s: &[u8]) -> Fault
 }
 
 // Whether s satisfies what its row asks: VCARD on BEGIN and END, 4.0 on VERSION, else the line's kind.
-pub fn judge_value(steps: &[u8; 1016], row: usize, kind: usize, s: &[u8]) -> Fault
+pub fn judge_value(steps: &Transitions, row: usize, kind: usize, s: &[u8]) -> Fault
     requires { ⌜ Scanner (now steps) ⌝ }
     requires { ⌜ kind < kinds.count ⌝ }
     ensures { λ r. ⌜ r ≡ valueScan row kind (now (s .entry)) ⌝ }

@@ -13,10 +13,13 @@ use numbers::kind;
 use octets::indices::wide;
 use value_kinds::Fault;
 
+// The table's octets, as its users are lent them.
+pub type Transitions = [u8; 1016];
+
 // The sort of each octet: 0 no printing one, 1 other printing, 2 other letter, 3 of MFOU, 4 N, 5 V, 6 C, 7 A, 8 R, 9 D, 10 other digit,
 // 11 four, 12 nought, 13 of +-, 14 point, 15 colon, 16 semicolon, 17 comma, 18 backslash. Then a line for each state, an entry for each
 // sort: the next state, or 0 where nothing could follow. A value may end in the states from 29 on.
-pub const STEPS: [u8; 1016] = *b"\
+pub const STEPS: Transitions = *b"\
     \x00\x00\x00\x00\x00\x00\x00\x00\x00\x00\x00\x00\x00\x00\x00\x00\
     \x00\x00\x00\x00\x00\x00\x00\x00\x00\x00\x00\x00\x00\x00\x00\x00\
     \x00\x01\x01\x01\x01\x01\x01\x01\x01\x01\x01\x0d\x11\x0d\x0e\x01\
@@ -73,7 +76,7 @@ pub const STEPS: [u8; 1016] = *b"\
     \x00\x00\x00\x00\x00\x00\x00\x00\x00\x00\x00\x00\x00\x00\x00\x00\x00\x00\x00\x00";
 
 // The table as a value, which its users are lent: a use of the constant in a loop would build it there at each turn.
-pub fn table() -> [u8; 1016]
+pub fn table() -> Transitions
     ensures { λ r. ⌜ Scanner r ⌝ }
 {
     STEPS
@@ -99,7 +102,7 @@ pub fn start(kind: usize) -> u8
 }
 
 // The state after the octet x in the state q.
-fn step(steps: &[u8; 1016], q: u8, x: u8) -> u8
+fn step(steps: &Transitions, q: u8, x: u8) -> u8
     requires { ⌜ Scanner (now steps) ⌝ }
     requires { ⌜ q < 38 ⌝ }
     ensures { λ r. ⌜ Next q x r ⌝ }
@@ -121,7 +124,7 @@ fn settled(n: u8, s: &[u8], i: usize) -> bool
 }
 
 // A place up to which all octets from `from` on leave the state as it is.
-fn stay(steps: &[u8; 1016], q: u8, s: &[u8], from: usize) -> usize
+fn stay(steps: &Transitions, q: u8, s: &[u8], from: usize) -> usize
     requires { ⌜ Scanner (now steps) ⌝ }
     requires { ⌜ (0 < q) × (q < 38) ⌝ }
     requires { ⌜ from ≤ length (now s) ⌝ }
@@ -139,7 +142,7 @@ fn stay(steps: &[u8; 1016], q: u8, s: &[u8], from: usize) -> usize
 }
 
 // The fault of s from a state on.
-pub fn scan(steps: &[u8; 1016], first: u8, s: &[u8]) -> Fault
+pub fn scan(steps: &Transitions, first: u8, s: &[u8]) -> Fault
     requires { ⌜ Scanner (now steps) ⌝ }
     requires { ⌜ first < 38 ⌝ }
     ensures { λ r. ⌜ r ≡ faultFrom (stateShape first) 0 (now (s .entry)) ⌝ }
