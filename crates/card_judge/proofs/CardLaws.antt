@@ -92,7 +92,7 @@ next-is e = cc
 closed-counts : (c c′ : Card) (at : ℕ) → closed c at ≡ Next c′ → Counted c c′
 unfolding closed
 closed-counts c c′ at e =
-    only 11 at (c .named) _ e (λ t q. unless 12 at (c .member && not (c .group)) _ q (λ u r. of-equal (next-is r) refl (omega arith) (omega arith)))
+    only 11 at (c .«has_fn») _ e (λ t q. unless 12 at (c .«has_member» && not (c .«is_group»)) _ q (λ u r. of-equal (next-is r) refl (omega arith) (omega arith)))
 
 noted-counts : (c c′ : Card) (at row : ℕ) (group : Bool) → noted c at row group ≡ Next c′ → Counted c c′
 unfolding noted

@@ -13,7 +13,7 @@ use Rattle.card_state.specs.declared.Step.the-variants.{Next, Refused}
 
 -- before the first line of an input
 abbrev pub freshCard : Card
-freshCard = record { phase = 0; seen = 0; named = false; member = false; group = false; cards = 0; lines = 0 }
+freshCard = record { phase = 0; seen = 0; «has_fn» = false; «has_member» = false; «is_group» = false; cards = 0; lines = 0 }
 
 -- 9: BEGIN first and VERSION second, neither of them later
 unfoldable pub inOrder : ℕ → ℕ → Bool
@@ -40,9 +40,9 @@ noted c at row group =
     (Next (record {
       phase = phaseAfter row;
       seen = bitOr (c .seen) (onceBit row);
-      named = c .named || eqb row property.fn;
-      member = c .member || eqb row property.member;
-      group = c .group || (eqb row property.kind && group);
+      «has_fn» = c .«has_fn» || eqb row property.fn;
+      «has_member» = c .«has_member» || eqb row property.member;
+      «is_group» = c .«is_group» || (eqb row property.kind && group);
       cards = c .cards;
       lines = c .lines + 1;
     }))
@@ -50,7 +50,7 @@ noted c at row group =
 -- END: 11 where the card has no FN, 12 where it has a MEMBER and no KIND line with the value group
 unfoldable pub closed : Card → ℕ → Step
 closed c at =
-    pick (c .named)
-    (pick (c .member && not (c .group)) (Refused refusal.member at)
-    (Next (record { phase = 0; seen = 0; named = false; member = false; group = false; cards = c .cards + 1; lines = c .lines + 1 })))
+    pick (c .«has_fn»)
+    (pick (c .«has_member» && not (c .«is_group»)) (Refused refusal.member at)
+    (Next (record { phase = 0; seen = 0; «has_fn» = false; «has_member» = false; «is_group» = false; cards = c .cards + 1; lines = c .lines + 1 })))
     (Refused refusal.noFn at)

@@ -14,9 +14,9 @@ pub struct Card {
     // The flags of the single properties that stand in the card so far.
     pub seen: u32,
     // An FN line, a MEMBER line, a KIND line with the value group.
-    pub named: bool,
-    pub member: bool,
-    pub group: bool,
+    pub has_fn: bool,
+    pub has_member: bool,
+    pub is_group: bool,
     // The cards that have ended, and the lines that were judged.
     pub cards: usize,
     pub lines: usize,
@@ -35,9 +35,9 @@ pub fn fresh() -> Card
     Card {
         phase: 0,
         seen: 0,
-        named: false,
-        member: false,
-        group: false,
+        has_fn: false,
+        has_member: false,
+        is_group: false,
         cards: 0,
         lines: 0,
     }
@@ -104,11 +104,11 @@ pub fn close(c: Card, at: usize) -> Step
     requires { ⌜ (c .cards ≤ c .lines) × (c .lines < 65536) ⌝ }
     ensures { λ r. ⌜ r ≡ closed c at ⌝ }
 {
-    if !c.named {
+    if !c.has_fn {
         return Step::Refused(refusal::NO_FN, at);
     }
-    if c.member {
-        if !c.group {
+    if c.has_member {
+        if !c.is_group {
             return Step::Refused(refusal::MEMBER, at);
         }
     }
@@ -128,9 +128,9 @@ pub fn note(c: Card, row: usize, group: bool) -> Card
     Card {
         phase: phase_after(row),
         seen: c.seen | once_bit(row),
-        named: either(c.named, row == property::FN),
-        member: either(c.member, row == property::MEMBER),
-        group: either(c.group, grouped),
+        has_fn: either(c.has_fn, row == property::FN),
+        has_member: either(c.has_member, row == property::MEMBER),
+        is_group: either(c.is_group, grouped),
         cards: c.cards,
         lines: c.lines + 1,
     }

@@ -46,7 +46,7 @@ at-entered : (c : Card) (p row : ℕ) (v : List ℕ) → At p (entered c p row v
 unfolding entered closed noted
 at-entered c p row v =
     at-pick p (eqb row 2) _ _
-    (at-pick p (c .named) _ _ (at-pick p (c .member && not (c .group)) _ _ refl tt) refl)
+    (at-pick p (c .«has_fn») _ _ (at-pick p (c .«has_member» && not (c .«is_group»)) _ _ refl tt) refl)
     (at-pick p (isSeen (onceBit row) (c .seen)) _ _ refl tt)
 
 at-parsed : (c : Card) (p : ℕ) (m : Parse Line) → At p (judgeParsed c p m)

@@ -21,7 +21,7 @@ module _ (c c′ : Card) (p q : ℕ) where
   closed-anywhere : closed c p ≡ Next c′ → closed c q ≡ Next c′
   unfolding closed
   closed-anywhere e =
-      only 11 p (c .named) _ e (λ t r. unless 12 p (c .member && not (c .group)) _ r (λ u s. simp (t, u) s))
+      only 11 p (c .«has_fn») _ e (λ t r. unless 12 p (c .«has_member» && not (c .«is_group»)) _ r (λ u s. simp (t, u) s))
 
   noted-anywhere : (row : ℕ) (group : Bool) → noted c p row group ≡ Next c′ → noted c q row group ≡ Next c′
   unfolding noted
