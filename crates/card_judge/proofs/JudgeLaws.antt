@@ -16,11 +16,11 @@ use Rattle.line_parser.specs.Rule.{parseLine}
 use Rattle.value_kinds.specs.Kinds.{valueScan}
 use Rattle.value_kinds.specs.declared.Fault.{Fault}
 use Rattle.value_kinds.specs.declared.Fault.the-variants.{Fits, Breaks}
-use Rattle.card_line.specs.Parts.{told, toldOf}
+use Rattle.card_line.specs.Parts.{linePartsBy, linePartsOf}
 use Rattle.card_state.specs.State.{inOrder, onceBit, isSeen, noted}
 use Rattle.card_judge.specs.Judge.{laden, broken, entered, fitting, judgeParts, judgeParsed, judgeLine}
 use Rattle.card_line.specs.declared.Parts.{Parts}
-use Rattle.card_line.specs.declared.Told.the-variants.{Line as line, Fault as fault}
+use Rattle.card_line.specs.declared.LineParts.the-variants.{Line as line, Fault as fault}
 use Rattle.card_state.specs.declared.Card.{Card}
 use Rattle.card_state.specs.declared.Step.the-variants.{Refused}
 use Rattle.card_line.proofs.PartLaws.{Read}
@@ -62,11 +62,11 @@ module _ (c : Card) (at : ℕ) (l : List ℕ) (clean : length l ≤ firstBad (al
   unfolding judgeLine
   next = simp (le-ltb (firstBad (allowed false) l) (length l) clean)
 
-  pub refused : {e : ℕ} → fault e ≡ toldOf l → Refused 6 at ≡ judgeLine c at l
-  unfolding toldOf
+  pub refused : {e : ℕ} → fault e ≡ linePartsOf l → Refused 6 at ≡ judgeLine c at l
+  unfolding linePartsOf
   refused {e} h = by (parseLine l) h ∙ sym next
     where
-      by : (m : Parse Line) → fault e ≡ told m → Refused 6 at ≡ judgeParsed c at m
+      by : (m : Parse Line) → fault e ≡ linePartsBy m → Refused 6 at ≡ judgeParsed c at m
       by (bad x) h = refl
       by (got x k) h = let z : _≡_ {A = ℕ} 0 1 = cc in absurd (omega arith)
 
@@ -75,7 +75,7 @@ module _ (c : Card) (at : ℕ) (l : List ℕ) (clean : length l ≤ firstBad (al
   rest v = take-all (length l - v) (drop v l) (rw length-drop (omega arith))
 
   pub judged : (x : Parts) → Read l x
-      → judgeParts c at (x .row) (x .group) (x .params) (x .kind) (take (length l - x .value) (drop (x .value) l)) ≡ judgeLine c at l
+      → judgeParts c at (x .row) (x .«group_length») (x .«param_count») (x .kind) (take (length l - x .«value_start») (drop (x .«value_start») l)) ≡ judgeLine c at l
   judged x r =
-      rw (rest (x .value), r .row, r .group, r .params, r .kind, r .value)
+      rw (rest (x .«value_start»), r .row, r .group, r .params, r .kind, r .value)
       (sym (next ∙ ap (judgeParsed c at) (r .parsed)))

@@ -11,8 +11,8 @@ ghost use Rattle.value_automaton.specs.States.{Scanner};
 ghost use Rattle.value_kinds.specs.Kinds.{valueScan};
 ghost use Rattle.card_state.specs.State.{inOrder, onceBit, isSeen};
 ghost use Rattle.card_judge.specs.Judge.{framing, laden, broken, entered, judgeParts, judgeLine};
+use card_line::LineParts;
 use card_line::Parts;
-use card_line::Told;
 use card_state::Card;
 use card_state::Step;
 use numbers::property;
@@ -52,15 +52,15 @@ fn is_framing(row: usize) -> bool
 
 // Whether a framing line has a group or a parameter.
 fn is_laden(x: Parts) -> bool
-    ensures { λ r. ⌜ r ≡ laden (x .row) (x .group) (x .params) ⌝ }
+    ensures { λ r. ⌜ r ≡ laden (x .row) (x .«group_length») (x .«param_count») ⌝ }
 {
     if !is_framing(x.row) {
         return false;
     }
-    if x.group != 0 {
+    if x.group_length != 0 {
         return true;
     }
-    x.params != 0
+    x.param_count != 0
 }
 
 // Whether a value breaks its kind.
@@ -94,7 +94,7 @@ fn judge_parts(steps: &Transitions, x: Parts, value: &[u8], at: usize, c: Card) 
     requires { ⌜ Scanner (now steps) ⌝ }
     requires { ⌜ x .kind < kinds.count ⌝ }
     requires { ⌜ (c .cards ≤ c .lines) × (c .lines < 65536) ⌝ }
-    ensures { λ r. ⌜ r ≡ judgeParts c at (x .row) (x .group) (x .params) (x .kind) (now (value .entry)) ⌝ }
+    ensures { λ r. ⌜ r ≡ judgeParts c at (x .row) (x .«group_length») (x .«param_count») (x .kind) (now (value .entry)) ⌝ }
 {
     let misplaced = !in_order(c.phase, x.row);
     let laden = is_laden(x);
@@ -135,9 +135,9 @@ pub fn judge_line(
         return Step::Refused(refusal::BAD_OCTET, at);
     }
     let p = card_line::parts_of(t, rows, s);
-    let Told::Line(x) = p else {
+    let LineParts::Line(x) = p else {
         return Step::Refused(refusal::LINE_RULE, at);
     };
-    let value = x.value;
-    judge_parts(steps, x, &s[value..], at, c)
+    let start = x.value_start;
+    judge_parts(steps, x, &s[start..], at, c)
 }

@@ -23,12 +23,12 @@ is-again-requires c κs = search needs
 
 -- the judgement by what the four tests answered
 found : (c : tie.After-is-again)
-    → judgeParts (c .before .before .before .before .before .args .c) (c .before .before .before .before .before .args .at) (c .before .before .before .before .before .args .x .row) (c .before .before .before .before .before .args .x .group) (c .before .before .before .before .before .args .x .params) (c .before .before .before .before .before .args .x .kind) (c .before .before .before .before .before .args .value .now)
+    → judgeParts (c .before .before .before .before .before .args .c) (c .before .before .before .before .before .args .at) (c .before .before .before .before .before .args .x .row) (c .before .before .before .before .before .args .x .«group_length») (c .before .before .before .before .before .args .x .«param_count») (c .before .before .before .before .before .args .x .kind) (c .before .before .before .before .before .args .value .now)
     ≡ pick (not (c .before .before .before .in-order .result)) (Refused 9 (c .before .before .before .before .before .args .at)) (pick (c .before .before .is-laden .result) (Refused 8 (c .before .before .before .before .before .args .at))
     (pick (c .before .breaks-kind .result) (Refused 7 (c .before .before .before .before .before .args .at)) (pick (c .is-again .result) (Refused 10 (c .before .before .before .before .before .args .at)) (entered (c .before .before .before .before .before .args .c) (c .before .before .before .before .before .args .at) (c .before .before .before .before .before .args .x .row) (c .before .before .before .before .before .args .value .now)))))
 found c =
     let a = c .before .before .before .before .before .args in
-    tests (a .c) (a .at) (a .x .row) (a .value .now) (a .x .group) (a .x .params) (a .x .kind) (c .before .before .before .in-order .ensures) (c .before .before .is-laden .ensures) (c .before .breaks-kind .ensures) (c .is-again .ensures)
+    tests (a .c) (a .at) (a .x .row) (a .value .now) (a .x .«group_length») (a .x .«param_count») (a .x .kind) (c .before .before .before .in-order .ensures) (c .before .before .is-laden .ensures) (c .before .breaks-kind .ensures) (c .is-again .ensures)
 
 returns : tie.Need-returns
 returns c = simp (found (c .before), c .if1 .taken)
