@@ -1,4 +1,4 @@
-// The kinds of value, and looks at each octet of a value by itself that settle most values.
+// The kinds of value are regular expressions; here are tests of each octet by itself that settle most values.
 ghost use mathlib.Core.Path.{_≡_};
 ghost use mathlib.Core.Bool.{true, not};
 ghost use Rattle.octets.specs.Classes.{bit};
