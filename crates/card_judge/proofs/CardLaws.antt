@@ -20,7 +20,7 @@ use Rattle.property_table.specs.Rows.{isGroup}
 use Rattle.value_kinds.specs.Kinds.{valueScan}
 use Rattle.value_kinds.specs.declared.Fault.{Fault}
 use Rattle.value_kinds.specs.declared.Fault.the-variants.{Fits, Breaks}
-use Rattle.card_state.specs.State.{inOrder, onceBit, isSeen, noted, closed}
+use Rattle.card_state.specs.State.{inOrder, onceFlag, isSeen, noted, closed}
 use Rattle.card_line.specs.Parts.{rowOfLine, kindOfLine, linePartsBy, linePartsOf}
 use Rattle.card_judge.specs.Judge.{laden, entered, fitting, judgeParts, judgeParsed, judgeLine}
 use Rattle.card_line.specs.declared.Parts.{Parts}
@@ -97,7 +97,7 @@ closed-counts c c′ at e =
 noted-counts : (c c′ : Card) (at row : ℕ) (group : Bool) → noted c at row group ≡ Next c′ → Counted c c′
 unfolding noted
 noted-counts c c′ at row group e =
-    unless 10 at (isSeen (onceBit row) (c .seen)) _ e (λ t q. of-equal (next-is q) refl (omega arith) (omega arith))
+    unless 10 at (isSeen (onceFlag row) (c .seen)) _ e (λ t q. of-equal (next-is q) refl (omega arith) (omega arith))
 
 entered-counts : (c c′ : Card) (at row : ℕ) (v : List ℕ) → entered c at row v ≡ Next c′ → Counted c c′
 unfolding entered

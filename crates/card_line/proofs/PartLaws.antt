@@ -187,6 +187,7 @@ pub record Read (l : List ℕ) (x : Parts) : Type 0 where
   pub group : x .«group_length» ≡ length (parts .group)
   pub params : x .«param_count» ≡ length (parts .params)
   pub kind : x .kind ≡ kindOfLine parts
+  pub listed : x .row < 39
   pub low : x .kind < 9
   pub inside : x .«value_start» ≤ length l
   pub value : drop (x .«value_start») l ≡ parts .value
@@ -208,6 +209,7 @@ read l x h = by (parseLine l) refl h
           group = refl;
           params = refl;
           kind = refl;
+          listed = row-of-line y;
           low = kind-of-line y;
           inside = w .inside .value;
           value = w .placed .value ∙ ap (λ (z : Line). z .value) same-parts;

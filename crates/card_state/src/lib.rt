@@ -3,8 +3,10 @@ ghost use mathlib.Core.Path.{_≡_};
 ghost use mathlib.Core.Bool.{false, _||_, _&&_};
 ghost use lib.Dec.{eqb};
 ghost use Prim.Native.Nat.{ℕ, _<_, _≤_};
+ghost use Rattle.numbers.specs.Limits as limit;
 ghost use Rattle.numbers.specs.Properties as property;
-ghost use Rattle.card_state.specs.State.{onceBit, isSeen, phaseAfter, freshCard, closed, noted};
+ghost use Rattle.property_table.specs.Rows.{onceAt};
+ghost use Rattle.card_state.specs.State.{flagOf, onceFlag, isSeen, phaseAfter, freshCard, closed, noted};
 use numbers::property;
 use numbers::refusal;
 
@@ -52,32 +54,27 @@ fn either(a: bool, b: bool) -> bool
     b
 }
 
-// The flag of a property that stands once in a card, or 0.
-fn once_bit(row: usize) -> u32
-    ensures { λ r. ⌜ r ≡ onceBit row ⌝ }
+// The flag of the k-th property that a card has at most once, counted from 1; 0 for none.
+fn flag_of(k: usize) -> u32
+    requires { ⌜ k ≤ limit.flags ⌝ }
+    ensures { λ r. ⌜ r ≡ flagOf k ⌝ }
 {
-    match row {
-        property::KIND => 1,
-        property::N => 2,
-        property::BDAY => 4,
-        property::ANNIVERSARY => 8,
-        property::GENDER => 16,
-        property::PRODID => 32,
-        property::REV => 64,
-        property::UID => 128,
-        _ => 0,
+    if k == 0 {
+        return 0;
     }
+    1 << (k - 1)
 }
 
-// Whether a line of the row, a property that stands once in a card, is among those seen.
-pub fn is_again(seen: u32, row: usize) -> bool
-    ensures { λ r. ⌜ r ≡ isSeen (onceBit row) seen ⌝ }
+// Whether a line of the k-th property that a card has at most once is among those seen.
+pub fn is_again(seen: u32, k: usize) -> bool
+    requires { ⌜ k ≤ limit.flags ⌝ }
+    ensures { λ r. ⌜ r ≡ isSeen (flagOf k) seen ⌝ }
 {
-    let b = once_bit(row);
-    if b == 0 {
+    let flag = flag_of(k);
+    if flag == 0 {
         return false;
     }
-    seen / b % 2 == 1
+    seen / flag % 2 == 1
 }
 
 // Whether the line is a KIND line with the value group.
@@ -118,16 +115,18 @@ pub fn close(c: Card, at: usize) -> Step
     Step::Next(next)
 }
 
-// The state after a line of the row, not END, that may stand here. `group` says whether its value is group.
-pub fn note(c: Card, row: usize, group: bool) -> Card
+// The state after a line of the row, not END, that may stand here. `once` is the row's number among those that a card has at most once, and
+// `group` says whether the value is group.
+pub fn note(c: Card, row: usize, once: usize, group: bool) -> Card
     requires { ⌜ c .lines < 65536 ⌝ }
-    requires { ⌜ isSeen (onceBit row) (c .seen) ≡ false ⌝ }
+    requires { ⌜ (once ≡ onceAt row) × (once ≤ limit.flags) ⌝ }
+    requires { ⌜ isSeen (onceFlag row) (c .seen) ≡ false ⌝ }
     ensures { λ r. ⌜ ((at : ℕ) → Step.Next r ≡ noted c at row group) ⌝ }
 {
     let grouped = says_group(row, group);
     Card {
         phase: phase_after(row),
-        seen: c.seen | once_bit(row),
+        seen: c.seen | flag_of(once),
         has_fn: either(c.has_fn, row == property::FN),
         has_member: either(c.has_member, row == property::MEMBER),
         is_group: either(c.is_group, grouped),
