@@ -18,8 +18,8 @@ use card_state::Card;
 use card_state::Step;
 use numbers::property;
 use numbers::refusal;
-use property_table::PropertyTable;
-use value_automaton::scanner::Transitions;
+use property_table::rows::PropertyTable;
+use value_automaton::states::Transitions;
 use value_kinds::Fault;
 
 // Whether a line of the row may stand here.

@@ -10,7 +10,7 @@ ghost use Rattle.line_parser.specs.Places.{nameStart};
 ghost use Rattle.card_line.specs.Parts.{faultOf, Accepted, firstValue, linePartsOf};
 use line_parameters::First;
 use line_parser::rule::Part;
-use property_table::PropertyTable;
+use property_table::rows::PropertyTable;
 
 // The parts of a line that keeps the line rule.
 pub struct Parts {

@@ -142,13 +142,20 @@ valueName = octets "VALUE"
 unfoldable pub isGroup : List ℕ → Bool
 isGroup v = same v (octets "group")
 
--- what the table has in the place of a row's name: the name, filled up to twelve by points; for row 0, which has none, the first row of
--- each length from 1 to 12
+-- the most octets of a name
+abbrev pub longestName : ℕ
+longestName = 12
+
+-- how many entries the table has for a row
+abbrev pub rowLength : ℕ
+rowLength = 16
+
+-- what the table has in the place of a row's name: the name, filled up by points; for row 0, which has none, the first row of each length
 unfoldable pub nameEntries : ℕ → List ℕ
 nameEntries zero =
     firstOf 1 ∷ firstOf 2 ∷ firstOf 3 ∷ firstOf 4 ∷ firstOf 5 ∷ firstOf 6 ∷
     firstOf 7 ∷ firstOf 8 ∷ firstOf 9 ∷ firstOf 10 ∷ firstOf 11 ∷ firstOf 12 ∷ []
-nameEntries (suc n) = take 12 (rowAt (suc n) .name ++ octets "............")
+nameEntries (suc n) = take longestName (rowAt (suc n) .name ++ octets "............")
 
 -- the sixteen entries that the table has for a row: those of its name, its number among the rows marked *1, its kind, the next row whose name
 -- is as long, and 1 where VALUE sets the kind

@@ -11,7 +11,7 @@ ghost use Rattle.line_folds.specs.Logical.{rawLines};
 ghost use Rattle.property_table.specs.Rows.{Lists};
 ghost use Rattle.reader_records.specs.Records.{numbers, recordOf, recordsFrom};
 use card_line::LineParts;
-use property_table::PropertyTable;
+use property_table::rows::PropertyTable;
 
 // One record: eight numbers.
 pub struct Record {

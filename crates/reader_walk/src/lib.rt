@@ -17,8 +17,8 @@ ghost use Rattle.reader_walk.specs.Walk.{judgeLines};
 use card_state::Card;
 use card_state::Step;
 use numbers::limit;
-use property_table::PropertyTable;
-use value_automaton::scanner::Transitions;
+use property_table::rows::PropertyTable;
+use value_automaton::states::Transitions;
 
 // Judges the logical line s, which starts at `at` in the input: as it is where it has no fold, else unfolded into the scratch.
 fn judge_span(

@@ -6,9 +6,10 @@ ghost use Rattle.value_kinds.specs.Kinds.{kindScan, valueScan};
 ghost use Rattle.value_automaton.specs.States.{Scanner};
 
 pub mod scanner;
+pub mod states;
 
 use numbers::property;
-use scanner::Transitions;
+use states::Transitions;
 use value_kinds::Fault;
 
 // Whether s satisfies its kind: `Breaks` has the first octet from which nothing could, or the end.
@@ -31,9 +32,9 @@ pub fn judge_value(steps: &Transitions, row: usize, kind: usize, s: &[u8]) -> Fa
     ensures { λ r. ⌜ r ≡ valueScan row kind (now (s .entry)) ⌝ }
 {
     match row {
-        property::BEGIN => scanner::scan(steps, 21, s),
-        property::END => scanner::scan(steps, 21, s),
-        property::VERSION => scanner::scan(steps, 26, s),
+        property::BEGIN => scanner::scan(steps, states::VCARD, s),
+        property::END => scanner::scan(steps, states::VCARD, s),
+        property::VERSION => scanner::scan(steps, states::VERSION, s),
         _ => value_fault(steps, kind, s),
     }
 }
