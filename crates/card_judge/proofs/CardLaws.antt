@@ -20,11 +20,11 @@ use Rattle.property_table.specs.Rows.{isGroup}
 use Rattle.value_kinds.specs.Kinds.{valueScan}
 use Rattle.value_kinds.specs.declared.Fault.{Fault}
 use Rattle.value_kinds.specs.declared.Fault.the-variants.{Fits, Breaks}
-use Rattle.card_state.specs.State.{inOrder, onceBit, isSeen, noted, closed}
-use Rattle.card_line.specs.Parts.{rowOfLine, kindOfLine, told, toldOf}
+use Rattle.card_state.specs.State.{inOrder, onceFlag, isSeen, noted, closed}
+use Rattle.card_line.specs.Parts.{rowOfLine, kindOfLine, linePartsBy, linePartsOf}
 use Rattle.card_judge.specs.Judge.{laden, entered, fitting, judgeParts, judgeParsed, judgeLine}
 use Rattle.card_line.specs.declared.Parts.{Parts}
-use Rattle.card_line.specs.declared.Told.the-variants.{Line as line}
+use Rattle.card_line.specs.declared.LineParts.the-variants.{Line as line}
 use Rattle.card_state.specs.declared.Card.{Card}
 use Rattle.card_state.specs.declared.Step.{Step}
 use Rattle.card_state.specs.declared.Step.the-variants.{Next, Refused}
@@ -92,12 +92,12 @@ next-is e = cc
 closed-counts : (c c′ : Card) (at : ℕ) → closed c at ≡ Next c′ → Counted c c′
 unfolding closed
 closed-counts c c′ at e =
-    only 11 at (c .named) _ e (λ t q. unless 12 at (c .member && not (c .group)) _ q (λ u r. of-equal (next-is r) refl (omega arith) (omega arith)))
+    only 11 at (c .«has_fn») _ e (λ t q. unless 12 at (c .«has_member» && not (c .«is_group»)) _ q (λ u r. of-equal (next-is r) refl (omega arith) (omega arith)))
 
 noted-counts : (c c′ : Card) (at row : ℕ) (group : Bool) → noted c at row group ≡ Next c′ → Counted c c′
 unfolding noted
 noted-counts c c′ at row group e =
-    unless 10 at (isSeen (onceBit row) (c .seen)) _ e (λ t q. of-equal (next-is q) refl (omega arith) (omega arith))
+    unless 10 at (isSeen (onceFlag row) (c .seen)) _ e (λ t q. of-equal (next-is q) refl (omega arith) (omega arith))
 
 entered-counts : (c c′ : Card) (at row : ℕ) (v : List ℕ) → entered c at row v ≡ Next c′ → Counted c c′
 unfolding entered
@@ -125,18 +125,18 @@ line-clean c c′ p l e =
 
 -- where the parts of a line lie
 pub record Within (l : List ℕ) (x : Parts) : Type 0 where
-  pub places : InLine l (x .group) (x .name) (x .params) (x .value)
+  pub places : InLine l (x .«group_length») (x .«name_end») (x .«param_count») (x .«value_start»)
   pub row : x .row < 39
   pub kind : x .kind < 9
 
-pub told-within : (l : List ℕ) (x : Parts) → toldOf l ≡ line x → Within l x
-unfolding toldOf
-told-within l x e = by (parseLine l) refl e
+pub parts-within : (l : List ℕ) (x : Parts) → linePartsOf l ≡ line x → Within l x
+unfolding linePartsOf
+parts-within l x e = by (parseLine l) refl e
   where
-    by : (m : Parse Line) → parseLine l ≡ m → told m ≡ line x → Within l x
+    by : (m : Parse Line) → parseLine l ≡ m → linePartsBy m ≡ line x → Within l x
     by (bad n) p q = let z : _≡_ {A = ℕ} 0 1 = cc in absurd (omega arith)
     by (got y k) p q =
-        let w : x ≡ record { row = rowOfLine y; group = length (y .group); name = nameEnd y; params = length (y .params); value = k; kind = kindOfLine y } = cc in
+        let w : x ≡ record { row = rowOfLine y; «group_length» = length (y .group); «name_end» = nameEnd y; «param_count» = length (y .params); «value_start» = k; kind = kindOfLine y } = cc in
         rw w record {
           places = in-line l (length (y .group)) (nameEnd y) (length (y .params)) k (ap outcome p);
           row = row-of-line y;
@@ -151,13 +151,13 @@ group-before g n h = by (eqb g 0) refl h
     by false e h = omega arith
 
 -- the same as bounds on the numbers
-pub told-fits : (l : List ℕ) (x : Parts) → toldOf l ≡ line x
-    → (x .name ≤ length l) × (x .value ≤ length l) × (x .group ≤ x .name) × (x .params ≤ length l) × (x .row < 39) × (x .kind < 9)
-told-fits l x e =
-    let w = told-within l x e in
+pub parts-fit : (l : List ℕ) (x : Parts) → linePartsOf l ≡ line x
+    → (x .«name_end» ≤ length l) × (x .«value_start» ≤ length l) × (x .«group_length» ≤ x .«name_end») × (x .«param_count» ≤ length l) × (x .row < 39) × (x .kind < 9)
+parts-fit l x e =
+    let w = parts-within l x e in
     let p = w .places in
-    (omega (arith, p .params, p .value), p .value, group-before (x .group) (x .name) (p .name), omega (arith, p .params, p .value), w .row, w .kind)
+    (omega (arith, p .params, p .value), p .value, group-before (x .«group_length») (x .«name_end») (p .name), omega (arith, p .params, p .value), w .row, w .kind)
 
 -- the name does not end before it starts
-pub name-long : (l : List ℕ) (x : Parts) → toldOf l ≡ line x → nameStart (x .group) ≤ x .name
-name-long l x e = omega (arith, told-within l x e .places .name)
+pub name-long : (l : List ℕ) (x : Parts) → linePartsOf l ≡ line x → nameStart (x .«group_length») ≤ x .«name_end»
+name-long l x e = omega (arith, parts-within l x e .places .name)

@@ -4,20 +4,23 @@ ghost use mathlib.Core.Bool.{false};
 ghost use Prim.Native.Nat.{_≤_, _<_};
 ghost use lib.ListN.{length};
 ghost use Rattle.numbers.specs.Limits as limit;
+ghost use Rattle.numbers.specs.Properties as property;
 ghost use Rattle.numbers.specs.Kinds as kinds;
 ghost use Rattle.octets.specs.Classes.{Classes};
-ghost use Rattle.property_table.specs.Rows.{Lists};
+ghost use Rattle.property_table.specs.Rows.{Lists, onceAt};
 ghost use Rattle.value_automaton.specs.States.{Scanner};
 ghost use Rattle.value_kinds.specs.Kinds.{valueScan};
-ghost use Rattle.card_state.specs.State.{inOrder, onceBit, isSeen};
+ghost use Rattle.card_state.specs.State.{inOrder, onceFlag, isSeen};
 ghost use Rattle.card_judge.specs.Judge.{framing, laden, broken, entered, judgeParts, judgeLine};
+use card_line::LineParts;
 use card_line::Parts;
-use card_line::Told;
 use card_state::Card;
 use card_state::Step;
 use numbers::property;
 use numbers::refusal;
 use octets::classes::ClassTable;
+use property_table::rows::PropertyTable;
+use value_automaton::states::Transitions;
 use value_kinds::Fault;
 
 // Whether a line of the row may stand here.
@@ -51,19 +54,19 @@ fn is_framing(row: usize) -> bool
 
 // Whether a framing line has a group or a parameter.
 fn is_laden(x: Parts) -> bool
-    ensures { λ r. ⌜ r ≡ laden (x .row) (x .group) (x .params) ⌝ }
+    ensures { λ r. ⌜ r ≡ laden (x .row) (x .«group_length») (x .«param_count») ⌝ }
 {
     if !is_framing(x.row) {
         return false;
     }
-    if x.group != 0 {
+    if x.group_length != 0 {
         return true;
     }
-    x.params != 0
+    x.param_count != 0
 }
 
 // Whether a value breaks its kind.
-fn breaks_kind(steps: &[u8; 1016], row: usize, kind: usize, value: &[u8]) -> bool
+fn breaks_kind(steps: &Transitions, row: usize, kind: usize, value: &[u8]) -> bool
     requires { ⌜ Scanner (now steps) ⌝ }
     requires { ⌜ kind < kinds.count ⌝ }
     ensures { λ r. ⌜ r ≡ broken (valueScan row kind (now (value .entry))) ⌝ }
@@ -76,29 +79,39 @@ fn breaks_kind(steps: &[u8; 1016], row: usize, kind: usize, value: &[u8]) -> boo
 }
 
 // A line that fits: the end of a card, or one more line of it.
-fn enter(c: Card, at: usize, row: usize, value: &[u8]) -> Step
+fn enter(c: Card, at: usize, row: usize, once: usize, value: &[u8]) -> Step
     requires { ⌜ (c .cards ≤ c .lines) × (c .lines < 65536) ⌝ }
-    requires { ⌜ isSeen (onceBit row) (c .seen) ≡ false ⌝ }
+    requires { ⌜ (once ≡ onceAt row) × (once ≤ limit.flags) ⌝ }
+    requires { ⌜ isSeen (onceFlag row) (c .seen) ≡ false ⌝ }
     ensures { λ r. ⌜ r ≡ entered c at row (now (value .entry)) ⌝ }
 {
     if row == property::END {
         return card_state::close(c, at);
     }
     let group = property_table::is_group(value);
-    Step::Next(card_state::note(c, row, group))
+    Step::Next(card_state::note(c, row, once, group))
 }
 
 // The checks of a line whose parts are known: 9, 8, 7, 10, and at END those of the card.
-fn judge_parts(steps: &[u8; 1016], x: Parts, value: &[u8], at: usize, c: Card) -> Step
+fn judge_parts(
+    rows: &PropertyTable,
+    steps: &Transitions,
+    x: Parts,
+    value: &[u8],
+    at: usize,
+    c: Card,
+) -> Step
+    requires { ⌜ Lists (now rows) ⌝ }
     requires { ⌜ Scanner (now steps) ⌝ }
-    requires { ⌜ x .kind < kinds.count ⌝ }
+    requires { ⌜ (x .row < property.count) × (x .kind < kinds.count) ⌝ }
     requires { ⌜ (c .cards ≤ c .lines) × (c .lines < 65536) ⌝ }
-    ensures { λ r. ⌜ r ≡ judgeParts c at (x .row) (x .group) (x .params) (x .kind) (now (value .entry)) ⌝ }
+    ensures { λ r. ⌜ r ≡ judgeParts c at (x .row) (x .«group_length») (x .«param_count») (x .kind) (now (value .entry)) ⌝ }
 {
     let misplaced = !in_order(c.phase, x.row);
     let laden = is_laden(x);
     let broken = breaks_kind(steps, x.row, x.kind, value);
-    let again = card_state::is_again(c.seen, x.row);
+    let once = property_table::once_of(rows, x.row);
+    let again = card_state::is_again(c.seen, once);
     if misplaced {
         return Step::Refused(refusal::ORDER, at);
     }
@@ -111,14 +124,14 @@ fn judge_parts(steps: &[u8; 1016], x: Parts, value: &[u8], at: usize, c: Card) -
     if again {
         return Step::Refused(refusal::SECOND, at);
     }
-    enter(c, at, x.row, value)
+    enter(c, at, x.row, once, value)
 }
 
 // Judges the line s, which starts at `at` in the input.
 pub fn judge_line(
     t: &ClassTable,
-    rows: &[u8; 624],
-    steps: &[u8; 1016],
+    rows: &PropertyTable,
+    steps: &Transitions,
     s: &[u8],
     at: usize,
     c: Card,
@@ -134,9 +147,9 @@ pub fn judge_line(
         return Step::Refused(refusal::BAD_OCTET, at);
     }
     let p = card_line::parts_of(t, rows, s);
-    let Told::Line(x) = p else {
+    let LineParts::Line(x) = p else {
         return Step::Refused(refusal::LINE_RULE, at);
     };
-    let value = x.value;
-    judge_parts(steps, x, &s[value..], at, c)
+    let start = x.value_start;
+    judge_parts(rows, steps, x, &s[start..], at, c)
 }

@@ -30,9 +30,9 @@ use Rattle.octets.specs.Cases.{same}
 use Rattle.octets.specs.Ascii.{octets}
 use Rattle.property_table.specs.Rows.{Row, rows, search, rowOf, kindAt, takesValue, kindNamed, lineKind, valueName}
 use Rattle.property_table.proofs.RowLaws.{kind-low}
-use Rattle.card_line.specs.Parts.{octetsOf, valueParam, rowOfLine, kindOfLine, faultOf, Accepted, firstValue, ofParse, told, toldOf}
+use Rattle.card_line.specs.Parts.{octetsOf, valueParam, rowOfLine, kindOfLine, faultOf, Accepted, firstValue, ofParse, linePartsBy, linePartsOf}
 use Rattle.card_line.specs.declared.Parts.{Parts}
-use Rattle.card_line.specs.declared.Told.the-variants.{Line as line, Fault as fault}
+use Rattle.card_line.specs.declared.LineParts.the-variants.{Line as line, Fault as fault}
 
 -- a line that was read with these numbers
 pub record Known (l : List ℕ) (g n c v : ℕ) : Type 0 where
@@ -99,23 +99,23 @@ module _ (l : List ℕ) (name : ℕ) (a : Accepted l name) where
       let w = line-law l (a .parts) (a .start) .0 (a .parsed) in
       rw (a .ends, w .1) (first-law valueName (a .parts) (w .0))
 
-  told-value : firstValue l ≡ octetsOf (firstNamed valueName (a .parts .params))
+  value-is : firstValue l ≡ octetsOf (firstNamed valueName (a .parts .params))
   unfolding firstValue valueParam
-  told-value = ap ofParse (a .parsed)
+  value-is = ap ofParse (a .parsed)
 
   pub value-missing : asked ≡ Nothing → firstValue l ≡ none
-  value-missing e = told-value ∙ none-by l (firstNamed valueName (a .parts .params)) asked found e
+  value-missing e = value-is ∙ none-by l (firstNamed valueName (a .parts .params)) asked found e
 
   pub value-there : (i j : ℕ) → asked ≡ Between i j → Part l i j (firstValue l)
-  value-there i j e = rw told-value (some-by l (firstNamed valueName (a .parts .params)) asked i j found e)
+  value-there i j e = rw value-is (some-by l (firstNamed valueName (a .parts .params)) asked i j found e)
 
--- the parts that are told of a line
-pub told-parts : (l : List ℕ) (g n c v : ℕ) (k : Known l g n c v) (row kind : ℕ) → row ≡ rowOfLine (k .parts)
+-- the parts of a line
+pub parts-by : (l : List ℕ) (g n c v : ℕ) (k : Known l g n c v) (row kind : ℕ) → row ≡ rowOfLine (k .parts)
     → kind ≡ lineKind row (firstValue l)
-    → line (record { row = row; group = g; name = n; params = c; value = v; kind = kind }) ≡ toldOf l
-unfolding toldOf kindOfLine firstValue
-told-parts l g n c v k row kind er ek =
-    let t = ap told (k .parsed) in
+    → line (record { row = row; «group_length» = g; «name_end» = n; «param_count» = c; «value_start» = v; kind = kind }) ≡ linePartsOf l
+unfolding linePartsOf kindOfLine firstValue
+parts-by l g n c v k row kind er ek =
+    let t = ap linePartsBy (k .parsed) in
     let w : kind ≡ lineKind (rowOfLine (k .parts)) (valueParam (k .parts)) = ek ∙ ap (lineKind row) (ap ofParse (k .parsed)) ∙ ap (λ (r : ℕ). lineKind r (valueParam (k .parts))) er in
     rw t (cc (er, w, k .placed .group-length, k .placed .name-end, k .placed .count))
 
@@ -127,13 +127,13 @@ no-fault (Listed c e) k = refl
 no-fault (Parsed g n c v) k = refl
 no-fault (Fault e) k = absurd (miss (0 ∷ 1 ∷ 2 ∷ 3 ∷ []) 4 tt k)
 
--- an answer that is no line is the fault that is told
-pub told-fault : (l : List ℕ) (p : Answer) (e : ℕ) → p ≡ outcome (parseLine l) → OneOf (0 ∷ 1 ∷ 2 ∷ 4 ∷ []) (tagOf the-type p) → e ≡ faultOf p
-    → fault e ≡ toldOf l
-unfolding toldOf
-told-fault l p e h k q = by (parseLine l) h
+-- an answer that is no line is the fault that is answered
+pub parts-fault : (l : List ℕ) (p : Answer) (e : ℕ) → p ≡ outcome (parseLine l) → OneOf (0 ∷ 1 ∷ 2 ∷ 4 ∷ []) (tagOf the-type p) → e ≡ faultOf p
+    → fault e ≡ linePartsOf l
+unfolding linePartsOf
+parts-fault l p e h k q = by (parseLine l) h
   where
-    by : (m : Parse Line) → p ≡ outcome m → fault e ≡ told m
+    by : (m : Parse Line) → p ≡ outcome m → fault e ≡ linePartsBy m
     by (bad x) h = ap fault (q ∙ ap faultOf h)
     by (got x n) h = absurd (miss (0 ∷ 1 ∷ 2 ∷ 4 ∷ []) 3 tt (subst (λ (t : Answer). OneOf (0 ∷ 1 ∷ 2 ∷ 4 ∷ []) (tagOf the-type t)) h k))
 
@@ -179,27 +179,28 @@ pub kind-of-line : (y : Line) → kindOfLine y < 9
 unfolding kindOfLine rowOfLine
 kind-of-line y = line-kind-low (rowOf (y .name)) (valueParam y) (row-low (y .name))
 
--- what is known of a line by the parts that are told of it
+-- what is known of a line by its parts
 pub record Read (l : List ℕ) (x : Parts) : Type 0 where
   pub parts : Line
-  pub parsed : parseLine l ≡ got parts (x .value)
+  pub parsed : parseLine l ≡ got parts (x .«value_start»)
   pub row : x .row ≡ rowOfLine parts
-  pub group : x .group ≡ length (parts .group)
-  pub params : x .params ≡ length (parts .params)
+  pub group : x .«group_length» ≡ length (parts .group)
+  pub params : x .«param_count» ≡ length (parts .params)
   pub kind : x .kind ≡ kindOfLine parts
+  pub listed : x .row < 39
   pub low : x .kind < 9
-  pub inside : x .value ≤ length l
-  pub value : drop (x .value) l ≡ parts .value
+  pub inside : x .«value_start» ≤ length l
+  pub value : drop (x .«value_start») l ≡ parts .value
 
-pub read : (l : List ℕ) (x : Parts) → line x ≡ toldOf l → Read l x
-unfolding toldOf
+pub read : (l : List ℕ) (x : Parts) → line x ≡ linePartsOf l → Read l x
+unfolding linePartsOf
 read l x h = by (parseLine l) refl h
   where
-    by : (m : Parse Line) → parseLine l ≡ m → line x ≡ told m → Read l x
+    by : (m : Parse Line) → parseLine l ≡ m → line x ≡ linePartsBy m → Read l x
     by (bad e) p q = let z : _≡_ {A = ℕ} 0 1 = cc in absurd (omega arith)
     by (got y k) p q =
         let w = known l (length (y .group)) (nameEnd y) (length (y .params)) k (sym (ap outcome p)) in
-        let e : x ≡ record { row = rowOfLine y; group = length (y .group); name = nameEnd y; params = length (y .params); value = k; kind = kindOfLine y } = cc in
+        let e : x ≡ record { row = rowOfLine y; «group_length» = length (y .group); «name_end» = nameEnd y; «param_count» = length (y .params); «value_start» = k; kind = kindOfLine y } = cc in
         let same-parts : w .parts ≡ y = cc (w .parsed, p) in
         rw e record {
           parts = y;
@@ -208,6 +209,7 @@ read l x h = by (parseLine l) refl h
           group = refl;
           params = refl;
           kind = refl;
+          listed = row-of-line y;
           low = kind-of-line y;
           inside = w .inside .value;
           value = w .placed .value ∙ ap (λ (z : Line). z .value) same-parts;

@@ -11,8 +11,8 @@ use Rattle.line_parameters.specs.First.{firstNamed, valueOctets}
 use Rattle.line_parser.specs.declared.rule.Part.{Part}
 use Rattle.line_parser.specs.declared.rule.Part.the-variants.{Upto, Named, Listed, Parsed, Fault}
 use Rattle.property_table.specs.Rows.{rowOf, lineKind, valueName}
-use Rattle.card_line.specs.declared.Told.{Told}
-use Rattle.card_line.specs.declared.Told.the-variants.{Line as line, Fault as fault}
+use Rattle.card_line.specs.declared.LineParts.{LineParts}
+use Rattle.card_line.specs.declared.LineParts.the-variants.{Line as line, Fault as fault}
 
 -- the first value of the first VALUE parameter, quotes taken off
 abbrev pub octetsOf : Option Value → Option (List ℕ)
@@ -29,21 +29,21 @@ rowOfLine x = rowOf (x .name)
 unfoldable pub kindOfLine : Line → ℕ
 kindOfLine x = lineKind (rowOfLine x) (valueParam x)
 
--- what is told of a reading
-abbrev pub told : Parse Line → Told
-told (got x k) =
+-- the parts by a parse
+abbrev pub linePartsBy : Parse Line → LineParts
+linePartsBy (got x k) =
     line (record {
       row = rowOfLine x;
-      group = length (x .group);
-      name = nameEnd x;
-      params = length (x .params);
-      value = k;
+      «group_length» = length (x .group);
+      «name_end» = nameEnd x;
+      «param_count» = length (x .params);
+      «value_start» = k;
       kind = kindOfLine x;
     })
-told (bad e) = fault e
+linePartsBy (bad e) = fault e
 
-unfoldable pub toldOf : List ℕ → Told
-toldOf l = told (parseLine l)
+unfoldable pub linePartsOf : List ℕ → LineParts
+linePartsOf l = linePartsBy (parseLine l)
 
 -- the fault of a part that was refused
 abbrev pub faultOf : Part → ℕ

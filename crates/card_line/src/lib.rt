@@ -7,39 +7,46 @@ ghost use Rattle.numbers.specs.Properties as property;
 ghost use Rattle.octets.specs.Classes.{Classes};
 ghost use Rattle.property_table.specs.Rows.{Lists, lineKind};
 ghost use Rattle.line_parser.specs.Places.{nameStart};
-ghost use Rattle.card_line.specs.Parts.{faultOf, Accepted, firstValue, toldOf};
+ghost use Rattle.card_line.specs.Parts.{faultOf, Accepted, firstValue, linePartsOf};
 use line_parameters::First;
 use line_parser::rule::Part;
 use octets::classes::ClassTable;
+use property_table::rows::PropertyTable;
 
+// The parts of a line that keeps the line rule.
 pub struct Parts {
     // The property's number, 0 for a name that is not listed.
     pub row: usize,
-    // How long the group is, where the name ends, how many parameters there are, where the value starts.
-    pub group: usize,
-    pub name: usize,
-    pub params: usize,
-    pub value: usize,
+    // How long the group is, 0 for none.
+    pub group_length: usize,
+    // Where the name ends in the line.
+    pub name_end: usize,
+    // How many parameters there are.
+    pub param_count: usize,
+    // Where the value starts in the line.
+    pub value_start: usize,
+    // The kind of the value.
     pub kind: usize,
 }
 
-pub enum Told {
+// The parts of a line, or the fault by which it breaks the line rule.
+pub enum LineParts {
     Line(Parts),
-    // The fault of the line rule.
     Fault(u32),
 }
 
 // Where the name starts: past the group and its dot.
-pub fn name_start(group: usize) -> usize
-    requires { ⌜ group < 65536 ⌝ }
-    ensures { λ r. ⌜ r ≡ nameStart group ⌝ }
+pub fn name_start(group_length: usize) -> usize
+    requires { ⌜ «group_length» < 65536 ⌝ }
+    ensures { λ r. ⌜ r ≡ nameStart «group_length» ⌝ }
 {
-    if group == 0 {
+    if group_length == 0 {
         return 0;
     }
-    group + 1
+    group_length + 1
 }
 
+// The fault that a part of the parser hands up.
 fn fault_of(p: Part) -> u32
     ensures { λ r. ⌜ r ≡ faultOf p ⌝ }
 {
@@ -49,19 +56,19 @@ fn fault_of(p: Part) -> u32
     e
 }
 
-// The kind of the value of a line whose name ends at `name`.
-fn kind_at(t: &ClassTable, rows: &[u8; 624], s: &[u8], row: usize, name: usize) -> usize
+// The kind of the value of a line of the row whose name ends at `name_end`.
+fn kind_at(t: &ClassTable, rows: &PropertyTable, s: &[u8], row: usize, name_end: usize) -> usize
     requires { ⌜ Classes (now t) ⌝ }
     requires { ⌜ Lists (now rows) ⌝ }
     requires { ⌜ row < property.count ⌝ }
-    requires { ⌜ Accepted (now s) name ⌝ }
+    requires { ⌜ Accepted (now s) «name_end» ⌝ }
     ensures { λ r. ⌜ r ≡ lineKind row (firstValue (now (s .entry))) ⌝ }
 {
     let kind = property_table::kind_of(rows, row);
     if !property_table::takes_value(rows, row) {
         return kind;
     }
-    let f = line_parameters::param_first(t, s, name, b"VALUE");
+    let f = line_parameters::param_first(t, s, name_end, b"VALUE");
     let First::Between { start, end } = f else {
         return kind;
     };
@@ -69,31 +76,30 @@ fn kind_at(t: &ClassTable, rows: &[u8; 624], s: &[u8], row: usize, name: usize) 
 }
 
 // The parts of a line, or the fault by which it breaks the line rule.
-pub fn parts_of(t: &ClassTable, rows: &[u8; 624], s: &[u8]) -> Told
+pub fn parts_of(t: &ClassTable, rows: &PropertyTable, s: &[u8]) -> LineParts
     requires { ⌜ Classes (now t) ⌝ }
     requires { ⌜ Lists (now rows) ⌝ }
     requires { ⌜ length (now s) ≤ limit.octets ⌝ }
-    ensures { λ r. ⌜ r ≡ toldOf (now (s .entry)) ⌝ }
+    ensures { λ r. ⌜ r ≡ linePartsOf (now (s .entry)) ⌝ }
 {
     let p = line_parser::rule::read_line(t, s);
     let Part::Parsed {
-        group_length: group,
-        name_end: name,
-        param_count: params,
-        value_start: value,
-    } = p
-    else {
-        return Told::Fault(fault_of(p));
+        group_length,
+        name_end,
+        param_count,
+        value_start,
+    } = p else {
+        return LineParts::Fault(fault_of(p));
     };
-    let start = name_start(group);
-    let row = property_table::find_row(rows, &s[start..name]);
-    let kind = kind_at(t, rows, s, row, name);
-    Told::Line(Parts {
+    let start = name_start(group_length);
+    let row = property_table::find_row(rows, &s[start..name_end]);
+    let kind = kind_at(t, rows, s, row, name_end);
+    LineParts::Line(Parts {
         row,
-        group,
-        name,
-        params,
-        value,
+        group_length,
+        name_end,
+        param_count,
+        value_start,
         kind,
     })
 }

@@ -1,29 +1,33 @@
 -- What is known of a card: which lines it has had so far, and what a line or its END does to it, by document 01's refusals 9 to 12.
 -- Assumes nothing.
-use Prim.Native.Nat.{ℕ, _+_, _/_, _%_}
+use Prim.Native.Nat.{ℕ, zero, suc, _+_, _/_, _%_, _^_}
 use mathlib.Core.Bool.{Bool, false, not, _&&_, _||_}
 use lib.Bits.{bitOr}
 use lib.Dec.{eqb}
 use Rattle.numbers.specs.Properties as property
 use Rattle.numbers.specs.Refusals as refusal
 use Rattle.octets.specs.Pick.{pick}
+use Rattle.property_table.specs.Rows.{onceAt}
 use Rattle.card_state.specs.declared.Card.{Card}
 use Rattle.card_state.specs.declared.Step.{Step}
 use Rattle.card_state.specs.declared.Step.the-variants.{Next, Refused}
 
 -- before the first line of an input
 abbrev pub freshCard : Card
-freshCard = record { phase = 0; seen = 0; named = false; member = false; group = false; cards = 0; lines = 0 }
+freshCard = record { phase = 0; seen = 0; «has_fn» = false; «has_member» = false; «is_group» = false; cards = 0; lines = 0 }
 
 -- 9: BEGIN first and VERSION second, neither of them later
 unfoldable pub inOrder : ℕ → ℕ → Bool
 inOrder phase row = pick (eqb phase 0) (eqb row property.begin) (pick (eqb phase 1) (eqb row property.version) (not (eqb row property.begin) && not (eqb row property.version)))
 
--- the flag of a property marked *1 (KIND, N, BDAY, ANNIVERSARY, GENDER, PRODID, REV, UID); 0 for any other
-unfoldable pub onceBit : ℕ → ℕ
-onceBit row =
-    pick (eqb row property.kind) 1 (pick (eqb row property.n) 2 (pick (eqb row property.bday) 4 (pick (eqb row property.anniversary) 8
-    (pick (eqb row property.gender) 16 (pick (eqb row property.prodid) 32 (pick (eqb row property.rev) 64 (pick (eqb row property.uid) 128 0)))))))
+-- the flag of the k-th property marked *1, counted from 1; 0 for none
+unfoldable pub flagOf : ℕ → ℕ
+flagOf zero = 0
+flagOf (suc k) = 2 ^ k
+
+-- the flag of a row: 0 where it is not marked *1
+unfoldable pub onceFlag : ℕ → ℕ
+onceFlag row = flagOf (onceAt row)
 
 -- the flag stands among those seen
 unfoldable pub isSeen : ℕ → ℕ → Bool
@@ -36,13 +40,13 @@ phaseAfter row = pick (eqb row property.begin) 1 2
 -- a line of the row that is no END; group: its value is `group` in any case
 unfoldable pub noted : Card → ℕ → ℕ → Bool → Step
 noted c at row group =
-    pick (isSeen (onceBit row) (c .seen)) (Refused refusal.second at)
+    pick (isSeen (onceFlag row) (c .seen)) (Refused refusal.second at)
     (Next (record {
       phase = phaseAfter row;
-      seen = bitOr (c .seen) (onceBit row);
-      named = c .named || eqb row property.fn;
-      member = c .member || eqb row property.member;
-      group = c .group || (eqb row property.kind && group);
+      seen = bitOr (c .seen) (onceFlag row);
+      «has_fn» = c .«has_fn» || eqb row property.fn;
+      «has_member» = c .«has_member» || eqb row property.member;
+      «is_group» = c .«is_group» || (eqb row property.kind && group);
       cards = c .cards;
       lines = c .lines + 1;
     }))
@@ -50,7 +54,7 @@ noted c at row group =
 -- END: 11 where the card has no FN, 12 where it has a MEMBER and no KIND line with the value group
 unfoldable pub closed : Card → ℕ → Step
 closed c at =
-    pick (c .named)
-    (pick (c .member && not (c .group)) (Refused refusal.member at)
-    (Next (record { phase = 0; seen = 0; named = false; member = false; group = false; cards = c .cards + 1; lines = c .lines + 1 })))
+    pick (c .«has_fn»)
+    (pick (c .«has_member» && not (c .«is_group»)) (Refused refusal.member at)
+    (Next (record { phase = 0; seen = 0; «has_fn» = false; «has_member» = false; «is_group» = false; cards = c .cards + 1; lines = c .lines + 1 })))
     (Refused refusal.noFn at)

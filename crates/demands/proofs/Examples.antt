@@ -78,15 +78,15 @@ unfolding kinds.text kinds.texts kinds.uri kinds.component kinds.parts kinds.com
 by-kinds = tt
 
 by-shapes : Unit {0}
-unfolding kinds.lineShape kinds.valueScan sets.holds shapes.mayEnd shapes.lost shapes.chain shapes.isNever shapes.fork shapes.after shapes.faultFrom
+unfolding kinds.lineShape kinds.valueScan sets.holds shapes.nullable shapes.dead shapes.chain shapes.isNever shapes.fork shapes.derivative shapes.faultFrom
 by-shapes = tt
 
 by-table : Unit {0}
-unfolding table.rows table.search table.rowOf table.rowAt table.kindAt table.takesValue table.kindNamed table.lineKind table.isGroup
+unfolding table.rows table.search table.rowOf table.rowAt table.kindAt table.takesValue table.kindNamed table.lineKind table.isGroup table.marks table.onceAt table.single
 by-table = tt
 
 by-cards : Unit {0}
-unfolding content.valueParam content.rowOfLine content.kindOfLine content.toldOf card.inOrder card.onceBit card.isSeen card.phaseAfter card.noted card.closed
+unfolding content.valueParam content.rowOfLine content.kindOfLine content.linePartsOf card.inOrder card.flagOf card.onceFlag card.isSeen card.phaseAfter card.noted card.closed
 by-cards = tt
 
 by-judge : Unit {0}

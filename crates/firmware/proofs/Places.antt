@@ -17,7 +17,7 @@ use Rattle.line_folds.specs.Logical.{linesBy, rawLines}
 use Rattle.value_kinds.specs.Kinds.{valueScan}
 use Rattle.value_kinds.specs.declared.Fault.{Fault}
 use Rattle.value_kinds.specs.declared.Fault.the-variants.{Fits, Breaks}
-use Rattle.card_state.specs.State.{freshCard, inOrder, onceBit, isSeen, noted, closed}
+use Rattle.card_state.specs.State.{freshCard, inOrder, onceFlag, isSeen, noted, closed}
 use Rattle.card_line.specs.Parts.{rowOfLine, kindOfLine}
 use Rattle.card_judge.specs.Judge.{laden, entered, fitting, judgeParts, judgeParsed, judgeLine}
 use Rattle.card_state.specs.declared.Card.{Card}
@@ -46,8 +46,8 @@ at-entered : (c : Card) (p row : ℕ) (v : List ℕ) → At p (entered c p row v
 unfolding entered closed noted
 at-entered c p row v =
     at-pick p (eqb row 2) _ _
-    (at-pick p (c .named) _ _ (at-pick p (c .member && not (c .group)) _ _ refl tt) refl)
-    (at-pick p (isSeen (onceBit row) (c .seen)) _ _ refl tt)
+    (at-pick p (c .«has_fn») _ _ (at-pick p (c .«has_member» && not (c .«is_group»)) _ _ refl tt) refl)
+    (at-pick p (isSeen (onceFlag row) (c .seen)) _ _ refl tt)
 
 at-parsed : (c : Card) (p : ℕ) (m : Parse Line) → At p (judgeParsed c p m)
 unfolding judgeParts

@@ -21,6 +21,10 @@ firstLine = 75
 abbrev pub laterLine : ℕ
 laterLine = 74
 
+-- the most properties that a card has at most once: its flags are the bits of one number
+abbrev pub flags : ℕ
+flags = 32
+
 -- the numbers of a record
 abbrev pub recordLength : ℕ
 recordLength = 8

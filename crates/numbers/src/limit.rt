@@ -15,6 +15,9 @@ pub const FIRST_LINE: usize = 75;
 // The most octets of each later physical line after its space.
 pub const LATER_LINE: usize = 74;
 
+// The most properties that a card has at most once: its flags are the bits of one number.
+pub const FLAGS: usize = 32;
+
 // The numbers of a record.
 pub const RECORD_LENGTH: usize = 8;
 

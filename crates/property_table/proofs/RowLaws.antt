@@ -5,15 +5,15 @@ use mathlib.Core.List.{List, _∷_}
 use Prim.Native.Nat.{ℕ, zero, suc, _+_, _-_, _*_, _<_, _≤_}
 use native.Mathlib.Numerals.{add-one}
 use native.Mathlib.Omega.{arith}
-use lib.Dec.{eqb, ltb}
+use lib.Dec.{eqb, leb, ltb}
 use lib.ListN.{length, getD, take, drop}
 use lib.Seq.{drop-cons}
-use borrow.Author.Tests.{lt-ltb, ltb-true, eqb-true, eqb-false}
+use borrow.Author.Tests.{leb-true, lt-ltb, ltb-true, eqb-true, eqb-false}
 use Rattle.octets.specs.Pick.{pick}
 use Rattle.octets.specs.Cases.{same}
 use Rattle.octets.proofs.CaseLaws.{same-length}
 use Rattle.octets.specs.Ascii.{octets}
-use Rattle.property_table.specs.Rows.{Row, noRow, rows, search, rowOf, rowAt, sized, firstOf, nextOf, kindAt, takesValue, nameEntries, entries, entriesFrom, Lists}
+use Rattle.property_table.specs.Rows.{Row, noRow, rows, search, rowOf, rowAt, sized, firstOf, nextOf, kindAt, single, marks, onceAt, takesValue, nameEntries, entries, entriesFrom, Lists}
 use Rattle.octets.proofs.Upto.{upto, alike}
 
 abbrev all : List Row
@@ -127,20 +127,25 @@ pub kind-low : (n : ℕ) → n < 39 → kindAt n < 9
 unfolding upto kindAt rowAt rows
 kind-low n h = ltb-true _ _ (alike (λ j. ltb (kindAt j) 9) (λ j. true) 39 refl n h)
 
+-- the flags of a card have room for the rows marked *1
+pub once-low : (n : ℕ) → n < 39 → onceAt n ≤ 32
+unfolding upto onceAt single marks rowAt rows
+once-low n h = leb-true _ _ (alike (λ j. leb (onceAt j) 32) (λ j. true) 39 refl n h)
+
 -- what the table has for a row
 pub record Listed (t : List ℕ) (n : ℕ) : Type 0 where
   pub spelt : take (length (rowAt n .name)) (drop (n * 16) t) ≡ rowAt n .name
-  pub long : getD t (n * 16 + 12) 0 ≡ length (rowAt n .name)
+  pub mark : getD t (n * 16 + 12) 0 ≡ onceAt n
   pub sort : getD t (n * 16 + 13) 0 ≡ kindAt n
   pub link : getD t (n * 16 + 14) 0 ≡ nextOf n
   pub value : eqb (getD t (n * 16 + 15) 0) 1 ≡ takesValue n
 
 listed-right : (n : ℕ) → n < 39 → Listed (entriesFrom 0 39) n
-unfolding upto entriesFrom entries nameEntries rowAt sized firstOf nextOf kindAt takesValue rows octets
+unfolding upto entriesFrom entries nameEntries rowAt sized firstOf nextOf kindAt single marks onceAt takesValue rows octets
 listed-right n h =
     record {
       spelt = alike (λ j. take (length (rowAt j .name)) (drop (j * 16) (entriesFrom 0 39))) (λ j. rowAt j .name) 39 refl n h;
-      long = alike (λ j. getD (entriesFrom 0 39) (j * 16 + 12) 0) (λ j. length (rowAt j .name)) 39 refl n h;
+      mark = alike (λ j. getD (entriesFrom 0 39) (j * 16 + 12) 0) onceAt 39 refl n h;
       sort = alike (λ j. getD (entriesFrom 0 39) (j * 16 + 13) 0) kindAt 39 refl n h;
       link = alike (λ j. getD (entriesFrom 0 39) (j * 16 + 14) 0) nextOf 39 refl n h;
       value = alike (λ j. eqb (getD (entriesFrom 0 39) (j * 16 + 15) 0) 1) takesValue 39 refl n h;
@@ -151,7 +156,7 @@ unfolding Lists
 listed t e n h = subst (λ (l : List ℕ). Listed l n) (sym e) (listed-right n h)
 
 first-right : (k : ℕ) → k < 12 → getD (entriesFrom 0 39) k 0 ≡ firstOf (suc k)
-unfolding upto entriesFrom entries nameEntries rowAt sized firstOf rows octets
+unfolding upto entriesFrom entries nameEntries rowAt sized firstOf single marks onceAt rows octets
 first-right k h = alike (λ j. getD (entriesFrom 0 39) j 0) (λ j. firstOf (suc j)) 12 refl k h
 
 -- what the table has in the place of row 0's name

@@ -106,6 +106,19 @@ isOnce often = false
 unfoldable pub single : ℕ → Bool
 single n = isOnce (rowAt n .times)
 
+abbrev pub marked : Times → ℕ → ℕ
+marked once n = suc n
+marked often n = n
+
+-- how many of the rows are marked *1
+unfoldable pub marks : List Row → ℕ
+marks [] = 0
+marks (r ∷ rs) = marked (r .times) (marks rs)
+
+-- the number of row n among the rows marked *1, counted from 1; 0 for any other row
+unfoldable pub onceAt : ℕ → ℕ
+onceAt n = pick (single n) (marks (take n rows)) 0
+
 -- VALUE sets the kind on listed rows of kind 0, 1 or 3, except 1 BEGIN, 2 END, 34 VERSION and 5 XML
 unfoldable pub takesValue : ℕ → Bool
 takesValue n =
@@ -129,18 +142,25 @@ valueName = octets "VALUE"
 unfoldable pub isGroup : List ℕ → Bool
 isGroup v = same v (octets "group")
 
--- what the table has in the place of a row's name: the name, filled up to twelve by points; for row 0, which has none, the first row of
--- each length from 1 to 12
+-- the most octets of a name
+abbrev pub longestName : ℕ
+longestName = 12
+
+-- how many entries the table has for a row
+abbrev pub rowLength : ℕ
+rowLength = 16
+
+-- what the table has in the place of a row's name: the name, filled up by points; for row 0, which has none, the first row of each length
 unfoldable pub nameEntries : ℕ → List ℕ
 nameEntries zero =
     firstOf 1 ∷ firstOf 2 ∷ firstOf 3 ∷ firstOf 4 ∷ firstOf 5 ∷ firstOf 6 ∷
     firstOf 7 ∷ firstOf 8 ∷ firstOf 9 ∷ firstOf 10 ∷ firstOf 11 ∷ firstOf 12 ∷ []
-nameEntries (suc n) = take 12 (rowAt (suc n) .name ++ octets "............")
+nameEntries (suc n) = take longestName (rowAt (suc n) .name ++ octets "............")
 
--- the sixteen entries that the table has for a row: those of its name, the name's length, its kind, the next row whose name is as long, and
--- 1 where VALUE sets the kind
+-- the sixteen entries that the table has for a row: those of its name, its number among the rows marked *1, its kind, the next row whose name
+-- is as long, and 1 where VALUE sets the kind
 unfoldable pub entries : ℕ → List ℕ
-entries n = nameEntries n ++ length (rowAt n .name) ∷ kindAt n ∷ nextOf n ∷ bit (takesValue n) 1 ∷ []
+entries n = nameEntries n ++ onceAt n ∷ kindAt n ∷ nextOf n ∷ bit (takesValue n) 1 ∷ []
 
 -- k rows from row n on
 unfoldable pub entriesFrom : ℕ → ℕ → List ℕ

@@ -11,7 +11,7 @@ use borrow.Author.Tests.{eqb-true, eqb-false, eq-eqb, ne-eqb, not-true}
 use Rattle.line_parser.specs.Grammar.{Line}
 use Rattle.property_table.specs.Rows.{single, isGroup}
 use Rattle.octets.proofs.Bools.{by, and-both}
-use Rattle.card_state.specs.State.{freshCard, inOrder, onceBit, isSeen, phaseAfter, noted, closed}
+use Rattle.card_state.specs.State.{freshCard, inOrder, onceFlag, isSeen, phaseAfter, noted, closed}
 use Rattle.card_line.specs.Parts.{rowOfLine}
 use Rattle.card_state.specs.declared.Card.{Card}
 use Rattle.card_state.specs.declared.Step.the-variants.{Next, Refused}
@@ -72,10 +72,10 @@ phaseOf (x ∷ y ∷ ys) = 2
 -- the state c of a card that has had the lines ys
 pub record Known (c : Card) (ys : List Line) : Type 0 where
   pub phase : c .phase ≡ phaseOf ys
-  pub named : c .named ≡ any (ofRow 6) ys
-  pub member : c .member ≡ any (ofRow 24) ys
-  pub group : c .group ≡ any saysGroup ys
-  pub seen : (row : ℕ) → row < 39 → isSeen (onceBit row) (c .seen) ≡ (single row && any (ofRow row) ys)
+  pub named : c .«has_fn» ≡ any (ofRow 6) ys
+  pub member : c .«has_member» ≡ any (ofRow 24) ys
+  pub group : c .«is_group» ≡ any saysGroup ys
+  pub seen : (row : ℕ) → row < 39 → isSeen (onceFlag row) (c .seen) ≡ (single row && any (ofRow row) ys)
 
 and-false : (t : Bool) → (t && false) ≡ false
 and-false true = refl
@@ -116,16 +116,16 @@ phase-next (b ∷ v ∷ ys) x h = rw (ne-eqb (rowOfLine x) 1 (h .0))
 abbrev pub lineCard : Card → Line → Card
 lineCard c x = record {
   phase = phaseAfter (rowOfLine x);
-  seen = bitOr (c .seen) (onceBit (rowOfLine x));
-  named = c .named || eqb (rowOfLine x) 6;
-  member = c .member || eqb (rowOfLine x) 24;
-  group = c .group || (eqb (rowOfLine x) 4 && isGroup (x .value));
+  seen = bitOr (c .seen) (onceFlag (rowOfLine x));
+  «has_fn» = c .«has_fn» || eqb (rowOfLine x) 6;
+  «has_member» = c .«has_member» || eqb (rowOfLine x) 24;
+  «is_group» = c .«is_group» || (eqb (rowOfLine x) 4 && isGroup (x .value));
   cards = c .cards;
   lines = c .lines + 1;
 }
 
-seen-next : (s : ℕ) (ys : List Line) (x : Line) (row : ℕ) → row < 39 → isSeen (onceBit row) s ≡ (single row && any (ofRow row) ys)
-    → isSeen (onceBit row) (bitOr s (onceBit (rowOfLine x))) ≡ (single row && any (ofRow row) (ys ++ (x ∷ [])))
+seen-next : (s : ℕ) (ys : List Line) (x : Line) (row : ℕ) → row < 39 → isSeen (onceFlag row) s ≡ (single row && any (ofRow row) ys)
+    → isSeen (onceFlag row) (bitOr s (onceFlag (rowOfLine x))) ≡ (single row && any (ofRow row) (ys ++ (x ∷ [])))
 seen-next s ys x row h e =
     seen-after s row (rowOfLine x) h (row-of-line x)
     ∙ ap (λ (t : Bool). t || (single row && eqb (rowOfLine x) row)) e
@@ -143,7 +143,7 @@ line-known c ys x k h = record {
 
 -- the state after END
 abbrev pub endCard : Card → Card
-endCard c = record { phase = 0; seen = 0; named = false; member = false; group = false; cards = c .cards + 1; lines = c .lines + 1 }
+endCard c = record { phase = 0; seen = 0; «has_fn» = false; «has_member» = false; «is_group» = false; cards = c .cards + 1; lines = c .lines + 1 }
 
 pub end-known : (c : Card) → Known (endCard c) []
 unfolding phaseOf any

@@ -13,8 +13,8 @@ use Rattle.line_parser.proofs.Inside.{InLine, in-line}
 use Rattle.line_parameters.specs.Placed.{Placed}
 use Rattle.line_parameters.proofs.Law.{line-law, line-unique}
 use Rattle.line_parameters.proofs.PlacesLaw.{places-law}
-use Rattle.card_line.specs.Parts.{told, toldOf, rowOfLine, kindOfLine}
-use Rattle.card_judge.proofs.CardLaws.{told-fits}
+use Rattle.card_line.specs.Parts.{linePartsBy, linePartsOf, rowOfLine, kindOfLine}
+use Rattle.card_judge.proofs.CardLaws.{parts-fit}
 use Rattle.reader_records.specs.Records.{recordBy, recordOf, recordsFrom}
 use Rattle.reader.specs.Outcome.{ended, copyOf, recordsOf}
 use Rattle.reader_grammar.specs.Cards.{Readable}
@@ -55,14 +55,14 @@ module _ (x : Line) (w : WellFormed x) where
       sym (length-take-le (nameEnd x - s) (drop s (render x)) h) ∙ ap length (placed .name)
 
   group-length : length (x .group) ≤ length (render x)
-  unfolding toldOf
-  group-length = let f = told-fits (render x) _ (ap told parsed) in omega (arith, f .0, f .2)
+  unfolding linePartsOf
+  group-length = let f = parts-fit (render x) _ (ap linePartsBy parsed) in omega (arith, f .0, f .2)
 
   numbers : (at : ℕ) → recordOf at (render x)
       ≡ rowOfLine x ∷ at ∷ length (render x) ∷ length (x .group) ∷ length (x .name) ∷ length (x .params) ∷ (at + length (front x)) ∷ kindOfLine x ∷ []
-  unfolding recordOf toldOf recordBy
+  unfolding recordOf linePartsOf recordBy
   numbers at =
-      ap (recordBy at (length (render x))) (ap told parsed)
+      ap (recordBy at (length (render x))) (ap linePartsBy parsed)
       ∙ ap (λ (n : ℕ). rowOfLine x ∷ at ∷ length (render x) ∷ length (x .group) ∷ n ∷ length (x .params) ∷ (at + length (front x)) ∷ kindOfLine x ∷ []) name-length
 
   tells : (pre rest : List ℕ) → Tells (pre ++ (render x ++ (13 ∷ 10 ∷ rest))) (length pre) x (recordOf (length pre) (render x))

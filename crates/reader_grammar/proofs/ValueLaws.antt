@@ -13,7 +13,7 @@ use Rattle.utf8.specs.Characters.{allowed, firstBad}
 use Rattle.utf8.proofs.Chars.{bad-le}
 use Rattle.utf8_laws.proofs.Utf8.{allowed-only}
 use Rattle.value_kinds.specs.Kinds.{shapeOf, kindScan, valueScan}
-use Rattle.value_kinds.specs.Shapes.{Is}
+use Rattle.value_kinds.specs.Shapes.{Matches}
 use Rattle.value_kinds.specs.declared.Fault.the-variants.{Fits}
 use Rattle.octets.proofs.Bools.{by}
 use Rattle.value_laws.proofs.KindLaws.{fits-kind}
@@ -22,7 +22,7 @@ use Rattle.reader_grammar.specs.Values.{OfKind, anything, text, texts, u
 use Rattle.reader_grammar.specs.Cards.{Clean}
 
 kind-to : (k : ℕ) (v : List ℕ) → kindScan k v ≡ Fits → OfKind k v
-unfolding shapeOf Is
+unfolding shapeOf Matches
 kind-to zero v e = anything
 kind-to (suc zero) v e = text (kind-1 v .0 e)
 kind-to (suc (suc zero)) v e = texts (kind-2 v .0 e)

@@ -7,12 +7,12 @@ use lib.ListN.{length, take, drop, length-append}
 use Rattle.line_folds.specs.Folds.{lineLength}
 use Rattle.line_folds.specs.Logical.{rawLines}
 use Rattle.line_folds.proofs.SpanLaws.{lines-turn, part-length}
-use Rattle.card_line.specs.Parts.{toldOf}
-use Rattle.card_line.specs.declared.Told.{Told}
-use Rattle.card_line.specs.declared.Told.the-variants.{Line, Fault}
+use Rattle.card_line.specs.Parts.{linePartsOf}
+use Rattle.card_line.specs.declared.LineParts.{LineParts}
+use Rattle.card_line.specs.declared.LineParts.the-variants.{Line, Fault}
 use Rattle.reader_records.specs.Records.{recordBy, recordOf, recordsFrom}
 
-by-length : (w n : ℕ) (x : Told) → length (recordBy w n x) ≡ 8
+by-length : (w n : ℕ) (x : LineParts) → length (recordBy w n x) ≡ 8
 unfolding recordBy
 by-length w n (Line x) = refl
 by-length w n (Fault k) = refl
@@ -20,7 +20,7 @@ by-length w n (Fault k) = refl
 -- a record has eight numbers
 pub record-length : (w : ℕ) (l : List ℕ) → length (recordOf w l) ≡ 8
 unfolding recordOf
-record-length w l = by-length w (length l) (toldOf l)
+record-length w l = by-length w (length l) (linePartsOf l)
 
 pub records-length : (w : ℕ) (ls : List (List ℕ)) → length (recordsFrom w ls) ≡ length ls * 8
 unfolding recordsFrom

@@ -10,50 +10,51 @@ ghost use Rattle.line_folds.specs.Folds.{unfolded};
 ghost use Rattle.line_folds.specs.Logical.{rawLines};
 ghost use Rattle.property_table.specs.Rows.{Lists};
 ghost use Rattle.reader_records.specs.Records.{numbers, recordOf, recordsFrom};
-use card_line::Told;
+use card_line::LineParts;
 use octets::classes::ClassTable;
+use property_table::rows::PropertyTable;
 
 // One record: eight numbers.
 pub struct Record {
-    pub number: u32,
+    pub property: u32,
     pub start: u32,
-    pub len: u32,
-    pub group: u32,
-    pub name: u32,
-    pub params: u32,
-    pub value: u32,
+    pub length: u32,
+    pub group_length: u32,
+    pub name_length: u32,
+    pub param_count: u32,
+    pub value_start: u32,
     pub kind: u32,
 }
 
 // The record of the logical line l, which starts at w in the copy.
-fn record_of(t: &ClassTable, rows: &[u8; 624], l: &[u8], w: usize) -> Record
+fn record_of(t: &ClassTable, rows: &PropertyTable, l: &[u8], w: usize) -> Record
     requires { ⌜ Classes (now t) ⌝ }
     requires { ⌜ Lists (now rows) ⌝ }
     requires { ⌜ w + length (now l) ≤ limit.octets ⌝ }
     ensures { λ r. ⌜ numbers r ≡ recordOf w (now (l .entry)) ⌝ }
 {
-    let told = card_line::parts_of(t, rows, l);
-    let Told::Line(x) = told else {
+    let parsed = card_line::parts_of(t, rows, l);
+    let LineParts::Line(x) = parsed else {
         return Record {
-            number: 0,
+            property: 0,
             start: 0,
-            len: 0,
-            group: 0,
-            name: 0,
-            params: 0,
-            value: 0,
+            length: 0,
+            group_length: 0,
+            name_length: 0,
+            param_count: 0,
+            value_start: 0,
             kind: 0,
         };
     };
-    let from = card_line::name_start(x.group);
+    let from = card_line::name_start(x.group_length);
     Record {
-        number: x.row as u32,
+        property: x.row as u32,
         start: w as u32,
-        len: l.len() as u32,
-        group: x.group as u32,
-        name: (x.name - from) as u32,
-        params: x.params as u32,
-        value: (w + x.value) as u32,
+        length: l.len() as u32,
+        group_length: x.group_length as u32,
+        name_length: (x.name_end - from) as u32,
+        param_count: x.param_count as u32,
+        value_start: (w + x.value_start) as u32,
         kind: x.kind as u32,
     }
 }
@@ -63,18 +64,18 @@ fn put_record(out: &mut [u32], at: usize, r: Record)
     requires { ⌜ at + 8 ≤ length (now out) ⌝ }
     ensures { λ _. ⌜ now (out .exit) ≡ take at (now (out .entry)) ++ numbers r ++ drop (at + 8) (now (out .entry)) ⌝ }
 {
-    out[at] = r.number;
+    out[at] = r.property;
     out[at + 1] = r.start;
-    out[at + 2] = r.len;
-    out[at + 3] = r.group;
-    out[at + 4] = r.name;
-    out[at + 5] = r.params;
-    out[at + 6] = r.value;
+    out[at + 2] = r.length;
+    out[at + 3] = r.group_length;
+    out[at + 4] = r.name_length;
+    out[at + 5] = r.param_count;
+    out[at + 6] = r.value_start;
     out[at + 7] = r.kind;
 }
 
 // Writes the records of the lines of s, which has no folds, to the start of out.
-fn write_records(t: &ClassTable, rows: &[u8; 624], s: &[u8], out: &mut [u32])
+fn write_records(t: &ClassTable, rows: &PropertyTable, s: &[u8], out: &mut [u32])
     requires { ⌜ Classes (now t) ⌝ }
     requires { ⌜ Lists (now rows) ⌝ }
     requires { ⌜ length (now s) ≤ limit.octets ⌝ }
@@ -94,7 +95,7 @@ fn write_records(t: &ClassTable, rows: &[u8; 624], s: &[u8], out: &mut [u32])
 }
 
 // Writes s without its folds to the start of copy, and the records of the lines there to the start of out.
-pub fn write_lines(t: &ClassTable, rows: &[u8; 624], s: &[u8], copy: &mut [u8], out: &mut [u32])
+pub fn write_lines(t: &ClassTable, rows: &PropertyTable, s: &[u8], copy: &mut [u8], out: &mut [u32])
     requires { ⌜ Classes (now t) ⌝ }
     requires { ⌜ Lists (now rows) ⌝ }
     requires { ⌜ length (now s) ≤ limit.octets ⌝ }

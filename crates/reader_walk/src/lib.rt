@@ -18,12 +18,14 @@ use card_state::Card;
 use card_state::Step;
 use numbers::limit;
 use octets::classes::ClassTable;
+use property_table::rows::PropertyTable;
+use value_automaton::states::Transitions;
 
 // Judges the logical line s, which starts at `at` in the input: as it is where it has no fold, else unfolded into the scratch.
 fn judge_span(
     t: &ClassTable,
-    rows: &[u8; 624],
-    steps: &[u8; 1016],
+    rows: &PropertyTable,
+    steps: &Transitions,
     s: &[u8],
     folded: bool,
     scratch: &mut [u8],
@@ -48,7 +50,7 @@ fn judge_span(
 }
 
 // Judges the lines one after the other, up to the first refusal.
-pub fn walk(t: &ClassTable, rows: &[u8; 624], steps: &[u8; 1016], s: &[u8]) -> Step
+pub fn walk(t: &ClassTable, rows: &PropertyTable, steps: &Transitions, s: &[u8]) -> Step
     requires { ⌜ Classes (now t) ⌝ }
     requires { ⌜ Lists (now rows) ⌝ }
     requires { ⌜ Scanner (now steps) ⌝ }

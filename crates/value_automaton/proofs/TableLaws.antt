@@ -8,8 +8,8 @@ use lib.ListN.{getD, take, drop}
 use lib.Seq.{getD-drop}
 use borrow.Author.Tests.{ltb-true}
 use Rattle.value_kinds.specs.Octets.{Octets, any, plain, inner, escapee, backslash, comma, semicolon, colon, letter, scheme, graphic, digit, sex, theV, theC, theA, theR, theD, four, point, nought, holds}
-use Rattle.value_kinds.specs.Shapes.{after}
-use Rattle.value_automaton.specs.States.{stateShape, speaker, Scanner}
+use Rattle.value_kinds.specs.Shapes.{derivative}
+use Rattle.value_automaton.specs.States.{stateShape, representative, Scanner}
 use Rattle.octets.proofs.Upto.{upto, along, entries}
 
 -- the sets that an octet is in
@@ -70,17 +70,17 @@ below n t m e k h = ltb-true (getD t k 0) m (entries (λ x. ltb x m) (λ j. true
 
 pub scanner : (t : List ℕ)
     → take 256 (along (λ x. ltb x 20) t) ≡ upto (λ j. true) 0 256
-    → take 256 (along (λ x. marks (speaker x)) t) ≡ upto marks 0 256
+    → take 256 (along (λ x. marks (representative x)) t) ≡ upto marks 0 256
     → take 760 (along (λ x. ltb x 38) (drop 256 t)) ≡ upto (λ j. true) 0 760
-    → take 760 (along stateShape (drop 256 t)) ≡ upto (λ j. after (speaker (j % 20)) (stateShape (j / 20))) 0 760
+    → take 760 (along stateShape (drop 256 t)) ≡ upto (λ j. derivative (representative (j % 20)) (stateShape (j / 20))) 0 760
     → Scanner t
 scanner t a b c d =
     record {
       sort-low = below 256 t 20 a;
       sort = λ x h p.
-          at p x ∙ ap (λ (l : List Bool). getD l (place p) false) (sym (entries (λ y. marks (speaker y)) marks t 256 b x h)) ∙ sym (at p (speaker (getD t x 0)));
+          at p x ∙ ap (λ (l : List Bool). getD l (place p) false) (sym (entries (λ y. marks (representative y)) marks t 256 b x h)) ∙ sym (at p (representative (getD t x 0)));
       step-low = λ k h. subst (λ (q : ℕ). q < 38) (getD-drop 256 t k 0) (below 760 (drop 256 t) 38 c k h);
       step = λ k h.
           ap stateShape (sym (getD-drop 256 t k 0))
-          ∙ entries stateShape (λ j. after (speaker (j % 20)) (stateShape (j / 20))) (drop 256 t) 760 d k h;
+          ∙ entries stateShape (λ j. derivative (representative (j % 20)) (stateShape (j / 20))) (drop 256 t) 760 d k h;
     }

@@ -1,11 +1,11 @@
--- The states of the scanner: the shape of what may still come at each, and the table that leads from one to the next.
+-- The states of the automaton: each is a shape, the derivative by what came before, and the table leads from one to the next.
 -- Assumes nothing.
 use Prim.Native.Nat.{ℕ, _+_, _<_, _/_, _%_}
 use mathlib.Core.Path.{_≡_}
 use mathlib.Core.List.{List, [], _∷_}
 use lib.ListN.{getD}
 use Rattle.value_kinds.specs.Octets.{Octets, any, plain, inner, escapee, comma, semicolon, colon, scheme, graphic, digit, theC, theA, theR, theD, point, nought, holds}
-use Rattle.value_kinds.specs.Shapes.{Shape, never, empty, one, _then_, _or_, many, after}
+use Rattle.value_kinds.specs.Shapes.{Shape, never, empty, one, _then_, _or_, many, derivative}
 use Rattle.value_kinds.specs.Kinds.{textOf, text, texts, uri, component, parts, components, gender, pidmap, vcard, version}
 
 -- past a backslash
@@ -15,7 +15,27 @@ escape own = one escapee then textOf own
 abbrev pub escapeIn : Octets → Octets → Shape
 escapeIn mark own = escape own then many (one mark then textOf own)
 
--- state 0 is lost; a value may end in those from 29 on
+-- how many states there are
+abbrev pub stateCount : ℕ
+stateCount = 38
+
+-- the state of the last part of a URI
+abbrev pub uriTail : ℕ
+uriTail = 32
+
+-- the first state in which a value may end
+abbrev pub firstNullable : ℕ
+firstNullable = 29
+
+-- how many entries the table has for a state, one for each sort of octet and fill
+abbrev pub stride : ℕ
+stride = 20
+
+-- how many entries it has for all states
+abbrev pub stepCount : ℕ
+stepCount = 760
+
+-- state 0 is dead, and the nullable states are those from firstNullable on
 unfoldable pub states : List Shape
 states =
     never ∷
@@ -62,17 +82,17 @@ unfoldable pub stateShape : ℕ → Shape
 stateShape q = getD states q never
 
 -- one octet of each sort: octets of one sort are in the same sets
-unfoldable pub speaker : ℕ → ℕ
-speaker c = getD (0 ∷ 33 ∷ 66 ∷ 77 ∷ 78 ∷ 86 ∷ 67 ∷ 65 ∷ 82 ∷ 68 ∷ 49 ∷ 52 ∷ 48 ∷ 43 ∷ 46 ∷ 58 ∷ 59 ∷ 44 ∷ 92 ∷ []) c 0
+unfoldable pub representative : ℕ → ℕ
+representative c = getD (0 ∷ 33 ∷ 66 ∷ 77 ∷ 78 ∷ 86 ∷ 67 ∷ 65 ∷ 82 ∷ 68 ∷ 49 ∷ 52 ∷ 48 ∷ 43 ∷ 46 ∷ 58 ∷ 59 ∷ 44 ∷ 92 ∷ []) c 0
 
--- the table gives the sort of each octet, and from 256 on, twenty entries a state, the next state for each sort
+-- the table gives the sort of each octet, and from 256 on, stride entries a state, the next state for each sort
 pub record Scanner (t : List ℕ) : Type 0 where
-  pub sort-low : (b : ℕ) → b < 256 → getD t b 0 < 20
-  pub sort : (b : ℕ) → b < 256 → (p : Octets) → holds p b ≡ holds p (speaker (getD t b 0))
-  pub step-low : (k : ℕ) → k < 760 → getD t (256 + k) 0 < 38
-  pub step : (k : ℕ) → k < 760 → stateShape (getD t (256 + k) 0) ≡ after (speaker (k % 20)) (stateShape (k / 20))
+  pub sort-low : (b : ℕ) → b < 256 → getD t b 0 < stride
+  pub sort : (b : ℕ) → b < 256 → (p : Octets) → holds p b ≡ holds p (representative (getD t b 0))
+  pub step-low : (k : ℕ) → k < stepCount → getD t (256 + k) 0 < stateCount
+  pub step : (k : ℕ) → k < stepCount → stateShape (getD t (256 + k) 0) ≡ derivative (representative (k % stride)) (stateShape (k / stride))
 
 -- the octet b leads from state q to state n
 pub record Next (q b n : ℕ) : Type 0 where
-  pub inside : n < 38
-  pub right : stateShape n ≡ after b (stateShape q)
+  pub inside : n < stateCount
+  pub right : stateShape n ≡ derivative b (stateShape q)

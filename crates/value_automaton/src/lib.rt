@@ -6,12 +6,14 @@ ghost use Rattle.value_kinds.specs.Kinds.{kindScan, valueScan};
 ghost use Rattle.value_automaton.specs.States.{Scanner};
 
 pub mod scanner;
+pub mod states;
 
 use numbers::property;
+use states::Transitions;
 use value_kinds::Fault;
 
 // Whether s satisfies its kind: `Breaks` has the first octet from which nothing could, or the end.
-pub fn value_fault(steps: &[u8; 1016], kind: usize, s: &[u8]) -> Fault
+pub fn value_fault(steps: &Transitions, kind: usize, s: &[u8]) -> Fault
     requires { ⌜ Scanner (now steps) ⌝ }
     requires { ⌜ kind < kinds.count ⌝ }
     ensures { λ r. ⌜ r ≡ kindScan kind (now (s .entry)) ⌝ }
@@ -24,15 +26,15 @@ pub fn value_fault(steps: &[u8; 1016], kind: usize, s: &[u8]) -> Fault
 }
 
 // Whether s satisfies what its row asks: VCARD on BEGIN and END, 4.0 on VERSION, else the line's kind.
-pub fn judge_value(steps: &[u8; 1016], row: usize, kind: usize, s: &[u8]) -> Fault
+pub fn judge_value(steps: &Transitions, row: usize, kind: usize, s: &[u8]) -> Fault
     requires { ⌜ Scanner (now steps) ⌝ }
     requires { ⌜ kind < kinds.count ⌝ }
     ensures { λ r. ⌜ r ≡ valueScan row kind (now (s .entry)) ⌝ }
 {
     match row {
-        property::BEGIN => scanner::scan(steps, 21, s),
-        property::END => scanner::scan(steps, 21, s),
-        property::VERSION => scanner::scan(steps, 26, s),
+        property::BEGIN => scanner::scan(steps, states::VCARD, s),
+        property::END => scanner::scan(steps, states::VCARD, s),
+        property::VERSION => scanner::scan(steps, states::VERSION, s),
         _ => value_fault(steps, kind, s),
     }
 }

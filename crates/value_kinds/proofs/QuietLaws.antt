@@ -9,7 +9,7 @@ use lib.Dec.{eqb}
 use borrow.Author.Tests.{ne-eqb, eqb-true}
 use Rattle.octets.specs.Classes.{bit}
 use Rattle.value_kinds.specs.Octets.{Octets, any, plain, inner, comma, semicolon, backslash, escapee, neither, holds}
-use Rattle.value_kinds.specs.Shapes.{Shape, one, _then_, _or_, many, joined, each, Is, faultFrom}
+use Rattle.value_kinds.specs.Shapes.{Shape, one, _then_, _or_, many, joined, each, Matches, faultFrom}
 use Rattle.value_kinds.specs.Kinds.{textOf, text, texts, component, parts, components, split, shapeOf, kindScan}
 use Rattle.octets.specs.Counts.{allIn, count}
 use Rattle.value_kinds.specs.declared.Fault.the-variants.{Fits}
@@ -17,43 +17,43 @@ use Rattle.octets.proofs.Bools.{and-both}
 use Rattle.value_kinds.proofs.ShapeLaws.{fits-from}
 
 -- octets that each make a text of the shape are a run of it
-pub put : (a : Shape) (x : ℕ) (xs : List ℕ) → Is a (x ∷ []) → Is (many a) xs → Is (many a) (x ∷ xs)
-unfolding Is joined each
+pub put : (a : Shape) (x : ℕ) (xs : List ℕ) → Matches a (x ∷ []) → Matches (many a) xs → Matches (many a) (x ∷ xs)
+unfolding Matches joined each
 put a x xs h (vs, e, k) = ((x ∷ []) ∷ vs, ap (λ (l : List ℕ). x ∷ l) e, (h, k))
 
-pub run-many : (a : Shape) (p : ℕ → Bool) → ((x : ℕ) → p x ≡ true → Is a (x ∷ [])) → (v : List ℕ) → allIn p v ≡ true → Is (many a) v
-unfolding Is allIn joined each
+pub run-many : (a : Shape) (p : ℕ → Bool) → ((x : ℕ) → p x ≡ true → Matches a (x ∷ [])) → (v : List ℕ) → allIn p v ≡ true → Matches (many a) v
+unfolding Matches allIn joined each
 run-many a p f [] e = ([], refl, tt)
 run-many a p f (x ∷ xs) e =
     let h = and-both (p x) (allIn p xs) e in
     put a x xs (f x (h .0)) (run-many a p f xs (h .1))
 
-pub itself : (p : Octets) (x : ℕ) → holds p x ≡ true → Is (one p) (x ∷ [])
-unfolding Is
+pub itself : (p : Octets) (x : ℕ) → holds p x ≡ true → Matches (one p) (x ∷ [])
+unfolding Matches
 itself p x h = (x, h, refl)
 
-pub bare : (own : Octets) (x : ℕ) → holds own x ≡ true → Is (one own or one backslash then one escapee) (x ∷ [])
-unfolding Is
+pub bare : (own : Octets) (x : ℕ) → holds own x ≡ true → Matches (one own or one backslash then one escapee) (x ∷ [])
+unfolding Matches
 bare own x h = inl (x, h, refl)
 
 -- the first of a list's texts goes on by an octet; a mark opens a new one
 module _ (mark own : Octets) where
-  pub grow : (x : ℕ) (xs : List ℕ) → holds own x ≡ true → Is (split mark (textOf own)) xs → Is (split mark (textOf own)) (x ∷ xs)
-  unfolding Is
+  pub grow : (x : ℕ) (xs : List ℕ) → holds own x ≡ true → Matches (split mark (textOf own)) xs → Matches (split mark (textOf own)) (x ∷ xs)
+  unfolding Matches
   grow x xs h (u, w, e, f, g) =
       (x ∷ u, w, ap (λ (l : List ℕ). x ∷ l) e, put (one own or one backslash then one escapee) x u (bare own x h) f, g)
 
-  pub cut : (x : ℕ) (xs : List ℕ) → holds mark x ≡ true → Is (split mark (textOf own)) xs → Is (split mark (textOf own)) (x ∷ xs)
-  unfolding Is joined each
+  pub cut : (x : ℕ) (xs : List ℕ) → holds mark x ≡ true → Matches (split mark (textOf own)) xs → Matches (split mark (textOf own)) (x ∷ xs)
+  unfolding Matches joined each
   cut x xs h (u, w, e, f, (vs, q, k)) =
       ([], x ∷ xs, refl, ([], refl, tt), ((x ∷ u) ∷ vs, ap (λ (l : List ℕ). x ∷ l) (e ∙ ap (λ (l : List ℕ). u ++ l) q), ((x ∷ [], u, refl, (x, h, refl), f), k)))
 
-  pub nothing : Is (split mark (textOf own)) []
-  unfolding Is joined each
+  pub nothing : Matches (split mark (textOf own)) []
+  unfolding Matches joined each
   nothing = ([], [], refl, ([], refl, tt), ([], refl, tt))
 
   run-split : (p : ℕ → Bool) → ((x : ℕ) → p x ≡ true → (holds mark x ≡ true) ⊎ (holds own x ≡ true)) → (v : List ℕ) → allIn p v ≡ true
-      → Is (split mark (textOf own)) v
+      → Matches (split mark (textOf own)) v
   unfolding allIn
   run-split p f [] e = nothing
   run-split p f (x ∷ xs) e =
@@ -87,29 +87,29 @@ comma-no-semicolon x e = ne-eqb x 59 (λ f. omega (arith, eqb-true x 44 e))
 
 -- components: an octet of the first one, a comma in it, a semicolon that ends it
 module _ (x : ℕ) (xs : List ℕ) where
-  pub part-first : (n : ℕ) → ((u : List ℕ) → Is component u → Is component (x ∷ u)) → Is (parts (suc n)) xs → Is (parts (suc n)) (x ∷ xs)
-  unfolding Is parts
+  pub part-first : (n : ℕ) → ((u : List ℕ) → Matches component u → Matches component (x ∷ u)) → Matches (parts (suc n)) xs → Matches (parts (suc n)) (x ∷ xs)
+  unfolding Matches parts
   part-first zero f k = f xs k
   part-first (suc n) f (u, w, e, k, g) = (x ∷ u, w, ap (λ (l : List ℕ). x ∷ l) e, f u k, g)
 
-  pub part-next : (n : ℕ) → holds semicolon x ≡ true → Is (parts (suc n)) xs → Is (parts (suc (suc n))) (x ∷ xs)
-  unfolding Is parts component
+  pub part-next : (n : ℕ) → holds semicolon x ≡ true → Matches (parts (suc n)) xs → Matches (parts (suc (suc n))) (x ∷ xs)
+  unfolding Matches parts component
   part-next n h k = ([], x ∷ xs, refl, nothing comma inner, (x ∷ [], xs, refl, (x, h, refl), k))
 
-pub part-own : (x : ℕ) → holds inner x ≡ true → (u : List ℕ) → Is component u → Is component (x ∷ u)
+pub part-own : (x : ℕ) → holds inner x ≡ true → (u : List ℕ) → Matches component u → Matches component (x ∷ u)
 unfolding component
 part-own x h u k = grow comma inner x u h k
 
-pub part-comma : (x : ℕ) → holds comma x ≡ true → (u : List ℕ) → Is component u → Is component (x ∷ u)
+pub part-comma : (x : ℕ) → holds comma x ≡ true → (u : List ℕ) → Matches component u → Matches component (x ∷ u)
 unfolding component
 part-comma x h u k = cut comma inner x u h k
 
 count-as : (x : ℕ) (xs : List ℕ) (t : Bool) (n : ℕ) → holds semicolon x ≡ t → bit t 1 + count (holds semicolon) xs ≡ n
-    → Is (parts (suc n)) (x ∷ xs) → Is (parts (suc (count (holds semicolon) (x ∷ xs)))) (x ∷ xs)
+    → Matches (parts (suc n)) (x ∷ xs) → Matches (parts (suc (count (holds semicolon) (x ∷ xs)))) (x ∷ xs)
 unfolding count
-count-as x xs t n e f h = subst (λ (m : ℕ). Is (parts (suc m)) (x ∷ xs)) (sym (ap (λ (b : Bool). bit b 1 + count (holds semicolon) xs) e ∙ f)) h
+count-as x xs t n e f h = subst (λ (m : ℕ). Matches (parts (suc m)) (x ∷ xs)) (sym (ap (λ (b : Bool). bit b 1 + count (holds semicolon) xs) e ∙ f)) h
 
-run-parts : (v : List ℕ) → allIn (neither 92 92) v ≡ true → Is (parts (suc (count (holds semicolon) v))) v
+run-parts : (v : List ℕ) → allIn (neither 92 92) v ≡ true → Matches (parts (suc (count (holds semicolon) v))) v
 unfolding allIn count parts component
 run-parts [] e = nothing comma inner
 run-parts (x ∷ xs) e =
@@ -126,8 +126,8 @@ run-parts (x ∷ xs) e =
     (semicolon-or x k))
     (comma-or x (h .0))
 
-pub whole : (v : List ℕ) → Is (many (one any)) v
-unfolding Is joined each holds
+pub whole : (v : List ℕ) → Matches (many (one any)) v
+unfolding Matches joined each holds
 whole [] = ([], refl, tt)
 whole (x ∷ xs) = put (one any) x xs (x, refl, refl) (whole xs)
 
@@ -150,4 +150,4 @@ quick-components v e =
     fits-from components 0 v (run-split semicolon inner (neither 92 44) (λ x h. ⊎-elim (λ k. inl k) (λ k. inr (k .0)) (semicolon-or x h)) v e)
 
 pub quick-parts : (v : List ℕ) (n : ℕ) → allIn (neither 92 92) v ≡ true → count (holds semicolon) v ≡ n → faultFrom (parts (suc n)) 0 v ≡ Fits
-quick-parts v n e f = fits-from (parts (suc n)) 0 v (subst (λ (m : ℕ). Is (parts (suc m)) v) f (run-parts v e))
+quick-parts v n e f = fits-from (parts (suc n)) 0 v (subst (λ (m : ℕ). Matches (parts (suc m)) v) f (run-parts v e))

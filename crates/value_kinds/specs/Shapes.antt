@@ -1,4 +1,4 @@
--- Shapes of texts: what a text of a shape IS, and what is left of a shape after an octet. Assumes nothing.
+-- Shapes are regular expressions over sets of octets: which texts match one, and its Brzozowski derivative by an octet. Assumes nothing.
 use Prim.Native.Nat.{ℕ, _+_}
 use mathlib.Core.Path.{_≡_}
 use mathlib.Core.Bool.{Bool, true, false, _&&_, _||_}
@@ -19,40 +19,42 @@ pub data Shape : Type 0 where
   _or_ : Shape → Shape → Shape
   many : Shape → Shape
 
+-- the texts one behind the other
 unfoldable pub joined : List (List ℕ) → List ℕ
 joined [] = []
 joined (v ∷ vs) = v ++ joined vs
 
+-- each of the texts is P
 unfoldable pub each : (List ℕ → Type 0) → List (List ℕ) → Type 0
 each P [] = Unit {0}
 each P (v ∷ vs) = P v × each P vs
 
--- a text is of a shape
-unfoldable pub Is : Shape → List ℕ → Type 0
-Is never v = ⊥
-Is empty v = v ≡ []
-Is (one p) v = (x : ℕ) × (holds p x ≡ true) × (v ≡ x ∷ [])
-Is (a then b) v = (u : List ℕ) × (w : List ℕ) × (v ≡ u ++ w) × Is a u × Is b w
-Is (a or b) v = Is a v ⊎ Is b v
-Is (many a) v = (vs : List (List ℕ)) × (v ≡ joined vs) × each (Is a) vs
+-- a text matches a shape
+unfoldable pub Matches : Shape → List ℕ → Type 0
+Matches never v = ⊥
+Matches empty v = v ≡ []
+Matches (one p) v = (x : ℕ) × (holds p x ≡ true) × (v ≡ x ∷ [])
+Matches (a then b) v = (u : List ℕ) × (w : List ℕ) × (v ≡ u ++ w) × Matches a u × Matches b w
+Matches (a or b) v = Matches a v ⊎ Matches b v
+Matches (many a) v = (vs : List (List ℕ)) × (v ≡ joined vs) × each (Matches a) vs
 
--- the empty text is of the shape
-unfoldable pub mayEnd : Shape → Bool
-mayEnd never = false
-mayEnd empty = true
-mayEnd (one p) = false
-mayEnd (a then b) = mayEnd a && mayEnd b
-mayEnd (a or b) = mayEnd a || mayEnd b
-mayEnd (many a) = true
+-- the empty text matches the shape
+unfoldable pub nullable : Shape → Bool
+nullable never = false
+nullable empty = true
+nullable (one p) = false
+nullable (a then b) = nullable a && nullable b
+nullable (a or b) = nullable a || nullable b
+nullable (many a) = true
 
--- no text is of the shape
-unfoldable pub lost : Shape → Bool
-lost never = true
-lost empty = false
-lost (one p) = false
-lost (a then b) = lost a || lost b
-lost (a or b) = lost a && lost b
-lost (many a) = false
+-- no text matches the shape
+unfoldable pub dead : Shape → Bool
+dead never = true
+dead empty = false
+dead (one p) = false
+dead (a then b) = dead a || dead b
+dead (a or b) = dead a && dead b
+dead (many a) = false
 
 -- `then` and `or`, written shorter where a side is plainly idle
 unfoldable pub chain : Shape → Shape → Shape
@@ -63,6 +65,7 @@ chain (a then c) b = (a then c) then b
 chain (a or c) b = (a or c) then b
 chain (many a) b = many a then b
 
+-- the shape is `never` itself
 unfoldable pub isNever : Shape → Bool
 isNever never = true
 isNever empty = false
@@ -74,16 +77,16 @@ isNever (many a) = false
 unfoldable pub fork : Shape → Shape → Shape
 fork a b = pick (isNever a) b (pick (isNever b) a (a or b))
 
--- what may stand after the octet x
-unfoldable pub after : ℕ → Shape → Shape
-after x never = never
-after x empty = never
-after x (one p) = pick (holds p x) empty never
-after x (a then b) = pick (mayEnd a) (fork (chain (after x a) b) (after x b)) (chain (after x a) b)
-after x (a or b) = fork (after x a) (after x b)
-after x (many a) = chain (after x a) (many a)
+-- the texts that match it are those which match the shape once x stands before them
+unfoldable pub derivative : ℕ → Shape → Shape
+derivative x never = never
+derivative x empty = never
+derivative x (one p) = pick (holds p x) empty never
+derivative x (a then b) = pick (nullable a) (fork (chain (derivative x a) b) (derivative x b)) (chain (derivative x a) b)
+derivative x (a or b) = fork (derivative x a) (derivative x b)
+derivative x (many a) = chain (derivative x a) (many a)
 
--- the first octet, counted from i, from which no continuation is of the shape; the end where it only ends too early
+-- the first octet, counted from i, from which no continuation matches the shape; the end where it only ends too early
 unfoldable pub faultFrom : Shape → ℕ → List ℕ → Fault
-faultFrom r i [] = pick (mayEnd r) Fits (Breaks i)
-faultFrom r i (x ∷ xs) = pick (lost (after x r)) (Breaks i) (faultFrom (after x r) (i + 1) xs)
+faultFrom r i [] = pick (nullable r) Fits (Breaks i)
+faultFrom r i (x ∷ xs) = pick (dead (derivative x r)) (Breaks i) (faultFrom (derivative x r) (i + 1) xs)

@@ -1,4 +1,4 @@
-// The kinds of value, and looks at each octet of a value by itself that settle most values.
+// The kinds of value are regular expressions; here are tests of each octet by itself that settle most values.
 ghost use mathlib.Core.Path.{_≡_};
 ghost use mathlib.Core.Bool.{true, not};
 ghost use Rattle.octets.specs.Classes.{bit};
@@ -37,7 +37,7 @@ fn lacks(a: u8, b: u8, s: &[u8]) -> bool
 fn hidden_bit(x: u8) -> u8
     ensures { λ r. ⌜ r ≡ bit (not (holds graphic x)) 1 ⌝ }
 {
-    (x < 33) as u8 | (126 < x) as u8
+    (x < b'!') as u8 | (b'~' < x) as u8
 }
 
 // Whether all octets of s are 21-7E.
@@ -60,7 +60,7 @@ fn semicolons(s: &[u8]) -> usize
     let mut n: usize = 0;
     let mut i: usize = 0;
     while i < s.len() {
-        n += (s[i] == 59) as usize;
+        n += (s[i] == b';') as usize;
         i += 1;
     }
     n
@@ -73,7 +73,7 @@ fn counted(s: &[u8], n: usize) -> bool
     if semicolons(s) != n {
         return false;
     }
-    lacks(92, 92, s)
+    lacks(b'\\', b'\\', s)
 }
 
 // True only where a look at each octet by itself shows that s fits.
@@ -82,11 +82,11 @@ pub fn quick(kind: usize, s: &[u8]) -> bool
 {
     match kind {
         kind::ANYTHING => true,
-        kind::TEXT => lacks(92, 44, s),
-        kind::TEXTS => lacks(92, 92, s),
+        kind::TEXT => lacks(b'\\', b',', s),
+        kind::TEXTS => lacks(b'\\', b'\\', s),
         kind::NAME => counted(s, 4),
         kind::ADDRESS => counted(s, 6),
-        kind::ORGANIZATION => lacks(92, 44, s),
+        kind::ORGANIZATION => lacks(b'\\', b',', s),
         _ => false,
     }
 }

@@ -7,31 +7,31 @@ use mathlib.Core.Logic.{_↔_}
 use Prim.Native.Nat.{ℕ, _<_}
 use lib.Dec.{eqb}
 use Rattle.octets.specs.Pick.{pick}
-use Rattle.value_kinds.specs.Shapes.{Shape, lost, Is}
+use Rattle.value_kinds.specs.Shapes.{Shape, dead, Matches}
 use Rattle.value_kinds.specs.Kinds.{text, texts, uri, component, parts, components, gender, pidmap, vcard, version, shapeOf, lineShape, kindScan, valueScan}
 use Rattle.value_kinds.specs.declared.Fault.the-variants.{Fits, Breaks}
 use Rattle.octets.proofs.Upto.{upto, alike}
 use Rattle.value_laws.proofs.Places.{Broken, fits, breaks}
 
-pub fits-kind : (k : ℕ) (v : List ℕ) → (kindScan k v ≡ Fits) ↔ Is (shapeOf k) v
+pub fits-kind : (k : ℕ) (v : List ℕ) → (kindScan k v ≡ Fits) ↔ Matches (shapeOf k) v
 unfolding kindScan
 fits-kind k v = fits (shapeOf k) v
 
-pub fits-line : (row k : ℕ) (v : List ℕ) → (valueScan row k v ≡ Fits) ↔ Is (lineShape row k) v
+pub fits-line : (row k : ℕ) (v : List ℕ) → (valueScan row k v ≡ Fits) ↔ Matches (lineShape row k) v
 unfolding valueScan
 fits-line row k v = fits (lineShape row k) v
 
 -- each kind and each fixed value has a text
-kind-found : (k : ℕ) → k < 9 → lost (shapeOf k) ≡ false
-unfolding upto shapeOf lost text texts uri component parts components gender pidmap
-kind-found k h = alike (λ j. lost (shapeOf j)) (λ j. false) 9 refl k h
+kind-found : (k : ℕ) → k < 9 → dead (shapeOf k) ≡ false
+unfolding upto shapeOf dead text texts uri component parts components gender pidmap
+kind-found k h = alike (λ j. dead (shapeOf j)) (λ j. false) 9 refl k h
 
-pick-found : (t : Bool) (a b : Shape) → lost a ≡ false → lost b ≡ false → lost (pick t a b) ≡ false
+pick-found : (t : Bool) (a b : Shape) → dead a ≡ false → dead b ≡ false → dead (pick t a b) ≡ false
 pick-found true a b e f = e
 pick-found false a b e f = f
 
-line-found : (row k : ℕ) → k < 9 → lost (lineShape row k) ≡ false
-unfolding lineShape lost vcard version
+line-found : (row k : ℕ) → k < 9 → dead (lineShape row k) ≡ false
+unfolding lineShape dead vcard version
 line-found row k h =
     pick-found (eqb row 1) vcard _ refl (pick-found (eqb row 2) vcard _ refl (pick-found (eqb row 34) version (shapeOf k) refl (kind-found k h)))
 

@@ -9,7 +9,7 @@ use borrow.Author.Tests.{eqb-true, ne-eqb}
 use Rattle.octets.specs.Cases.{lower, same}
 use Rattle.octets.specs.Ascii.{octets}
 use Rattle.value_kinds.specs.Octets.{Octets, scheme, graphic, digit, colon, semicolon, letter, sex, theV, theC, theA, theR, theD, four, point, nought, holds}
-use Rattle.value_kinds.specs.Shapes.{Shape, empty, one, _then_, _or_, many, joined, each, Is}
+use Rattle.value_kinds.specs.Shapes.{Shape, empty, one, _then_, _or_, many, joined, each, Matches}
 use Rattle.value_kinds.specs.Kinds.{text, uri, gender, pidmap, vcard, version, shapeOf, kindScan, valueScan, lineShape}
 use Rattle.octets.specs.Counts.{allIn}
 use Rattle.value_kinds.specs.declared.Fault.the-variants.{Fits}
@@ -23,130 +23,130 @@ abbrev through : {A B C : Type 0} → A ↔ B → B ↔ C → A ↔ C
 through f g = (λ a. g .0 (f .0 a), λ c. f .1 (g .1 c))
 
 -- a run of octets of a set
-run-all : (p : Octets) (vs : List (List ℕ)) → each (Is (one p)) vs → All p (joined vs)
-unfolding Is joined each allIn
+run-all : (p : Octets) (vs : List (List ℕ)) → each (Matches (one p)) vs → All p (joined vs)
+unfolding Matches joined each allIn
 run-all p [] h = refl
 run-all p (v ∷ vs) ((x, e, f), h) = rw (f, e) (run-all p vs h)
 
-run : (p : Octets) (v : List ℕ) → Is (many (one p)) v ↔ All p v
-unfolding Is
+run : (p : Octets) (v : List ℕ) → Matches (many (one p)) v ↔ All p v
+unfolding Matches
 run p v = (λ h. subst (All p) (sym (h .1)) (run-all p (h .0) (h .2)), run-many (one p) (holds p) (itself p) v)
 
 -- an octet of a set before a text
-head-to : (p : Octets) (a : Shape) (v : List ℕ) → Is (one p then a) v → (x : ℕ) × (w : List ℕ) × (v ≡ x ∷ w) × In p x × Is a w
-unfolding Is
+head-to : (p : Octets) (a : Shape) (v : List ℕ) → Matches (one p then a) v → (x : ℕ) × (w : List ℕ) × (v ≡ x ∷ w) × In p x × Matches a w
+unfolding Matches
 head-to p a v (u, w, e, (x, h, f), k) = (x, w, e ∙ ap (λ (l : List ℕ). l ++ w) f, h, k)
 
-head-from : (p : Octets) (a : Shape) (x : ℕ) (v w : List ℕ) → v ≡ x ∷ w → In p x → Is a w → Is (one p then a) v
-unfolding Is
+head-from : (p : Octets) (a : Shape) (x : ℕ) (v w : List ℕ) → v ≡ x ∷ w → In p x → Matches a w → Matches (one p then a) v
+unfolding Matches
 head-from p a x v w e h k = (x ∷ [], w, e, (x, h, refl), k)
 
 -- a run, an octet that ends it, and a text
-tail-to : (p q : Octets) (a : Shape) (v : List ℕ) → Is (many (one p) then one q then a) v
-    → (u : List ℕ) × (m : ℕ) × (w : List ℕ) × (v ≡ u ++ m ∷ w) × All p u × In q m × Is a w
-unfolding Is
+tail-to : (p q : Octets) (a : Shape) (v : List ℕ) → Matches (many (one p) then one q then a) v
+    → (u : List ℕ) × (m : ℕ) × (w : List ℕ) × (v ≡ u ++ m ∷ w) × All p u × In q m × Matches a w
+unfolding Matches
 tail-to p q a v (u, w, e, h, k) =
     let x = head-to q a w k in
     (u, x .0, x .1, e ∙ ap (λ (l : List ℕ). u ++ l) (x .2), run p u .0 h, x .3, x .4)
 
-tail-from : (p q : Octets) (a : Shape) (u : List ℕ) (m : ℕ) (w : List ℕ) → All p u → In q m → Is a w → Is (many (one p) then one q then a) (u ++ m ∷ w)
-unfolding Is
+tail-from : (p q : Octets) (a : Shape) (u : List ℕ) (m : ℕ) (w : List ℕ) → All p u → In q m → Matches a w → Matches (many (one p) then one q then a) (u ++ m ∷ w)
+unfolding Matches
 tail-from p q a u m w h k l = (u, m ∷ w, refl, run p u .1 h, head-from q a m (m ∷ w) w refl k l)
 
-uri-words : (v : List ℕ) → Is uri v ↔ Uri v
+uri-words : (v : List ℕ) → Matches uri v ↔ Uri v
 unfolding uri
 uri-words v = (to, from)
   where
-    to : Is uri v → Uri v
+    to : Matches uri v → Uri v
     to h =
         let x = head-to letter (many (one scheme) then one colon then many (one graphic)) v h in
         let y = tail-to scheme colon (many (one graphic)) (x .1) (x .4) in
         (x .0, y .0, y .1, y .2, x .2 ∙ ap (λ (l : List ℕ). x .0 ∷ l) (y .3), x .3, y .4, y .5, run graphic (y .2) .0 (y .6))
 
-    from : Uri v → Is uri v
+    from : Uri v → Matches uri v
     from (x, a, m, b, e, h, k, l, n) =
         head-from letter (many (one scheme) then one colon then many (one graphic)) x v (a ++ m ∷ b) e h
         (tail-from scheme colon (many (one graphic)) a m b k l (run graphic b .1 n))
 
-pidmap-words : (v : List ℕ) → Is pidmap v ↔ Pidmap v
+pidmap-words : (v : List ℕ) → Matches pidmap v ↔ Pidmap v
 unfolding pidmap
 pidmap-words v = (to, from)
   where
-    to : Is pidmap v → Pidmap v
+    to : Matches pidmap v → Pidmap v
     to h =
         let x = head-to digit (many (one digit) then one semicolon then uri) v h in
         let y = tail-to digit semicolon uri (x .1) (x .4) in
         (x .0, y .0, y .1, y .2, x .2 ∙ ap (λ (l : List ℕ). x .0 ∷ l) (y .3), x .3, y .4, y .5, uri-words (y .2) .0 (y .6))
 
-    from : Pidmap v → Is pidmap v
+    from : Pidmap v → Matches pidmap v
     from (x, a, m, b, e, h, k, l, n) =
         head-from digit (many (one digit) then one semicolon then uri) x v (a ++ m ∷ b) e h
         (tail-from digit semicolon uri a m b k l (uri-words b .1 n))
 
-text-words : (v : List ℕ) → Is text v ↔ Text v
+text-words : (v : List ℕ) → Matches text v ↔ Text v
 unfolding shapeOf
 text-words v = is-text v
 
-gender-words : (v : List ℕ) → Is gender v ↔ Gender v
-unfolding gender Is
+gender-words : (v : List ℕ) → Matches gender v ↔ Gender v
+unfolding gender Matches
 gender-words v = (to, from)
   where
-    sex-to : (u : List ℕ) → Is (one sex or empty) u → (u ≡ []) ⊎ ((x : ℕ) × (u ≡ x ∷ []) × In sex x)
+    sex-to : (u : List ℕ) → Matches (one sex or empty) u → (u ≡ []) ⊎ ((x : ℕ) × (u ≡ x ∷ []) × In sex x)
     sex-to u (inl (x, h, e)) = inr (x, e, h)
     sex-to u (inr e) = inl e
 
-    rest-to : (w : List ℕ) → Is (one semicolon then text or empty) w
+    rest-to : (w : List ℕ) → Matches (one semicolon then text or empty) w
         → (w ≡ []) ⊎ ((m : ℕ) × (t : List ℕ) × (w ≡ m ∷ t) × In semicolon m × Text t)
     rest-to w (inl h) =
         let x = head-to semicolon text w h in
         inr (x .0, x .1, x .2, x .3, text-words (x .1) .0 (x .4))
     rest-to w (inr e) = inl e
 
-    to : Is gender v → Gender v
+    to : Matches gender v → Gender v
     to (u, w, e, h, k) = (u, w, e, sex-to u h, rest-to w k)
 
-    sex-from : (u : List ℕ) → (u ≡ []) ⊎ ((x : ℕ) × (u ≡ x ∷ []) × In sex x) → Is (one sex or empty) u
+    sex-from : (u : List ℕ) → (u ≡ []) ⊎ ((x : ℕ) × (u ≡ x ∷ []) × In sex x) → Matches (one sex or empty) u
     sex-from u (inl e) = inr e
     sex-from u (inr (x, e, h)) = inl (x, h, e)
 
     rest-from : (w : List ℕ) → (w ≡ []) ⊎ ((m : ℕ) × (t : List ℕ) × (w ≡ m ∷ t) × In semicolon m × Text t)
-        → Is (one semicolon then text or empty) w
+        → Matches (one semicolon then text or empty) w
     rest-from w (inl e) = inr e
     rest-from w (inr (m, t, e, h, k)) = inl (head-from semicolon text m w t e h (text-words t .1 k))
 
-    from : Gender v → Is gender v
+    from : Gender v → Matches gender v
     from (u, w, e, h, k) = (u, w, e, sex-from u h, rest-from w k)
 
 -- a letter in any case, and then the rest of a word
 cased : (p : Octets) (a : Shape) (y : ℕ) (ys : List ℕ) → ((x : ℕ) → holds p x ≡ eqb (lower x) (lower y))
-    → ((w : List ℕ) → Is a w ↔ (same w ys ≡ true)) → (v : List ℕ) → Is (one p then a) v ↔ (same v (y ∷ ys) ≡ true)
+    → ((w : List ℕ) → Matches a w ↔ (same w ys ≡ true)) → (v : List ℕ) → Matches (one p then a) v ↔ (same v (y ∷ ys) ≡ true)
 unfolding same
 cased p a y ys f g v = (to, from v)
   where
-    to : Is (one p then a) v → same v (y ∷ ys) ≡ true
+    to : Matches (one p then a) v → same v (y ∷ ys) ≡ true
     to h =
         let x = head-to p a v h in
         rw (x .2, sym (f (x .0)), x .3) (g (x .1) .0 (x .4))
 
-    from : (v : List ℕ) → same v (y ∷ ys) ≡ true → Is (one p then a) v
+    from : (v : List ℕ) → same v (y ∷ ys) ≡ true → Matches (one p then a) v
     from [] e = absurd (false≢true e)
     from (x ∷ w) e =
         let h = and-both (eqb (lower x) (lower y)) (same w ys) e in
         head-from p a x (x ∷ w) w refl (f x ∙ h .0) (g w .1 (h .1))
 
-last-cased : (p : Octets) (y : ℕ) → ((x : ℕ) → holds p x ≡ eqb (lower x) (lower y)) → (v : List ℕ) → Is (one p) v ↔ (same v (y ∷ []) ≡ true)
-unfolding Is same
+last-cased : (p : Octets) (y : ℕ) → ((x : ℕ) → holds p x ≡ eqb (lower x) (lower y)) → (v : List ℕ) → Matches (one p) v ↔ (same v (y ∷ []) ≡ true)
+unfolding Matches same
 last-cased p y f v = (to, from v)
   where
-    to : Is (one p) v → same v (y ∷ []) ≡ true
+    to : Matches (one p) v → same v (y ∷ []) ≡ true
     to (x, h, e) = rw (e, sym (f x), h)
 
-    from : (v : List ℕ) → same v (y ∷ []) ≡ true → Is (one p) v
+    from : (v : List ℕ) → same v (y ∷ []) ≡ true → Matches (one p) v
     from [] e = absurd (false≢true e)
     from (x ∷ []) e = (x, f x ∙ and-both (eqb (lower x) (lower y)) true e .0, refl)
     from (x ∷ z ∷ w) e = absurd (false≢true (and-both (eqb (lower x) (lower y)) false e .1))
 
-vcard-words : (v : List ℕ) → Is vcard v ↔ (same v (octets "VCARD") ≡ true)
+vcard-words : (v : List ℕ) → Matches vcard v ↔ (same v (octets "VCARD") ≡ true)
 unfolding vcard holds octets
 vcard-words v =
     cased theV (one theC then one theA then one theR then one theD) 86 (67 ∷ 65 ∷ 82 ∷ 68 ∷ []) (λ x. refl)
@@ -155,11 +155,11 @@ vcard-words v =
     (cased theR (one theD) 82 (68 ∷ []) (λ x. refl) (last-cased theD 68 (λ x. refl)))))
     v
 
-version-words : (v : List ℕ) → Is version v ↔ (v ≡ octets "4.0")
-unfolding version holds octets Is
+version-words : (v : List ℕ) → Matches version v ↔ (v ≡ octets "4.0")
+unfolding version holds octets Matches
 version-words v = (to, from)
   where
-    to : Is version v → v ≡ 52 ∷ 46 ∷ 48 ∷ []
+    to : Matches version v → v ≡ 52 ∷ 46 ∷ 48 ∷ []
     to h =
         let x = head-to four (one point then one nought) v h in
         let y = head-to point (one nought) (x .1) (x .4) in
@@ -169,7 +169,7 @@ version-words v = (to, from)
         let c = eqb-true (z .0) 48 (z .1) in
         rw (x .2, y .2, z .2, a, b, c)
 
-    from : v ≡ 52 ∷ 46 ∷ 48 ∷ [] → Is version v
+    from : v ≡ 52 ∷ 46 ∷ 48 ∷ [] → Matches version v
     from e =
         head-from four (one point then one nought) 52 v (46 ∷ 48 ∷ []) e refl
         (head-from point (one nought) 46 (46 ∷ 48 ∷ []) (48 ∷ []) refl refl (48, refl, refl))

@@ -28,14 +28,14 @@ same-both (x ∷ a) (y ∷ b) (z ∷ c) e f =
     rw (eq-eqb (lower y) (lower z) k) (same-both a b c (g .1) (h .1))
 
 -- no two rows have the same name
-apart : (m n : ℕ) → m < 39 → n < 39 → same (rowAt m .name) (rowAt n .name) ≡ eqb m n
+distinct-names : (m n : ℕ) → m < 39 → n < 39 → same (rowAt m .name) (rowAt n .name) ≡ eqb m n
 unfolding upto rowAt rows octets same lower
-apart m n g h =
+distinct-names m n g h =
     alike (λ i. same (rowAt m .name) (rowAt i .name)) (λ i. eqb m i) 39
     (alike (λ j. upto (λ i. same (rowAt j .name) (rowAt i .name)) 0 39) (λ j. upto (λ i. eqb j i) 0 39) 39 refl m g) n h
 
 one-row : (v : List ℕ) (m n : ℕ) → m < 39 → n < 39 → same v (rowAt m .name) ≡ true → same v (rowAt n .name) ≡ true → m ≡ n
-one-row v m n g h e f = eqb-true m n (sym (apart m n g h) ∙ same-both v (rowAt m .name) (rowAt n .name) e f)
+one-row v m n g h e f = eqb-true m n (sym (distinct-names m n g h) ∙ same-both v (rowAt m .name) (rowAt n .name) e f)
 
 module _ (v : List ℕ) where
   reach : (d m n : ℕ) → m + d ≡ n → n < 39 → same v (rowAt n .name) ≡ true → searchFrom v m ≡ n

@@ -38,7 +38,7 @@ returns-2 c =
     let a = c .before .before .before .before .before .before .before .before .args in
     c .before .before .before .before .before .before .kind-of .ensures .0
     ∙ value-none (a .row) (firstValue (a .s .now))
-    (value-missing (a .s .now) (a .name) (c .before .before .before .before .before .before .before .before .pre .1 .1 .1) (sym (c .before .before .param-first .ensures) ∙ c .enum-told .given .1))
+    (value-missing (a .s .now) (a .name-end) (c .before .before .before .before .before .before .before .before .pre .1 .1 .1) (sym (c .before .before .param-first .ensures) ∙ c .enum-told .given .1))
 
 -- the part of the line that was found
 there : (c : tie.After-known-told) → Part (c .before .before .before .before .before .before .before .before .before .args .s .now) (c .before .f .given .0 .0) (c .before .f .given .0 .1 .0)
@@ -46,7 +46,7 @@ there : (c : tie.After-known-told) → Part (c .before .before .before .before .
 unfolding octets
 there c =
     let a = c .before .before .before .before .before .before .before .before .before in
-    value-there (a .args .s .now) (a .args .name) (a .pre .1 .1 .1) (c .before .f .given .0 .0) (c .before .f .given .0 .1 .0) (sym (c .before .before .before .param-first .ensures) ∙ c .before .f .given .1)
+    value-there (a .args .s .now) (a .args .name-end) (a .pre .1 .1 .1) (c .before .f .given .0 .0) (c .before .f .given .0 .1 .0) (sym (c .before .before .before .param-first .ensures) ∙ c .before .f .given .1)
 
 sub-kind-named : tie.Need-sub-kind-named
 sub-kind-named c = there c .order

@@ -1,5 +1,5 @@
 -- `card_line::parts_of` meets its contract. Assumes nothing.
-use Rattle.card_line.proofs.PartLaws.{Known, known, accepted, told-fault, told-parts, group-low}
+use Rattle.card_line.proofs.PartLaws.{Known, known, accepted, parts-fault, parts-by, group-low}
 use native.Mathlib.Omega.{arith}
 use Prim.Native.Nat.{ℕ, _-_}
 use mathlib.Core.List.{List}
@@ -22,7 +22,7 @@ fault-of-requires : tie.Need-fault-of-requires
 fault-of-requires c κs = search needs
 
 returns : tie.Need-returns
-returns c = told-fault (c .before .before .before .before .args .s .now) (c .before .before .read-line .result) (c .fault-of .result) (c .before .before .read-line .ensures) (c .before .match .keys2) (c .fault-of .ensures)
+returns c = parts-fault (c .before .before .before .before .args .s .now) (c .before .before .read-line .result) (c .fault-of .result) (c .before .before .read-line .ensures) (c .before .match .keys2) (c .fault-of .ensures)
 
 -- the numbers that were answered are those of a line
 here : (c : tie.After-known-told)
@@ -57,7 +57,7 @@ kind-at-requires c κs =
 returns-2 : tie.Need-returns-2
 returns-2 c =
     let k = here (c .before .before .before .before) in
-    told-parts _ _ _ _ _ k (c .before .find-row .result) (c .kind-at .result)
+    parts-by _ _ _ _ _ k (c .before .find-row .result) (c .kind-at .result)
     (c .before .find-row .ensures .0 ∙ row-named k (c .before .before .before .name-start .ensures)) (c .kind-at .ensures)
 
 pub parts-of-spec : {M : Type 1} → statement M

@@ -5,30 +5,30 @@ use Prim.Native.Nat.{ℕ, _+_, _-_, _≤_, _<_}
 use native.Mathlib.Omega.{arith}
 use lib.ListN.{length}
 use Rattle.line_parser.specs.Places.{nameStart}
-use Rattle.card_judge.proofs.CardLaws.{told-fits, name-long}
+use Rattle.card_judge.proofs.CardLaws.{parts-fit, name-long}
 use Rattle.reader_records.specs.Records.{recordBy, recordOf}
 use borrow.Author.Needs.{needs}
 use Rattle.reader_records.proofs.record_of.Statement.{statement}
 use Rattle.reader_records.proofs.record_of.Tie as tie
 
 -- the parts lie within the line
-within : (c : tie.After-told)
-    → (c .told .given .0 .0 .name ≤ length (c .before .before .before .before .args .l .now))
-    × (c .told .given .0 .0 .value ≤ length (c .before .before .before .before .args .l .now))
-    × (c .told .given .0 .0 .group ≤ c .told .given .0 .0 .name)
-    × (c .told .given .0 .0 .params ≤ length (c .before .before .before .before .args .l .now))
-    × (c .told .given .0 .0 .row < 39)
-    × (c .told .given .0 .0 .kind < 9)
-within c = told-fits (c .before .before .before .before .args .l .now) (c .told .given .0 .0) (sym (c .before .before .parts-of .ensures) ∙ c .told .given .1)
+within : (c : tie.After-parsed)
+    → (c .parsed .given .0 .0 .«name_end» ≤ length (c .before .before .before .before .args .l .now))
+    × (c .parsed .given .0 .0 .«value_start» ≤ length (c .before .before .before .before .args .l .now))
+    × (c .parsed .given .0 .0 .«group_length» ≤ c .parsed .given .0 .0 .«name_end»)
+    × (c .parsed .given .0 .0 .«param_count» ≤ length (c .before .before .before .before .args .l .now))
+    × (c .parsed .given .0 .0 .row < 39)
+    × (c .parsed .given .0 .0 .kind < 9)
+within c = parts-fit (c .before .before .before .before .args .l .now) (c .parsed .given .0 .0) (sym (c .before .before .parts-of .ensures) ∙ c .parsed .given .1)
 
-long : (c : tie.After-told) → nameStart (c .told .given .0 .0 .group) ≤ c .told .given .0 .0 .name
-long c = name-long (c .before .before .before .before .args .l .now) (c .told .given .0 .0) (sym (c .before .before .parts-of .ensures) ∙ c .told .given .1)
+long : (c : tie.After-parsed) → nameStart (c .parsed .given .0 .0 .«group_length») ≤ c .parsed .given .0 .0 .«name_end»
+long c = name-long (c .before .before .before .before .args .l .now) (c .parsed .given .0 .0) (sym (c .before .before .parts-of .ensures) ∙ c .parsed .given .1)
 
 parts-of-requires : tie.Need-parts-of-requires
 parts-of-requires c κs = search needs
 
-enum-known-told : tie.Need-enum-known-told
-enum-known-told c = search needs
+enum-known-parsed : tie.Need-enum-known-parsed
+enum-known-parsed c = search needs
 
 enum-told : tie.Need-enum-told
 enum-told c = search needs
@@ -91,17 +91,17 @@ returns-2 c =
     let c10 = c8 .before .before in
     let c12 = c10 .before .before in
     let a = c12 .args in
-    let x = c8 .told .given .0 .0 in
+    let x = c8 .parsed .given .0 .0 in
     let n = length (a .l .now) in
-    ap (λ (f : ℕ). x .row ∷ a .w ∷ n ∷ x .group ∷ (x .name - f) ∷ x .params ∷ (a .w + x .value) ∷ x .kind ∷ []) (c6 .name-start .ensures)
-    ∙ sym (ap (recordBy (a .w) n) (sym (c10 .parts-of .ensures) ∙ c8 .told .given .1))
+    ap (λ (f : ℕ). x .row ∷ a .w ∷ n ∷ x .«group_length» ∷ (x .«name_end» - f) ∷ x .«param_count» ∷ (a .w + x .«value_start») ∷ x .kind ∷ []) (c6 .name-start .ensures)
+    ∙ sym (ap (recordBy (a .w) n) (sym (c10 .parts-of .ensures) ∙ c8 .parsed .given .1))
 
 pub record-of-spec : {M : Type 1} → statement M
 record-of-spec =
     tie.close
     (tie.spec
     parts-of-requires
-    enum-known-told
+    enum-known-parsed
     enum-told
     returns
     name-start-requires
