@@ -88,7 +88,8 @@ pub fn parts_of(t: &ClassTable, rows: &PropertyTable, s: &[u8]) -> LineParts
         name_end,
         param_count,
         value_start,
-    } = p else {
+    } = p
+    else {
         return LineParts::Fault(fault_of(p));
     };
     let start = name_start(group_length);
