@@ -1,4 +1,4 @@
--- A test of each case that can be computed, and the law that what it passes holds. Assumes nothing.
+-- A test of each example that can be computed, and the law that what it passes holds. Assumes nothing.
 use Prim.Native.Nat.{ℕ, _*_}
 use mathlib.Core.Path.{_≡_, refl, _∙_}
 use mathlib.Core.Bool.{Bool, true, false, _&&_}

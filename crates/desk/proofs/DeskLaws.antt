@@ -1,4 +1,4 @@
--- What a look along the tickets leads to: an opening, and an add or a release in the slot of a ticket. Assumes nothing.
+-- What an opening does by the position found, and an add or a release by the slot of a ticket. Assumes nothing.
 use Prim.Native.Nat.{ℕ, _+_, _*_, _<_, _≤_}
 use mathlib.Core.Path.{_≡_, refl, sym, ap, _∙_}
 use mathlib.Core.Bool.{Bool, true, false}
@@ -39,7 +39,7 @@ granted d size t i s e = grantedIn (d .entries) (d .slots) (d .next) size t i s 
 
 -- ---- an opening
 
--- what an opening does after a look for 0
+-- what an opening does after a search for 0
 abbrev openAfter : Desk → List ℕ → ℕ → Position → Turned
 openAfter d p m (Barred n) = refused d p 0 n
 openAfter d p m Nowhere = pick (eqb (d .next) 4294967295) (refused d p 0 21) (openIn d p m Nowhere)

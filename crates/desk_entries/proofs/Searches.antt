@@ -1,4 +1,4 @@
--- Laws of searches and of tests at every place: each turn of a loop, and what the whole tells. Assumes nothing.
+-- Laws of searches and of tests at every position: each turn of a loop, and what the whole tells. Assumes nothing.
 use Prim.Native.Nat.{ℕ, zero, suc, _+_, _-_, _<_, _≤_}
 use mathlib.Core.Path.{_≡_, refl, sym, ap, _∙_}
 use mathlib.Core.Bool.{Bool, true, false}

@@ -1,4 +1,4 @@
--- The refusals 25 and 24, and the slot of a ticket and the lowest free slot, found by one look along the tickets. Assumes nothing.
+-- The refusals 25 and 24, and the slot of a ticket and the lowest free slot, found by one search along the tickets. Assumes nothing.
 use Prim.Native.Nat.{ℕ, _+_, _*_, _<_, _≤_}
 use mathlib.Core.Path.{_≡_, refl, sym, ap, _∙_}
 use mathlib.Core.Bool.{Bool, true, false}
@@ -158,7 +158,7 @@ module _ (es : List Entry) (slots next : ℕ) (s : Sound es slots next) where
           let o = session-at es t j (w .0) in
           ap (λ (n : ℕ). atPosition es (At n)) (both i j (omega arith) (omega arith) (eqb-true (ticketAt es i) t (v .0)) (o .0) (o .1 .0) (o .1 .1) (stateAt es i) refl)
 
--- ---- a look
+-- ---- a search
 
 -- barred, or clear with what was found
 pub position-short : (es : List Entry) (slots next : ℕ) (size t i : ℕ) → positionOf es slots next size t ≡ At i → i < 40
@@ -175,7 +175,7 @@ position-short es slots next size t i e = go (eqb (guarded es slots next size (�
         let h : Barred (guarded es slots next size (λ n. n) 0) ≡ At i = sym (barred es slots next size Barred (firstAt (sameAs (ticketAt es) t) 0 slots) (eqb-false (guarded es slots next size (λ n. n) 0) 0 b)) ∙ e in
         clash cc
 
--- a look for a ticket leads to its slot
+-- a search for a ticket leads to its slot
 slot-position : (es : List Entry) (slots next : ℕ) (size t : ℕ) (p : Position) → positionOf es slots next size t ≡ p → atPosition es p ≡ slotOf es slots next size t
 unfolding positionOf slotOf
 slot-position es slots next size t p e = sym (ap (atPosition es) e) ∙ go (sound es slots next) refl (eqb size (slots * 16384)) refl
@@ -187,7 +187,7 @@ slot-position es slots next size t p e = sym (ap (atPosition es) e) ∙ go (soun
     go true a false b = refl
     go false a b c = refl
 
--- a look for 0 leads to the lowest free slot
+-- a search for 0 leads to the lowest free slot
 pub free-position : (es : List Entry) (slots next size : ℕ) → positionOf es slots next size 0 ≡ guarded es slots next size Barred (firstAt (freeAt es) 0 slots)
 unfolding positionOf
 free-position es slots next size = go (sound es slots next) refl
@@ -253,7 +253,7 @@ granted es slots next size t i s e = go (eqb (guarded es slots next size (λ n. 
         never (guarded es slots next size (λ n. n) 0) i s
         (sym (barred es slots next size No (atPosition es (firstAt (openAt es t) 0 40)) (eqb-false (guarded es slots next size (λ n. n) 0) 0 b)) ∙ e)
 
--- what a look for a ticket leads to: its slot, which lies within desk and pool
+-- what a search for a ticket leads to: its slot, which lies within desk and pool
 pub found : (es : List Entry) (slots next size t : ℕ) (q p : Position) → q ≡ positionOf es slots next size t → q ≡ p → (x : Slot) → atPosition es p ≡ x
     → (x ≡ slotOf es slots next size t) × Within size x
 found es slots next size t q p e f x g = go x (sym g ∙ slot-position es slots next size t p (sym e ∙ f))

@@ -1,4 +1,4 @@
-// A look along the entries of a desk: whether the desk is sound, and the slot of a ticket or the lowest free one.
+// One search along the entries of a desk: whether the desk is sound, and the slot of a ticket or the lowest free one.
 use desk_entries::Entry;
 use desk_entries::Session;
 use desk_entries::State;
