@@ -31,12 +31,12 @@ use Rattle.reader.specs.Outcome as reader
 use Rattle.folder_line.specs.Pieces as pieces
 use Rattle.folder.specs.Outcome as folder
 use Rattle.desk_pool.specs.Pools as pool
-use Rattle.desk_entries.specs.Search as search-in
+use Rattle.desk_entries.specs.Search as searches
 use Rattle.desk_slots.specs.Sound as sound
 use Rattle.desk_slots.specs.Slots as slots
 use Rattle.desk.specs.Steps as desk
 use Rattle.desk_ledger.specs.Ledger as ledger
-use Rattle.demands.specs.Cases.{Holds, cases, cardM, foldedM, recordsM}
+use Rattle.demands.specs.Examples.{Holds, marked, cardM, foldedM, recordsM}
 use Rattle.demands.proofs.Tested.{sameNumbers, sameAnswers, allHold, tested}
 
 -- ---- what the examples compute by: to unfold a name of this part is to unfold what its own line names
@@ -102,22 +102,22 @@ unfolding pieces.over pieces.first pieces.later pieces.pieces pieces.joined piec
 by-folder = tt
 
 by-desk : Unit {0}
-unfolding pool.patch pool.zeros search-in.firstAt search-in.allAt search-in.among sound.bounds sound.goodAt sound.sound slots.slotOf
+unfolding pool.patch pool.zeros searches.firstAt searches.allAt searches.among sound.bounds sound.goodAt sound.sound slots.slotOf
 by-desk = tt
 
 by-calls : Unit {0}
 unfolding desk.newStep desk.openStep desk.releaseStep ledger.lookup ledger.change ledger.run ledger.after
 by-calls = tt
 
-by-cases : Unit {0}
+by-examples : Unit {0}
 unfolding cardM foldedM recordsM sameNumbers sameAnswers allHold
-by-cases = tt
+by-examples = tt
 
 -- ---- the test
 
-all-hold : allHold cases ≡ true
-unfolding by-octets by-scans by-characters by-text by-escapes by-folds by-lines by-rule by-kinds by-shapes by-table by-cards by-judge by-reader by-folder by-desk by-calls by-cases
+all-hold : allHold marked ≡ true
+unfolding by-octets by-scans by-characters by-text by-escapes by-folds by-lines by-rule by-kinds by-shapes by-table by-cards by-judge by-reader by-folder by-desk by-calls by-examples
 all-hold = refl
 
-pub examples : Each Holds cases
-examples = tested cases all-hold
+pub examples : Each Holds marked
+examples = tested marked all-hold

@@ -1,4 +1,4 @@
--- How a choice between a refusal and what is left over is taken apart. Assumes nothing.
+-- A choice between a refusal and what is left, by cases. Assumes nothing.
 use Prim.Native.Nat.{ℕ}
 use mathlib.Core.Path.{_≡_, refl}
 use mathlib.Core.Bool.{Bool, true, false}
@@ -12,7 +12,7 @@ pub not-true : (b : Bool) → (b ≡ true → ⊥) → b ≡ false
 not-true true n = absurd (n refl)
 not-true false n = refl
 
--- of outcomes with an answer, refusals are told apart by number and place
+-- the answer of a refusal determines its number and place
 pub record Telling {A B : Type 0} (answer : A → B) (refusal : ℕ → ℕ → A) : Type 0 where
   pub number : (m q n p : ℕ) → answer (refusal m q) ≡ answer (refusal n p) → m ≡ n
   pub place : (m q n p : ℕ) → answer (refusal m q) ≡ answer (refusal n p) → q ≡ p

@@ -1,4 +1,4 @@
--- A test of each case that can be computed, and the law that what it passes holds. Assumes nothing.
+-- A test of each example that can be computed, and the law that what it passes holds. Assumes nothing.
 use Prim.Native.Nat.{ℕ, _*_}
 use mathlib.Core.Path.{_≡_, refl, _∙_}
 use mathlib.Core.Bool.{Bool, true, false, _&&_}
@@ -25,7 +25,7 @@ use Rattle.desk_ledger.specs.Ledger.{Call, Reply, refused, told, counts, part, 
 use Rattle.desk_ledger.specs.Desks.{Proper, world}
 use Rattle.desk_laws.proofs.Demand.{demand3}
 use Rattle.desk_laws.proofs.PoolNoninterference.{same-desk}
-use Rattle.demands.specs.Cases.{Case, reads, folds, unescapes, turns, Turns, Holds}
+use Rattle.demands.specs.Examples.{Example, reads, folds, unescapes, turns, Turns, Holds}
 
 -- ---- the tests
 
@@ -78,13 +78,13 @@ abbrev sameTurns : ℕ → List Call → List ℕ → ℕ → Session → Bool
 sameTurns n cs ns i s =
     (leb 1 n && leb n 40) && (sameAnswers (run ledgerStep (freshLedger n) cs) ns && sameSession (stateAt (world n (zeros n) cs .desk .entries) i) s)
 
-abbrev holds : Case → Bool
+abbrev holds : Example → Bool
 holds (reads i c r t) = sameTaken (readOutcome i c r) t
 holds (folds i o f) = sameFilled (foldOutcome i o) f
 holds (unescapes t o f) = sameFilled (unescapeOutcome t o) f
 holds (turns n cs ns i s) = sameTurns n cs ns i s
 
-unfoldable pub allHold : List Case → Bool
+unfoldable pub allHold : List Example → Bool
 allHold [] = true
 allHold (c ∷ cs) = holds c && allHold cs
 
@@ -173,12 +173,12 @@ same-turns n cs ns i s e =
       slot = λ p f. rw (same-desk n p (zeros n) f z cs) (same-session _ s (b .1));
     }
 
-pub tested : (cs : List Case) → allHold cs ≡ true → Each Holds cs
+pub tested : (cs : List Example) → allHold cs ≡ true → Each Holds cs
 unfolding allHold Each
 tested [] e = tt
 tested (c ∷ cs) e = let b = both (holds c) (allHold cs) e in (one c (b .0), tested cs (b .1))
   where
-    one : (c : Case) → holds c ≡ true → Holds c
+    one : (c : Example) → holds c ≡ true → Holds c
     one (reads i c r t) e = same-taken (readOutcome i c r) t e
     one (folds i o f) e = same-filled (foldOutcome i o) f e
     one (unescapes t o f) e = same-filled (unescapeOutcome t o) f e

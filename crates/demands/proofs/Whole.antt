@@ -6,4 +6,4 @@ use Rattle.demands.proofs.Total.{demand1}
 use Rattle.demands.proofs.Exact.{demand2}
 
 pub demands : Demands
-demands = record { total = demand1; exact = demand2; apart = demand3; examples = examples }
+demands = record { total = demand1; exact = demand2; separate = demand3; examples = examples }

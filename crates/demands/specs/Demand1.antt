@@ -21,7 +21,8 @@ use Rattle.reader.specs.declared.Verdict.the-variants.{Refused as Unread}
 use Rattle.folder_line.specs.Pieces.{foldedLines}
 use Rattle.folder.specs.Outcome.{foldOutcome}
 use Rattle.desk_slots.specs.Sound.{stateAt}
-use Rattle.desk.specs.Steps.{Sound, Turned, refuse as refuseNew, refused, freshDesk, newStep, openStep, addStep, releaseStep, octetsIn, showStep, heldStep, judgeStep}
+use Rattle.desk.specs.Steps.{Sound, Turned, refuse as refuseNew, refused, freshDesk}
+use Rattle.desk.specs.Steps.{newStep, openStep, addStep, releaseStep, octetsIn, showStep, heldStep, judgeStep}
 use Rattle.desk_entries.specs.declared.Session.{Session}
 use Rattle.desk_entries.specs.declared.State.the-variants.{Free, Open}
 use Rattle.desk.specs.declared.Desk.{Desk}
@@ -35,7 +36,7 @@ use Rattle.reader_grammar.specs.Refusals.{RefusedBy}
 
 -- an outcome answers a refusal only where `By` has its number and place; and there the whole outcome, lent memory too, is that refusal's
 pub record Exactly {A B : Type 0} (answer : A → B) (outcome : A) (refusal : ℕ → ℕ → A) (By : ℕ → ℕ → Type 0) : Type 0 where
-  pub told : (n p : ℕ) → answer outcome ≡ answer (refusal n p) → By n p
+  pub only : (n p : ℕ) → answer outcome ≡ answer (refusal n p) → By n p
   pub unchanged : (n p : ℕ) → By n p → outcome ≡ refusal n p
 
 -- ---- reader and folder
@@ -51,7 +52,8 @@ folded h = foldedLines (map render (h .lines))
 pub data ReadBy (i copy records : List ℕ) : ℕ → ℕ → Type 0 where
   unread : {n p : ℕ} → RefusedBy i n p → ReadBy i copy records n p
   copy-room : {k n : ℕ} (h : InputOf i k n) → length copy < length (copied h) → ReadBy i copy records refusal.copyRoom (length (copied h))
-  record-room : {k n : ℕ} (h : InputOf i k n) → length (copied h) ≤ length copy → length records < n * limit.recordLength → ReadBy i copy records refusal.recordRoom (n * limit.recordLength)
+  record-room : {k n : ℕ} (h : InputOf i k n) → length (copied h) ≤ length copy → length records < n * limit.recordLength
+      → ReadBy i copy records refusal.recordRoom (n * limit.recordLength)
 
 -- 1 to 12, then 16, 15
 pub data FoldBy (i out : List ℕ) : ℕ → ℕ → Type 0 where
@@ -149,7 +151,8 @@ pub record Halves (r n p : ℕ) : Type 0 where
 
 pub record Demand1 : Type 0 where
   pub judges : (i : List ℕ) → Exactly (λ (v : Verdict). v) (judgeOf i) Unread (RefusedBy i)
-  pub reads : (i copy records : List ℕ) → Exactly (λ (t : Taken). t .answer) (readOutcome i copy records) (λ n p. took (Unread n p) copy records) (ReadBy i copy records)
+  pub reads : (i copy records : List ℕ)
+      → Exactly (λ (t : Taken). t .answer) (readOutcome i copy records) (λ n p. took (Unread n p) copy records) (ReadBy i copy records)
   pub folds : (i out : List ℕ) → Filling (foldOutcome i out) out (FoldBy i out)
   pub escapes : (t out : List ℕ) → Filling (escapeOutcome t out) out (EscapeBy t out)
   pub unescapes : (t out : List ℕ) → Filling (unescapeOutcome t out) out (UnescapeBy t out)
@@ -165,6 +168,7 @@ pub record Demand1 : Type 0 where
   pub shows : (d : Desk) (pool : List ℕ) (t i : ℕ) (s : Session) → Holds d pool t i s → showStep d pool t .octets ≡ octetsIn pool i s
   -- the routines for C answer a refusal as one word, and leave the room as it was
   pub c-judge : (i : List ℕ) (n p : ℕ) → RefusedBy i n p → Halves (verdictWord (judgeOf i)) n p
-  pub c-fold : (i out : List ℕ) (n p : ℕ) → FoldBy i out n p → Halves (wordOutcome (foldOutcome i out) .answer) n p × (wordOutcome (foldOutcome i out) .room ≡ out)
+  pub c-fold : (i out : List ℕ) (n p : ℕ) → FoldBy i out n p
+      → Halves (wordOutcome (foldOutcome i out) .answer) n p × (wordOutcome (foldOutcome i out) .room ≡ out)
   pub c-unescape : (t out : List ℕ) (n p : ℕ) → UnescapeBy t out n p
       → Halves (wordOutcome (unescapeOutcome t out) .answer) n p × (wordOutcome (unescapeOutcome t out) .room ≡ out)

@@ -51,7 +51,8 @@ pub record Demand2 : Type 0 where
   pub reads : (i copy records : List ℕ) (k n : ℕ) (h : InputOf i k n) → Roomy h copy records → ReadAs h copy records (readOutcome i copy records)
   pub only : (i copy records : List ℕ) (k n : ℕ) → readOutcome i copy records .answer ≡ Accepted k n → (h : InputOf i k n) × Roomy h copy records
   -- the folder writes the folded form, which is made of each line's greedy cutting
-  pub folds : (i out : List ℕ) (k n : ℕ) (h : InputOf i k n) → length (folded h) ≤ limit.octets → length (folded h) ≤ length out → foldOutcome i out ≡ wrote (folded h) out
+  pub folds : (i out : List ℕ) (k n : ℕ) (h : InputOf i k n) → length (folded h) ≤ limit.octets → length (folded h) ≤ length out
+      → foldOutcome i out ≡ wrote (folded h) out
   pub greedy : (x : Line) → Readable x → (p : List ℕ) (ps : List (List ℕ)) → Cutting (render x) p ps ↔ (p ∷ ps ≡ pieces (render x))
   -- what it wrote has physical lines of at most 75 octets, with no character split,
   pub physical : (i out after : List ℕ) (n : ℕ) → foldOutcome i out ≡ filled (Wrote n) after
@@ -60,12 +61,15 @@ pub record Demand2 : Type 0 where
   pub read-again : (i out after : List ℕ) (n : ℕ) → foldOutcome i out ≡ filled (Wrote n) after
       → (copy records : List ℕ) → readOutcome (take n after) copy records ≡ readOutcome i copy records
   -- escape writes the escaped form of a text; unescape writes what a text stands for
-  pub escapes : (t out : List ℕ) → Fair true t → length (escaped t) ≤ limit.octets → length (escaped t) ≤ length out → escapeOutcome t out ≡ wrote (escaped t) out
+  pub escapes : (t out : List ℕ) → Fair true t → length (escaped t) ≤ limit.octets → length (escaped t) ≤ length out
+      → escapeOutcome t out ≡ wrote (escaped t) out
   pub unescapes : (t u out : List ℕ) → Fair false t → Stands t u → length u ≤ length out → unescapeOutcome t out ≡ wrote u out
   -- text escaped, then unescaped, comes back the same
   pub back : (t out after room : List ℕ) (n : ℕ) → escapeOutcome t out ≡ filled (Wrote n) after → length t ≤ length room
       → unescapeOutcome (take n after) room ≡ wrote t room
   -- the routines for C answer the count alone, which is no refusal's word, and leave the room as the entry does
   pub c-judge : (i : List ℕ) (k n : ℕ) → InputOf i k n → (verdictWord (judgeOf i) ≡ k) × (k ≤ limit.octets)
-  pub c-fold : (i out after : List ℕ) (n : ℕ) → foldOutcome i out ≡ filled (Wrote n) after → (wordOutcome (foldOutcome i out) ≡ worded n after) × (n ≤ limit.octets)
-  pub c-unescape : (t out after : List ℕ) (n : ℕ) → unescapeOutcome t out ≡ filled (Wrote n) after → (wordOutcome (unescapeOutcome t out) ≡ worded n after) × (n ≤ limit.octets)
+  pub c-fold : (i out after : List ℕ) (n : ℕ) → foldOutcome i out ≡ filled (Wrote n) after
+      → (wordOutcome (foldOutcome i out) ≡ worded n after) × (n ≤ limit.octets)
+  pub c-unescape : (t out after : List ℕ) (n : ℕ) → unescapeOutcome t out ≡ filled (Wrote n) after
+      → (wordOutcome (unescapeOutcome t out) ≡ worded n after) × (n ≤ limit.octets)

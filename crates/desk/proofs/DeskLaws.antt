@@ -1,4 +1,4 @@
--- What a look along the tickets leads to: an opening, and an add or a release in the slot of a ticket. Assumes nothing.
+-- What an opening does by the position found, and an add or a release by the slot of a ticket. Assumes nothing.
 use Prim.Native.Nat.{ℕ, _+_, _*_, _<_, _≤_}
 use mathlib.Core.Path.{_≡_, refl, sym, ap, _∙_}
 use mathlib.Core.Bool.{Bool, true, false}
@@ -8,12 +8,12 @@ use lib.ListN.{length}
 use borrow.Author.Tests.{lt-ltb, le-ltb}
 use Rattle.octets.specs.Pick.{pick}
 use Rattle.desk_entries.specs.Search.{firstAt}
-use Rattle.desk_slots.specs.Slots.{freeAt, placeOf}
+use Rattle.desk_slots.specs.Slots.{freeAt, positionOf}
 use Rattle.desk_entries.proofs.Searches.{unbarred}
 use Rattle.desk_slots.proofs.SoundLaws.{sound-is as soundness, is-sound as tested}
-use Rattle.desk_slots.proofs.SlotLaws.{Granted as GrantedIn, granted as grantedIn, free-place}
-use Rattle.desk_entries.specs.declared.tickets.Place.{Place}
-use Rattle.desk_entries.specs.declared.tickets.Place.the-variants.{At, Nowhere, Barred}
+use Rattle.desk_slots.proofs.SlotLaws.{Granted as GrantedIn, granted as grantedIn, free-position}
+use Rattle.desk_entries.specs.declared.tickets.Position.{Position}
+use Rattle.desk_entries.specs.declared.tickets.Position.the-variants.{At, Nowhere, Barred}
 use Rattle.desk_entries.specs.declared.Session.{Session}
 use Rattle.desk_entries.specs.declared.State.the-variants.{Free, Open}
 use Rattle.desk_slots.specs.declared.Slot.{Slot}
@@ -39,18 +39,18 @@ granted d size t i s e = grantedIn (d .entries) (d .slots) (d .next) size t i s 
 
 -- ---- an opening
 
--- what an opening does after a look for 0
-abbrev openAfter : Desk → List ℕ → ℕ → Place → Turned
+-- what an opening does after a search for 0
+abbrev openAfter : Desk → List ℕ → ℕ → Position → Turned
 openAfter d p m (Barred n) = refused d p 0 n
 openAfter d p m Nowhere = pick (eqb (d .next) 4294967295) (refused d p 0 21) (openIn d p m Nowhere)
 openAfter d p m (At i) = pick (eqb (d .next) 4294967295) (refused d p 0 21) (openIn d p m (At i))
 
-pub open-place : (d : Desk) (p : List ℕ) (m : ℕ) (x : Place) → placeOf (d .entries) (d .slots) (d .next) (length p) 0 ≡ x → openAfter d p m x ≡ openStep d p m
+pub open-position : (d : Desk) (p : List ℕ) (m : ℕ) (x : Position) → positionOf (d .entries) (d .slots) (d .next) (length p) 0 ≡ x → openAfter d p m x ≡ openStep d p m
 unfolding openStep
-open-place d p m x e =
-    ap (openAfter d p m) (sym e ∙ free-place (d .entries) (d .slots) (d .next) (length p)) ∙ go (sound d) (eqb (length p) (d .slots * 16384))
+open-position d p m x e =
+    ap (openAfter d p m) (sym e ∙ free-position (d .entries) (d .slots) (d .next) (length p)) ∙ go (sound d) (eqb (length p) (d .slots * 16384))
   where
-    place : (r : Place) → firstAt (freeAt (d .entries)) 0 (d .slots) ≡ r
+    place : (r : Position) → firstAt (freeAt (d .entries)) 0 (d .slots) ≡ r
         → openAfter d p m r ≡ pick (eqb (d .next) 4294967295) (refused d p 0 21) (openIn d p m r)
     place (At i) q = refl
     place Nowhere q = refl

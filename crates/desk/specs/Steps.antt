@@ -13,8 +13,8 @@ use Rattle.reader.specs.declared.Verdict.the-variants.{Refused as Unread}
 use Rattle.desk_entries.specs.Search.{firstAt}
 use Rattle.desk_slots.specs.Sound.{none, bounds, Sound as SoundEntries, sound as soundEntries}
 use Rattle.desk_slots.specs.Slots.{guarded as guardedEntries, freeAt, slotOf as slotIn}
-use Rattle.desk_entries.specs.declared.tickets.Place.{Place}
-use Rattle.desk_entries.specs.declared.tickets.Place.the-variants.{At, Nowhere, Barred}
+use Rattle.desk_entries.specs.declared.tickets.Position.{Position}
+use Rattle.desk_entries.specs.declared.tickets.Position.the-variants.{At, Nowhere, Barred}
 use Rattle.desk_entries.specs.declared.Session.{Session}
 use Rattle.desk_entries.specs.declared.State.{State}
 use Rattle.desk_entries.specs.declared.State.the-variants.{Free, Open}
@@ -81,7 +81,7 @@ abbrev pub opened : Desk → ℕ → ℕ → Desk
 opened d m i =
     record { entries = set (d .entries) i (record { state = Open (record { ticket = d .next; tram = m; held = 0 }) }); slots = d .slots; next = d .next + 1 }
 
-abbrev pub openIn : Desk → List ℕ → ℕ → Place → Turned
+abbrev pub openIn : Desk → List ℕ → ℕ → Position → Turned
 openIn d p m Nowhere = refused d p 0 refusal.noFreeSlot
 openIn d p m (At i) = record { answer = Done (d .next); desk = opened d m i; pool = p }
 openIn d p m (Barred n) = refused d p 0 n
@@ -89,7 +89,8 @@ openIn d p m (Barred n) = refused d p 0 n
 -- 25, 24, 21, 20; else the next ticket in the lowest free slot
 unfoldable pub openStep : Desk → List ℕ → ℕ → Turned
 openStep d p m =
-    guarded d (length p) (refused d p 0) (pick (eqb (d .next) limit.tickets) (refused d p 0 refusal.ticketsUsedUp) (openIn d p m (firstAt (freeAt (d .entries)) 0 (d .slots))))
+    guarded d (length p) (refused d p 0)
+    (pick (eqb (d .next) limit.tickets) (refused d p 0 refusal.ticketsUsedUp) (openIn d p m (firstAt (freeAt (d .entries)) 0 (d .slots))))
 
 -- ---- add
 

@@ -2,7 +2,7 @@
 use desk_entries::Entry;
 use desk_entries::Session;
 use desk_entries::State;
-use desk_entries::tickets::Place;
+use desk_entries::tickets::Position;
 use desk_slots::Slot;
 use numbers::limit;
 use numbers::refusal;
@@ -98,14 +98,14 @@ impl Desk {
         let es = self.entries;
         let p = desk_slots::find_slot(es, self.slots, t, pool.len(), 0);
         match p {
-            Place::Barred(r) => self.refuse(r, 0),
-            Place::Nowhere => {
+            Position::Barred(r) => self.refuse(r, 0),
+            Position::Nowhere => {
                 if t == limit::TICKETS {
                     return self.refuse(refusal::TICKETS_USED_UP, 0);
                 }
                 self.refuse(refusal::NO_FREE_SLOT, 0)
             }
-            Place::At(i) => {
+            Position::At(i) => {
                 if t == limit::TICKETS {
                     return self.refuse(refusal::TICKETS_USED_UP, 0);
                 }

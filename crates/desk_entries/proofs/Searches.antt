@@ -1,4 +1,4 @@
--- Laws of searches and of tests at every place: each turn of a loop, and what the whole tells. Assumes nothing.
+-- Laws of searches and of tests at every position: each turn of a loop, and what the whole tells. Assumes nothing.
 use Prim.Native.Nat.{ℕ, zero, suc, _+_, _-_, _<_, _≤_}
 use mathlib.Core.Path.{_≡_, refl, sym, ap, _∙_}
 use mathlib.Core.Bool.{Bool, true, false}
@@ -7,8 +7,8 @@ use lib.Dec.{eqb}
 use borrow.Author.Tests.{eqb-true, eqb-false, eq-eqb, ne-eqb}
 use Rattle.octets.specs.Pick.{pick}
 use Rattle.desk_entries.specs.Search.{firstAt, allAt, sameAs, isAt, among}
-use Rattle.desk_entries.specs.declared.tickets.Place.{Place}
-use Rattle.desk_entries.specs.declared.tickets.Place.the-variants.{At, Nowhere, Barred}
+use Rattle.desk_entries.specs.declared.tickets.Position.{Position}
+use Rattle.desk_entries.specs.declared.tickets.Position.the-variants.{At, Nowhere, Barred}
 
 -- no two constructors are equal
 pub clash : {A : Type 0} → _≡_ {A = ℕ} 0 1 → A
@@ -113,7 +113,7 @@ pub among-not : (f : ℕ → ℕ) (t n : ℕ) → among f t n ≡ false → (t �
 unfolding among
 among-not f t n e z j h q = go (firstAt (sameAs f t) 0 n) refl
   where
-    go : (r : Place) → firstAt (sameAs f t) 0 n ≡ r → ⊥
+    go : (r : Position) → firstAt (sameAs f t) 0 n ≡ r → ⊥
     go (At i) s = let w : true ≡ false = rw (ne-eqb t 0 z, s) at e in clash cc
     go Nowhere s = let w : true ≡ false = sym (eq-eqb (f j) t q) ∙ firstAt-not (sameAs f t) n 0 s j (omega arith) (omega arith) in clash cc
     go (Barred m) s = unbarred (sameAs f t) n 0 m s
@@ -122,7 +122,7 @@ pub not-among : (f : ℕ → ℕ) (t n : ℕ) → ((t ≡ 0 → ⊥) → (j : �
 unfolding among
 not-among f t n u = go (eqb t 0) refl (firstAt (sameAs f t) 0 n) refl
   where
-    go : (b : Bool) → eqb t 0 ≡ b → (r : Place) → firstAt (sameAs f t) 0 n ≡ r → pick b false (isAt r) ≡ false
+    go : (b : Bool) → eqb t 0 ≡ b → (r : Position) → firstAt (sameAs f t) 0 n ≡ r → pick b false (isAt r) ≡ false
     go true z r s = refl
     go false z Nowhere s = refl
     go false z (Barred m) s = refl
@@ -132,4 +132,4 @@ not-among f t n u = go (eqb t 0) refl (firstAt (sameAs f t) 0 n) refl
 
 pub among-same : (f g : ℕ → ℕ) (t n : ℕ) → ((j : ℕ) → j < n → f j ≡ g j) → among f t n ≡ among g t n
 unfolding among
-among-same f g t n e = ap (λ (r : Place). pick (eqb t 0) false (isAt r)) (firstAt-same (sameAs f t) (sameAs g t) n 0 (λ j h l. ap (λ (x : ℕ). eqb x t) (e j (omega arith))))
+among-same f g t n e = ap (λ (r : Position). pick (eqb t 0) false (isAt r)) (firstAt-same (sameAs f t) (sameAs g t) n 0 (λ j h l. ap (λ (x : ℕ). eqb x t) (e j (omega arith))))

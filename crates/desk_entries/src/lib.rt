@@ -23,7 +23,7 @@ pub struct Entry {
     pub state: State,
 }
 
-// The ticket of an open entry, and 0 of a free one.
+// Tells the ticket of an open entry, and 0 of a free one.
 pub fn ticket_of(e: Entry) -> u32
     ensures { λ r. ⌜ r ≡ ticketOf (e .state) ⌝ }
 {
@@ -34,7 +34,7 @@ pub fn ticket_of(e: Entry) -> u32
     }
 }
 
-// Whether entry i is free, or a slot's with a session that fits.
+// Tells whether entry i is free, or a slot's with a session that fits.
 pub fn fits(e: Entry, i: usize, slots: usize, next: u32) -> bool
     ensures { λ r. ⌜ r ≡ fits slots next i (e .state) ⌝ }
 {

@@ -5,29 +5,29 @@ ghost use Prim.Native.Nat.{_≤_};
 ghost use Rattle.numbers.specs.Limits as limit;
 ghost use Rattle.desk_entries.specs.Search.{firstAt, column, sameAs, among};
 
-// Where something stands, or the refusal that keeps a call from looking.
-pub enum Place {
+// Where a ticket stands among the entries, or the refusal that bars a call.
+pub enum Position {
     At(usize),
     Nowhere,
     Barred(u32),
 }
 
-// The first of n places that has a ticket; 0 stands at a free one.
-pub fn find(tickets: &[u32; limit::SLOTS], t: u32, n: usize) -> Place
+// Finds the first of n positions that has a ticket, where a free one has 0.
+pub fn find(tickets: &[u32; limit::SLOTS], t: u32, n: usize) -> Position
     requires { ⌜ n ≤ limit.slots ⌝ }
     ensures { λ r. ⌜ r ≡ firstAt (sameAs (column (now (tickets .entry))) t) 0 n ⌝ }
 {
-    let mut place: usize = 0;
-    while place < n {
-        if tickets[place] == t {
-            return Place::At(place);
+    let mut position: usize = 0;
+    while position < n {
+        if tickets[position] == t {
+            return Position::At(position);
         }
-        place += 1;
+        position += 1;
     }
-    Place::Nowhere
+    Position::Nowhere
 }
 
-// Whether a ticket, which 0 is none of, stands at one of the first n places.
+// Tells whether a ticket, which 0 is none of, stands at one of the first n positions.
 pub fn stands(tickets: &[u32; limit::SLOTS], t: u32, n: usize) -> bool
     requires { ⌜ n ≤ limit.slots ⌝ }
     ensures { λ r. ⌜ r ≡ among (column (now (tickets .entry))) t n ⌝ }
@@ -37,8 +37,8 @@ pub fn stands(tickets: &[u32; limit::SLOTS], t: u32, n: usize) -> bool
     }
     let p = find(tickets, t, n);
     match p {
-        Place::At(_) => true,
-        Place::Nowhere => false,
-        Place::Barred(_) => false,
+        Position::At(_) => true,
+        Position::Nowhere => false,
+        Position::Barred(_) => false,
     }
 }

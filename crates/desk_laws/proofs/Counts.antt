@@ -1,4 +1,4 @@
--- At how many of the first places a test holds, and what that becomes where one place changes. Assumes nothing.
+-- At how many of the first positions a test holds, and what that becomes where one position changes. Assumes nothing.
 use Prim.Native.Nat.{ℕ, zero, suc, _+_, _<_, _≤_}
 use mathlib.Core.Path.{_≡_, refl}
 use mathlib.Core.Bool.{Bool, true, false}
@@ -7,7 +7,7 @@ use lib.Dec.{eqb}
 use borrow.Author.Tests.{eqb-true, eqb-false}
 use Rattle.octets.specs.Classes.{bit}
 
--- at how many of the first n places p holds
+-- at how many of the first n positions p holds
 unfoldable pub count : (ℕ → Bool) → ℕ → ℕ
 count p zero = 0
 count p (suc n) = bit (p n) 1 + count p n

@@ -4,9 +4,9 @@ use mathlib.Core.Path.{_≡_, refl, sym, ap, _∙_}
 use mathlib.Core.Bool.{Bool, true, false}
 use mathlib.Core.List.{List, [], _∷_, _++_, map}
 use native.Mathlib.Omega.{arith}
-use lib.Dec.{ltb, eqb}
+use lib.Dec.{eqb}
 use lib.ListN.{length, take}
-use borrow.Author.Tests.{ltb-true, ltb-false, eqb-true, eqb-false, eq-eqb, ne-eqb}
+use borrow.Author.Tests.{eqb-true, eqb-false, eq-eqb, ne-eqb}
 use Rattle.octets.specs.Pick.{pick}
 use Rattle.reader.specs.Outcome.{judgeOf}
 use Rattle.desk_entries.specs.Search.{firstAt}
@@ -14,9 +14,10 @@ use Rattle.desk_slots.specs.Sound.{stateAt}
 use Rattle.desk_slots.specs.Slots.{isFree, freeAt}
 use Rattle.desk.specs.Steps.{Sound, Turned, refused, newStep, openIn, openStep, octetsIn, showStep, heldStep, judgeStep}
 use Rattle.desk_entries.proofs.Searches.{clash, firstAt-is, firstAt-not, unbarred}
+use Rattle.desk_slots.proofs.SlotLaws.{free-is, slot-inside}
 use Rattle.desk.proofs.DeskLaws.{is-sound}
-use Rattle.desk_entries.specs.declared.tickets.Place.{Place}
-use Rattle.desk_entries.specs.declared.tickets.Place.the-variants.{At, Nowhere, Barred}
+use Rattle.desk_entries.specs.declared.tickets.Position.{Position}
+use Rattle.desk_entries.specs.declared.tickets.Position.the-variants.{At, Nowhere, Barred}
 use Rattle.desk_entries.specs.declared.Session.{Session}
 use Rattle.desk_entries.specs.declared.State.{State}
 use Rattle.desk_entries.specs.declared.State.the-variants.{Free, Open}
@@ -26,7 +27,7 @@ use Rattle.desk_ledger.specs.Ledger.{Deed, releases, Call, opens, on, Reply, Fo
 use Rattle.desk_ledger.specs.Uploads.{keep, mine, own, solo, joined, unnamed}
 use Rattle.desk_ledger.specs.Desks.{World, deskStep, fresh, Proper, answers, world, ledger}
 use Rattle.desk_laws.specs.Demand.{OpenOn, OpenIn, Holds, Afterwards, Grants, ownAnswers, asked, Alike, Closed, used-up, no-slot, Opening, Demand3}
-use Rattle.desk_laws.proofs.Rows.{no}
+use Rattle.desk_laws.proofs.LedgerRows.{no}
 use Rattle.desk_laws.proofs.Relation.{Refines, View, seen, unseen, view}
 use Rattle.desk_laws.proofs.Refinement.{octets-length, step-refines, run-refines, after-refines, fresh-refines}
 use Rattle.desk_laws.proofs.Noninterference.{Given, same-slots, falls-after, starts, own-solo, fates, after-fates, solo-take, fates-append, fates-absent, mine-append, after-append, run-unnamed}
@@ -57,7 +58,7 @@ module _ (n : ℕ) (p : List ℕ) (f : Proper n p) where
         slots = slots;
         proper = r .sized ∙ ap (λ (k : ℕ). k * 16384) slots;
         recorded = λ t h. recorded t h;
-        backed = λ t h. (let b = r .rows .backs t (h .0) (h .1) in (b .0, (b .1 .0, (inside (b .0) (b .1 .0) (b .1 .1 .0) (b .1 .1 .1) (ltb (b .0) (w .desk .slots)) refl, b .1 .1 .1, b .1 .1 .2))));
+        backed = λ t h. (let b = r .rows .backs t (h .0) (h .1) in (b .0, (b .1 .0, (inside (b .0) (b .1 .1 .0) (b .1 .0) (b .1 .1 .1), b .1 .1 .1, b .1 .1 .2))));
         holds = λ t h. holds t (recorded t h) (view (w .desk) (w .pool) (ledger n cs) t r);
       }
     where
@@ -70,9 +71,8 @@ module _ (n : ℕ) (p : List ℕ) (f : Proper n p) where
       slots : w .desk .slots ≡ n
       slots = sym (r .slots) ∙ same-slots cs (freshLedger n)
 
-      inside : (i : ℕ) (s : Session) → i < 40 → stateAt (w .desk .entries) i ≡ Open s → (b : Bool) → ltb i (w .desk .slots) ≡ b → i < w .desk .slots
-      inside i s h q true b = ltb-true i (w .desk .slots) b
-      inside i s h q false b = let z : Free ≡ Open s = sym (r .good .past i (ltb-false i (w .desk .slots) b) h) ∙ q in clash cc
+      inside : (i : ℕ) → i < 40 → (s : Session) → stateAt (w .desk .entries) i ≡ Open s → i < w .desk .slots
+      inside = slot-inside (w .desk .entries) (w .desk .slots) (w .desk .next) (r .good)
 
       recorded : (t : ℕ) → OpenOn (w .desk) t → OpenIn (ledger n cs) t
       recorded t h =
@@ -147,10 +147,6 @@ module _ (d : Desk) (p : List ℕ) (m : ℕ) (s : Sound d) (z : length p ≡ d .
   free-so : (x : State) → x ≡ Free → isFree x ≡ true
   free-so x e = rw e
 
-  so-free : (x : State) → isFree x ≡ true → x ≡ Free
-  so-free Free e = refl
-  so-free (Open u) e = clash cc
-
   open-so : openStep d p m ≡ pick (eqb (d .next) 4294967295) (refused d p 0 21) (openIn d p m (firstAt (freeAt (d .entries)) 0 (d .slots)))
   unfolding openStep
   open-so = rw (is-sound d s, eq-eqb (length p) (d .slots * 16384) z)
@@ -181,15 +177,15 @@ module _ (d : Desk) (p : List ℕ) (m : ℕ) (s : Sound d) (z : length p ≡ d .
         else = λ n. else n (firstAt (freeAt (d .entries)) 0 (d .slots)) refl;
       }
     where
-      second : (d .next ≡ 4294967295 → ⊥) → Closed d → (x : Place) → firstAt (freeAt (d .entries)) 0 (d .slots) ≡ x → openStep d p m .answer ≡ Refused 20 0
+      second : (d .next ≡ 4294967295 → ⊥) → Closed d → (x : Position) → firstAt (freeAt (d .entries)) 0 (d .slots) ≡ x → openStep d p m .answer ≡ Refused 20 0
       second n (used-up h) x e = absurd (n h)
       second n (no-slot f) (Barred k) e = unbarred (freeAt (d .entries)) (d .slots) 0 k e
       second n (no-slot f) Nowhere e = ap (λ (r : Turned). r .answer) (left n ∙ ap (openIn d p m) e)
       second n (no-slot f) (At i) e =
           let w = firstAt-is (freeAt (d .entries)) (d .slots) 0 i e in
-          absurd (f i (omega arith) (so-free (stateAt (d .entries) i) (w .0)))
+          absurd (f i (omega arith) (free-is (stateAt (d .entries) i) (w .0)))
 
-      only : (r a : ℕ) → openStep d p m .answer ≡ Refused r a → (b : Bool) → eqb (d .next) 4294967295 ≡ b → (x : Place) → firstAt (freeAt (d .entries)) 0 (d .slots) ≡ x → Closed d
+      only : (r a : ℕ) → openStep d p m .answer ≡ Refused r a → (b : Bool) → eqb (d .next) 4294967295 ≡ b → (x : Position) → firstAt (freeAt (d .entries)) 0 (d .slots) ≡ x → Closed d
       only r a e true b x q = used-up (eqb-true (d .next) 4294967295 b)
       only r a e false b (Barred k) q = unbarred (freeAt (d .entries)) (d .slots) 0 k q
       only r a e false b Nowhere q = full q
@@ -197,7 +193,7 @@ module _ (d : Desk) (p : List ℕ) (m : ℕ) (s : Sound d) (z : length p ≡ d .
           let w : Done (d .next) ≡ Refused r a = sym (ap (λ (r : Turned). r .answer) (left (eqb-false (d .next) 4294967295 b) ∙ ap (openIn d p m) q)) ∙ e in
           clash cc
 
-      else : (Closed d → ⊥) → (x : Place) → firstAt (freeAt (d .entries)) 0 (d .slots) ≡ x → openStep d p m .answer ≡ Done (d .next)
+      else : (Closed d → ⊥) → (x : Position) → firstAt (freeAt (d .entries)) 0 (d .slots) ≡ x → openStep d p m .answer ≡ Done (d .next)
       else n (Barred k) e = unbarred (freeAt (d .entries)) (d .slots) 0 k e
       else n Nowhere e = absurd (n (full e))
       else n (At i) e = ap (λ (r : Turned). r .answer) (left (λ h. n (used-up h)) ∙ ap (openIn d p m) e)

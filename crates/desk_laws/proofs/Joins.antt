@@ -10,7 +10,7 @@ use borrow.Author.Tests.{ltb-true, ltb-false, eqb-true, eqb-false}
 use Rattle.octets.specs.Pick.{pick}
 use Rattle.desk_ledger.specs.Ledger.{Deed, adds, judges, shows, asks, releases, Call, opens, on, refused, told, Found, absent, present, answer, leaves, Ledger, lookup, Out, opening, ledgerStep, run, after}
 use Rattle.desk_ledger.specs.Uploads.{accepted, chunk, joined}
-use Rattle.desk_laws.proofs.Rows.{no, Below, below-absent, change-same, change-other}
+use Rattle.desk_laws.proofs.LedgerRows.{no, Below, below-absent, change-same, change-other}
 use Rattle.desk_laws.proofs.Noninterference.{Given, Opens, stays, grants, opens-so, made, falls-step, given-step, fates, fates-absent, after-fates}
 use Rattle.desk_ledger.specs.Uploads.{mine}
 

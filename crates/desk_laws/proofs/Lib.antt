@@ -1,5 +1,5 @@
 -- The desk refines the ledger, and no upload interferes with another. Assumes nothing.
-pub mod Rows
+pub mod LedgerRows
 pub mod Patched
 pub mod Counts
 pub mod Relation

@@ -9,8 +9,8 @@ use Rattle.octets.specs.Pick.{pick}
 use Rattle.desk_entries.specs.Search.{firstAt}
 use Rattle.desk_slots.specs.Slots.{freeAt}
 use Rattle.desk.specs.Steps.{sound, Turned, openIn, openStep, slotOf, addIn, addStep, releaseIn, releaseStep}
-use Rattle.desk_entries.specs.declared.tickets.Place.{Place}
-use Rattle.desk_entries.specs.declared.tickets.Place.the-variants.{At, Nowhere, Barred}
+use Rattle.desk_entries.specs.declared.tickets.Position.{Position}
+use Rattle.desk_entries.specs.declared.tickets.Position.the-variants.{At, Nowhere, Barred}
 use Rattle.desk_slots.specs.declared.Slot.{Slot}
 use Rattle.desk_slots.specs.declared.Slot.the-variants.{Held, No}
 use Rattle.desk.specs.declared.Desk.{Desk}
@@ -25,7 +25,7 @@ either true x x′ y y′ e f = e
 either false x x′ y y′ e f = f
 
 module _ (d : Desk) (p q : List ℕ) (e : length p ≡ length q) where
-  in-place : (m : ℕ) (x : Place) → openIn d p m x .desk ≡ openIn d q m x .desk
+  in-place : (m : ℕ) (x : Position) → openIn d p m x .desk ≡ openIn d q m x .desk
   in-place m (At i) = refl
   in-place m Nowhere = refl
   in-place m (Barred n) = refl

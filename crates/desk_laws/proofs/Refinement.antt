@@ -17,9 +17,10 @@ use Rattle.desk_pool.proofs.Patches.{zeros-length}
 use Rattle.desk.specs.Steps.{refused as refusing, newStep, slotOf, opened, openIn, openStep, grown, withState, addIn, addStep, releaseStep, octetsIn, showStep, heldStep, judgeStep}
 use Rattle.desk_entries.proofs.Searches.{clash, firstAt-is, firstAt-not, unbarred}
 use Rattle.desk_slots.proofs.SoundLaws.{in-bounds}
+use Rattle.desk_slots.proofs.SlotLaws.{free-is}
 use Rattle.desk.proofs.DeskLaws.{is-sound, Granted}
-use Rattle.desk_entries.specs.declared.tickets.Place.{Place}
-use Rattle.desk_entries.specs.declared.tickets.Place.the-variants.{At, Nowhere, Barred}
+use Rattle.desk_entries.specs.declared.tickets.Position.{Position}
+use Rattle.desk_entries.specs.declared.tickets.Position.the-variants.{At, Nowhere, Barred}
 use Rattle.desk_entries.specs.declared.Session.{Session}
 use Rattle.desk_entries.specs.declared.Entry.{Entry}
 use Rattle.desk_entries.specs.declared.State.{State}
@@ -28,7 +29,7 @@ use Rattle.desk.specs.declared.Desk.{Desk}
 use Rattle.desk_slots.specs.declared.Slot.the-variants.{Held, No}
 use Rattle.desk_ledger.specs.Ledger.{Deed, adds, judges, shows, asks, releases, Call, opens, on, told, absent, present, answer, leaves, Row, Ledger, lookup, change, Out, opening, ledgerStep, freshLedger, run, after}
 use Rattle.desk_ledger.specs.Desks.{World, took, deedStep, deskStep}
-use Rattle.desk_laws.proofs.Rows.{no, change-same, change-other, change-absent, change-back, below-change, length-put, length-close}
+use Rattle.desk_laws.proofs.LedgerRows.{no, change-same, change-other, change-absent, change-back, below-change, length-put, length-close}
 use Rattle.desk_laws.proofs.Patched.{patch-in, length-patch, patch-other}
 use Rattle.desk_laws.proofs.Counts.{count, count-same, count-le, count-zero, count-full, count-more}
 use Rattle.desk_laws.proofs.Relation.{same-at, other-at, sound-set, taken, Refines, is-open, is-free, backed-set, View, seen, unseen, view}
@@ -48,10 +49,6 @@ octets-length d p t i s g =
     let c : s .held ≤ 16384 = g .room in
     length-take-le (s .held) (drop (i * 16384) p) (rw length-drop (omega arith))
 
-free-true : (x : State) → isFree x ≡ true → x ≡ Free
-free-true Free e = refl
-free-true (Open s) e = clash cc
-
 -- whether an entry is taken once another state is set that is taken as the old one was
 taken-set : (es : List Entry) (i j : ℕ) (x : State) → i < length es → not (isFree x) ≡ taken es i → (b : Bool) → eqb j i ≡ b → taken es j ≡ taken (set es i (record { state = x })) j
 taken-set es i j x l e true q =
@@ -66,8 +63,8 @@ module _ (d : Desk) (p : List ℕ) (l : Ledger) (r : Refines d p l) (t i : ℕ) 
   fit : Fit (d .next) s
   fit = r .good .each i (g .short) s (g .state)
 
-  apart : (j : ℕ) → j < 40 → (j ≡ i → ⊥) → (u : Session) → stateAt (d .entries) j ≡ Open u → u .ticket ≡ t → ⊥
-  apart j k n u e q = n (r .good .distinct j i k (g .short) u s e (g .state) (q ∙ sym (g .ticket)))
+  elsewhere : (j : ℕ) → j < 40 → (j ≡ i → ⊥) → (u : Session) → stateAt (d .entries) j ≡ Open u → u .ticket ≡ t → ⊥
+  elsewhere j k n u e q = n (r .good .distinct j i k (g .short) u s e (g .state) (q ∙ sym (g .ticket)))
 
   was : (u : Session) → stateAt (d .entries) i ≡ Open u → u .ticket ≡ t
   was u e = let w : Open u ≡ Open s = sym e ∙ g .state in let v : u ≡ s = cc in ap (λ (x : Session). x .ticket) v ∙ g .ticket
@@ -86,13 +83,13 @@ module _ (d : Desk) (p : List ℕ) (l : Ledger) (r : Refines d p l) (t i : ℕ) 
       record {
         good = sound-set d (d .next) i (Open (grown s (length q))) (r .good) (omega arith) in-list c
             (λ u e. let w : grown s (length q) ≡ u = cc in rw (← w) (record { low = fit .low; high = fit .high; room = h }))
-            (λ a u j e k n f q′. let w : grown s (length q) ≡ a = cc in apart j k n u f (q′ ∙ sym (ap (λ (x : Session). x .ticket) w) ∙ g .ticket));
+            (λ a u j e k n f q′. let w : grown s (length q) ≡ a = cc in elsewhere j k n u f (q′ ∙ sym (ap (λ (x : Session). x .ticket) w) ∙ g .ticket));
         forty = simp length-set (r .forty);
         sized = length-patch p q (i * 16384 + s .held) (omega arith) ∙ b;
         slots = r .slots;
         next = r .next;
         rows = backed-set (d .entries) p (patch p (i * 16384 + s .held) q) (l .rows) (change (l .rows) t (present (octetsIn p i s ++ q))) i t (Open (grown s (length q))) (r .rows) (g .short) in-list
-            apart was (λ u n. change-other (l .rows) t u (present (octetsIn p i s ++ q)) n) (kept q (i * 16384 + s .held) (omega arith) (omega arith))
+            elsewhere was (λ u n. change-other (l .rows) t u (present (octetsIn p i s ++ q)) n) (kept q (i * 16384 + s .held) (omega arith) (omega arith))
             (is-open (grown s (length q)) (g .ticket) (change-same (l .rows) (l .next) t (present (octetsIn p i s ++ q)) (octetsIn p i s) (r .falling) lk ∙ ap present (sym (patch-in p q (i * 16384) (s .held) (omega arith)))));
         many = length-put (l .rows) t (octetsIn p i s ++ q) ∙ r .many
             ∙ count-same (taken (d .entries)) (taken (set (d .entries) i (record { state = Open (grown s (length q)) }))) (d .slots)
@@ -116,7 +113,7 @@ module _ (d : Desk) (p : List ℕ) (l : Ledger) (r : Refines d p l) (t i : ℕ) 
         slots = r .slots;
         next = r .next;
         rows = backed-set (d .entries) p (patch p (i * 16384) zeros) (l .rows) (change (l .rows) t absent) i t Free (r .rows) (g .short) in-list
-            apart was (λ u n. change-other (l .rows) t u absent n) (kept zeros (i * 16384) (omega arith) (omega arith))
+            elsewhere was (λ u n. change-other (l .rows) t u absent n) (kept zeros (i * 16384) (omega arith) (omega arith))
             (is-free (change-same (l .rows) (l .next) t absent (octetsIn p i s) (r .falling) lk));
         many = let n = r .many in omega arith;
         falling = below-change (l .rows) (l .next) t absent (r .falling);
@@ -168,7 +165,7 @@ granted-open d p l m r i e c =
     let a : d .slots ≤ 40 = r .good .most in
     let f : length (d .entries) ≡ 40 = r .forty in
     let b : i < length (d .entries) = omega arith in
-    let z : stateAt (d .entries) i ≡ Free = free-true (stateAt (d .entries) i) e in
+    let z : stateAt (d .entries) i ≡ Free = free-is (stateAt (d .entries) i) e in
     let x : State = Open (record { ticket = d .next; tram = m; held = 0 }) in
     let high : (j : ℕ) → j < 40 → (u : Session) → stateAt (d .entries) j ≡ Open u → u .ticket ≡ d .next → ⊥ = λ j k u h q. (let w : u .ticket < d .next = r .good .each j k u h .high in omega arith) in
     let k = count-more (taken (d .entries)) (taken (set (d .entries) i (record { state = x }))) (d .slots) i c (ap (λ (y : State). not (isFree y)) z)
@@ -202,7 +199,7 @@ opening-refines d p l m r =
         subst (λ (n : ℕ). Refines (opened d m i) p (record { slots = l .slots; next = n + 1; rows = record { ticket = n; octets = [] } ∷ l .rows })) (sym (r .next))
         (granted-open d p l m r i e c)
 
-    place : (x : Place) → firstAt (freeAt (d .entries)) 0 (d .slots) ≡ x → eqb (d .next) 4294967295 ≡ false → Simulates (took (openIn d p m x)) (opening l)
+    place : (x : Position) → firstAt (freeAt (d .entries)) 0 (d .slots) ≡ x → eqb (d .next) 4294967295 ≡ false → Simulates (took (openIn d p m x)) (opening l)
     place (Barred n) e h = unbarred (freeAt (d .entries)) (d .slots) 0 n e
     place Nowhere e h =
         let k = count-full (taken (d .entries)) (d .slots) (λ j b. ap not (firstAt-not (freeAt (d .entries)) (d .slots) 0 e j (omega arith) (omega arith))) in

@@ -13,9 +13,10 @@ use Rattle.desk_slots.specs.Sound.{none, stateAt, Fit}
 use Rattle.desk_slots.specs.Slots.{isFree, openAt}
 use Rattle.desk.specs.Steps.{Sound, sound, slotOf, octetsIn}
 use Rattle.desk_entries.proofs.Searches.{clash, firstAt-is, firstAt-not, unbarred}
+use Rattle.desk_slots.proofs.SlotLaws.{session-at}
 use Rattle.desk.proofs.DeskLaws.{is-sound, Granted, granted}
-use Rattle.desk_entries.specs.declared.tickets.Place.{Place}
-use Rattle.desk_entries.specs.declared.tickets.Place.the-variants.{At, Nowhere, Barred}
+use Rattle.desk_entries.specs.declared.tickets.Position.{Position}
+use Rattle.desk_entries.specs.declared.tickets.Position.the-variants.{At, Nowhere, Barred}
 use Rattle.desk_entries.specs.declared.Session.{Session}
 use Rattle.desk_entries.specs.declared.Entry.{Entry}
 use Rattle.desk_entries.specs.declared.State.{State}
@@ -23,7 +24,7 @@ use Rattle.desk_entries.specs.declared.State.the-variants.{Free, Open}
 use Rattle.desk.specs.declared.Desk.{Desk}
 use Rattle.desk_slots.specs.declared.Slot.the-variants.{Held, No}
 use Rattle.desk_ledger.specs.Ledger.{Found, absent, present, Row, Ledger, lookup}
-use Rattle.desk_laws.proofs.Rows.{no, Below}
+use Rattle.desk_laws.proofs.LedgerRows.{no, Below}
 use Rattle.desk_laws.proofs.Counts.{count}
 
 -- ---- an entry is set
@@ -114,7 +115,7 @@ pub backed-set : (es : List Entry) (p p′ : List ℕ) (rs rs′ : List Row) (i 
     → ((j : ℕ) → j < 40 → (j ≡ i → ⊥) → (u : Session) → stateAt es j ≡ Open u → octetsIn p′ j u ≡ octetsIn p j u)
     → Here rs′ p′ i t x
     → Backed (set es i (record { state = x })) p′ rs′
-backed-set es p p′ rs rs′ i t x r short l apart was same kept here =
+backed-set es p p′ rs rs′ i t x r short l elsewhere was same kept here =
     record {
       holds = λ j k s e. holds j k s e (eqb j i) refl;
       backs = λ u o e. backs u o e (eqb u t) refl;
@@ -128,7 +129,7 @@ backed-set es p p′ rs rs′ i t x r short l apart was same kept here =
     holds j k s e false q =
         let n = eqb-false j i q in
         let e′ : stateAt es j ≡ Open s = sym (other-at es i j x n) ∙ e in
-        same (s .ticket) (apart j k n s e′) ∙ r .holds j k s e′ ∙ sym (ap present (kept j k n s e′))
+        same (s .ticket) (elsewhere j k n s e′) ∙ r .holds j k s e′ ∙ sym (ap present (kept j k n s e′))
 
     backs : (u : ℕ) (o : List ℕ) → lookup rs′ u ≡ present o → (b : Bool) → eqb u t ≡ b → (j : ℕ) × ((s : Session) × ((j < 40) × (stateAt (set es i (record { state = x })) j ≡ Open s) × (s .ticket ≡ u)))
     backs u o e true q =
@@ -147,10 +148,6 @@ backed-set es p p′ rs rs′ i t x r short l apart was same kept here =
 pub data View (d : Desk) (p : List ℕ) (l : Ledger) (t : ℕ) : Type 0 where
   seen : (i : ℕ) (s : Session) → slotOf d (length p) t ≡ Held i s → Granted d (length p) t i s → lookup (l .rows) t ≡ present (octetsIn p i s) → View d p l t
   unseen : slotOf d (length p) t ≡ No 22 → lookup (l .rows) t ≡ absent → View d p l t
-
-pub opened-there : (t : ℕ) (x : State) → (es : List Entry) (i : ℕ) → stateAt es i ≡ x → openAt es t i ≡ true → (s : Session) × ((stateAt es i ≡ Open s) × (s .ticket ≡ t))
-opened-there t Free es i q e = let z : false ≡ true = rw q at e in clash cc
-opened-there t (Open s) es i q e = (s, (q, eqb-true (s .ticket) t (rw q at e)))
 
 pub view : (d : Desk) (p : List ℕ) (l : Ledger) (t : ℕ) → Refines d p l → View d p l t
 unfolding Rattle.desk_slots.specs.Slots.slotOf
@@ -176,10 +173,10 @@ view d p l t r = go (firstAt (openAt (d .entries) t) 0 40) refl
         let e : slotOf d (length p) t ≡ Held i s = rw (so, le, q, x) in
         seen i s e (granted d (length p) t i s e) (rw y at (r .rows .holds i h s x))
 
-    go : (x : Place) → firstAt (openAt (d .entries) t) 0 40 ≡ x → View d p l t
+    go : (x : Position) → firstAt (openAt (d .entries) t) 0 40 ≡ x → View d p l t
     go (Barred n) q = unbarred (openAt (d .entries) t) 40 0 n q
     go Nowhere q = unseen (rw (so, le, q)) (none-row q (lookup (l .rows) t) refl)
     go (At i) q =
         let f = firstAt-is (openAt (d .entries) t) 40 0 i q in
-        let y = opened-there t (stateAt (d .entries) i) (d .entries) i refl (f .0) in
+        let y = session-at (d .entries) t i (f .0) in
         found i q (omega arith) (y .0) (y .1 .0) (y .1 .1)

@@ -55,7 +55,8 @@ asked n p xs m t ys x = deskStep (world n p (xs ++ opens m ∷ ys)) (on t x) .re
 -- two uploads, in one list or two, on desks of any size: while the first k of their calls run-refines, so do the answers; and after calls
 -- that run-refines, what show, judge or any other deed answers
 pub record Alike (n : ℕ) (p : List ℕ) (xs : List Call) (m t : ℕ) (n′ : ℕ) (p′ : List ℕ) (xs′ : List Call) (m′ t′ : ℕ) : Type 0 where
-  pub answers : (ys ys′ : List Call) (k : ℕ) → take k (mine t ys) ≡ take k (mine t′ ys′) → take k (ownAnswers n p xs m t ys) ≡ take k (ownAnswers n′ p′ xs′ m′ t′ ys′)
+  pub answers : (ys ys′ : List Call) (k : ℕ) → take k (mine t ys) ≡ take k (mine t′ ys′)
+      → take k (ownAnswers n p xs m t ys) ≡ take k (ownAnswers n′ p′ xs′ m′ t′ ys′)
   pub after : (ys ys′ : List Call) → mine t ys ≡ mine t′ ys′ → (x : Deed) → asked n p xs m t ys x ≡ asked n′ p′ xs′ m′ t′ ys′ x
 
 -- tickets are used up, or no slot is free
@@ -75,7 +76,8 @@ pub record Demand3 : Type 0 where
   pub answered : (n : ℕ) (p : List ℕ) → Proper n p → (cs : List Call) → answers n p cs ≡ run ledgerStep (freshLedger n) cs
   pub afterwards : (n : ℕ) (p : List ℕ) → Proper n p → (cs : List Call) → Afterwards n p cs
   -- noninterference: an upload is answered by its own calls alone, those after its release too
-  pub alone : (n : ℕ) (p : List ℕ) → Proper n p → (xs : List Call) (m t : ℕ) → Grants n p xs m t → (ys : List Call) → ownAnswers n p xs m t ys ≡ solo (present []) (mine t ys)
+  pub alone : (n : ℕ) (p : List ℕ) → Proper n p → (xs : List Call) (m t : ℕ) → Grants n p xs m t
+      → (ys : List Call) → ownAnswers n p xs m t ys ≡ solo (present []) (mine t ys)
   pub alike : (n : ℕ) (p : List ℕ) → Proper n p → (xs : List Call) (m t : ℕ) → Grants n p xs m t
       → (n′ : ℕ) (p′ : List ℕ) → Proper n′ p′ → (xs′ : List Call) (m′ t′ : ℕ) → Grants n′ p′ xs′ m′ t′
       → Alike n p xs m t n′ p′ xs′ m′ t′

@@ -6,7 +6,8 @@ use lib.ListN.{replicate}
 use Rattle.numbers.specs.Limits as limit
 use Rattle.numbers.specs.Refusals as refusal
 use Rattle.octets.specs.Ascii.{octets}
-use Rattle.desk_ledger.specs.Ledger.{adds, judges, shows, asks, releases, Call, opens, on, Reply, refused, told, part, Ledger, lookup, change, ledgerStep, freshLedger, run}
+use Rattle.desk_ledger.specs.Ledger.{adds, judges, shows, asks, releases, Call, opens, on}
+use Rattle.desk_ledger.specs.Ledger.{Reply, refused, told, part, Ledger, lookup, change, ledgerStep, freshLedger, run}
 use Rattle.desk_ledger.specs.Uploads.{joined}
 
 -- a call, and what the ledger answers

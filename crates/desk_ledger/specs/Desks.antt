@@ -8,7 +8,8 @@ use Rattle.desk.specs.Steps.{Turned, newStep, openStep, addStep, releaseStep, s
 use Rattle.desk.specs.declared.Desk.{Desk}
 use Rattle.desk.specs.declared.Answer.{Answer}
 use Rattle.desk.specs.declared.Answer.the-variants.{Done, Refused}
-use Rattle.desk_ledger.specs.Ledger.{Deed, adds, judges, shows, asks, releases, Call, opens, on, Reply, refused, told, part, verdict, Ledger, Out, ledgerStep, freshLedger, run, after}
+use Rattle.desk_ledger.specs.Ledger.{Deed, adds, judges, shows, asks, releases, Call, opens, on}
+use Rattle.desk_ledger.specs.Ledger.{Reply, refused, told, part, verdict, Ledger, Out, ledgerStep, freshLedger, run, after}
 
 pub record World : Type 0 where
   pub desk : Desk

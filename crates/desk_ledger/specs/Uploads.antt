@@ -4,7 +4,8 @@ use mathlib.Core.Bool.{Bool, true, false}
 use mathlib.Core.List.{List, [], _∷_, _++_}
 use lib.Dec.{eqb}
 use Rattle.octets.specs.Pick.{pick}
-use Rattle.desk_ledger.specs.Ledger.{Deed, adds, judges, shows, asks, releases, Call, opens, on, Reply, refused, told, counts, part, Found, answer, leaves}
+use Rattle.desk_ledger.specs.Ledger.{Deed, adds, judges, shows, asks, releases, Call, opens, on}
+use Rattle.desk_ledger.specs.Ledger.{Reply, refused, told, counts, part, Found, answer, leaves}
 
 abbrev pub keep : {A : Type 0} → Bool → A → List A → List A
 keep true x xs = x ∷ xs

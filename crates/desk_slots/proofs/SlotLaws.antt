@@ -1,4 +1,4 @@
--- The refusals 25 and 24, and the slot of a ticket and the lowest free slot, found by one look along the tickets. Assumes nothing.
+-- The refusals 25 and 24, and the slot of a ticket and the lowest free slot, found by one search along the tickets. Assumes nothing.
 use Prim.Native.Nat.{ℕ, _+_, _*_, _<_, _≤_}
 use mathlib.Core.Path.{_≡_, refl, sym, ap, _∙_}
 use mathlib.Core.Bool.{Bool, true, false}
@@ -12,11 +12,11 @@ use Rattle.octets.specs.Pick.{pick}
 use Rattle.desk_entries.specs.Search.{firstAt, column, sameAs, among}
 use Rattle.desk_slots.specs.Sound.{stateAt, Sound, ticketAt, sound}
 use Rattle.desk_entries.specs.Entries.{ticketOf}
-use Rattle.desk_slots.specs.Slots.{guarded, freeAt, openAt, inState, inPlace, placeOf, slotOf, Within}
+use Rattle.desk_slots.specs.Slots.{guarded, isFree, freeAt, openAt, inState, atPosition, positionOf, slotOf, Within}
 use Rattle.desk_entries.proofs.Searches.{clash, firstAt-is, firstAt-not, firstAt-same, unbarred, among-same}
 use Rattle.desk_slots.proofs.SoundLaws.{sound-is}
-use Rattle.desk_entries.specs.declared.tickets.Place.{Place}
-use Rattle.desk_entries.specs.declared.tickets.Place.the-variants.{At, Nowhere, Barred}
+use Rattle.desk_entries.specs.declared.tickets.Position.{Position}
+use Rattle.desk_entries.specs.declared.tickets.Position.the-variants.{At, Nowhere, Barred}
 use Rattle.desk_entries.specs.declared.Session.{Session}
 use Rattle.desk_entries.specs.declared.State.{State}
 use Rattle.desk_entries.specs.declared.State.the-variants.{Free, Open}
@@ -87,6 +87,18 @@ begun-first es ts m n t h b =
 
 -- ---- a ticket among the entries
 
+pub free-is : (x : State) → isFree x ≡ true → x ≡ Free
+free-is Free e = refl
+free-is (Open s) e = clash cc
+
+-- the session of an entry that has a ticket
+pub session-at : (es : List Entry) (t i : ℕ) → openAt es t i ≡ true → (s : Session) × ((stateAt es i ≡ Open s) × (s .ticket ≡ t))
+session-at es t i e = go (stateAt es i) refl
+  where
+    go : (x : State) → stateAt es i ≡ x → (s : Session) × ((stateAt es i ≡ Open s) × (s .ticket ≡ t))
+    go Free q = let z : false ≡ true = rw q at e in clash cc
+    go (Open s) q = (s, (q, eqb-true (s .ticket) t (rw q at e)))
+
 module _ (es : List Entry) (slots next : ℕ) (s : Sound es slots next) where
   -- an entry is free where its ticket counts as 0
   free-zero : (j : ℕ) → j < 40 → (x : State) → stateAt es j ≡ x → sameAs (ticketAt es) 0 j ≡ freeAt es j
@@ -98,17 +110,16 @@ module _ (es : List Entry) (slots next : ℕ) (s : Sound es slots next) where
       let m = s .most in
       firstAt-same (sameAs (ticketAt es) 0) (freeAt es) slots 0 (λ j h l. free-zero j (omega arith) (stateAt es j) refl)
 
-  pub slot-inside : (j : ℕ) → j < 40 → (o : Session) → stateAt es j ≡ Open o → (b : Bool) → ltb j slots ≡ b → j < slots
-  slot-inside j h o q true b = ltb-true j slots b
-  slot-inside j h o q false b = let w : Free ≡ Open o = sym (s .past j (ltb-false j slots b) h) ∙ q in clash cc
+  pub slot-inside : (j : ℕ) → j < 40 → (o : Session) → stateAt es j ≡ Open o → j < slots
+  slot-inside j h o q = go (ltb j slots) refl
+    where
+      go : (b : Bool) → ltb j slots ≡ b → j < slots
+      go true b = ltb-true j slots b
+      go false b = let w : Free ≡ Open o = sym (s .past j (ltb-false j slots b) h) ∙ q in clash cc
 
-  same-slot : (t : ℕ) → inPlace es (firstAt (sameAs (ticketAt es) t) 0 slots) ≡ inPlace es (firstAt (openAt es t) 0 40)
+  same-slot : (t : ℕ) → atPosition es (firstAt (sameAs (ticketAt es) t) 0 slots) ≡ atPosition es (firstAt (openAt es t) 0 40)
   same-slot t = go (firstAt (sameAs (ticketAt es) t) 0 slots) refl (firstAt (openAt es t) 0 40) refl
     where
-      opens : (j : ℕ) → openAt es t j ≡ true → (x : State) → stateAt es j ≡ x → (o : Session) × ((x ≡ Open o) × (o .ticket ≡ t))
-      opens j e Free q = let z : false ≡ true = rw q at e in clash cc
-      opens j e (Open o) q = (o, (refl, eqb-true (o .ticket) t (rw q at e)))
-
       nowhere : (j : ℕ) → firstAt (openAt es t) 0 40 ≡ Nowhere → j < 40 → (x : State) → stateAt es j ≡ x → ticketOf x ≡ t → inState j x ≡ No 22
       nowhere j e h Free q w = refl
       nowhere j e h (Open o) q w =
@@ -125,7 +136,7 @@ module _ (es : List Entry) (slots next : ℕ) (s : Sound es slots next) where
           let m = s .most in
           s .distinct i j (omega arith) l u o r q ((rw r at e) ∙ sym w)
 
-      go : (p : Place) → firstAt (sameAs (ticketAt es) t) 0 slots ≡ p → (r : Place) → firstAt (openAt es t) 0 40 ≡ r → inPlace es p ≡ inPlace es r
+      go : (p : Position) → firstAt (sameAs (ticketAt es) t) 0 slots ≡ p → (r : Position) → firstAt (openAt es t) 0 40 ≡ r → atPosition es p ≡ atPosition es r
       go (Barred n) e r f = unbarred (sameAs (ticketAt es) t) slots 0 n e
       go Nowhere e (Barred n) f = unbarred (openAt es t) 40 0 n f
       go (At i) e (Barred n) f = unbarred (openAt es t) 40 0 n f
@@ -136,23 +147,23 @@ module _ (es : List Entry) (slots next : ℕ) (s : Sound es slots next) where
           nowhere i f (omega arith) (stateAt es i) refl (eqb-true (ticketAt es i) t (w .0))
       go Nowhere e (At j) f =
           let w = firstAt-is (openAt es t) 40 0 j f in
-          let o = opens j (w .0) (stateAt es j) refl in
-          let k = slot-inside j (omega arith) (o .0) (o .1 .0) (ltb j slots) refl in
+          let o = session-at es t j (w .0) in
+          let k = slot-inside j (omega arith) (o .0) (o .1 .0) in
           let y : sameAs (ticketAt es) t j ≡ true = rw (o .1 .0) (eq-eqb (o .0 .ticket) t (o .1 .1)) in
           let z : false ≡ true = sym (firstAt-not (sameAs (ticketAt es) t) slots 0 e j (omega arith) (omega arith)) ∙ y in
           clash cc
       go (At i) e (At j) f =
           let v = firstAt-is (sameAs (ticketAt es) t) slots 0 i e in
           let w = firstAt-is (openAt es t) 40 0 j f in
-          let o = opens j (w .0) (stateAt es j) refl in
-          ap (λ (n : ℕ). inPlace es (At n)) (both i j (omega arith) (omega arith) (eqb-true (ticketAt es i) t (v .0)) (o .0) (o .1 .0) (o .1 .1) (stateAt es i) refl)
+          let o = session-at es t j (w .0) in
+          ap (λ (n : ℕ). atPosition es (At n)) (both i j (omega arith) (omega arith) (eqb-true (ticketAt es i) t (v .0)) (o .0) (o .1 .0) (o .1 .1) (stateAt es i) refl)
 
--- ---- a look
+-- ---- a search
 
 -- barred, or clear with what was found
-pub place-short : (es : List Entry) (slots next : ℕ) (size t i : ℕ) → placeOf es slots next size t ≡ At i → i < 40
-unfolding placeOf
-place-short es slots next size t i e = go (eqb (guarded es slots next size (λ n. n) 0) 0) refl
+pub position-short : (es : List Entry) (slots next : ℕ) (size t i : ℕ) → positionOf es slots next size t ≡ At i → i < 40
+unfolding positionOf
+position-short es slots next size t i e = go (eqb (guarded es slots next size (λ n. n) 0) 0) refl
   where
     go : (b : Bool) → eqb (guarded es slots next size (λ n. n) 0) 0 ≡ b → i < 40
     go true b =
@@ -164,22 +175,22 @@ place-short es slots next size t i e = go (eqb (guarded es slots next size (λ n
         let h : Barred (guarded es slots next size (λ n. n) 0) ≡ At i = sym (barred es slots next size Barred (firstAt (sameAs (ticketAt es) t) 0 slots) (eqb-false (guarded es slots next size (λ n. n) 0) 0 b)) ∙ e in
         clash cc
 
--- a look for a ticket leads to its slot
-slot-place : (es : List Entry) (slots next : ℕ) (size t : ℕ) (p : Place) → placeOf es slots next size t ≡ p → inPlace es p ≡ slotOf es slots next size t
-unfolding placeOf slotOf
-slot-place es slots next size t p e = sym (ap (inPlace es) e) ∙ go (sound es slots next) refl (eqb size (slots * 16384)) refl
+-- a search for a ticket leads to its slot
+slot-position : (es : List Entry) (slots next : ℕ) (size t : ℕ) (p : Position) → positionOf es slots next size t ≡ p → atPosition es p ≡ slotOf es slots next size t
+unfolding positionOf slotOf
+slot-position es slots next size t p e = sym (ap (atPosition es) e) ∙ go (sound es slots next) refl (eqb size (slots * 16384)) refl
   where
     go : (a : Bool) → sound es slots next ≡ a → (b : Bool) → eqb size (slots * 16384) ≡ b
-        → inPlace es (pick a (pick b (firstAt (sameAs (ticketAt es) t) 0 slots) (Barred 24)) (Barred 25))
-        ≡ pick a (pick b (inPlace es (firstAt (openAt es t) 0 40)) (No 24)) (No 25)
+        → atPosition es (pick a (pick b (firstAt (sameAs (ticketAt es) t) 0 slots) (Barred 24)) (Barred 25))
+        ≡ pick a (pick b (atPosition es (firstAt (openAt es t) 0 40)) (No 24)) (No 25)
     go true a true b = same-slot es slots next (sound-is es slots next a) t
     go true a false b = refl
     go false a b c = refl
 
--- a look for 0 leads to the lowest free slot
-pub free-place : (es : List Entry) (slots next size : ℕ) → placeOf es slots next size 0 ≡ guarded es slots next size Barred (firstAt (freeAt es) 0 slots)
-unfolding placeOf
-free-place es slots next size = go (sound es slots next) refl
+-- a search for 0 leads to the lowest free slot
+pub free-position : (es : List Entry) (slots next size : ℕ) → positionOf es slots next size 0 ≡ guarded es slots next size Barred (firstAt (freeAt es) 0 slots)
+unfolding positionOf
+free-position es slots next size = go (sound es slots next) refl
   where
     go : (a : Bool) → sound es slots next ≡ a
         → pick a (pick (eqb size (slots * 16384)) (firstAt (sameAs (ticketAt es) 0) 0 slots) (Barred 24)) (Barred 25)
@@ -206,7 +217,7 @@ pub granted : (es : List Entry) (slots next : ℕ) (size t i : ℕ) (s : Session
 unfolding slotOf
 granted es slots next size t i s e = go (eqb (guarded es slots next size (λ n. n) 0) 0) refl
   where
-    place : (p : Place) → firstAt (openAt es t) 0 40 ≡ p → inPlace es p ≡ Held i s → firstAt (openAt es t) 0 40 ≡ At i
+    place : (p : Position) → firstAt (openAt es t) 0 40 ≡ p → atPosition es p ≡ Held i s → firstAt (openAt es t) 0 40 ≡ At i
     place Nowhere q h = never 22 i s h
     place (Barred n) q h = never n i s h
     place (At j) q h = q ∙ ap At (at (stateAt es j) h)
@@ -223,7 +234,7 @@ granted es slots next size t i s e = go (eqb (guarded es slots next size (λ n. 
     go true b =
         let z : guarded es slots next size (λ n. n) 0 ≡ 0 = eqb-true (guarded es slots next size (λ n. n) 0) 0 b in
         let k = clear es slots next size z in
-        let h : inPlace es (firstAt (openAt es t) 0 40) ≡ Held i s = sym (cleared es slots next size No (inPlace es (firstAt (openAt es t) 0 40)) z) ∙ e in
+        let h : atPosition es (firstAt (openAt es t) 0 40) ≡ Held i s = sym (cleared es slots next size No (atPosition es (firstAt (openAt es t) 0 40)) z) ∙ e in
         let p = place (firstAt (openAt es t) 0 40) refl h in
         let f = firstAt-is (openAt es t) 40 0 i p in
         let q : stateAt es i ≡ Open s = open-there (stateAt es i) (rw p at h) in
@@ -235,17 +246,17 @@ granted es slots next size t i s e = go (eqb (guarded es slots next size (λ n. 
           ticket = eqb-true (s .ticket) t (rw q at (f .0));
           short = l;
           few = k .sound .most;
-          inside = slot-inside es slots next (k .sound) i l s q (ltb i slots) refl;
+          inside = slot-inside es slots next (k .sound) i l s q;
           room = k .sound .each i l s q .room;
         }
     go false b =
         never (guarded es slots next size (λ n. n) 0) i s
-        (sym (barred es slots next size No (inPlace es (firstAt (openAt es t) 0 40)) (eqb-false (guarded es slots next size (λ n. n) 0) 0 b)) ∙ e)
+        (sym (barred es slots next size No (atPosition es (firstAt (openAt es t) 0 40)) (eqb-false (guarded es slots next size (λ n. n) 0) 0 b)) ∙ e)
 
--- what a look for a ticket leads to: its slot, which lies within desk and pool
-pub found : (es : List Entry) (slots next size t : ℕ) (q p : Place) → q ≡ placeOf es slots next size t → q ≡ p → (x : Slot) → inPlace es p ≡ x
+-- what a search for a ticket leads to: its slot, which lies within desk and pool
+pub found : (es : List Entry) (slots next size t : ℕ) (q p : Position) → q ≡ positionOf es slots next size t → q ≡ p → (x : Slot) → atPosition es p ≡ x
     → (x ≡ slotOf es slots next size t) × Within size x
-found es slots next size t q p e f x g = go x (sym g ∙ slot-place es slots next size t p (sym e ∙ f))
+found es slots next size t q p e f x g = go x (sym g ∙ slot-position es slots next size t p (sym e ∙ f))
   where
     go : (x : Slot) → x ≡ slotOf es slots next size t → (x ≡ slotOf es slots next size t) × Within size x
     go (No n) h = (h, tt)

@@ -9,8 +9,8 @@ use Rattle.numbers.specs.Refusals as refusal
 use Rattle.octets.specs.Pick.{pick}
 use Rattle.desk_entries.specs.Search.{firstAt, sameAs}
 use Rattle.desk_slots.specs.Sound.{stateAt, ticketAt, sound}
-use Rattle.desk_entries.specs.declared.tickets.Place.{Place}
-use Rattle.desk_entries.specs.declared.tickets.Place.the-variants.{At, Nowhere, Barred}
+use Rattle.desk_entries.specs.declared.tickets.Position.{Position}
+use Rattle.desk_entries.specs.declared.tickets.Position.the-variants.{At, Nowhere, Barred}
 use Rattle.desk_entries.specs.declared.Session.{Session}
 use Rattle.desk_entries.specs.declared.State.{State}
 use Rattle.desk_entries.specs.declared.State.the-variants.{Free, Open}
@@ -40,18 +40,18 @@ abbrev pub inState : ℕ → State → Slot
 inState i Free = No refusal.notOpen
 inState i (Open s) = Held i s
 
-abbrev pub inPlace : List Entry → Place → Slot
-inPlace es Nowhere = No refusal.notOpen
-inPlace es (At i) = inState i (stateAt es i)
-inPlace es (Barred n) = No n
+abbrev pub atPosition : List Entry → Position → Slot
+atPosition es Nowhere = No refusal.notOpen
+atPosition es (At i) = inState i (stateAt es i)
+atPosition es (Barred n) = No n
 
 -- 25, 24, or the first slot that has a ticket; a free one has 0
-unfoldable pub placeOf : List Entry → ℕ → ℕ → ℕ → ℕ → Place
-placeOf es slots next size t = guarded es slots next size Barred (firstAt (sameAs (ticketAt es) t) 0 slots)
+unfoldable pub positionOf : List Entry → ℕ → ℕ → ℕ → ℕ → Position
+positionOf es slots next size t = guarded es slots next size Barred (firstAt (sameAs (ticketAt es) t) 0 slots)
 
 -- 25, 24, 22, or the slot of a ticket with its session
 unfoldable pub slotOf : List Entry → ℕ → ℕ → ℕ → ℕ → Slot
-slotOf es slots next size t = guarded es slots next size No (inPlace es (firstAt (openAt es t) 0 limit.slots))
+slotOf es slots next size t = guarded es slots next size No (atPosition es (firstAt (openAt es t) 0 limit.slots))
 
 -- slot i lies within the desk and its pool of that size, and the octets held within the slot
 pub record Bounded (size i : ℕ) (s : Session) : Type 0 where

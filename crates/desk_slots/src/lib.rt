@@ -1,13 +1,13 @@
-// A look along the entries of a desk: whether the desk is sound, and the slot of a ticket or the lowest free one.
+// One search along the entries of a desk: whether the desk is sound, and the slot of a ticket or the lowest free one.
 use desk_entries::Entry;
 use desk_entries::Session;
 use desk_entries::State;
-use desk_entries::tickets::Place;
+use desk_entries::tickets::Position;
 use numbers::limit;
 use numbers::refusal;
 ghost use mathlib.Core.Path.{_≡_};
 ghost use Rattle.desk_slots.specs.Sound.{bounds};
-ghost use Rattle.desk_slots.specs.Slots.{placeOf, slotOf, Within};
+ghost use Rattle.desk_slots.specs.Slots.{positionOf, slotOf, Within};
 
 // The slot of a ticket with its session, or a refusal.
 pub enum Slot {
@@ -15,7 +15,7 @@ pub enum Slot {
     No(u32),
 }
 
-// Whether the slot count is in range and the next ticket at least 1.
+// Tells whether the slot count is in range and the next ticket at least 1.
 pub fn in_bounds(slots: usize, next: u32) -> bool
     ensures { λ r. ⌜ r ≡ bounds slots next ⌝ }
 {
@@ -35,28 +35,28 @@ pub fn find_slot(
     next: u32,
     size: usize,
     t: u32,
-) -> Place
-    ensures { λ r. ⌜ r ≡ placeOf entries slots next size t ⌝ }
+) -> Position
+    ensures { λ r. ⌜ r ≡ positionOf entries slots next size t ⌝ }
 {
     if !in_bounds(slots, next) {
-        return Place::Barred(refusal::UNSOUND);
+        return Position::Barred(refusal::UNSOUND);
     }
     let mut ts = [0u32; limit::SLOTS];
     let mut i: usize = 0;
     while i < limit::SLOTS {
         let e = entries[i];
         if !desk_entries::fits(e, i, slots, next) {
-            return Place::Barred(refusal::UNSOUND);
+            return Position::Barred(refusal::UNSOUND);
         }
         let u = desk_entries::ticket_of(e);
         if desk_entries::tickets::stands(&ts, u, i) {
-            return Place::Barred(refusal::UNSOUND);
+            return Position::Barred(refusal::UNSOUND);
         }
         ts[i] = u;
         i += 1;
     }
     if size != slots * limit::OCTETS {
-        return Place::Barred(refusal::POOL_LENGTH);
+        return Position::Barred(refusal::POOL_LENGTH);
     }
     desk_entries::tickets::find(&ts, t, slots)
 }
@@ -74,9 +74,9 @@ pub fn at_ticket(
 {
     let p = find_slot(entries, slots, next, size, t);
     match p {
-        Place::Barred(r) => Slot::No(r),
-        Place::Nowhere => Slot::No(refusal::NOT_OPEN),
-        Place::At(i) => {
+        Position::Barred(r) => Slot::No(r),
+        Position::Nowhere => Slot::No(refusal::NOT_OPEN),
+        Position::At(i) => {
             let e = entries[i];
             let s = e.state;
             match s {

@@ -24,7 +24,7 @@ pub enum Replayed {
     Refused(u32, usize),
 }
 
-// The calls of a script, and answers how many octets of the log were written.
+// Runs the calls of a script one after the other, and answers how many octets of the log are written.
 fn run_all(desk: Desk, script: &[u8], pool: &mut [u8], log: &mut [u8]) -> usize
     requires { ⌜ scan width (now script) 0 ≡ length (now script) ⌝ }
     requires { ⌜ length (written (run deskStep (worldOf desk (now pool)) (callsIn (now script) 0))) ≤ length (now log) ⌝ }
@@ -45,7 +45,7 @@ fn run_all(desk: Desk, script: &[u8], pool: &mut [u8], log: &mut [u8]) -> usize
     to
 }
 
-// On a fresh desk.
+// Runs a script on a fresh desk, or refuses with 90, 91 or 92.
 fn play(slots: usize, desk: Desk, script: &[u8], pool: &mut [u8], log: &mut [u8]) -> Replayed
     requires { ⌜ (bounds slots 1 ≡ true) × (desk ≡ newStep slots .desk) ⌝ }
     ensures { λ r. ⌜ replayed r (now (pool .exit)) (now (log .exit)) ≡ played slots (now (pool .entry)) (now (log .entry)) (decode (now (script .entry))) ⌝ }
@@ -68,7 +68,7 @@ fn play(slots: usize, desk: Desk, script: &[u8], pool: &mut [u8], log: &mut [u8]
     }
 }
 
-// Runs a script on a fresh desk: 26, 90, 91, 92, else the calls run and the octets written; nothing changes on a refusal.
+// Makes a desk and runs a script on it: the calls run and the octets written, or 26, 90, 91 or 92, which change nothing.
 pub fn replay(slots: usize, script: &[u8], pool: &mut [u8], log: &mut [u8]) -> Replayed
     ensures { λ r. ⌜ replayed r (now (pool .exit)) (now (log .exit)) ≡ replayOutcome slots (now (script .entry)) (now (pool .entry)) (now (log .entry)) ⌝ }
 {

@@ -62,6 +62,6 @@ tells =
     record {
       small = answers-small;
       wrote = λ n s p l k w e. wrote n s p l k w e;
-      apart = λ n s p l k w e n′ s′ p′ l′ k′ w′ e′ f. unwritten (answersTo n s) (answersTo n′ s′) (answers-small n (callsIn s 0)) (answers-small n′ (callsIn s′ 0))
+      injective = λ n s p l k w e n′ s′ p′ l′ k′ w′ e′ f. unwritten (answersTo n s) (answersTo n′ s′) (answers-small n (callsIn s 0)) (answers-small n′ (callsIn s′ 0))
           (sym (wrote n s p l k w e) ∙ f ∙ wrote n′ s′ p′ l′ k′ w′ e′);
     }

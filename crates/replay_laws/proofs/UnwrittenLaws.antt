@@ -1,4 +1,4 @@
--- A log tells the answers apart: two lists of answers whose numbers have 32 bits and whose logs are equal are equal. Assumes nothing.
+-- A log is injective: two lists of answers whose numbers have 32 bits and whose logs are equal are equal. Assumes nothing.
 use Prim.Native.Nat.{ℕ, _/_, _%_, _<_, _≤_}
 use mathlib.Core.Path.{_≡_, refl, sym, ap, _∙_}
 use mathlib.Core.List.{List, [], _∷_, _++_}

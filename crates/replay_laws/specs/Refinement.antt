@@ -1,4 +1,4 @@
--- A replay by the ledger, which knows no slots and no pool but for the pool that is left: its answers stand in the log. Assumes nothing.
+-- A replay by the ledger: the log has the ledger's answers, and the pool is left as the desk leaves it. Assumes nothing.
 use Prim.Native.Nat.{ℕ, _*_}
 use mathlib.Core.List.{List}
 use lib.Dec.{leb, eqb}

@@ -30,6 +30,6 @@ answersTo n s = run ledgerStep (freshLedger n) (callsIn s 0)
 pub record Tells : Type 0 where
   pub small : (n : ℕ) (cs : List Call) → AllSmall (run ledgerStep (freshLedger n) cs)
   pub wrote : (n : ℕ) (s p l : List ℕ) (k w : ℕ) → replayOutcome n s p l .answer ≡ Ran k w → take w (replayOutcome n s p l .log) ≡ written (answersTo n s)
-  pub apart : (n : ℕ) (s p l : List ℕ) (k w : ℕ) → replayOutcome n s p l .answer ≡ Ran k w
+  pub injective : (n : ℕ) (s p l : List ℕ) (k w : ℕ) → replayOutcome n s p l .answer ≡ Ran k w
       → (n′ : ℕ) (s′ p′ l′ : List ℕ) (k′ w′ : ℕ) → replayOutcome n′ s′ p′ l′ .answer ≡ Ran k′ w′
       → take w (replayOutcome n s p l .log) ≡ take w′ (replayOutcome n′ s′ p′ l′ .log) → answersTo n s ≡ answersTo n′ s′

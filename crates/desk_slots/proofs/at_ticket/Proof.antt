@@ -3,7 +3,7 @@ use mathlib.Core.Path.{refl, sym, ap, _∙_}
 use native.Mathlib.Omega.{arith}
 use borrow.Author.Needs.{needs}
 use Rattle.desk_slots.specs.Slots.{inState}
-use Rattle.desk_slots.proofs.SlotLaws.{place-short, found}
+use Rattle.desk_slots.proofs.SlotLaws.{position-short, found}
 use Rattle.desk_slots.proofs.at_ticket.Statement.{statement}
 use Rattle.desk_slots.proofs.at_ticket.Tie as tie
 
@@ -23,13 +23,13 @@ mul-e : tie.Need-mul-e
 mul-e c =
     let c3 = c .before .before .before in
     let a = c3 .before .args in
-    let h = place-short (a .t1) (a .slots) (a .next) (a .size) (a .t) _ (sym (c3 .find-slot .ensures) ∙ c .before .p2 .given .1) in omega arith
+    let h = position-short (a .t1) (a .slots) (a .next) (a .size) (a .t) _ (sym (c3 .find-slot .ensures) ∙ c .before .p2 .given .1) in omega arith
 
 array-copy-out-e : tie.Need-array-copy-out-e
 array-copy-out-e c =
     let c3 = c .before .before .before in
     let a = c3 .before .args in
-    let h = place-short (a .t1) (a .slots) (a .next) (a .size) (a .t) _ (sym (c3 .find-slot .ensures) ∙ c .before .p2 .given .1) in omega arith
+    let h = position-short (a .t1) (a .slots) (a .next) (a .size) (a .t) _ (sym (c3 .find-slot .ensures) ∙ c .before .p2 .given .1) in omega arith
 
 enum-told-2 : tie.Need-enum-told-2
 enum-told-2 c = search needs

@@ -8,7 +8,7 @@ use borrow.Author.Needs.{needs}
 use borrow.Author.Tests.{eq-eqb, ne-eqb, not-true, not-false}
 use Rattle.desk_entries.specs.Search.{allAt}
 use Rattle.desk_slots.specs.Sound.{goodAt, bounds, sound}
-use Rattle.desk_slots.specs.Slots.{placeOf}
+use Rattle.desk_slots.specs.Slots.{positionOf}
 use Rattle.desk_entries.proofs.Searches.{allAt-none, allAt-hit, allAt-miss}
 use Rattle.desk_slots.proofs.SoundLaws.{bounds-are, unfit, repeated, good}
 use Rattle.desk_slots.proofs.SlotLaws.{Begun, begun-none, begun-more, begun-among, begun-first}
@@ -28,7 +28,7 @@ in-bounds-requires : tie.Need-in-bounds-requires Inv-loop μ-loop
 in-bounds-requires c κs = search needs
 
 returns : tie.Need-returns Inv-loop μ-loop
-unfolding placeOf sound
+unfolding positionOf sound
 returns c = simp (sym (c .before .in-bounds .ensures) ∙ not-true _ (c .if1 .taken))
 
 loop-holds : tie.Need-loop-holds Inv-loop μ-loop
@@ -44,7 +44,7 @@ fits-requires : tie.Need-fits-requires Inv-loop μ-loop
 fits-requires c κs = search needs
 
 returns-2 : tie.Need-returns-2 Inv-loop μ-loop
-unfolding placeOf sound
+unfolding positionOf sound
 returns-2 c =
     let d = c .before .before .before .before .before .before .before .args in
     let l = c .before .before .before .before .loop in
@@ -58,7 +58,7 @@ stands-requires : tie.Need-stands-requires Inv-loop μ-loop
 stands-requires c κs = omega arith
 
 returns-3 : tie.Need-returns-3 Inv-loop μ-loop
-unfolding placeOf sound
+unfolding positionOf sound
 returns-3 c =
     let d = c .before .before .before .before .before .before .before .before .before .before .before .args in
     let l = c .before .before .before .before .before .before .before .before .loop in
@@ -90,7 +90,7 @@ mul-if4 : tie.Need-mul-if4 Inv-loop μ-loop
 mul-if4 c = let b = bounds-are _ _ (bounded (c .before .before)) in omega arith
 
 returns-4 : tie.Need-returns-4 Inv-loop μ-loop
-unfolding placeOf sound
+unfolding positionOf sound
 returns-4 c =
     let d = c .before .before .before .before .before .args in
     let l = c .before .before .loop in
@@ -101,7 +101,7 @@ find-requires c κs =
     let b = bounds-are _ _ (bounded (c .before .before .before .before)) in omega arith
 
 returns-5 : tie.Need-returns-5 Inv-loop μ-loop
-unfolding placeOf sound
+unfolding positionOf sound
 returns-5 c =
     let d = c .before .before .before .before .before .before .before .args in
     let l = c .before .before .before .before .loop in

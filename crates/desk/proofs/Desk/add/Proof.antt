@@ -22,10 +22,7 @@ cast-h : tie.Need-cast-h
 cast-h c = search needs
 
 sub-if1 : tie.Need-sub-if1
-sub-if1 c =
-    let c2 = c .before .before in
-    let g = rw (c2 .slot2 .given .1) at (c2 .before .before .at-ticket .ensures .1) in
-    omega arith
+sub-if1 c = let g = rw (c .before .before .slot2 .given .1) at (c .before .before .before .before .at-ticket .ensures .1) in omega arith
 
 refuse-requires-2 : tie.Need-refuse-requires-2
 refuse-requires-2 c κs = search needs
@@ -39,10 +36,7 @@ returns c =
     add-full (a .self) (now (a .pool)) (a .t) _ (c6 .at-ticket .ensures .0) (now (a .chunk)) _ _ (c4 .slot2 .given .1) (omega arith) _ (c .refuse2 .ensures)
 
 put-requires : tie.Need-put-requires
-put-requires c κs =
-    let c4 = c .before .before .before .before in
-    let g = rw (c4 .slot2 .given .1) at (c4 .before .before .at-ticket .ensures .1) in
-    omega arith
+put-requires c κs = let c4 = c .before .before .before .before in let g = rw (c4 .slot2 .given .1) at (c4 .before .before .at-ticket .ensures .1) in omega arith
 
 add-m : tie.Need-add-m
 add-m c = search needs
@@ -67,12 +61,9 @@ same-length c = search needs
 
 returns-3 : tie.Need-returns-3
 returns-3 c =
-    let c3 = c .before .before .before in
-    let c8 = c3 .before .before .before .before .before in
-    let c10 = c8 .before .before in
-    let a = c10 .before .before .before .args in
+    let c8 = c .before .before .before .before .before .before .before .before in let c10 = c8 .before .before in let a = c10 .before .before .before .args in
     let g = rw (c8 .slot2 .given .1) at (c10 .at-ticket .ensures .1) in
-    add-done (a .self) (now (a .pool)) (a .t) _ (c10 .at-ticket .ensures .0) (now (a .chunk)) _ _ (c8 .slot2 .given .1) (omega arith) _ (c .grant .ensures) _ (c3 .put .ensures)
+    add-done (a .self) (now (a .pool)) (a .t) _ (c10 .at-ticket .ensures .0) (now (a .chunk)) _ _ (c8 .slot2 .given .1) (omega arith) _ (c .grant .ensures) _ (c .before .before .before .put .ensures)
 
 pub add-spec : {M : Type 1} → statement M
 add-spec =

@@ -21,10 +21,7 @@ cast-held : tie.Need-cast-held
 cast-held c = search needs
 
 part-requires : tie.Need-part-requires
-part-requires c κs =
-    let c2 = c .before .before in
-    let g = rw (c2 .slot2 .given .1) at (c2 .before .before .at-ticket .ensures .1) in
-    omega arith
+part-requires c κs = let g = rw (c .before .before .slot2 .given .1) at (c .before .before .before .before .at-ticket .ensures .1) in omega arith
 
 judge-requires : tie.Need-judge-requires
 judge-requires c κs = search needs

@@ -4,10 +4,10 @@ use mathlib.Core.Path.{sym, ap, _∙_}
 use lib.ListN.{length}
 use borrow.Author.Tests.{eq-eqb, ne-eqb}
 use borrow.Author.Needs.{needs}
-use Rattle.desk_slots.proofs.SlotLaws.{place-short}
+use Rattle.desk_slots.proofs.SlotLaws.{position-short}
 use Rattle.desk.specs.Steps.{turned}
 use Rattle.desk.specs.declared.Turn.{Turn}
-use Rattle.desk.proofs.DeskLaws.{open-place}
+use Rattle.desk.proofs.DeskLaws.{open-position}
 use Rattle.desk.proofs.Desk.open.Statement.{statement}
 use Rattle.desk.proofs.Desk.open.Tie as tie
 
@@ -31,7 +31,7 @@ returns c =
     let c2 = c .before .before in
     let c4 = c2 .before .before in
     let a = c4 .before .before .before .args in
-    let e = open-place (a .self) (now (a .pool)) (a .tram) _ (sym (c4 .find-slot .ensures) ∙ c2 .enum-told .given .1) in
+    let e = open-position (a .self) (now (a .pool)) (a .tram) _ (sym (c4 .find-slot .ensures) ∙ c2 .enum-told .given .1) in
     ap (λ (r : Turn). turned r (now (a .pool))) (c .refuse2 .ensures) ∙ (rw (eq-eqb _ _ (c .before .if1 .taken)) at e)
 
 refuse-requires-3 : tie.Need-refuse-requires-3
@@ -48,7 +48,7 @@ returns-2 c =
     let c3 = c .before .before .before in
     let c5 = c3 .before .before in
     let a = c5 .before .before .before .args in
-    let e = open-place (a .self) (now (a .pool)) (a .tram) _ (sym (c5 .find-slot .ensures) ∙ c3 .p2 .given .1) in
+    let e = open-position (a .self) (now (a .pool)) (a .tram) _ (sym (c5 .find-slot .ensures) ∙ c3 .p2 .given .1) in
     ap (λ (r : Turn). turned r (now (a .pool))) (c .refuse4 .ensures) ∙ (rw (eq-eqb _ _ (c .before .if2 .taken)) at e)
 
 add-self : tie.Need-add-self
@@ -62,14 +62,14 @@ grant-requires c κs =
     let c2 = c .before .before in
     let c4 = c2 .before .before in
     let a = c4 .before .before .before .args in
-    place-short (a .self .entries) (a .self .slots) (a .self .next) (length (now (a .pool))) 0 _ (sym (c4 .find-slot .ensures) ∙ c2 .p2 .given .1)
+    position-short (a .self .entries) (a .self .slots) (a .self .next) (length (now (a .pool))) 0 _ (sym (c4 .find-slot .ensures) ∙ c2 .p2 .given .1)
 
 returns-3 : tie.Need-returns-3
 returns-3 c =
     let c2 = c .before .before in
     let c4 = c2 .before .before in
     let a = c4 .before .before .before .args in
-    let e = open-place (a .self) (now (a .pool)) (a .tram) _ (sym (c4 .find-slot .ensures) ∙ c2 .p .given .1) in
+    let e = open-position (a .self) (now (a .pool)) (a .tram) _ (sym (c4 .find-slot .ensures) ∙ c2 .p .given .1) in
     ap (λ (r : Turn). turned r (now (a .pool))) (c .refuse .ensures) ∙ e
 
 returns-4 : tie.Need-returns-4
@@ -77,7 +77,7 @@ returns-4 c =
     let c2 = c .before .before in
     let c4 = c2 .before .before in
     let a = c4 .before .before .before .args in
-    let e = open-place (a .self) (now (a .pool)) (a .tram) _ (sym (c4 .find-slot .ensures) ∙ c2 .enum-told .given .1) in
+    let e = open-position (a .self) (now (a .pool)) (a .tram) _ (sym (c4 .find-slot .ensures) ∙ c2 .enum-told .given .1) in
     ap (λ (r : Turn). turned r (now (a .pool))) (c .refuse3 .ensures) ∙ (rw (ne-eqb _ _ (c .before .if1 .left)) at e)
 
 returns-5 : tie.Need-returns-5
@@ -85,7 +85,7 @@ returns-5 c =
     let c3 = c .before .before .before in
     let c5 = c3 .before .before in
     let a = c5 .before .before .before .args in
-    let e = open-place (a .self) (now (a .pool)) (a .tram) _ (sym (c5 .find-slot .ensures) ∙ c3 .p2 .given .1) in
+    let e = open-position (a .self) (now (a .pool)) (a .tram) _ (sym (c5 .find-slot .ensures) ∙ c3 .p2 .given .1) in
     ap (λ (r : Turn). turned r (now (a .pool))) (c .grant .ensures) ∙ (rw (ne-eqb _ _ (c .before .if2 .left)) at e)
 
 pub open-spec : {M : Type 1} → statement M

@@ -19,10 +19,7 @@ enum-known-slot-2 : tie.Need-enum-known-slot-2
 enum-known-slot-2 c = search needs
 
 clear-requires : tie.Need-clear-requires
-clear-requires c κs =
-    let c2 = c .before .before in
-    let g = rw (c2 .slot2 .given .1) at (c2 .before .before .at-ticket .ensures .1) in
-    omega arith
+clear-requires c κs = let g = rw (c .before .before .slot2 .given .1) at (c .before .before .before .before .at-ticket .ensures .1) in omega arith
 
 grant-requires : tie.Need-grant-requires
 grant-requires c κs =
@@ -40,11 +37,8 @@ same-length c = search needs
 
 returns-2 : tie.Need-returns-2
 returns-2 c =
-    let c3 = c .before .before .before in
-    let c6 = c3 .before .before .before in
-    let c8 = c6 .before .before in
-    let a = c8 .before .before .args in
-    release-done (a .self) (now (a .pool)) (a .t) _ (c8 .at-ticket .ensures .0) _ _ (c6 .slot2 .given .1) _ (c .grant .ensures) _ (c3 .clear .ensures)
+    let c6 = c .before .before .before .before .before .before in let c8 = c6 .before .before in let a = c8 .before .before .args in
+    release-done (a .self) (now (a .pool)) (a .t) _ (c8 .at-ticket .ensures .0) _ _ (c6 .slot2 .given .1) _ (c .grant .ensures) _ (c .before .before .before .clear .ensures)
 
 pub release-spec : {M : Type 1} → statement M
 release-spec =

@@ -11,10 +11,10 @@ use Rattle.desk_entries.proofs.tickets.find.Statement.{statement}
 use Rattle.desk_entries.proofs.tickets.find.Tie as tie
 
 abbrev Inv-loop : tie.InvT-loop
-Inv-loop tickets t n place₀ place = (place ≤ n) × (firstAt (sameAs (column tickets) t) 0 n ≡ firstAt (sameAs (column tickets) t) place (n - place))
+Inv-loop tickets t n position₀ position = (position ≤ n) × (firstAt (sameAs (column tickets) t) 0 n ≡ firstAt (sameAs (column tickets) t) position (n - position))
 
 abbrev μ-loop : tie.MeasureT-loop
-μ-loop tickets t n place₀ place = n - place
+μ-loop tickets t n position₀ position = n - position
 
 loop-holds : tie.Need-loop-holds Inv-loop μ-loop
 loop-holds c =
@@ -29,21 +29,21 @@ element-copy-out-if1 c = omega arith
 
 returns : tie.Need-returns Inv-loop μ-loop
 returns c =
-    sym (c .before .before .before .loop .inv .1 ∙ firstAt-hit (sameAs (column (now (c .before .before .before .before .args .tickets))) (c .before .before .before .before .args .t)) (c .before .before .before .before .args .n) (c .before .before .before .loop .place) (search needs) (eq-eqb _ _ (c .if1 .taken)))
+    sym (c .before .before .before .loop .inv .1 ∙ firstAt-hit (sameAs (column (now (c .before .before .before .before .args .tickets))) (c .before .before .before .before .args .t)) (c .before .before .before .before .args .n) (c .before .before .before .loop .position) (search needs) (eq-eqb _ _ (c .if1 .taken)))
 
-add-place : tie.Need-add-place Inv-loop μ-loop
-add-place c = omega arith
+add-position : tie.Need-add-position Inv-loop μ-loop
+add-position c = omega arith
 
 loop-less : tie.Need-loop-less Inv-loop μ-loop
 loop-less c = omega arith
 
 loop-again : tie.Need-loop-again Inv-loop μ-loop
 loop-again c =
-    (search needs, c .before .before .before .loop .inv .1 ∙ firstAt-miss (sameAs (column (now (c .before .before .before .before .args .tickets))) (c .before .before .before .before .args .t)) (c .before .before .before .before .args .n) (c .before .before .before .loop .place) (search needs) (ne-eqb _ _ (c .if1 .left)))
+    (search needs, c .before .before .before .loop .inv .1 ∙ firstAt-miss (sameAs (column (now (c .before .before .before .before .args .tickets))) (c .before .before .before .before .args .t)) (c .before .before .before .before .args .n) (c .before .before .before .loop .position) (search needs) (ne-eqb _ _ (c .if1 .left)))
 
 returns-2 : tie.Need-returns-2 Inv-loop μ-loop
 returns-2 c =
-    sym (c .before .loop .inv .1 ∙ firstAt-none (sameAs (column (now (c .before .before .args .tickets))) (c .before .before .args .t)) (c .before .before .args .n) (c .before .loop .place) (search needs))
+    sym (c .before .loop .inv .1 ∙ firstAt-none (sameAs (column (now (c .before .before .args .tickets))) (c .before .before .args .t)) (c .before .before .args .n) (c .before .loop .position) (search needs))
 
 pub find-spec : {M : Type 1} → statement M
 find-spec =
@@ -55,7 +55,7 @@ find-spec =
     mul-if1
     element-copy-out-if1
     returns
-    add-place
+    add-position
     loop-less
     loop-again
     returns-2)

@@ -19,9 +19,13 @@ use Rattle.desk.specs.declared.Answer.the-variants.{Done}
 use Rattle.desk_ledger.specs.Ledger.{Call, opens, on, releases, told}
 use Rattle.desk_ledger.specs.Desks.{Proper, answers, world}
 
+-- CR LF
+abbrev end : List ℕ
+end = 13 ∷ 10 ∷ []
+
 -- a line with its end
 abbrev line : String → List ℕ
-line s = octets s ++ (13 ∷ 10 ∷ [])
+line s = octets s ++ end
 
 -- card M, up to its END, with what stands between FN and END
 abbrev pub start : List ℕ
@@ -35,7 +39,7 @@ cardM = cardWith []
 
 -- the same with a fold after `FN:`
 unfoldable pub foldedM : List ℕ
-foldedM = start ++ (octets "FN:" ++ (13 ∷ 10 ∷ 32 ∷ line "A") ++ line "END:VCARD")
+foldedM = start ++ (octets "FN:" ++ (end ++ 32 ∷ line "A") ++ line "END:VCARD")
 
 unfoldable pub recordsM : List ℕ
 recordsM =
@@ -49,11 +53,11 @@ fullName = "N:Public;John;Quinlan;Mr.;Esq."
 
 -- an example: what is read, folded or unescaped, the rooms, and the outcome; or the calls on a fresh desk, the number that answers each,
 -- and which session then stands in which slot
-pub data Case : Type 0 where
-  reads : (input copy records : List ℕ) → Taken → Case
-  folds : (input room : List ℕ) → Filled → Case
-  unescapes : (text room : List ℕ) → Filled → Case
-  turns : (slots : ℕ) (calls : List Call) (numbers : List ℕ) (slot : ℕ) (session : Session) → Case
+pub data Example : Type 0 where
+  reads : (input copy records : List ℕ) → Taken → Example
+  folds : (input room : List ℕ) → Filled → Example
+  unescapes : (text room : List ℕ) → Filled → Example
+  turns : (slots : ℕ) (calls : List Call) (numbers : List ℕ) (slot : ℕ) (session : Session) → Example
 
 -- such a desk is granted; and with its proper pool, whatever this holds, the steps of the desk's contracts answer and end so
 pub record Turns (n : ℕ) (cs : List Call) (ns : List ℕ) (i : ℕ) (s : Session) : Type 0 where
@@ -61,19 +65,19 @@ pub record Turns (n : ℕ) (cs : List Call) (ns : List ℕ) (i : ℕ) (s : Sessi
   pub answered : (p : List ℕ) → Proper n p → answers n p cs ≡ map told ns
   pub slot : (p : List ℕ) → Proper n p → stateAt (world n p cs .desk .entries) i ≡ Open s
 
--- the outcome that the entry's contract names is the one expected
-abbrev pub Holds : Case → Type 0
+-- the outcome that the entry's contract names is the one that the example has
+abbrev pub Holds : Example → Type 0
 Holds (reads i c r t) = readOutcome i c r ≡ t
 Holds (folds i o f) = foldOutcome i o ≡ f
 Holds (unescapes t o f) = unescapeOutcome t o ≡ f
 Holds (turns n cs ns i s) = Turns n cs ns i s
 
 -- refused: both rooms stay
-abbrev pub refusal : List ℕ → ℕ → ℕ → Case
-refusal i n p = reads i (replicate 64 0) (replicate 64 0) (took (Refused n p) (replicate 64 0) (replicate 64 0))
+abbrev pub refuses : List ℕ → ℕ → ℕ → Example
+refuses i n p = reads i (replicate 64 0) (replicate 64 0) (took (Refused n p) (replicate 64 0) (replicate 64 0))
 
 -- accepted with card M's counts, copy and records, the rest of the rooms as it was
-abbrev pub asM : List ℕ → Case
+abbrev pub asM : List ℕ → Example
 asM i =
     reads i (replicate 64 0) (replicate 64 0)
     (took (Accepted 1 4) (cardM ++ replicate 21 0) (recordsM ++ replicate 32 0))
@@ -83,22 +87,23 @@ abbrev note : ℕ → List ℕ → List ℕ
 note n more = cardWith (octets "NOTE:" ++ (replicate (n - 5) 97 ++ more))
 
 -- a card is folded into a room of 160 octets to another, of n octets
-abbrev pub folding : List ℕ → ℕ → List ℕ → Case
+abbrev pub folding : List ℕ → ℕ → List ℕ → Example
 folding i n o = folds i (replicate 160 0) (filled (Wrote n) (o ++ replicate (160 - n) 0))
 
-abbrev pub cases : List Case
-cases =
+-- all of them
+abbrev pub marked : List Example
+marked =
     asM cardM ∷
     asM foldedM ∷
-    refusal (start ++ line "END:VCARD") 11 26 ∷
-    refusal (start ++ line "FN:A") 9 32 ∷
-    refusal (line "BEGIN:VCARD" ++ (line "VERSION:3.0" ++ (line "FN:A" ++ line "END:VCARD"))) 7 13 ∷
-    refusal (octets "BEGIN:VCARD" ++ (10 ∷ (line "VERSION:4.0" ++ (line "FN:A" ++ line "END:VCARD")))) 3 11 ∷
-    refusal (cardWith (line fullName ++ line fullName)) 10 64 ∷
-    refusal (cardWith (line "N:Doe;J")) 7 32 ∷
-    folding (note 75 (13 ∷ 10 ∷ [])) 120 (note 75 (13 ∷ 10 ∷ [])) ∷
-    folding (note 76 (13 ∷ 10 ∷ [])) 124 (note 75 (13 ∷ 10 ∷ 32 ∷ 97 ∷ 13 ∷ 10 ∷ [])) ∷
-    folding (note 74 (195 ∷ 169 ∷ 13 ∷ 10 ∷ [])) 124 (note 74 (13 ∷ 10 ∷ 32 ∷ 195 ∷ 169 ∷ 13 ∷ 10 ∷ [])) ∷
+    refuses (start ++ line "END:VCARD") 11 26 ∷
+    refuses (start ++ line "FN:A") 9 32 ∷
+    refuses (line "BEGIN:VCARD" ++ (line "VERSION:3.0" ++ (line "FN:A" ++ line "END:VCARD"))) 7 13 ∷
+    refuses (octets "BEGIN:VCARD" ++ (10 ∷ (line "VERSION:4.0" ++ (line "FN:A" ++ line "END:VCARD")))) 3 11 ∷
+    refuses (cardWith (line fullName ++ line fullName)) 10 64 ∷
+    refuses (cardWith (line "N:Doe;J")) 7 32 ∷
+    folding (note 75 end) 120 (note 75 end) ∷
+    folding (note 76 end) 124 (note 75 (end ++ 32 ∷ 97 ∷ end)) ∷
+    folding (note 74 (195 ∷ 169 ∷ end)) 124 (note 74 (end ++ 32 ∷ 195 ∷ 169 ∷ end)) ∷
     unescapes (octets "a\\,b") (replicate 8 0) (filled (Wrote 3) (octets "a,b" ++ replicate 5 0)) ∷
     unescapes (octets "\\N") (replicate 8 0) (filled (Wrote 1) (10 ∷ replicate 7 0)) ∷
     unescapes (octets "a,b") (replicate 8 0) (filled (Unwritten 30 1) (replicate 8 0)) ∷
