@@ -87,7 +87,7 @@ pub data EscapeBy (t out : List ℕ) : ℕ → ℕ → Type 0 where
 
 -- 1, 31, 30, 15; u is what the text stands for
 pub data UnescapeBy (t out : List ℕ) : ℕ → ℕ → Type 0 where
-  no-kind-1 : {n p : ℕ} → Unfair false t n p → UnescapeBy t out n p
+  not-text : {n p : ℕ} → Unfair false t n p → UnescapeBy t out n p
   fault : {p : ℕ} {u : List ℕ} → Fair false t → p < length t → Stands (take p t) u → Faulty (drop p t) → UnescapeBy t out refusal.escape p
   text-room : {u : List ℕ} → Fair false t → Stands t u → length out < length u → UnescapeBy t out refusal.room (length u)
 

@@ -40,7 +40,7 @@ granted d size t i s e = grantedIn (d .entries) (d .slots) (d .next) size t i s 
 -- ---- an opening
 
 -- what an opening does after a search for 0
-abbrev openAfter : Desk → List ℕ → ℕ → Position → Turned
+abbrev pub openAfter : Desk → List ℕ → ℕ → Position → Turned
 openAfter d p m (Barred n) = refused d p 0 n
 openAfter d p m Nowhere = pick (eqb (d .next) 4294967295) (refused d p 0 21) (openIn d p m Nowhere)
 openAfter d p m (At i) = pick (eqb (d .next) 4294967295) (refused d p 0 21) (openIn d p m (At i))

@@ -1,6 +1,6 @@
 -- Demand 3, whole: the desk refines the ledger, and no upload interferes with another, for every list of calls on every fresh desk with
 -- its proper pool. Assumes nothing.
-use Prim.Native.Nat.{ℕ, _*_, _<_, _≤_}
+use Prim.Native.Nat.{ℕ, _*_, _<_}
 use mathlib.Core.Path.{_≡_}
 use mathlib.Core.List.{List, [], _∷_, _++_, map}
 use lib.ListN.{length, take}
