@@ -9,6 +9,7 @@ use lib.Dec.{ltb}
 use borrow.Author.Tests.{lt-ltb, le-ltb, ltb-false}
 use Rattle.octets.specs.Room.{Filled, refuse, fill, fillBounded}
 use Rattle.octets.specs.Pick.{pick}
+use Rattle.octets.proofs.Bools.{clash}
 use Rattle.utf8.specs.Characters.{allowed, firstBad}
 use Rattle.text_escaping.specs.Escaped.{escaped}
 use Rattle.text_unescaping.specs.Unescaped.{firstFault, unescaped}
@@ -41,8 +42,8 @@ module _ (lf : Bool) (x y : ℕ) (t room : List ℕ) (left : Filled) where
     where
       by : (a b : Bool) → ltb 16384 (length t) ≡ a → pick a (Refused 1 16384) (pick b (Refused 31 (firstBad (allowed lf) t)) (Saw (seen x y t))) ≡ Saw l
           → (l ≡ seen x y t) × ((length t ≤ 16384) × (left ≡ pick a (refuse 1 16384 room) (pick b (refuse 31 (firstBad (allowed lf) t) room) left)))
-      by true b h e = let z : _≡_ {A = ℕ} 0 1 = cc in absurd (omega arith)
-      by false true h e = let z : _≡_ {A = ℕ} 0 1 = cc in absurd (omega arith)
+      by true b h e = clash cc
+      by false true h e = clash cc
       by false false h e = (cc, (ltb-false 16384 (length t) h, refl))
 
 module _ (t room : List ℕ) (left : Filled) (f : ℕ) (e : f ≡ firstFault t) where
