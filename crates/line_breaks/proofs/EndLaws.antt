@@ -1,6 +1,6 @@
 -- The laws of a lone CR or LF and of paired ones at a place of a list. Assumes nothing.
 use mathlib.Core.Path.{_≡_, refl, sym, ap, _∙_}
-use mathlib.Core.Bool.{Bool, true, false, not, _&&_}
+use mathlib.Core.Bool.{Bool, true, false, not, _&&_, true≢false}
 use mathlib.Core.List.{List, [], _∷_}
 use Prim.Native.Nat.{ℕ, suc, _+_, _<_, _≤_}
 use native.Mathlib.Nat.{add-zero}
@@ -71,9 +71,6 @@ module _ (s : List ℕ) (i : ℕ) where
   unfolding pairedAfter
   pair-end h a t e = rw (drop-of-length-le s h, e)
 
-clash : true ≡ false → ⊥
-clash e = let z : _≡_ {A = ℕ} 0 1 = cc in omega arith
-
 -- two octets on, by whether they are LF or CR
 module _ (x y : ℕ) (ys : List ℕ) where
   pair-two : (a b t : Bool) → eqb x 10 ≡ a → eqb x 13 ≡ b → eqb y 10 ≡ t
@@ -82,16 +79,16 @@ module _ (x y : ℕ) (ys : List ℕ) where
       → (pairedAfter false ys ≡ true → scan loneStep ys 0 ≡ length ys)
       → scan loneStep (x ∷ y ∷ ys) 0 ≡ suc (suc (length ys))
   unfolding pairedAfter scan loneStep
-  pair-two true b t p q r e f g = absurd (clash (sym e))
+  pair-two true b t p q r e f g = absurd (true≢false (sym e))
   pair-two false true true p q r e f g = simp (p, q, r) (ap (λ (n : ℕ). suc (suc n)) (g (ap (λ (k : ℕ). pairedAfter (eqb k 13) ys) (sym (eqb-true y 10 r)) ∙ e)))
-  pair-two false true false p q r e f g = absurd (clash (sym e))
+  pair-two false true false p q r e f g = absurd (true≢false (sym e))
   pair-two false false t p q r e f g = simp (p, q) (ap suc (f (rw r e)))
 
 -- an octet alone
 pair-one : (x : ℕ) (a b : Bool) → eqb x 10 ≡ a → eqb x 13 ≡ b → (not (differ false a) && not b) ≡ true → scan loneStep (x ∷ []) 0 ≡ 1
 unfolding scan loneStep
-pair-one x true b p q e = absurd (clash (sym e))
-pair-one x false true p q e = absurd (clash (sym e))
+pair-one x true b p q e = absurd (true≢false (sym e))
+pair-one x false true p q e = absurd (true≢false (sym e))
 pair-one x false false p q e = simp (p, q)
 
 no-lone : (l : List ℕ) → pairedAfter false l ≡ true → scan loneStep l 0 ≡ length l

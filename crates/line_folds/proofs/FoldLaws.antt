@@ -1,6 +1,6 @@
 -- The laws of folds at a place of a list. Assumes nothing.
 use mathlib.Core.Path.{_≡_, refl, sym, ap, _∙_}
-use mathlib.Core.Bool.{Bool, true, false, _&&_, _||_, and-false}
+use mathlib.Core.Bool.{Bool, true, false, _&&_, _||_, and-false, true≢false}
 use mathlib.Core.List.{List, [], _∷_, _++_}
 use Prim.Native.Nat.{ℕ, zero, suc, pred, _+_, _<_, _≤_}
 use native.Mathlib.Nat.{add-zero}
@@ -29,10 +29,7 @@ module _ (s : List ℕ) (i : ℕ) where
 
   inside : (t : Bool) → ltb (i + 2) (length s) ≡ t → foldAt (drop i s) ≡ true → i + 3 ≤ length s
   inside true e h = omega (arith, ltb-true (i + 2) (length s) e)
-  inside false e h = let z : true ≡ false = sym h ∙ fold-short (ltb-false (i + 2) (length s) e) in absurd (no z)
-    where
-      no : true ≡ false → ⊥
-      no z = let w : _≡_ {A = ℕ} 0 1 = cc in omega arith
+  inside false e h = absurd (true≢false (sym h ∙ fold-short (ltb-false (i + 2) (length s) e)))
 
   pub fold-inside : foldAt (drop i s) ≡ true → i + 3 ≤ length s
   fold-inside = inside (ltb (i + 2) (length s)) refl

@@ -1,33 +1,22 @@
 -- Octets that are no CR, one and sixteen at a time. Assumes nothing.
 use mathlib.Core.Path.{_≡_, refl, sym, ap, _∙_}
-use mathlib.Core.Bool.{Bool, true, false, not}
+use mathlib.Core.Bool.{Bool, true, false, not, true≢false}
 use mathlib.Core.List.{List}
 use Prim.Native.Nat.{ℕ, zero, suc, _+_, _<_, _≤_}
 use native.Mathlib.Nat.{add-zero}
 use native.Mathlib.Omega.{arith}
 use lib.Dec.{eqb}
-use lib.Bits.{bitOr, or-add-and, and-le-l, and-le-r}
+use lib.Bits.{bitOr}
 use lib.ListN.{length, getD, drop}
 use borrow.Author.Tests.{eq-eqb, ne-eqb}
 use mir.Val.{boolByte}
 use Rattle.octets.specs.Classes.{run}
 use Rattle.line_folds.specs.Folds.{notCr}
+use Rattle.octets.proofs.BitLaws.{byte-no, or-zero-right}
 use Rattle.octets.proofs.Runs.{run-step}
 
-pub or-left : (a b : ℕ) → bitOr a b ≡ 0 → a ≡ 0
-or-left a b e = omega (arith, or-add-and a b, and-le-l a b, and-le-r a b)
-
-pub or-right : (a b : ℕ) → bitOr a b ≡ 0 → b ≡ 0
-or-right a b e = omega (arith, or-add-and a b, and-le-l a b, and-le-r a b)
-
-byte-no : (t : Bool) → boolByte t ≡ 0 → t ≡ false
-byte-no true e = absurd (omega arith)
-byte-no false e = refl
-
 pub unmarked : (a x : ℕ) → bitOr a (boolByte (eqb x 13)) ≡ 0 → x ≡ 13 → ⊥
-unmarked a x e q =
-    let z : true ≡ false = sym (eq-eqb x 13 q) ∙ byte-no (eqb x 13) (or-right a (boolByte (eqb x 13)) e) in
-    let w : _≡_ {A = ℕ} 0 1 = cc in omega arith
+unmarked a x e q = true≢false (sym (eq-eqb x 13 q) ∙ byte-no (eqb x 13) (or-zero-right a (boolByte (eqb x 13)) e))
 
 pub no-cr : (x : ℕ) → (x ≡ 13 → ⊥) → notCr x ≡ true
 unfolding notCr

@@ -13,9 +13,13 @@ use Rattle.octets.specs.Scan.{scan, gather}
 unfoldable pub foldAt : List ℕ → Bool
 foldAt l = eqb (getD l 0 0) ascii.cr && (eqb (getD l 1 0) ascii.lf && (eqb (getD l 2 0) ascii.space || eqb (getD l 2 0) ascii.tab))
 
+-- the octets of a fold
+abbrev pub foldLength : ℕ
+foldLength = 3
+
 -- a fold is passed whole, a CR of no fold ends the line
 unfoldable pub lineStep : List ℕ → ℕ
-lineStep l = pick (foldAt l) 3 (pick (eqb (getD l 0 0) ascii.cr) 0 1)
+lineStep l = pick (foldAt l) foldLength (pick (eqb (getD l 0 0) ascii.cr) 0 1)
 
 -- the length of the first logical line, with its folds and without its end
 unfoldable pub lineLength : List ℕ → ℕ
@@ -23,7 +27,7 @@ lineLength l = scan lineStep l 0
 
 -- how many octets a step of unfolding passes
 unfoldable pub passed : List ℕ → ℕ
-passed l = pick (foldAt l) 3 1
+passed l = pick (foldAt l) foldLength 1
 
 -- what it keeps of them
 unfoldable pub kept : List ℕ → List ℕ

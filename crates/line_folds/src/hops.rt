@@ -7,6 +7,9 @@ ghost use Rattle.octets.specs.Ascii as ascii;
 ghost use Rattle.octets.specs.Classes.{run};
 ghost use Rattle.line_folds.specs.Folds.{notCr};
 
+// How many octets are tested at a time.
+const BLOCK: usize = 16;
+
 // False only where none of the sixteen octets from i is CR.
 fn has_cr(s: &[u8], i: usize) -> bool
     requires { ⌜ i + 16 ≤ length (now s) ⌝ }
@@ -14,7 +17,7 @@ fn has_cr(s: &[u8], i: usize) -> bool
 {
     let mut hit: u8 = 0;
     let mut k: usize = 0;
-    while k < 16 {
+    while k < BLOCK {
         hit = hit | (s[i + k] == b'\r') as u8;
         k += 1;
     }
@@ -27,11 +30,11 @@ fn skip_to_cr(s: &[u8], from: usize) -> usize
     ensures { λ r. ⌜ (r ≤ length (now (s .entry))) × (from + run notCr (drop from (now (s .entry))) ≡ r + run notCr (drop r (now (s .entry)))) ⌝ }
 {
     let mut i = from;
-    while 16 <= s.len() - i {
+    while BLOCK <= s.len() - i {
         if has_cr(s, i) {
             return i;
         }
-        i += 16;
+        i += BLOCK;
     }
     i
 }

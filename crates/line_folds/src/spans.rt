@@ -5,6 +5,12 @@ ghost use lib.ListN.{length, drop};
 ghost use Rattle.octets.specs.Classes.{run};
 ghost use Rattle.line_folds.specs.Folds.{foldAt, notCr, lineLength};
 
+// The octets of a fold: CR, LF, and a space or a tab.
+pub const FOLD_LENGTH: usize = 3;
+
+// How many octets after a fold are passed one by one.
+pub const ONE_BY_ONE: usize = 4;
+
 // A logical line: its first CR, and its end; they differ where it has a fold.
 pub struct Span {
     pub cr: usize,
@@ -19,7 +25,7 @@ pub fn fold_at(s: &[u8], i: usize) -> bool
     if s[i] != b'\r' {
         return false;
     }
-    if s.len() - i < 3 {
+    if s.len() - i < FOLD_LENGTH {
         return false;
     }
     if s[i + 1] != b'\n' {
@@ -45,9 +51,9 @@ pub fn line_end(s: &[u8], from: usize) -> usize
             if !fold {
                 return at;
             }
-            at += 3;
+            at += FOLD_LENGTH;
             met = 0;
-        } else if met < 4 {
+        } else if met < ONE_BY_ONE {
             at += 1;
             met += 1;
         } else {

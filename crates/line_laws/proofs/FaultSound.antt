@@ -10,6 +10,7 @@ use lib.ListN.{length, take, drop, length-drop, take-append-drop}
 use lib.Seq.{drop-drop, length-take-le}
 use borrow.Author.Tests.{eqb-true, ltb-false}
 use Rattle.octets.specs.Classes.{run, more, named, letter, digit, hyphen, quoted, valued, bare}
+use Rattle.octets.proofs.Bools.{clash}
 use Rattle.line_parser.specs.Parse.{Parse, got, bad, next, guard, hd, many}
 use Rattle.line_parser.specs.Grammar.{Value, plain, inQuotes, GoodValue, valueText, paramText, groupText}
 use Rattle.line_parser.specs.Rule.{word, closing, value, ends, isColon, orEnd, moreValues, values, param, params, Head, head, parseLine}
@@ -177,7 +178,7 @@ params-fault (suc n) l e lt semi h =
     many-end 59 param isColon (orEnd 40 43) n r (omega arith) t₁ ∙ guard-yes _ _ (colon-else (hd r) stop t₁) in
     no-fault (sym full ∙ b))))
     (λ ps j p₂ q₂. no-fault q₂)))
-    (λ t q. let z : _≡_ {A = ℕ} 0 1 = cc in absurd (omega arith))
+    (λ t q. clash cc)
 
 head-fault : (l : List ℕ) (e : ℕ) → head l ≡ bad e → LineFault e l
 unfolding head

@@ -11,6 +11,7 @@ use lib.ListN.{length, drop, length-append}
 use borrow.Author.Tests.{eqb-true}
 use Rattle.octets.specs.Pick.{pick}
 use Rattle.octets.specs.Cases.{same}
+use Rattle.octets.proofs.Bools.{clash}
 use Rattle.line_parser.specs.Parse.{got, hd, many}
 use Rattle.line_parser.specs.Grammar.{Value, plain, inQuotes, Param, Line, led, valueText, paramText, groupText, front, render, nameEnd, WellFormed}
 use Rattle.line_parser.specs.Rule.{ends, isColon, orEnd, param, params, head, parseLine}
@@ -31,7 +32,7 @@ after-ends c h = go (eqb c 59) (eqb c 58) refl refl h
     go : (a b : Bool) → eqb c 59 ≡ a → eqb c 58 ≡ b → a || b ≡ true → AfterParam c
     go true b e f h = subst AfterParam (sym (eqb-true c 59 e)) semicolon
     go false true e f h = subst AfterParam (sym (eqb-true c 58 f)) colon
-    go false false e f h = let z : _≡_ {A = ℕ} 0 1 = cc in absurd (omega arith)
+    go false false e f h = clash cc
 
 param-count : (l : List ℕ) (p : Param) (k : ℕ) → param l ≡ got p k → length (paramText p) ≡ k
 param-count l p k h =

@@ -9,6 +9,7 @@ use lib.ListN.{length, take, drop, length-append}
 use lib.Seq.{take-at, drop-at, drop-append-seam, take-append-seam}
 use borrow.Author.Tests.{ne-eqb}
 use Rattle.octets.specs.Classes.{run, more, named, letter, digit, hyphen}
+use Rattle.octets.proofs.Bools.{clash}
 use Rattle.line_parser.specs.Parse.{Parse, got, bad, hd}
 use Rattle.line_parser.specs.Grammar.{Line, WellFormed, led, paramText, groupText, front, render, nameEnd}
 use Rattle.line_parser.specs.Rule.{word, head, parseLine}
@@ -58,7 +59,7 @@ pub places-law : (l : List ℕ) (g n c v : ℕ)
 places-law l g n c v = (there (parseLine l) refl, λ h. back (h .0) (h .1) (h .2) (h .3))
   where
     there : (m : Parse Line) → parseLine l ≡ m → outcome m ≡ Parsed g n c v → (x : Line) × WellFormed x × (l ≡ render x) × Placed l x g n c v
-    there (bad e) p q = let z : _≡_ {A = ℕ} 0 1 = cc in absurd (omega arith)
+    there (bad e) p q = clash cc
     there (got x k) p q =
         let s = line-sound l x k p in
         let w = ap parseLine (s .1) ∙ line-complete x (s .0) in
@@ -84,12 +85,12 @@ first-octet (x ∷ xs) h = go (named x) h
 
 starts : (l : List ℕ) → named (hd l) ≡ true → Starts l
 unfolding named letter digit hyphen
-starts [] h = let z : _≡_ {A = ℕ} 0 1 = cc in absurd (omega arith)
+starts [] h = clash cc
 starts (x ∷ xs) h = record {
   named-first = h;
   some = omega arith;
-  no-space = λ e. let z : _≡_ {A = ℕ} 0 1 = cc in omega arith;
-  no-tab = λ e. let z : _≡_ {A = ℕ} 0 1 = cc in omega arith;
+  no-space = λ e. clash cc;
+  no-tab = λ e. clash cc;
 }
 
 pub accepted-starts : (l : List ℕ) (x : Line) (k : ℕ) → parseLine l ≡ got x k → Starts l

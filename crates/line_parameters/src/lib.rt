@@ -8,9 +8,11 @@ use line_parser::rule::Part;
 use octets::classes;
 use octets::classes::ClassTable;
 
-// Where the octets of a parameter's value stand in a line, or that there is no such parameter.
+// Where the octets of a parameter's first value stand in a line.
 pub enum First {
+    // The value stands from `start` up to `end`.
     Between { start: usize, end: usize },
+    // There is no such parameter.
     Nothing,
 }
 

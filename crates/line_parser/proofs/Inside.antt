@@ -5,6 +5,7 @@ use Prim.Native.Nat.{ℕ, zero, suc, _+_, _<_, _≤_}
 use native.Mathlib.Omega.{arith}
 use lib.ListN.{length, drop, length-drop}
 use borrow.Author.Tests.{ne-eqb}
+use Rattle.octets.proofs.Bools.{clash}
 use Rattle.line_parser.specs.Parse.{Parse, got, bad}
 use Rattle.line_parser.specs.Grammar.{Line, nameEnd}
 use Rattle.line_parser.specs.Rule.{value, orEnd, isColon, param, params, Head, head, parseLine}
@@ -47,7 +48,7 @@ pub in-line : (l : List ℕ) (g n c v : ℕ) → outcome (parseLine l) ≡ Parse
 in-line l g n c v h = go (parseLine l) refl h
   where
     go : (m : Parse Line) → parseLine l ≡ m → outcome m ≡ Parsed g n c v → InLine l g n c v
-    go (bad e) p q = let z : _≡_ {A = ℕ} 0 1 = cc in absurd (omega arith)
+    go (bad e) p q = clash cc
     go (got x k) p q =
         let eg : g ≡ length (x .group) = cc in
         let en : n ≡ nameEnd x = cc in

@@ -10,11 +10,12 @@ use lib.Dec.{eqb}
 use lib.ListN.{length, drop}
 use lib.Seq.{drop-drop, drop-nil}
 use Rattle.octets.specs.Pick.{pick}
+use Rattle.octets.proofs.Bools.{clash}
 use Rattle.line_parser.specs.Parse.{Parse, got, bad, next, guard, hd, many}
 
 module _ {A : Type 0} where
   pub bad-got : {x : ℕ} {a : A} {k : ℕ} → bad x ≡ got a k → ⊥
-  bad-got e = let z : _≡_ {A = ℕ} 0 1 = cc in omega arith
+  bad-got e = clash cc
 
   pub guard-inv : {C : Type 0} (t : Bool) (e : ℕ) (p : Parse A) {a : A} {k : ℕ} → guard t e p ≡ got a k
       → (t ≡ true → p ≡ got a k → C) → C

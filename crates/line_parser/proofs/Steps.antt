@@ -12,6 +12,7 @@ use borrow.Author.Tests.{eq-eqb, ne-eqb, lt-ltb, le-ltb}
 use Rattle.octets.specs.Classes.{run, has, named, quoted, bare, bareMask, nameMask, quotedMask}
 use Rattle.octets.proofs.Runs.{run-has}
 use Rattle.octets.proofs.Masks.{has-named, has-bare, has-quoted}
+use Rattle.octets.proofs.Bools.{clash}
 use Rattle.line_parser.specs.Parse.{Parse, got, bad, next, guard, hd, many}
 use Rattle.line_parser.specs.Grammar.{Value, inQuotes, Param, nameEnd}
 use Rattle.line_parser.specs.Rule.{word, closing, value, ends, orEnd, isColon, moreValues, values, param, params, Head, head, parseLine}
@@ -40,7 +41,7 @@ module _ {A : Type 0} where
   pub place-upto : {C : Type 0} (at : ℕ) (m : Parse A) {r : Part} {e : ℕ} → r ≡ place at m → r ≡ Upto e
       → ((a : A) (k : ℕ) → m ≡ got a k → e ≡ at + k → C) → C
   place-upto at (got a k) h q f = f a k refl (cc)
-  place-upto at (bad x) h q f = let z : _≡_ {A = ℕ} 0 1 = cc in absurd (omega arith)
+  place-upto at (bad x) h q f = clash cc
 
   -- the same at the start of the line
   pub place-first : {C : Type 0} (m : Parse A) {r : Part} {e : ℕ} → r ≡ place 0 m → r ≡ Upto e → ((a : A) → m ≡ got a e → C) → C
@@ -288,7 +289,7 @@ pub headed-named : {C : Type 0} (m : Parse Head) {r : Part} {g n : ℕ} → r �
 headed-named (got h k) {r} {g} {n} p q f =
     let e : k ≡ n = cc in
     f h (ap (got h) e) (cc)
-headed-named (bad x) p q f = let z : _≡_ {A = ℕ} 0 1 = cc in absurd (omega arith)
+headed-named (bad x) p q f = clash cc
 
 pub headed-up : (m : Parse Head) {r g : Part} → r ≡ headed m → OneOf (0 ∷ 2 ∷ 3 ∷ 4 ∷ []) (tagOf the-type r)
     → ((x : ℕ) → m ≡ bad x → g ≡ Fault x) → r ≡ g
@@ -298,7 +299,7 @@ module _ {A : Type 0} (c at : ℕ) where
   pub listed-list : {C : Type 0} (m : Parse (List A)) {r : Part} {d e : ℕ} → r ≡ listed c at m → r ≡ Listed d e
       → ((xs : List A) (k : ℕ) → m ≡ got xs k → d ≡ c + length xs → e ≡ at + k → C) → C
   listed-list (got xs k) p q f = f xs k refl (cc) (cc)
-  listed-list (bad x) p q f = let z : _≡_ {A = ℕ} 0 1 = cc in absurd (omega arith)
+  listed-list (bad x) p q f = clash cc
 
   pub listed-up : (m : Parse (List A)) {r g : Part} → r ≡ listed c at m → OneOf (0 ∷ 1 ∷ 3 ∷ 4 ∷ []) (tagOf the-type r)
       → ((x : ℕ) → m ≡ bad x → g ≡ Fault x) → r ≡ g

@@ -1,2 +1,2 @@
-// Logical lines: the line rule.
+// The line rule: an unfolded logical line read from the left.
 pub mod rule;

@@ -1,6 +1,6 @@
 -- Octets among which no fold starts: they stay as they are when a text is unfolded. Assumes nothing.
 use mathlib.Core.Path.{_≡_, refl, sym, ap, _∙_}
-use mathlib.Core.Bool.{Bool, true, false}
+use mathlib.Core.Bool.{Bool, true, false, true≢false}
 use mathlib.Core.List.{List, [], _∷_, _++_, append-assoc}
 use Prim.Native.Nat.{ℕ, zero, suc, _+_, _-_, _<_, _≤_}
 use native.Mathlib.Nat.{add-zero}
@@ -9,15 +9,11 @@ use lib.Dec.{ltb}
 use lib.ListN.{length, getD, take, drop, length-drop}
 use lib.Seq.{take-suc, getD-drop}
 use borrow.Author.Tests.{ltb-true, ltb-false}
-use Rattle.octets.specs.Classes.{bit, run, more}
+use Rattle.octets.specs.Classes.{run, more}
 use Rattle.octets.specs.Scan.{gather}
 use Rattle.line_folds.specs.Folds.{foldAt, passed, kept, notCr}
 use Rattle.line_folds.proofs.FoldLaws.{not-cr, octet-next}
 use Rattle.line_folds.proofs.HopLaws.{a-cr}
-
-pub bit-no : (t : Bool) → bit t 1 ≡ 0 → t ≡ false
-bit-no true e = absurd (omega arith)
-bit-no false e = refl
 
 -- no fold starts from a up to e
 abbrev pub Flat : List ℕ → ℕ → ℕ → Type 0
@@ -51,10 +47,7 @@ flat-run s i e q k hi he =
     let n : i + (k - i) ≡ k = omega arith in
     let c : notCr (getD s k 0) ≡ true =
     ap (λ (m : ℕ). notCr (getD s m 0)) (sym n) ∙ ap notCr (sym (getD-drop i s (k - i) 0)) ∙ run-each notCr (drop i s) (k - i) (omega arith) in
-    not-cr s k (λ h. clash (sym c ∙ a-cr (getD s k 0) h))
-  where
-    clash : true ≡ false → ⊥
-    clash z = let w : _≡_ {A = ℕ} 0 1 = cc in omega arith
+    not-cr s k (λ h. true≢false (sym c ∙ a-cr (getD s k 0) h))
 
 module _ (s : List ℕ) (i : ℕ) where
   pub flat-none : Flat s i i

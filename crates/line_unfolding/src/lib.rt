@@ -7,7 +7,12 @@ ghost use lib.ListN.{length, drop};
 ghost use Rattle.numbers.specs.Limits as limit;
 ghost use Rattle.octets.specs.Classes.{bit};
 ghost use Rattle.line_folds.specs.Folds.{foldAt, unfolded};
+use line_folds::spans::FOLD_LENGTH;
+use line_folds::spans::ONE_BY_ONE;
 use line_folds::spans::fold_at;
+
+// At how many places a fold is sought at a time.
+const BLOCK: usize = 16;
 
 // 1 where the three octets are a fold, else 0.
 fn fold_bit(a: u8, b: u8, c: u8) -> u8
@@ -21,7 +26,7 @@ pub fn unfolded_length(s: &[u8]) -> usize
     requires { ⌜ length (now s) ≤ limit.octets ⌝ }
     ensures { λ r. ⌜ r ≡ length (unfolded (now (s .entry))) ⌝ }
 {
-    if s.len() < 3 {
+    if s.len() < FOLD_LENGTH {
         return s.len();
     }
     let last = s.len() - 2;
@@ -31,7 +36,7 @@ pub fn unfolded_length(s: &[u8]) -> usize
         folds += fold_bit(s[i], s[i + 1], s[i + 2]) as u16;
         i += 1;
     }
-    s.len() - 3 * folds as usize
+    s.len() - FOLD_LENGTH * folds as usize
 }
 
 // False only where no fold starts at one of the sixteen octets from i.
@@ -41,7 +46,7 @@ fn has_fold(s: &[u8], i: usize) -> bool
 {
     let mut hit: u8 = 0;
     let mut k: usize = 0;
-    while k < 16 {
+    while k < BLOCK {
         hit = hit | fold_bit(s[i + k], s[i + k + 1], s[i + k + 2]);
         k += 1;
     }
@@ -58,7 +63,7 @@ fn skip_to_fold(s: &[u8], from: usize) -> usize
         if has_fold(s, i) {
             return line_folds::hops::next_cr(s, i);
         }
-        i += 16;
+        i += BLOCK;
     }
     i
 }
@@ -76,14 +81,14 @@ pub fn unfold(s: &[u8], d: &mut [u8]) -> usize
         if s[i] == b'\r' {
             let fold = fold_at(s, i);
             if fold {
-                i += 3;
+                i += FOLD_LENGTH;
                 met = 0;
             } else {
                 d[j] = b'\r';
                 j += 1;
                 i += 1;
             }
-        } else if met < 4 {
+        } else if met < ONE_BY_ONE {
             d[j] = s[i];
             j += 1;
             i += 1;

@@ -1,10 +1,10 @@
 -- Tests joined as bits: a test as a byte, and bytes joined, are the joined test. Assumes nothing.
 use mathlib.Core.Path.{_≡_, refl}
 use mathlib.Core.Bool.{Bool, true, false, not, _&&_, _||_}
-use Prim.Native.Nat.{_≤_}
+use Prim.Native.Nat.{ℕ, _≤_}
 use native.Mathlib.Omega.{arith}
 use lib.Dec.{eqb}
-use lib.Bits.{bitOr, bitAnd}
+use lib.Bits.{bitOr, bitAnd, or-add-and, and-le-l, and-le-r}
 use mir.Val.{boolByte}
 use Rattle.octets.specs.Classes.{bit}
 
@@ -31,6 +31,21 @@ byte-zero false = refl
 pub bit-le : (t : Bool) → bit t 1 ≤ 1
 bit-le true = omega arith
 bit-le false = omega arith
+
+-- where no bit is set no test holds
+pub or-zero-left : (a b : ℕ) → bitOr a b ≡ 0 → a ≡ 0
+or-zero-left a b e = omega (arith, or-add-and a b, and-le-l a b, and-le-r a b)
+
+pub or-zero-right : (a b : ℕ) → bitOr a b ≡ 0 → b ≡ 0
+or-zero-right a b e = omega (arith, or-add-and a b, and-le-l a b, and-le-r a b)
+
+pub byte-no : (t : Bool) → boolByte t ≡ 0 → t ≡ false
+byte-no true e = absurd (omega arith)
+byte-no false e = refl
+
+pub bit-no : (t : Bool) → bit t 1 ≡ 0 → t ≡ false
+bit-no true e = absurd (omega arith)
+bit-no false e = refl
 
 -- one of four tests
 pub or-four : (a b c d : Bool) → bitOr (bitOr (boolByte a) (boolByte b)) (bitOr (boolByte c) (boolByte d)) ≡ boolByte ((a || b) || (c || d))

@@ -9,6 +9,7 @@ use lib.Dec.{ltb}
 use borrow.Author.Tests.{lt-ltb, le-ltb, ltb-false}
 use Rattle.octets.specs.Room.{Filled, refuse, fill, fillBounded}
 use Rattle.octets.specs.Pick.{pick}
+use Rattle.octets.proofs.Bools.{clash}
 use Rattle.utf8.specs.Characters.{allowed, firstBad}
 use Rattle.text_escaping.specs.Escaped.{escaped}
 use Rattle.text_unescaping.specs.Unescaped.{firstFault, unescaped}
@@ -41,8 +42,8 @@ module _ (lf : Bool) (x y : ℕ) (t room : List ℕ) (left : Filled) where
     where
       by : (a b : Bool) → ltb 16384 (length t) ≡ a → pick a (Refused 1 16384) (pick b (Refused 31 (firstBad (allowed lf) t)) (Saw (seen x y t))) ≡ Saw l
           → (l ≡ seen x y t) × ((length t ≤ 16384) × (left ≡ pick a (refuse 1 16384 room) (pick b (refuse 31 (firstBad (allowed lf) t) room) left)))
-      by true b h e = let z : _≡_ {A = ℕ} 0 1 = cc in absurd (omega arith)
-      by false true h e = let z : _≡_ {A = ℕ} 0 1 = cc in absurd (omega arith)
+      by true b h e = clash cc
+      by false true h e = clash cc
       by false false h e = (cc, (ltb-false 16384 (length t) h, refl))
 
 module _ (t room : List ℕ) (left : Filled) (f : ℕ) (e : f ≡ firstFault t) where
@@ -68,22 +69,22 @@ outcome k t room = checked (allowed (k .lf)) t room (k .left t room)
 
 -- the outcome, by what screening answered
 module _ (k : Change) (t room : List ℕ) {s : Screened} (e : s ≡ screened (k .lf) (k .x) (k .y) t) where
-  pub told-refused : {n p : ℕ} → s ≡ Refused n p → refuse n p room ≡ outcome k t room
-  told-refused g = refused-by (k .lf) (k .x) (k .y) t room (k .left t room) _ _ (sym e ∙ g)
+  pub refused-outcome : {n p : ℕ} → s ≡ Refused n p → refuse n p room ≡ outcome k t room
+  refused-outcome g = refused-by (k .lf) (k .x) (k .y) t room (k .left t room) _ _ (sym e ∙ g)
 
   module _ {l : ℕ} (g : s ≡ Saw l) where
     saw : (l ≡ seen (k .x) (k .y) t) × ((length t ≤ 16384) × (k .left t room ≡ outcome k t room))
     saw = left-by (k .lf) (k .x) (k .y) t room (k .left t room) l (sym e ∙ g)
 
-    pub told-left : {r : Filled} → r ≡ k .left t room → r ≡ outcome k t room
-    told-left h = h ∙ saw .1 .1
+    pub left-outcome : {r : Filled} → r ≡ k .left t room → r ≡ outcome k t room
+    left-outcome h = h ∙ saw .1 .1
 
-    pub told-same : {r : Filled} → l < 2 → r ≡ fill t room → r ≡ outcome k t room
-    told-same low h = h ∙ k .same t room (saw .1 .0) (seen-low t l (k .x) (k .y) (saw .0) low) ∙ saw .1 .1
+    pub same-outcome : {r : Filled} → l < 2 → r ≡ fill t room → r ≡ outcome k t room
+    same-outcome low h = h ∙ k .same t room (saw .1 .0) (seen-low t l (k .x) (k .y) (saw .0) low) ∙ saw .1 .1
 
 -- a text that screening does not refuse is short
-pub told-short : (k : Change) (t : List ℕ) {s : Screened} {l : ℕ} → s ≡ screened (k .lf) (k .x) (k .y) t → s ≡ Saw l → length t ≤ 16384
-told-short k t e g = left-by (k .lf) (k .x) (k .y) t [] (k .left t []) _ (sym e ∙ g) .1 .0
+pub short-text : (k : Change) (t : List ℕ) {s : Screened} {l : ℕ} → s ≡ screened (k .lf) (k .x) (k .y) t → s ≡ Saw l → length t ≤ 16384
+short-text k t e g = left-by (k .lf) (k .x) (k .y) t [] (k .left t []) _ (sym e ∙ g) .1 .0
 
 pub escape-same : (t room : List ℕ) → length t ≤ 16384 → any (held 59 10) t ≡ false → fill t room ≡ fillBounded (escaped t) room
 escape-same t room h e = let q = same-unmarked t e in rw q (within-bound t room (length t) refl h)

@@ -30,13 +30,15 @@ fn bad_octet(text: &[u8], seen: u8, lf: bool) -> usize
     utf8_screening::texts::first_bad(text, lf)
 }
 
-// What screening a text answers: what is seen in it, or a refusal's number and place.
+// What screening a text answers.
 pub enum Screened {
+    // What is seen in the text (`text_marks::see`).
     Saw(u8),
+    // The refusal's number and place.
     Refused(u32, usize),
 }
 
-// 1 and 31 of a text, else what is seen in it: octets that are not plain, and a backslash, a comma, x or y.
+// Refuses a text with TOO_LONG or TEXT_OCTET, else answers what is seen in it: octets that are not plain, and a backslash, a comma, x or y.
 fn screen(text: &[u8], x: u8, y: u8, lf: bool) -> Screened
     ensures { λ r. ⌜ r ≡ screened lf x y (now (text .entry)) ⌝ }
 {
@@ -51,7 +53,7 @@ fn screen(text: &[u8], x: u8, y: u8, lf: bool) -> Screened
     Screened::Saw(seen)
 }
 
-// Writes the text as it is, or refuses with 15.
+// Writes the text as it is, or refuses with ROOM.
 fn put(text: &[u8], out: &mut [u8]) -> Written
     ensures { λ r. ⌜ filled r (now (out .exit)) ≡ fill (now (text .entry)) (now (out .entry)) ⌝ }
 {
@@ -62,7 +64,7 @@ fn put(text: &[u8], out: &mut [u8]) -> Written
     Written::Wrote(text.len())
 }
 
-// Escapes octet by octet, or refuses with 16 or 15.
+// Escapes octet by octet, or refuses with FORM_TOO_LONG or ROOM.
 fn escape_each(text: &[u8], out: &mut [u8]) -> Written
     requires { ⌜ length (now text) ≤ limit.octets ⌝ }
     ensures { λ r. ⌜ filled r (now (out .exit)) ≡ fillBounded (escaped (now (text .entry))) (now (out .entry)) ⌝ }
@@ -79,7 +81,7 @@ fn escape_each(text: &[u8], out: &mut [u8]) -> Written
     Written::Wrote(n)
 }
 
-// Writes the text with its escapes, or refuses with 1, 31, 16 or 15.
+// Writes the text with its escapes, or refuses with TOO_LONG, TEXT_OCTET, FORM_TOO_LONG or ROOM.
 pub fn escape(text: &[u8], out: &mut [u8]) -> Written
     ensures { λ r. ⌜ filled r (now (out .exit)) ≡ escapeOutcome (now (text .entry)) (now (out .entry)) ⌝ }
 {
@@ -95,7 +97,7 @@ pub fn escape(text: &[u8], out: &mut [u8]) -> Written
     }
 }
 
-// Unescapes octet by octet, or refuses with 30 or 15.
+// Unescapes octet by octet, or refuses with ESCAPE or ROOM.
 fn unescape_each(text: &[u8], out: &mut [u8]) -> Written
     requires { ⌜ length (now text) ≤ limit.octets ⌝ }
     ensures { λ r. ⌜ filled r (now (out .exit)) ≡ faultless (now (text .entry)) (now (out .entry)) (fill (unescaped (now (text .entry))) (now (out .entry))) ⌝ }
@@ -113,7 +115,7 @@ fn unescape_each(text: &[u8], out: &mut [u8]) -> Written
     Written::Wrote(kept)
 }
 
-// Writes the text that a text with escapes stands for, or refuses with 1, 31, 30 or 15.
+// Writes the text that a text with escapes stands for, or refuses with TOO_LONG, TEXT_OCTET, ESCAPE or ROOM.
 pub fn unescape(text: &[u8], out: &mut [u8]) -> Written
     ensures { λ r. ⌜ filled r (now (out .exit)) ≡ unescapeOutcome (now (text .entry)) (now (out .entry)) ⌝ }
 {

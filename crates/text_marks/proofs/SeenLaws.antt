@@ -1,6 +1,6 @@
 -- What is seen of a text is what is seen of its parts, and what it says of the text. Assumes nothing.
 use mathlib.Core.Path.{_≡_, refl, sym, ap, _∙_}
-use mathlib.Core.Bool.{Bool, true, false, _||_, or-false, or-assoc, true≢false}
+use mathlib.Core.Bool.{Bool, true, false, _||_, or-false, or-assoc}
 use mathlib.Core.List.{List, [], _∷_, _++_}
 use Prim.Native.Nat.{ℕ, zero, suc, _+_, _-_, _*_, _<_, _≤_}
 use native.Mathlib.Nat.{le-of-suc-le-suc}
@@ -11,20 +11,13 @@ use lib.Bits.{bitOr}
 use lib.ListN.{length, getD, take, drop, length-drop}
 use lib.Seq.{take-suc, take-all}
 use Rattle.octets.specs.Classes.{bit}
+use Rattle.octets.proofs.Bools.{or-none-left, or-none-right}
 use Rattle.utf8.specs.Characters.{allowed, firstBad}
 use Rattle.utf8_screening.specs.Plain.{odd, allPlain}
 use Rattle.utf8_screening.proofs.PlainLaws.{plain-all}
 use Rattle.octets.specs.Counts.{any, count}
 use Rattle.text_marks.specs.Marks.{backslash, special, marked}
 use Rattle.text_marks.specs.Seen.{held, seen}
-
-pub or-left : (a b : Bool) → (a || b) ≡ false → a ≡ false
-or-left true b e = e
-or-left false b e = refl
-
-pub or-right : (a b : Bool) → (a || b) ≡ false → b ≡ false
-or-right true b e = absurd (true≢false e)
-or-right false b e = e
 
 -- the parts of a list
 module _ (p : ℕ → Bool) where
@@ -116,7 +109,7 @@ only-high false b e = refl
 plain : (s : List ℕ) → any odd s ≡ false → allPlain s ≡ true
 unfolding any allPlain
 plain [] e = refl
-plain (x ∷ xs) e = rw (or-left (odd x) (any odd xs) e) (plain xs (or-right (odd x) (any odd xs) e))
+plain (x ∷ xs) e = rw (or-none-left (odd x) (any odd xs) e) (plain xs (or-none-right (odd x) (any odd xs) e))
 
 -- a text without octets that escaping changes
 pub held-marked : (b : ℕ) → held 59 10 b ≡ marked b
@@ -132,8 +125,8 @@ pub unmarked : (s : List ℕ) → any (held 59 10) s ≡ false → count marked 
 unfolding any count
 unmarked [] e = refl
 unmarked (x ∷ xs) e =
-    let n : marked x ≡ false = sym (held-marked x) ∙ or-left (held 59 10 x) (any (held 59 10) xs) e in
-    rw n (omega (arith, unmarked xs (or-right (held 59 10 x) (any (held 59 10) xs) e)))
+    let n : marked x ≡ false = sym (held-marked x) ∙ or-none-left (held 59 10 x) (any (held 59 10) xs) e in
+    rw n (omega (arith, unmarked xs (or-none-right (held 59 10 x) (any (held 59 10) xs) e)))
 
 module _ (s : List ℕ) (n x y : ℕ) (e : n ≡ seen x y s) where
   pub seen-plain : (n ≡ 0 → any odd s ≡ false) × (n ≡ 2 → any odd s ≡ false)

@@ -9,6 +9,9 @@ ghost use Rattle.octets.specs.Room.{overlay};
 ghost use Rattle.text_unescaping.specs.Unescaped.{code, meant, escapeAt, firstFault, unescaped};
 ghost use Rattle.text_unescaping.specs.Pairs.{unsettled, settled};
 
+// The length below which a text is measured escape by escape.
+const SHORT: usize = 32;
+
 // The place of the first fault of a text, or its length; and, where it has none, how many octets it stands for.
 pub struct Measured {
     pub first_fault: usize,
@@ -126,7 +129,7 @@ pub fn measure(text: &[u8]) -> Measured
     requires { ⌜ length (now text) ≤ limit.octets ⌝ }
     ensures { λ r. ⌜ (r .«first_fault» ≡ firstFault (now (text .entry))) × (r .«first_fault» ≡ length (now (text .entry)) → r .length ≡ length (unescaped (now (text .entry)))) ⌝ }
 {
-    if text.len() < 32 {
+    if text.len() < SHORT {
         return measure_each(text);
     }
     if all_pairs(text) {

@@ -12,6 +12,7 @@ use borrow.Author.Tests.{ltb-false, leb-true, lt-ltb, le-ltb, le-leb}
 use Rattle.octets.specs.Pick.{pick}
 use Rattle.octets.specs.Scan.{after, scan}
 use Rattle.octets.specs.Classes.{within, valued}
+use Rattle.octets.proofs.Bools.{clash}
 use Rattle.utf8.specs.Characters.{lengthBy, second, tail, rest, charLength, allowed, unit, firstBad}
 
 -- k octets are left of a character that was begun; then whole characters follow, each with a first octet that p allows
@@ -21,7 +22,7 @@ pub data Chars (p : ℕ → Bool) : ℕ → List ℕ → Type 0 where
   inner : {x k : ℕ} {xs : List ℕ} → tail x ≡ true → Chars p k xs → Chars p (suc k) (x ∷ xs)
 
 pub nope : true ≡ false → ⊥
-nope z = let w : _≡_ {A = ℕ} 0 1 = cc in omega arith
+nope z = clash cc
 
 and-left : (a b : Bool) → a && b ≡ true → a ≡ true
 and-left true b e = refl

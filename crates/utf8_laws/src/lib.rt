@@ -1,1 +1,1 @@
-// No code: the laws that tie the octet definitions to RFC 3629's grammar stand in specs/ and proofs/.
+// UTF-8 by RFC 3629's grammar: no code, only laws that tie the length of a character and the first bad octet to it.

@@ -15,6 +15,7 @@ use Rattle.octets.specs.Classes.{bit, has, valued, valueMask}
 use Rattle.octets.proofs.Masks.{has-valued}
 use Rattle.octets.proofs.Marks.{mark-step}
 use Rattle.octets.specs.Scan.{after, scan}
+use Rattle.octets.proofs.Bools.{clash}
 use Rattle.utf8.proofs.Chars.{ascii, char-at, unit-yes, unit-inside, bad-step}
 use Rattle.utf8.specs.Characters.{lengthBy, second, tail, allowed, unit, firstBad}
 use Rattle.utf8_screening.specs.Plain.{odd, allPlain, Strides, Easy, Reached}
@@ -40,9 +41,9 @@ plain-octet x e = by (ltb 126 x) (ltb x 32) (eqb x 9) refl refl refl e
   where
     by : (a b n : Bool) → ltb 126 x ≡ a → ltb x 32 ≡ b → eqb x 9 ≡ n → (a || (b && not n)) ≡ false
         → (x < 127) × (valued x ≡ true)
-    by true b n p q r z = let w : _≡_ {A = ℕ} 0 1 = cc in absurd (omega arith)
+    by true b n p q r z = clash cc
     by false true true p q r z = (omega (arith, eqb-true x 9 r), simp r)
-    by false true false p q r z = let w : _≡_ {A = ℕ} 0 1 = cc in absurd (omega arith)
+    by false true false p q r z = clash cc
     by false false n p q r z =
         let h = ltb-false 126 x p in
         let g = ltb-false x 32 q in
@@ -90,7 +91,7 @@ plain-all lf (x ∷ xs) e = by (odd x) refl e (plain-all lf xs)
   where
     by : (o : Bool) → odd x ≡ o → (not o && allPlain xs) ≡ true
         → (allPlain xs ≡ true → scan (unit (allowed lf)) xs 0 ≡ length xs) → scan (unit (allowed lf)) (x ∷ xs) 0 ≡ suc (length xs)
-    by true o z f = let w : _≡_ {A = ℕ} 0 1 = cc in absurd (omega arith)
+    by true o z f = clash cc
     by false o z f = ap (λ (n : ℕ). after n (scan (unit (allowed lf)) xs)) (plain-unit lf x xs o) ∙ ap suc (f z)
 
 -- plain octets at the start are passed at once
@@ -102,7 +103,7 @@ plain-prefix lf (x ∷ xs) b e = by (odd x) refl e (plain-prefix lf xs b)
     by : (o : Bool) → odd x ≡ o → (not o && allPlain xs) ≡ true
         → (allPlain xs ≡ true → scan (unit (allowed lf)) (xs ++ b) 0 ≡ length xs + scan (unit (allowed lf)) b 0)
         → scan (unit (allowed lf)) (x ∷ (xs ++ b)) 0 ≡ suc (length xs) + scan (unit (allowed lf)) b 0
-    by true o z f = let w : _≡_ {A = ℕ} 0 1 = cc in absurd (omega arith)
+    by true o z f = clash cc
     by false o z f =
         ap (λ (n : ℕ). after n (scan (unit (allowed lf)) (xs ++ b))) (plain-unit lf x (xs ++ b) o) ∙ ap suc (f z)
         ∙ sym (suc-add (length xs) (scan (unit (allowed lf)) b 0))

@@ -5,6 +5,9 @@ ghost use lib.ListN.{length};
 ghost use Rattle.utf8.specs.Characters.{allowed, firstBad};
 ghost use Rattle.utf8_screening.specs.Plain.{Easy, Reached};
 
+// The length below which a text is first scanned without the table of classes.
+const SHORT: usize = 64;
+
 // 1 for a plain octet at i, 2 for a character of two octets there, 0 for anything else.
 fn easy_at(s: &[u8], i: usize) -> usize
     requires { ⌜ i < length (now s) ⌝ }
@@ -49,7 +52,7 @@ fn reach(s: &[u8]) -> usize
 pub fn first_bad(s: &[u8], lf: bool) -> usize
     ensures { λ r. ⌜ r ≡ firstBad (allowed lf) (now (s .entry)) ⌝ }
 {
-    if s.len() < 64 {
+    if s.len() < SHORT {
         let n = reach(s);
         if n == s.len() {
             return n;

@@ -29,16 +29,19 @@ pub fn unit_length(t: &ClassTable, s: &[u8], i: usize, lf: bool) -> usize
     utf8::char_length(s, i)
 }
 
+// How many plain octets the exact scan passes at once.
+const BLOCK: usize = 16;
+
 // How far the exact scan goes at i: over sixteen plain octets at once, or over one character; 0 where none or a control starts there.
 fn stride(t: &ClassTable, s: &[u8], i: usize, lf: bool) -> usize
     requires { ⌜ Classes (now t) ⌝ }
     requires { ⌜ i < length (now s) ⌝ }
     ensures { λ r. ⌜ Strides (allowed lf) (now (s .entry)) i r ⌝ }
 {
-    if 16 <= s.len() - i {
-        let end = i + 16;
+    if BLOCK <= s.len() - i {
+        let end = i + BLOCK;
         if crate::plain::all_plain(&s[i..end]) {
-            return 16;
+            return BLOCK;
         }
     }
     unit_length(t, s, i, lf)

@@ -4,12 +4,11 @@ use mathlib.Core.Path.{_≡_, sym, _∙_}
 use mathlib.Core.Bool.{false}
 use Prim.Native.Nat.{ℕ, _≤_, _<_, _+_, _-_}
 use native.Mathlib.Omega.{arith}
-use Rattle.line_unfolding.proofs.RunLaws.{bit-no}
 use lib.ListN.{drop}
 use borrow.Author.Count.{below-none, below-more}
 use borrow.Author.Tests.{not-false, eqb-true}
 use Rattle.line_folds.specs.Folds.{foldAt}
-use Rattle.line_folds.proofs.HopLaws.{or-left, or-right}
+use Rattle.octets.proofs.BitLaws.{or-zero-left, or-zero-right, bit-no}
 use Rattle.line_folds.proofs.FoldLaws.{fold-three}
 use Rattle.line_unfolding.proofs.has_fold.Statement.{statement}
 use Rattle.line_unfolding.proofs.has_fold.Tie as tie
@@ -64,8 +63,8 @@ loop-again c =
     let a = c .before .before .before .before .before .before .before .args in
     let l = c .before .before .before .before .before .loop in (
       omega arith,
-      λ z. below-more (λ (m : ℕ). foldAt (drop (a .i + m) (a .s .now)) ≡ false) (l .k) (l .inv .1 (or-left (l .hit) _ z))
-          (sym (fold-three (a .s .now) (a .i + l .k)) ∙ bit-no _ (sym (c .fold-bit .ensures) ∙ or-right (l .hit) _ z)),
+      λ z. below-more (λ (m : ℕ). foldAt (drop (a .i + m) (a .s .now)) ≡ false) (l .k) (l .inv .1 (or-zero-left (l .hit) _ z))
+          (sym (fold-three (a .s .now) (a .i + l .k)) ∙ bit-no _ (sym (c .fold-bit .ensures) ∙ or-zero-right (l .hit) _ z)),
     )
 
 returns : tie.Need-returns Inv-loop μ-loop

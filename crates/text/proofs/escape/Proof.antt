@@ -1,6 +1,6 @@
 -- `text::escape` meets its contract. Assumes nothing.
 use Rattle.text.specs.Outcomes.{escapeOutcome}
-use Rattle.text.proofs.OutcomeLaws.{told-refused, told-short, told-left, told-same, escaping}
+use Rattle.text.proofs.OutcomeLaws.{refused-outcome, short-text, left-outcome, same-outcome, escaping}
 use borrow.Author.Needs.{needs}
 use Rattle.text.proofs.escape.Statement.{statement}
 use Rattle.text.proofs.escape.Tie as tie
@@ -22,15 +22,15 @@ same-length c = search needs
 
 returns : tie.Need-returns
 unfolding escapeOutcome
-returns c = told-same escaping _ _ (c .before .before .before .before .before .before .before .before .screen .ensures)
+returns c = same-outcome escaping _ _ (c .before .before .before .before .before .before .before .before .screen .ensures)
     (c .before .before .before .before .before .before .s2 .given .1) (c .before .before .before .before .if1 .taken) (c .before .before .put .ensures)
 
 escape-each-requires : tie.Need-escape-each-requires
-escape-each-requires c κs = let m = c .before .before .before in told-short escaping _ (m .before .before .screen .ensures) (m .s2 .given .1)
+escape-each-requires c κs = let m = c .before .before .before in short-text escaping _ (m .before .before .screen .ensures) (m .s2 .given .1)
 
 returns-2 : tie.Need-returns-2
 unfolding escapeOutcome
-returns-2 c = let m = c .before in told-refused escaping _ _ (m .before .before .screen .ensures) (m .s .given .1)
+returns-2 c = let m = c .before in refused-outcome escaping _ _ (m .before .before .screen .ensures) (m .s .given .1)
 
 same-length-2 : tie.Need-same-length-2
 same-length-2 c = search needs
@@ -39,7 +39,7 @@ returns-3 : tie.Need-returns-3
 unfolding escapeOutcome
 returns-3 c =
     let m = c .before .before .before .before .before .before in
-    told-left escaping _ _ (m .before .before .screen .ensures) (m .s2 .given .1) (c .before .before .escape-each .ensures)
+    left-outcome escaping _ _ (m .before .before .screen .ensures) (m .s2 .given .1) (c .before .before .escape-each .ensures)
 
 pub escape-spec : {M : Type 1} → statement M
 escape-spec =

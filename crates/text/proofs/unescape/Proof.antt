@@ -1,6 +1,6 @@
 -- `text::unescape` meets its contract. Assumes nothing.
 use Rattle.text.specs.Outcomes.{unescapeOutcome}
-use Rattle.text.proofs.OutcomeLaws.{told-refused, told-short, told-left, told-same, unescaping}
+use Rattle.text.proofs.OutcomeLaws.{refused-outcome, short-text, left-outcome, same-outcome, unescaping}
 use borrow.Author.Needs.{needs}
 use Rattle.text.proofs.unescape.Statement.{statement}
 use Rattle.text.proofs.unescape.Tie as tie
@@ -22,15 +22,15 @@ same-length c = search needs
 
 returns : tie.Need-returns
 unfolding unescapeOutcome
-returns c = told-same unescaping _ _ (c .before .before .before .before .before .before .before .before .screen .ensures)
+returns c = same-outcome unescaping _ _ (c .before .before .before .before .before .before .before .before .screen .ensures)
     (c .before .before .before .before .before .before .s2 .given .1) (c .before .before .before .before .if1 .taken) (c .before .before .put .ensures)
 
 unescape-each-requires : tie.Need-unescape-each-requires
-unescape-each-requires c κs = let m = c .before .before .before in told-short unescaping _ (m .before .before .screen .ensures) (m .s2 .given .1)
+unescape-each-requires c κs = let m = c .before .before .before in short-text unescaping _ (m .before .before .screen .ensures) (m .s2 .given .1)
 
 returns-2 : tie.Need-returns-2
 unfolding unescapeOutcome
-returns-2 c = let m = c .before in told-refused unescaping _ _ (m .before .before .screen .ensures) (m .s .given .1)
+returns-2 c = let m = c .before in refused-outcome unescaping _ _ (m .before .before .screen .ensures) (m .s .given .1)
 
 same-length-2 : tie.Need-same-length-2
 same-length-2 c = search needs
@@ -39,7 +39,7 @@ returns-3 : tie.Need-returns-3
 unfolding unescapeOutcome
 returns-3 c =
     let m = c .before .before .before .before .before .before in
-    told-left unescaping _ _ (m .before .before .screen .ensures) (m .s2 .given .1) (c .before .before .unescape-each .ensures)
+    left-outcome unescaping _ _ (m .before .before .screen .ensures) (m .s2 .given .1) (c .before .before .unescape-each .ensures)
 
 pub unescape-spec : {M : Type 1} → statement M
 unescape-spec =

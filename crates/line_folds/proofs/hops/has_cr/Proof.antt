@@ -6,7 +6,8 @@ use native.Mathlib.Omega.{arith}
 use lib.ListN.{getD}
 use borrow.Author.Count.{below-none, below-more}
 use borrow.Author.Tests.{not-false, eqb-true}
-use Rattle.line_folds.proofs.HopLaws.{or-left, unmarked}
+use Rattle.octets.proofs.BitLaws.{or-zero-left}
+use Rattle.line_folds.proofs.HopLaws.{unmarked}
 use Rattle.line_folds.proofs.hops.has_cr.Statement.{statement}
 use Rattle.line_folds.proofs.hops.has_cr.Tie as tie
 
@@ -38,7 +39,7 @@ loop-again : tie.Need-loop-again Inv-loop μ-loop
 loop-again c =
     let l = c .before .before in
     let a = c .before .before .before .args in
-    (omega arith, λ z. below-more (λ (m : ℕ). getD (a .s .now) (a .i + m) 0 ≡ 13 → ⊥) (l .loop .k) (l .loop .inv .1 (or-left (l .loop .hit) _ z)) (unmarked (l .loop .hit) (getD (a .s .now) (a .i + l .loop .k) 0) z))
+    (omega arith, λ z. below-more (λ (m : ℕ). getD (a .s .now) (a .i + m) 0 ≡ 13 → ⊥) (l .loop .k) (l .loop .inv .1 (or-zero-left (l .loop .hit) _ z)) (unmarked (l .loop .hit) (getD (a .s .now) (a .i + l .loop .k) 0) z))
 
 returns : tie.Need-returns Inv-loop μ-loop
 returns c = λ e m h. c .before .loop .inv .1 (eqb-true (c .before .loop .hit) 0 (not-false _ e)) m (omega arith)
