@@ -7,12 +7,14 @@ use lib.ListN.{length}
 use Rattle.numbers.specs.Refusals as refusal
 use Rattle.numbers.specs.Properties as property
 use Rattle.octets.specs.Pick.{pick}
+use Rattle.octets.specs.Classes.{Classes}
 use Rattle.utf8.specs.Characters.{allowed, firstBad}
 use Rattle.line_parser.specs.Parse.{Parse, got, bad}
 use Rattle.line_parser.specs.Grammar.{Line}
 use Rattle.line_parser.specs.Rule.{parseLine}
-use Rattle.property_table.specs.Rows.{isGroup}
+use Rattle.property_table.specs.Rows.{isGroup, Lists}
 use Rattle.value_kinds.specs.Kinds.{valueScan}
+use Rattle.value_automaton.specs.States.{Scanner}
 use Rattle.value_kinds.specs.declared.Fault.{Fault}
 use Rattle.value_kinds.specs.declared.Fault.the-variants.{Fits, Breaks}
 use Rattle.card_state.specs.State.{inOrder, noted, closed}
@@ -20,6 +22,10 @@ use Rattle.card_line.specs.Parts.{rowOfLine, kindOfLine}
 use Rattle.card_state.specs.declared.Card.{Card}
 use Rattle.card_state.specs.declared.Step.{Step}
 use Rattle.card_state.specs.declared.Step.the-variants.{Refused}
+
+-- the lent tables are those of classes, properties and transitions
+abbrev pub Tables : List ℕ → List ℕ → List ℕ → Type 0
+Tables t rows steps = Classes t × Lists rows × Scanner steps
 
 -- the number of a fault of the line rule: 6 for each
 abbrev pub lineRefusal : ℕ → ℕ

@@ -6,12 +6,11 @@ ghost use lib.ListN.{length};
 ghost use Rattle.numbers.specs.Limits as limit;
 ghost use Rattle.numbers.specs.Properties as property;
 ghost use Rattle.numbers.specs.Kinds as kinds;
-ghost use Rattle.octets.specs.Classes.{Classes};
 ghost use Rattle.property_table.specs.Rows.{Lists, onceAt};
 ghost use Rattle.value_automaton.specs.States.{Scanner};
 ghost use Rattle.value_kinds.specs.Kinds.{valueScan};
-ghost use Rattle.card_state.specs.State.{inOrder, onceFlag, isSeen};
-ghost use Rattle.card_judge.specs.Judge.{framing, laden, broken, entered, judgeParts, judgeLine};
+ghost use Rattle.card_state.specs.State.{Counted, inOrder, onceFlag, isSeen};
+ghost use Rattle.card_judge.specs.Judge.{Tables, framing, laden, broken, entered, judgeParts, judgeLine};
 use card_line::LineParts;
 use card_line::Parts;
 use card_state::Card;
@@ -79,7 +78,7 @@ fn breaks_kind(steps: &Transitions, row: usize, kind: usize, value: &[u8]) -> bo
 
 // A line that fits: the end of a card, or one more line of it.
 fn enter(c: Card, at: usize, row: usize, once: usize, value: &[u8]) -> Step
-    requires { ⌜ (c .cards ≤ c .lines) × (c .lines < 65536) ⌝ }
+    requires { ⌜ Counted c ⌝ }
     requires { ⌜ (once ≡ onceAt row) × (once ≤ limit.flags) ⌝ }
     requires { ⌜ isSeen (onceFlag row) (c .seen) ≡ false ⌝ }
     ensures { λ r. ⌜ r ≡ entered c at row (now (value .entry)) ⌝ }
@@ -103,7 +102,7 @@ fn judge_parts(
     requires { ⌜ Lists (now rows) ⌝ }
     requires { ⌜ Scanner (now steps) ⌝ }
     requires { ⌜ (x .row < property.count) × (x .kind < kinds.count) ⌝ }
-    requires { ⌜ (c .cards ≤ c .lines) × (c .lines < 65536) ⌝ }
+    requires { ⌜ Counted c ⌝ }
     ensures { λ r. ⌜ r ≡ judgeParts c at (x .row) (x .«group_length») (x .«param_count») (x .kind) (now (value .entry)) ⌝ }
 {
     let misplaced = !in_order(c.phase, x.row);
@@ -135,11 +134,9 @@ pub fn judge_line(
     at: usize,
     c: Card,
 ) -> Step
-    requires { ⌜ Classes (now t) ⌝ }
-    requires { ⌜ Lists (now rows) ⌝ }
-    requires { ⌜ Scanner (now steps) ⌝ }
+    requires { ⌜ Tables (now t) (now rows) (now steps) ⌝ }
     requires { ⌜ length (now s) ≤ limit.octets ⌝ }
-    requires { ⌜ (c .cards ≤ c .lines) × (c .lines < 65536) ⌝ }
+    requires { ⌜ Counted c ⌝ }
     ensures { λ r. ⌜ r ≡ judgeLine c at (now (s .entry)) ⌝ }
 {
     if utf8_screening::units::first_bad(t, s, false) < s.len() {

@@ -137,7 +137,7 @@ parts-fault l p e h k q = by (parseLine l) h
     by (bad x) h = ap fault (q ∙ ap faultOf h)
     by (got x n) h = absurd (miss (0 ∷ 1 ∷ 2 ∷ 4 ∷ []) 3 tt (subst (λ (t : Answer). OneOf (0 ∷ 1 ∷ 2 ∷ 4 ∷ []) (tagOf the-type t)) h k))
 
-pub group-low : (l : List ℕ) (g n c v : ℕ) → InLine l g n c v → length l ≤ 16384 → g < 65536
+pub group-low : (l : List ℕ) (g n c v : ℕ) → InLine l g n c v → length l ≤ 16384 → g ≤ 16384
 group-low l zero n c v i h = omega arith
 group-low l (suc g) n c v i h =
     let k : suc g + 1 < n = rw (ne-eqb (suc g) 0 (λ e. omega arith)) at (i .name) in

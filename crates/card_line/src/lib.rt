@@ -36,7 +36,7 @@ pub enum LineParts {
 
 // Where the name starts: past the group and its dot.
 pub fn name_start(group_length: usize) -> usize
-    requires { ⌜ «group_length» < 65536 ⌝ }
+    requires { ⌜ «group_length» ≤ limit.octets ⌝ }
     ensures { λ r. ⌜ r ≡ nameStart «group_length» ⌝ }
 {
     if group_length == 0 {

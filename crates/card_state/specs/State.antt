@@ -1,9 +1,10 @@
 -- What is known of a card: which lines it has had so far, and what a line or its END does to it, by document 01's refusals 9 to 12.
 -- Assumes nothing.
-use Prim.Native.Nat.{ℕ, zero, suc, _+_, _/_, _%_, _^_}
+use Prim.Native.Nat.{ℕ, zero, suc, _+_, _/_, _%_, _^_, _<_, _≤_}
 use mathlib.Core.Bool.{Bool, false, not, _&&_, _||_}
 use lib.Bits.{bitOr}
 use lib.Dec.{eqb}
+use Rattle.numbers.specs.Limits as limit
 use Rattle.numbers.specs.Properties as property
 use Rattle.numbers.specs.Refusals as refusal
 use Rattle.octets.specs.Pick.{pick}
@@ -11,6 +12,10 @@ use Rattle.property_table.specs.Rows.{onceAt}
 use Rattle.card_state.specs.declared.Card.{Card}
 use Rattle.card_state.specs.declared.Step.{Step}
 use Rattle.card_state.specs.declared.Step.the-variants.{Next, Refused}
+
+-- the counts of a card's state within an input that may still go on: cards that have ended, and lines
+abbrev pub Counted : Card → Type 0
+Counted c = (c .cards ≤ c .lines) × (c .lines < limit.octets)
 
 -- before the first line of an input
 abbrev pub freshCard : Card

@@ -6,7 +6,7 @@ ghost use Prim.Native.Nat.{ℕ, _<_, _≤_};
 ghost use Rattle.numbers.specs.Limits as limit;
 ghost use Rattle.numbers.specs.Properties as property;
 ghost use Rattle.property_table.specs.Rows.{onceAt};
-ghost use Rattle.card_state.specs.State.{flagOf, onceFlag, isSeen, phaseAfter, freshCard, closed, noted};
+ghost use Rattle.card_state.specs.State.{Counted, flagOf, onceFlag, isSeen, phaseAfter, freshCard, closed, noted};
 use numbers::property;
 use numbers::refusal;
 
@@ -98,7 +98,7 @@ fn phase_after(row: usize) -> u32
 
 // The end of a card: 11, 12, or the state before the next card.
 pub fn close(c: Card, at: usize) -> Step
-    requires { ⌜ (c .cards ≤ c .lines) × (c .lines < 65536) ⌝ }
+    requires { ⌜ Counted c ⌝ }
     ensures { λ r. ⌜ r ≡ closed c at ⌝ }
 {
     if !c.has_fn {
@@ -118,7 +118,7 @@ pub fn close(c: Card, at: usize) -> Step
 // The state after a line of the row, not END, that may stand here. `once` is the row's number among those that a card has at most once, and
 // `group` says whether the value is group.
 pub fn note(c: Card, row: usize, once: usize, group: bool) -> Card
-    requires { ⌜ c .lines < 65536 ⌝ }
+    requires { ⌜ c .lines < limit.octets ⌝ }
     requires { ⌜ (once ≡ onceAt row) × (once ≤ limit.flags) ⌝ }
     requires { ⌜ isSeen (onceFlag row) (c .seen) ≡ false ⌝ }
     ensures { λ r. ⌜ ((at : ℕ) → Step.Next r ≡ noted c at row group) ⌝ }
