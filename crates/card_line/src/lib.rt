@@ -5,7 +5,7 @@ ghost use lib.ListN.{length};
 ghost use Rattle.numbers.specs.Limits as limit;
 ghost use Rattle.numbers.specs.Properties as property;
 ghost use Rattle.octets.specs.Classes.{Classes};
-ghost use Rattle.property_table.specs.Rows.{Lists, lineKind};
+ghost use Rattle.property_table.specs.Rows.{Lists, lineKind, valueName};
 ghost use Rattle.line_parser.specs.Places.{nameStart};
 ghost use Rattle.card_line.specs.Parts.{faultOf, Accepted, firstValue, linePartsOf};
 use line_parameters::First;
@@ -61,7 +61,7 @@ fn kind_at(t: &[u8; 256], rows: &PropertyTable, s: &[u8], row: usize, name_end: 
     requires { ⌜ Lists (now rows) ⌝ }
     requires { ⌜ row < property.count ⌝ }
     requires { ⌜ Accepted (now s) «name_end» ⌝ }
-    ensures { λ r. ⌜ r ≡ lineKind row (firstValue (now (s .entry))) ⌝ }
+    ensures { λ r. ⌜ r ≡ lineKind row (firstValue valueName (now (s .entry))) ⌝ }
 {
     let kind = property_table::kind_of(rows, row);
     if !property_table::takes_value(rows, row) {
