@@ -25,10 +25,10 @@ use value_kinds::Fault;
 fn in_order(phase: u32, row: usize) -> bool
     ensures { λ r. ⌜ r ≡ inOrder phase row ⌝ }
 {
-    if phase == 0 {
+    if phase == card_state::BEFORE_BEGIN {
         return row == property::BEGIN;
     }
-    if phase == 1 {
+    if phase == card_state::BEFORE_VERSION {
         return row == property::VERSION;
     }
     if row == property::BEGIN {
