@@ -12,7 +12,7 @@ use Rattle.utf8.specs.Characters.{allowed, firstBad}
 use Rattle.line_parser.specs.Parse.{Parse, got, bad}
 use Rattle.line_parser.specs.Grammar.{Line}
 use Rattle.line_parser.specs.Rule.{parseLine}
-use Rattle.property_table.specs.Rows.{isGroup, Lists}
+use Rattle.property_table.specs.Rows.{isGroup, framing, Lists}
 use Rattle.value_kinds.specs.Kinds.{valueScan}
 use Rattle.value_automaton.specs.States.{Scanner}
 use Rattle.value_kinds.specs.declared.Fault.{Fault}
@@ -35,11 +35,7 @@ lineRefusal fault = refusal.lineRule
 abbrev pub valuePlace : ℕ → ℕ → ℕ
 valuePlace at octet = at
 
--- BEGIN, VERSION and END
-unfoldable pub framing : ℕ → Bool
-framing row = eqb row property.begin || (eqb row property.version || eqb row property.end)
-
--- 8: a group or a parameter on one of these
+-- 8: a group or a parameter on a line that frames a card
 unfoldable pub laden : ℕ → ℕ → ℕ → Bool
 laden row group params = framing row && (not (eqb group 0) || not (eqb params 0))
 

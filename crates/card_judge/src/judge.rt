@@ -10,7 +10,7 @@ ghost use Rattle.property_table.specs.Rows.{Lists, onceAt};
 ghost use Rattle.value_automaton.specs.States.{Scanner};
 ghost use Rattle.value_kinds.specs.Kinds.{valueScan};
 ghost use Rattle.card_state.specs.State.{Counted, inOrder, onceFlag, isSeen};
-ghost use Rattle.card_judge.specs.Judge.{Tables, framing, laden, broken, entered, judgeParts, judgeLine};
+ghost use Rattle.card_judge.specs.Judge.{Tables, laden, broken, entered, judgeParts, judgeLine};
 use card_line::LineParts;
 use card_line::Parts;
 use card_state::Card;
@@ -37,24 +37,11 @@ fn in_order(phase: u32, row: usize) -> bool
     row != property::VERSION
 }
 
-// BEGIN, VERSION and END frame a card.
-fn is_framing(row: usize) -> bool
-    ensures { λ r. ⌜ r ≡ framing row ⌝ }
-{
-    if row == property::BEGIN {
-        return true;
-    }
-    if row == property::VERSION {
-        return true;
-    }
-    row == property::END
-}
-
 // Whether a framing line has a group or a parameter.
 fn is_laden(x: Parts) -> bool
     ensures { λ r. ⌜ r ≡ laden (x .row) (x .«group_length») (x .«param_count») ⌝ }
 {
-    if !is_framing(x.row) {
+    if !property_table::is_framing(x.row) {
         return false;
     }
     if x.group_length != 0 {

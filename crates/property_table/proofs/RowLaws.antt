@@ -13,7 +13,7 @@ use Rattle.octets.specs.Pick.{pick}
 use Rattle.octets.specs.Cases.{same}
 use Rattle.octets.proofs.CaseLaws.{same-length}
 use Rattle.octets.specs.Ascii.{octets}
-use Rattle.property_table.specs.Rows.{Row, noRow, rows, search, rowOf, rowAt, sized, firstOf, nextOf, kindAt, single, marks, onceAt, takesValue, nameEntries, entries, entriesFrom, Lists}
+use Rattle.property_table.specs.Rows.{Row, noRow, rows, search, rowOf, rowAt, sized, firstOf, nextOf, kindAt, single, marks, onceAt, framing, takesValue, nameEntries, entries, entriesFrom, Lists}
 use Rattle.octets.proofs.Upto.{upto, alike}
 
 abbrev all : List Row
@@ -141,7 +141,7 @@ pub record Listed (t : List ℕ) (n : ℕ) : Type 0 where
   pub value : eqb (getD t (n * 16 + 15) 0) 1 ≡ takesValue n
 
 listed-right : (n : ℕ) → n < 39 → Listed (entriesFrom 0 39) n
-unfolding upto entriesFrom entries nameEntries rowAt sized firstOf nextOf kindAt single marks onceAt takesValue rows octets
+unfolding upto entriesFrom entries nameEntries rowAt sized firstOf nextOf kindAt single marks onceAt framing takesValue rows octets
 listed-right n h =
     record {
       spelt = alike (λ j. take (length (rowAt j .name)) (drop (j * 16) (entriesFrom 0 39))) (λ j. rowAt j .name) 39 refl n h;

@@ -119,11 +119,15 @@ marks (r ∷ rs) = marked (r .times) (marks rs)
 unfoldable pub onceAt : ℕ → ℕ
 onceAt n = pick (single n) (marks (take n rows)) 0
 
--- VALUE sets the kind on listed rows of kind 0, 1 or 3, except 1 BEGIN, 2 END, 34 VERSION and 5 XML
+-- BEGIN, VERSION and END frame a card
+unfoldable pub framing : ℕ → Bool
+framing n = eqb n property.begin || (eqb n property.version || eqb n property.end)
+
+-- VALUE sets the kind on listed rows of kind 0, 1 or 3, except BEGIN, VERSION, END and XML
 unfoldable pub takesValue : ℕ → Bool
 takesValue n =
     (ltb 0 n && ltb n property.count)
-    && ((eqb (kindAt n) kinds.anything || (eqb (kindAt n) kinds.text || eqb (kindAt n) kinds.uri)) && not (eqb n property.begin || (eqb n property.end || (eqb n property.version || eqb n property.xml))))
+    && ((eqb (kindAt n) kinds.anything || (eqb (kindAt n) kinds.text || eqb (kindAt n) kinds.uri)) && not (framing n || eqb n property.xml))
 
 -- the kind that a VALUE parameter names
 unfoldable pub kindNamed : List ℕ → ℕ
