@@ -7,12 +7,14 @@ use lib.ListN.{length}
 use Rattle.numbers.specs.Refusals as refusal
 use Rattle.numbers.specs.Properties as property
 use Rattle.octets.specs.Pick.{pick}
+use Rattle.octets.specs.Classes.{Classes}
 use Rattle.utf8.specs.Characters.{allowed, firstBad}
 use Rattle.line_parser.specs.Parse.{Parse, got, bad}
 use Rattle.line_parser.specs.Grammar.{Line}
 use Rattle.line_parser.specs.Rule.{parseLine}
-use Rattle.property_table.specs.Rows.{isGroup}
+use Rattle.property_table.specs.Rows.{isGroup, framing, Lists}
 use Rattle.value_kinds.specs.Kinds.{valueScan}
+use Rattle.value_automaton.specs.States.{Scanner}
 use Rattle.value_kinds.specs.declared.Fault.{Fault}
 use Rattle.value_kinds.specs.declared.Fault.the-variants.{Fits, Breaks}
 use Rattle.card_state.specs.State.{inOrder, noted, closed}
@@ -20,6 +22,10 @@ use Rattle.card_line.specs.Parts.{rowOfLine, kindOfLine}
 use Rattle.card_state.specs.declared.Card.{Card}
 use Rattle.card_state.specs.declared.Step.{Step}
 use Rattle.card_state.specs.declared.Step.the-variants.{Refused}
+
+-- the lent tables are those of classes, properties and transitions
+abbrev pub Tables : List ℕ → List ℕ → List ℕ → Type 0
+Tables t rows steps = Classes t × Lists rows × Scanner steps
 
 -- the number of a fault of the line rule: 6 for each
 abbrev pub lineRefusal : ℕ → ℕ
@@ -29,11 +35,7 @@ lineRefusal fault = refusal.lineRule
 abbrev pub valuePlace : ℕ → ℕ → ℕ
 valuePlace at octet = at
 
--- BEGIN, VERSION and END
-unfoldable pub framing : ℕ → Bool
-framing row = eqb row property.begin || (eqb row property.version || eqb row property.end)
-
--- 8: a group or a parameter on one of these
+-- 8: a group or a parameter on a line that frames a card
 unfoldable pub laden : ℕ → ℕ → ℕ → Bool
 laden row group params = framing row && (not (eqb group 0) || not (eqb params 0))
 

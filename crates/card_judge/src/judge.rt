@@ -6,12 +6,11 @@ ghost use lib.ListN.{length};
 ghost use Rattle.numbers.specs.Limits as limit;
 ghost use Rattle.numbers.specs.Properties as property;
 ghost use Rattle.numbers.specs.Kinds as kinds;
-ghost use Rattle.octets.specs.Classes.{Classes};
 ghost use Rattle.property_table.specs.Rows.{Lists, onceAt};
 ghost use Rattle.value_automaton.specs.States.{Scanner};
 ghost use Rattle.value_kinds.specs.Kinds.{valueScan};
-ghost use Rattle.card_state.specs.State.{inOrder, onceFlag, isSeen};
-ghost use Rattle.card_judge.specs.Judge.{framing, laden, broken, entered, judgeParts, judgeLine};
+ghost use Rattle.card_state.specs.State.{Counted, inOrder, onceFlag, isSeen};
+ghost use Rattle.card_judge.specs.Judge.{Tables, laden, broken, entered, judgeParts, judgeLine};
 use card_line::LineParts;
 use card_line::Parts;
 use card_state::Card;
@@ -27,10 +26,10 @@ use value_kinds::Fault;
 fn in_order(phase: u32, row: usize) -> bool
     ensures { λ r. ⌜ r ≡ inOrder phase row ⌝ }
 {
-    if phase == 0 {
+    if phase == card_state::BEFORE_BEGIN {
         return row == property::BEGIN;
     }
-    if phase == 1 {
+    if phase == card_state::BEFORE_VERSION {
         return row == property::VERSION;
     }
     if row == property::BEGIN {
@@ -39,24 +38,11 @@ fn in_order(phase: u32, row: usize) -> bool
     row != property::VERSION
 }
 
-// BEGIN, VERSION and END frame a card.
-fn is_framing(row: usize) -> bool
-    ensures { λ r. ⌜ r ≡ framing row ⌝ }
-{
-    if row == property::BEGIN {
-        return true;
-    }
-    if row == property::VERSION {
-        return true;
-    }
-    row == property::END
-}
-
 // Whether a framing line has a group or a parameter.
 fn is_laden(x: Parts) -> bool
     ensures { λ r. ⌜ r ≡ laden (x .row) (x .«group_length») (x .«param_count») ⌝ }
 {
-    if !is_framing(x.row) {
+    if !property_table::is_framing(x.row) {
         return false;
     }
     if x.group_length != 0 {
@@ -80,7 +66,7 @@ fn breaks_kind(steps: &Transitions, row: usize, kind: usize, value: &[u8]) -> bo
 
 // A line that fits: the end of a card, or one more line of it.
 fn enter(c: Card, at: usize, row: usize, once: usize, value: &[u8]) -> Step
-    requires { ⌜ (c .cards ≤ c .lines) × (c .lines < 65536) ⌝ }
+    requires { ⌜ Counted c ⌝ }
     requires { ⌜ (once ≡ onceAt row) × (once ≤ limit.flags) ⌝ }
     requires { ⌜ isSeen (onceFlag row) (c .seen) ≡ false ⌝ }
     ensures { λ r. ⌜ r ≡ entered c at row (now (value .entry)) ⌝ }
@@ -104,7 +90,7 @@ fn judge_parts(
     requires { ⌜ Lists (now rows) ⌝ }
     requires { ⌜ Scanner (now steps) ⌝ }
     requires { ⌜ (x .row < property.count) × (x .kind < kinds.count) ⌝ }
-    requires { ⌜ (c .cards ≤ c .lines) × (c .lines < 65536) ⌝ }
+    requires { ⌜ Counted c ⌝ }
     ensures { λ r. ⌜ r ≡ judgeParts c at (x .row) (x .«group_length») (x .«param_count») (x .kind) (now (value .entry)) ⌝ }
 {
     let misplaced = !in_order(c.phase, x.row);
@@ -136,11 +122,9 @@ pub fn judge_line(
     at: usize,
     c: Card,
 ) -> Step
-    requires { ⌜ Classes (now t) ⌝ }
-    requires { ⌜ Lists (now rows) ⌝ }
-    requires { ⌜ Scanner (now steps) ⌝ }
+    requires { ⌜ Tables (now t) (now rows) (now steps) ⌝ }
     requires { ⌜ length (now s) ≤ limit.octets ⌝ }
-    requires { ⌜ (c .cards ≤ c .lines) × (c .lines < 65536) ⌝ }
+    requires { ⌜ Counted c ⌝ }
     ensures { λ r. ⌜ r ≡ judgeLine c at (now (s .entry)) ⌝ }
 {
     if utf8_screening::units::first_bad(t, s, false) < s.len() {

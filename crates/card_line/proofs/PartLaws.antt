@@ -30,7 +30,7 @@ use Rattle.octets.specs.Cases.{same}
 use Rattle.octets.specs.Ascii.{octets}
 use Rattle.property_table.specs.Rows.{Row, rows, search, rowOf, kindAt, takesValue, kindNamed, lineKind, valueName}
 use Rattle.property_table.proofs.RowLaws.{kind-low}
-use Rattle.card_line.specs.Parts.{octetsOf, valueParam, rowOfLine, kindOfLine, faultOf, Accepted, firstValue, ofParse, linePartsBy, linePartsOf}
+use Rattle.card_line.specs.Parts.{octetsOf, paramValue, rowOfLine, kindOfLine, faultOf, Accepted, firstValue, valueBy, linePartsBy, linePartsOf}
 use Rattle.card_line.specs.declared.Parts.{Parts}
 use Rattle.card_line.specs.declared.LineParts.the-variants.{Line as line, Fault as fault}
 
@@ -68,7 +68,7 @@ pub value-some : (row : ℕ) (o : Option (List ℕ)) (v : List ℕ) → o ≡ so
 unfolding lineKind
 value-some row o v e t = rw (e, t)
 
--- what was found says whether a VALUE parameter stands there
+-- what was found says whether such a parameter stands there
 none-by : (l : List ℕ) (o : Option Value) (r : First) → Found l o r → r ≡ Nothing → octetsOf o ≡ none
 none-by l none r f e = refl
 none-by l (some v) r f e = let a = f .answer in let z : _≡_ {A = ℕ} 0 1 = cc in absurd (omega arith)
@@ -90,33 +90,33 @@ some-by l (some v) r a e f q =
       octets = ap some (sym (f .octets) ∙ ap (λ (i : ℕ). take (f .end - i) (drop i l)) ea ∙ ap (λ (i : ℕ). take (i - a) (drop a l)) ee);
     }
 
-module _ (l : List ℕ) (name : ℕ) (a : Accepted l name) where
+module _ (l : List ℕ) (end : ℕ) (a : Accepted l end) (name : List ℕ) where
   abbrev asked : First
-  asked = findFirst valueName name (suc (length (drop name l))) (drop name l)
+  asked = findFirst name end (suc (length (drop end l))) (drop end l)
 
-  found : Found l (firstNamed valueName (a .parts .params)) asked
+  found : Found l (firstNamed name (a .parts .params)) asked
   found =
       let w = line-law l (a .parts) (a .start) .0 (a .parsed) in
-      rw (a .ends, w .1) (first-law valueName (a .parts) (w .0))
+      rw (a .ends, w .1) (first-law name (a .parts) (w .0))
 
-  value-is : firstValue l ≡ octetsOf (firstNamed valueName (a .parts .params))
-  unfolding firstValue valueParam
-  value-is = ap ofParse (a .parsed)
+  value-is : firstValue name l ≡ octetsOf (firstNamed name (a .parts .params))
+  unfolding firstValue paramValue
+  value-is = ap (valueBy name) (a .parsed)
 
-  pub value-missing : asked ≡ Nothing → firstValue l ≡ none
-  value-missing e = value-is ∙ none-by l (firstNamed valueName (a .parts .params)) asked found e
+  pub value-missing : asked ≡ Nothing → firstValue name l ≡ none
+  value-missing e = value-is ∙ none-by l (firstNamed name (a .parts .params)) asked found e
 
-  pub value-there : (i j : ℕ) → asked ≡ Between i j → Part l i j (firstValue l)
-  value-there i j e = rw value-is (some-by l (firstNamed valueName (a .parts .params)) asked i j found e)
+  pub value-there : (i j : ℕ) → asked ≡ Between i j → Part l i j (firstValue name l)
+  value-there i j e = rw value-is (some-by l (firstNamed name (a .parts .params)) asked i j found e)
 
 -- the parts of a line
 pub parts-by : (l : List ℕ) (g n c v : ℕ) (k : Known l g n c v) (row kind : ℕ) → row ≡ rowOfLine (k .parts)
-    → kind ≡ lineKind row (firstValue l)
+    → kind ≡ lineKind row (firstValue valueName l)
     → line (record { row = row; «group_length» = g; «name_end» = n; «param_count» = c; «value_start» = v; kind = kind }) ≡ linePartsOf l
 unfolding linePartsOf kindOfLine firstValue
 parts-by l g n c v k row kind er ek =
     let t = ap linePartsBy (k .parsed) in
-    let w : kind ≡ lineKind (rowOfLine (k .parts)) (valueParam (k .parts)) = ek ∙ ap (lineKind row) (ap ofParse (k .parsed)) ∙ ap (λ (r : ℕ). lineKind r (valueParam (k .parts))) er in
+    let w : kind ≡ lineKind (rowOfLine (k .parts)) (paramValue valueName (k .parts)) = ek ∙ ap (lineKind row) (ap (valueBy valueName) (k .parsed)) ∙ ap (λ (r : ℕ). lineKind r (paramValue valueName (k .parts))) er in
     rw t (cc (er, w, k .placed .group-length, k .placed .name-end, k .placed .count))
 
 -- an answer that is no fault
@@ -137,7 +137,7 @@ parts-fault l p e h k q = by (parseLine l) h
     by (bad x) h = ap fault (q ∙ ap faultOf h)
     by (got x n) h = absurd (miss (0 ∷ 1 ∷ 2 ∷ 4 ∷ []) 3 tt (subst (λ (t : Answer). OneOf (0 ∷ 1 ∷ 2 ∷ 4 ∷ []) (tagOf the-type t)) h k))
 
-pub group-low : (l : List ℕ) (g n c v : ℕ) → InLine l g n c v → length l ≤ 16384 → g < 65536
+pub group-low : (l : List ℕ) (g n c v : ℕ) → InLine l g n c v → length l ≤ 16384 → g ≤ 16384
 group-low l zero n c v i h = omega arith
 group-low l (suc g) n c v i h =
     let k : suc g + 1 < n = rw (ne-eqb (suc g) 0 (λ e. omega arith)) at (i .name) in
@@ -177,7 +177,7 @@ row-of-line y = row-low (y .name)
 
 pub kind-of-line : (y : Line) → kindOfLine y < 9
 unfolding kindOfLine rowOfLine
-kind-of-line y = line-kind-low (rowOf (y .name)) (valueParam y) (row-low (y .name))
+kind-of-line y = line-kind-low (rowOf (y .name)) (paramValue valueName y) (row-low (y .name))
 
 -- what is known of a line by its parts
 pub record Read (l : List ℕ) (x : Parts) : Type 0 where

@@ -14,20 +14,21 @@ use Rattle.property_table.specs.Rows.{rowOf, lineKind, valueName}
 use Rattle.card_line.specs.declared.LineParts.{LineParts}
 use Rattle.card_line.specs.declared.LineParts.the-variants.{Line as line, Fault as fault}
 
--- the first value of the first VALUE parameter, quotes taken off
+-- the octets of a value, quotes taken off
 abbrev pub octetsOf : Option Value → Option (List ℕ)
 octetsOf none = none
 octetsOf (some v) = some (valueOctets v)
 
-unfoldable pub valueParam : Line → Option (List ℕ)
-valueParam x = octetsOf (firstNamed valueName (x .params))
+-- the first value of the first parameter of that name, quotes taken off
+unfoldable pub paramValue : List ℕ → Line → Option (List ℕ)
+paramValue name x = octetsOf (firstNamed name (x .params))
 
 -- the row of a line, and the kind of its value by row and VALUE
 unfoldable pub rowOfLine : Line → ℕ
 rowOfLine x = rowOf (x .name)
 
 unfoldable pub kindOfLine : Line → ℕ
-kindOfLine x = lineKind (rowOfLine x) (valueParam x)
+kindOfLine x = lineKind (rowOfLine x) (paramValue valueName x)
 
 -- the parts by a parse
 abbrev pub linePartsBy : Parse Line → LineParts
@@ -60,10 +61,10 @@ pub record Accepted (l : List ℕ) (name : ℕ) : Type 0 where
   pub parsed : parseLine l ≡ got parts start
   pub ends : name ≡ nameEnd parts
 
-abbrev pub ofParse : Parse Line → Option (List ℕ)
-ofParse (got x k) = valueParam x
-ofParse (bad e) = none
+abbrev pub valueBy : List ℕ → Parse Line → Option (List ℕ)
+valueBy name (got x k) = paramValue name x
+valueBy name (bad e) = none
 
 -- the same of a line's octets
-unfoldable pub firstValue : List ℕ → Option (List ℕ)
-firstValue l = ofParse (parseLine l)
+unfoldable pub firstValue : List ℕ → List ℕ → Option (List ℕ)
+firstValue name l = valueBy name (parseLine l)

@@ -5,7 +5,7 @@ ghost use lib.ListN.{length};
 ghost use Rattle.numbers.specs.Limits as limit;
 ghost use Rattle.numbers.specs.Properties as property;
 ghost use Rattle.octets.specs.Classes.{Classes};
-ghost use Rattle.property_table.specs.Rows.{Lists, lineKind};
+ghost use Rattle.property_table.specs.Rows.{Lists, lineKind, valueName};
 ghost use Rattle.line_parser.specs.Places.{nameStart};
 ghost use Rattle.card_line.specs.Parts.{faultOf, Accepted, firstValue, linePartsOf};
 use line_parameters::First;
@@ -37,7 +37,7 @@ pub enum LineParts {
 
 // Where the name starts: past the group and its dot.
 pub fn name_start(group_length: usize) -> usize
-    requires { ⌜ «group_length» < 65536 ⌝ }
+    requires { ⌜ «group_length» ≤ limit.octets ⌝ }
     ensures { λ r. ⌜ r ≡ nameStart «group_length» ⌝ }
 {
     if group_length == 0 {
@@ -62,7 +62,7 @@ fn kind_at(t: &ClassTable, rows: &PropertyTable, s: &[u8], row: usize, name_end:
     requires { ⌜ Lists (now rows) ⌝ }
     requires { ⌜ row < property.count ⌝ }
     requires { ⌜ Accepted (now s) «name_end» ⌝ }
-    ensures { λ r. ⌜ r ≡ lineKind row (firstValue (now (s .entry))) ⌝ }
+    ensures { λ r. ⌜ r ≡ lineKind row (firstValue valueName (now (s .entry))) ⌝ }
 {
     let kind = property_table::kind_of(rows, row);
     if !property_table::takes_value(rows, row) {

@@ -6,12 +6,22 @@ ghost use Prim.Native.Nat.{ℕ, _<_, _≤_};
 ghost use Rattle.numbers.specs.Limits as limit;
 ghost use Rattle.numbers.specs.Properties as property;
 ghost use Rattle.property_table.specs.Rows.{onceAt};
-ghost use Rattle.card_state.specs.State.{flagOf, onceFlag, isSeen, phaseAfter, freshCard, closed, noted};
+ghost use Rattle.card_state.specs.State.{Counted, flagOf, onceFlag, isSeen, phaseAfter, freshCard, closed, noted};
 use numbers::property;
 use numbers::refusal;
 
+// The phase of a card: BEGIN has not come.
+pub const BEFORE_BEGIN: u32 = 0;
+
+// The phase of a card: BEGIN has come, and VERSION not yet.
+pub const BEFORE_VERSION: u32 = 1;
+
+// The phase of a card: VERSION has come.
+pub const INSIDE: u32 = 2;
+
+// What is known of the card that is being read.
 pub struct Card {
-    // 0 before BEGIN, 1 before VERSION, 2 after it.
+    // How far it has come: BEFORE_BEGIN, BEFORE_VERSION or INSIDE.
     pub phase: u32,
     // The flags of the single properties that stand in the card so far.
     pub seen: u32,
@@ -35,7 +45,7 @@ pub fn fresh() -> Card
     ensures { λ r. ⌜ r ≡ freshCard ⌝ }
 {
     Card {
-        phase: 0,
+        phase: BEFORE_BEGIN,
         seen: 0,
         has_fn: false,
         has_member: false,
@@ -45,6 +55,7 @@ pub fn fresh() -> Card
     }
 }
 
+// Whether one of two holds.
 fn either(a: bool, b: bool) -> bool
     ensures { λ r. ⌜ r ≡ (a || b) ⌝ }
 {
@@ -87,18 +98,19 @@ fn says_group(row: usize, group: bool) -> bool
     group
 }
 
+// The phase after a line of the row.
 fn phase_after(row: usize) -> u32
     ensures { λ r. ⌜ r ≡ phaseAfter row ⌝ }
 {
     if row == property::BEGIN {
-        return 1;
+        return BEFORE_VERSION;
     }
-    2
+    INSIDE
 }
 
 // The end of a card: 11, 12, or the state before the next card.
 pub fn close(c: Card, at: usize) -> Step
-    requires { ⌜ (c .cards ≤ c .lines) × (c .lines < 65536) ⌝ }
+    requires { ⌜ Counted c ⌝ }
     ensures { λ r. ⌜ r ≡ closed c at ⌝ }
 {
     if !c.has_fn {
@@ -118,7 +130,7 @@ pub fn close(c: Card, at: usize) -> Step
 // The state after a line of the row, not END, that may stand here. `once` is the row's number among those that a card has at most once, and
 // `group` says whether the value is group.
 pub fn note(c: Card, row: usize, once: usize, group: bool) -> Card
-    requires { ⌜ c .lines < 65536 ⌝ }
+    requires { ⌜ c .lines < limit.octets ⌝ }
     requires { ⌜ (once ≡ onceAt row) × (once ≤ limit.flags) ⌝ }
     requires { ⌜ isSeen (onceFlag row) (c .seen) ≡ false ⌝ }
     ensures { λ r. ⌜ ((at : ℕ) → Step.Next r ≡ noted c at row group) ⌝ }

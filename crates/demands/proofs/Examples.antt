@@ -82,15 +82,15 @@ unfolding kinds.lineShape kinds.valueScan sets.holds shapes.nullable shapes.dead
 by-shapes = tt
 
 by-table : Unit {0}
-unfolding table.rows table.search table.rowOf table.rowAt table.kindAt table.takesValue table.kindNamed table.lineKind table.isGroup table.marks table.onceAt table.single
+unfolding table.rows table.search table.rowOf table.rowAt table.kindAt table.takesValue table.kindNamed table.lineKind table.framing table.isGroup table.marks table.onceAt table.single
 by-table = tt
 
 by-cards : Unit {0}
-unfolding content.valueParam content.rowOfLine content.kindOfLine content.linePartsOf card.inOrder card.flagOf card.onceFlag card.isSeen card.phaseAfter card.noted card.closed
+unfolding content.paramValue content.rowOfLine content.kindOfLine content.linePartsOf card.inOrder card.flagOf card.onceFlag card.isSeen card.phaseAfter card.noted card.closed
 by-cards = tt
 
 by-judge : Unit {0}
-unfolding judge.framing judge.laden judge.entered judge.judgeParts judge.judgeLine walk.judgeLines records.recordBy records.recordOf records.recordsFrom
+unfolding judge.laden judge.entered judge.judgeParts judge.judgeLine walk.judgeLines records.recordBy records.recordOf records.recordsFrom
 by-judge = tt
 
 by-reader : Unit {0}

@@ -19,10 +19,14 @@ unfoldable pub first : List ℕ → ℕ → List ℕ
 first [] r = []
 first (x ∷ xs) r = pick (over (x ∷ xs) r) [] (x ∷ first xs (pred r))
 
+-- what is left of the room of a later physical line behind its first octet
+abbrev pub behindFirst : ℕ
+behindFirst = pred limit.laterLine
+
 -- the pieces behind that cut: the character that did not fit starts one, with room for 74 octets, of which its first octet takes one
 unfoldable pub later : List ℕ → ℕ → List (List ℕ)
 later [] r = []
-later (x ∷ xs) r = pick (over (x ∷ xs) r) ((x ∷ first xs 73) ∷ later xs 73) (later xs (pred r))
+later (x ∷ xs) r = pick (over (x ∷ xs) r) ((x ∷ first xs behindFirst) ∷ later xs behindFirst) (later xs (pred r))
 
 -- a line from a place on where r octets are left in the physical line, cut
 abbrev pub cutFrom : List ℕ → ℕ → List (List ℕ)

@@ -4,6 +4,7 @@ ghost use Prim.Native.Nat.{_+_, _*_, _<_, _≤_};
 ghost use lib.ListN.{length, drop};
 ghost use Rattle.numbers.specs.Limits as limit;
 ghost use Rattle.folder_line.specs.Pieces.{first, folded, Clean};
+use numbers::limit;
 
 // The end of the piece that starts at `from`, where `room` octets are left in the physical line and more than those follow.
 pub fn cut(s: &[u8], from: usize, room: usize) -> usize
@@ -24,11 +25,11 @@ pub fn measure(s: &[u8]) -> usize
 {
     let mut a: usize = 0;
     let mut n: usize = 0;
-    let mut room: usize = 75;
+    let mut room: usize = limit::FIRST_LINE;
     while room < s.len() - a {
         a = cut(s, a, room);
         n += 3;
-        room = 74;
+        room = limit::LATER_LINE;
     }
     s.len() + n + 2
 }

@@ -5,6 +5,7 @@ ghost use Prim.Native.Nat.{_+_, _≤_};
 ghost use lib.ListN.{length};
 ghost use Rattle.octets.specs.Room.{overlay};
 ghost use Rattle.folder_line.specs.Pieces.{folded, Clean};
+use numbers::limit;
 
 // Writes s and CR LF to the start of d, and answers how many octets that are.
 fn put_last(s: &[u8], d: &mut [u8]) -> usize
@@ -13,8 +14,8 @@ fn put_last(s: &[u8], d: &mut [u8]) -> usize
 {
     octets::copying::copy_in(d, s);
     let n = s.len();
-    d[n] = 13;
-    d[n + 1] = 10;
+    d[n] = b'\r';
+    d[n + 1] = b'\n';
     n + 2
 }
 
@@ -24,7 +25,7 @@ fn put_cut(s: &[u8], d: &mut [u8]) -> usize
     ensures { λ r. ⌜ (r ≡ length (now (s .entry)) + 3) × (now (d .exit) ≡ overlay (now (s .entry) ++ (13 ∷ 10 ∷ 32 ∷ [])) (now (d .entry))) ⌝ }
 {
     let n = put_last(s, d);
-    d[n] = 32;
+    d[n] = b' ';
     n + 1
 }
 
@@ -35,13 +36,13 @@ pub fn fold_line(s: &[u8], d: &mut [u8]) -> usize
 {
     let mut a: usize = 0;
     let mut w: usize = 0;
-    let mut room: usize = 75;
+    let mut room: usize = limit::FIRST_LINE;
     while room < s.len() - a {
         let e = crate::cutting::cut(s, a, room);
         let n = put_cut(&s[a..e], &mut d[w..]);
         w += n;
         a = e;
-        room = 74;
+        room = limit::LATER_LINE;
     }
     let n = put_last(&s[a..], &mut d[w..]);
     w + n

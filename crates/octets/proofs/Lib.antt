@@ -2,6 +2,7 @@
 pub mod Bools
 pub mod BitLaws
 pub mod Upto
+pub mod TableLaws
 pub mod Runs
 pub mod Masks
 pub mod Marks

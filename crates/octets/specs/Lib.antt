@@ -7,3 +7,4 @@ pub mod Classes
 pub mod Cases
 pub mod Counts
 pub mod Slices
+pub mod Tables

@@ -13,8 +13,9 @@ use Rattle.octets.specs.Pick.{pick}
 use Rattle.octets.specs.Cases.{same}
 use Rattle.octets.proofs.CaseLaws.{same-length}
 use Rattle.octets.specs.Ascii.{octets}
-use Rattle.property_table.specs.Rows.{Row, noRow, rows, search, rowOf, rowAt, sized, firstOf, nextOf, kindAt, single, marks, onceAt, takesValue, nameEntries, entries, entriesFrom, Lists}
+use Rattle.property_table.specs.Rows.{Row, noRow, rows, search, rowOf, rowAt, sized, firstOf, nextOf, kindAt, single, marks, onceAt, framing, takesValue, nameEntries, entries, Lists}
 use Rattle.octets.proofs.Upto.{upto, alike}
+use Rattle.octets.proofs.TableLaws.{entry-at, front-at}
 
 abbrev all : List Row
 all = noRow ∷ rows
@@ -140,26 +141,33 @@ pub record Listed (t : List ℕ) (n : ℕ) : Type 0 where
   pub link : getD t (n * 16 + 14) 0 ≡ nextOf n
   pub value : eqb (getD t (n * 16 + 15) 0) 1 ≡ takesValue n
 
-listed-right : (n : ℕ) → n < 39 → Listed (entriesFrom 0 39) n
-unfolding upto entriesFrom entries nameEntries rowAt sized firstOf nextOf kindAt single marks onceAt takesValue rows octets
-listed-right n h =
-    record {
-      spelt = alike (λ j. take (length (rowAt j .name)) (drop (j * 16) (entriesFrom 0 39))) (λ j. rowAt j .name) 39 refl n h;
-      mark = alike (λ j. getD (entriesFrom 0 39) (j * 16 + 12) 0) onceAt 39 refl n h;
-      sort = alike (λ j. getD (entriesFrom 0 39) (j * 16 + 13) 0) kindAt 39 refl n h;
-      link = alike (λ j. getD (entriesFrom 0 39) (j * 16 + 14) 0) nextOf 39 refl n h;
-      value = alike (λ j. eqb (getD (entriesFrom 0 39) (j * 16 + 15) 0) 1) takesValue 39 refl n h;
-    }
+row-length : (n : ℕ) → n < 39 → length (entries n) ≡ 16
+unfolding upto entries nameEntries rowAt sized firstOf rows octets
+row-length n h = alike (λ j. length (entries j)) (λ j. 16) 39 refl n h
 
-pub listed : (t : List ℕ) → Lists t → (n : ℕ) → n < 39 → Listed t n
-unfolding Lists
-listed t e n h = subst (λ (l : List ℕ). Listed l n) (sym e) (listed-right n h)
+module _ (t : List ℕ) (table : Lists t) (n : ℕ) (h : n < 39) where
+  at : (i : ℕ) → i < 16 → getD t (n * 16 + i) 0 ≡ getD (entries n) i 0
+  unfolding Lists
+  at i l = entry-at entries 16 39 row-length t table n h i l
 
-first-right : (k : ℕ) → k < 12 → getD (entriesFrom 0 39) k 0 ≡ firstOf (suc k)
-unfolding upto entriesFrom entries nameEntries rowAt sized firstOf single marks onceAt rows octets
-first-right k h = alike (λ j. getD (entriesFrom 0 39) j 0) (λ j. firstOf (suc j)) 12 refl k h
+  spelt-at : take (length (rowAt n .name)) (drop (n * 16) t) ≡ take (length (rowAt n .name)) (entries n)
+  unfolding Lists
+  spelt-at = front-at entries 16 39 row-length t table n h (length (rowAt n .name)) (omega (arith, name-short n h))
+
+  pub listed : Listed t n
+  unfolding upto entries nameEntries rowAt sized firstOf nextOf kindAt single marks onceAt framing takesValue rows octets
+  listed =
+      record {
+        spelt = spelt-at ∙ alike (λ j. take (length (rowAt j .name)) (entries j)) (λ j. rowAt j .name) 39 refl n h;
+        mark = at 12 (omega arith) ∙ alike (λ j. getD (entries j) 12 0) onceAt 39 refl n h;
+        sort = at 13 (omega arith) ∙ alike (λ j. getD (entries j) 13 0) kindAt 39 refl n h;
+        link = at 14 (omega arith) ∙ alike (λ j. getD (entries j) 14 0) nextOf 39 refl n h;
+        value = ap (λ (k : ℕ). eqb k 1) (at 15 (omega arith)) ∙ alike (λ j. eqb (getD (entries j) 15 0) 1) takesValue 39 refl n h;
+      }
 
 -- what the table has in the place of row 0's name
 pub first-listed : (t : List ℕ) → Lists t → (k : ℕ) → k < 12 → getD t k 0 ≡ firstOf (suc k)
-unfolding Lists
-first-listed t e k h = subst (λ (l : List ℕ). getD l k 0 ≡ firstOf (suc k)) (sym e) (first-right k h)
+unfolding upto entries nameEntries
+first-listed t e k h =
+    let there : 0 * 16 + k ≡ k = omega arith in
+    ap (λ (i : ℕ). getD t i 0) (sym there) ∙ at t e 0 (omega arith) k (omega arith) ∙ alike (λ j. getD (entries 0) j 0) (λ j. firstOf (suc j)) 12 refl k h

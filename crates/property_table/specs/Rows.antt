@@ -1,7 +1,6 @@
 -- The property table, as document 01 lists it, the row of a name, and the kind of a line. Assumes nothing.
 use Prim.Native.Nat.{ℕ, zero, suc}
 use Prim.Native.String.{String}
-use mathlib.Core.Path.{_≡_}
 use mathlib.Core.Bool.{Bool, true, false, not, _&&_, _||_}
 use mathlib.Core.List.{List, [], _∷_, _++_}
 use mathlib.Core.Option.{Option, none, some}
@@ -13,6 +12,7 @@ use Rattle.octets.specs.Pick.{pick}
 use Rattle.octets.specs.Classes.{bit}
 use Rattle.octets.specs.Cases.{same}
 use Rattle.octets.specs.Ascii.{octets}
+use Rattle.octets.specs.Tables.{TableOf}
 
 -- how often a property may stand in a card: once where document 01 marks it *1
 pub data Times : Type 0 where
@@ -119,11 +119,15 @@ marks (r ∷ rs) = marked (r .times) (marks rs)
 unfoldable pub onceAt : ℕ → ℕ
 onceAt n = pick (single n) (marks (take n rows)) 0
 
--- VALUE sets the kind on listed rows of kind 0, 1 or 3, except 1 BEGIN, 2 END, 34 VERSION and 5 XML
+-- BEGIN, VERSION and END frame a card
+unfoldable pub framing : ℕ → Bool
+framing n = eqb n property.begin || (eqb n property.version || eqb n property.end)
+
+-- VALUE sets the kind on listed rows of kind 0, 1 or 3, except BEGIN, VERSION, END and XML
 unfoldable pub takesValue : ℕ → Bool
 takesValue n =
     (ltb 0 n && ltb n property.count)
-    && ((eqb (kindAt n) kinds.anything || (eqb (kindAt n) kinds.text || eqb (kindAt n) kinds.uri)) && not (eqb n property.begin || (eqb n property.end || (eqb n property.version || eqb n property.xml))))
+    && ((eqb (kindAt n) kinds.anything || (eqb (kindAt n) kinds.text || eqb (kindAt n) kinds.uri)) && not (framing n || eqb n property.xml))
 
 -- the kind that a VALUE parameter names
 unfoldable pub kindNamed : List ℕ → ℕ
@@ -162,11 +166,6 @@ nameEntries (suc n) = take longestName (rowAt (suc n) .name ++ octets ".........
 unfoldable pub entries : ℕ → List ℕ
 entries n = nameEntries n ++ onceAt n ∷ kindAt n ∷ nextOf n ∷ bit (takesValue n) 1 ∷ []
 
--- k rows from row n on
-unfoldable pub entriesFrom : ℕ → ℕ → List ℕ
-entriesFrom n zero = []
-entriesFrom n (suc k) = entries n ++ entriesFrom (suc n) k
-
 -- a list is the property table
 unfoldable pub Lists : List ℕ → Type 0
-Lists t = t ≡ entriesFrom 0 property.count
+Lists t = TableOf entries property.count t

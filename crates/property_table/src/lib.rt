@@ -6,11 +6,12 @@ ghost use Rattle.numbers.specs.Limits as limit;
 ghost use Rattle.numbers.specs.Properties as property;
 ghost use Rattle.numbers.specs.Kinds as kinds;
 ghost use Rattle.octets.specs.Cases.{same};
-ghost use Rattle.property_table.specs.Rows.{longestName, rowLength, rowOf, rowAt, firstOf, nextOf, kindAt, onceAt, takesValue, kindNamed, isGroup, Lists};
+ghost use Rattle.property_table.specs.Rows.{longestName, rowLength, rowOf, rowAt, firstOf, nextOf, kindAt, onceAt, framing, takesValue, kindNamed, isGroup, Lists};
 
 pub mod rows;
 
 use numbers::kind;
+use numbers::property;
 use octets::cases::same_name;
 use octets::indices::wide;
 use rows::PropertyTable;
@@ -142,6 +143,19 @@ pub fn kind_named(value: &[u8]) -> usize
         return kind::URI;
     }
     kind::ANYTHING
+}
+
+// Whether lines of the row frame a card: BEGIN, VERSION and END.
+pub fn is_framing(row: usize) -> bool
+    ensures { λ r. ⌜ r ≡ framing row ⌝ }
+{
+    if row == property::BEGIN {
+        return true;
+    }
+    if row == property::VERSION {
+        return true;
+    }
+    row == property::END
 }
 
 // Whether a KIND line's value lets MEMBER stand in the card.

@@ -10,7 +10,7 @@ use Rattle.octets.specs.Room.{overlay}
 use Rattle.line_folds.specs.Logical.{rawLines, logicalLines}
 use Rattle.reader_walk.specs.Walk.{judgeLines}
 use Rattle.reader_records.specs.Records.{recordsFrom}
-use Rattle.card_state.specs.State.{freshCard}
+use Rattle.card_state.specs.State.{beforeBegin, freshCard}
 use Rattle.card_state.specs.declared.Step.{Step}
 use Rattle.card_state.specs.declared.Step.the-variants.{Next, Refused as Halted}
 use Rattle.line_breaks.specs.Lone.{firstLone, endsCrLf}
@@ -19,7 +19,7 @@ use Rattle.reader.specs.declared.Verdict.the-variants.{Accepted, Refused
 
 -- after the last line of an input of n octets: 9 inside a card, else the counts of cards and lines
 unfoldable pub verdictOf : ℕ → Step → Verdict
-verdictOf n (Next c) = pick (eqb (c .phase) 0) (Accepted (c .cards) (c .lines)) (Refused refusal.order n)
+verdictOf n (Next c) = pick (eqb (c .phase) beforeBegin) (Accepted (c .cards) (c .lines)) (Refused refusal.order n)
 verdictOf n (Halted k p) = Refused k p
 
 -- 1, 2, 3, 4 over the whole input, then line by line 5 to 12

@@ -17,7 +17,7 @@ fn concluded(n: usize, last: Step) -> Verdict
 {
     match last {
         Step::Next(c) => {
-            if c.phase == 0 {
+            if c.phase == card_state::BEFORE_BEGIN {
                 return Verdict::Accepted(c.cards, c.lines);
             }
             Verdict::Refused(refusal::ORDER, n)

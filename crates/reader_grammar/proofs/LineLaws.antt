@@ -14,14 +14,14 @@ use Rattle.line_parser.specs.Parse.{Parse, got, bad}
 use Rattle.line_parser.specs.Grammar.{Line, front}
 use Rattle.line_parser.specs.Rule.{parseLine}
 use Rattle.line_parameters.proofs.Law.{line-law, refused-law}
-use Rattle.property_table.specs.Rows.{rows, rowAt, single, isGroup}
+use Rattle.property_table.specs.Rows.{rows, rowAt, single, framing, isGroup}
 use Rattle.value_kinds.specs.Kinds.{valueScan}
 use Rattle.value_kinds.specs.declared.Fault.{Fault}
 use Rattle.value_kinds.specs.declared.Fault.the-variants.{Fits, Breaks}
 use Rattle.octets.proofs.Bools.{by}
 use Rattle.card_state.specs.State.{inOrder, noted, closed}
 use Rattle.card_line.specs.Parts.{rowOfLine, kindOfLine}
-use Rattle.card_judge.specs.Judge.{framing, laden, entered, fitting, judgeParts, judgeParsed, judgeLine}
+use Rattle.card_judge.specs.Judge.{laden, entered, fitting, judgeParts, judgeParsed, judgeLine}
 use Rattle.card_state.specs.declared.Card.{Card}
 use Rattle.card_state.specs.declared.Step.{Step}
 use Rattle.card_state.specs.declared.Step.the-variants.{Next, Refused}

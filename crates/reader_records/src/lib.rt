@@ -12,6 +12,7 @@ ghost use Rattle.property_table.specs.Rows.{Lists};
 ghost use Rattle.reader_records.specs.Records.{numbers, recordOf, recordsFrom};
 use card_line::LineParts;
 use octets::classes::ClassTable;
+use numbers::limit;
 use property_table::rows::PropertyTable;
 
 // One record: eight numbers.
@@ -61,17 +62,24 @@ fn record_of(t: &ClassTable, rows: &PropertyTable, l: &[u8], w: usize) -> Record
 
 // Writes the record's numbers from `at` on.
 fn put_record(out: &mut [u32], at: usize, r: Record)
-    requires { ⌜ at + 8 ≤ length (now out) ⌝ }
-    ensures { λ _. ⌜ now (out .exit) ≡ take at (now (out .entry)) ++ numbers r ++ drop (at + 8) (now (out .entry)) ⌝ }
+    requires { ⌜ at + limit.recordLength ≤ length (now out) ⌝ }
+    ensures { λ _. ⌜ now (out .exit) ≡ take at (now (out .entry)) ++ numbers r ++ drop (at + limit.recordLength) (now (out .entry)) ⌝ }
 {
-    out[at] = r.property;
-    out[at + 1] = r.start;
-    out[at + 2] = r.length;
-    out[at + 3] = r.group_length;
-    out[at + 4] = r.name_length;
-    out[at + 5] = r.param_count;
-    out[at + 6] = r.value_start;
-    out[at + 7] = r.kind;
+    let row = [
+        r.property,
+        r.start,
+        r.length,
+        r.group_length,
+        r.name_length,
+        r.param_count,
+        r.value_start,
+        r.kind,
+    ];
+    let mut i: usize = 0;
+    while i < limit::RECORD_LENGTH {
+        out[at + i] = row[i];
+        i += 1;
+    }
 }
 
 // Writes the records of the lines of s, which has no folds, to the start of out.
@@ -89,7 +97,7 @@ fn write_records(t: &ClassTable, rows: &PropertyTable, s: &[u8], out: &mut [u32]
         let end = span.end;
         let r = record_of(t, rows, &s[at..end], at);
         put_record(out, k, r);
-        k += 8;
+        k += limit::RECORD_LENGTH;
         at = end + 2;
     }
 }

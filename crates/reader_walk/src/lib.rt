@@ -1,18 +1,15 @@
 // The walk over the logical lines of an input, each judged in turn.
 ghost use mathlib.Core.Path.{_≡_};
 ghost use mathlib.Core.Bool.{false};
-ghost use Prim.Native.Nat.{_+_, _<_, _≤_};
+ghost use Prim.Native.Nat.{_≤_};
 ghost use lib.ListN.{length};
 ghost use Rattle.numbers.specs.Limits as limit;
-ghost use Rattle.octets.specs.Classes.{Classes};
 ghost use Rattle.octets.specs.Pick.{pick};
 ghost use Rattle.octets.specs.Room.{overlay};
 ghost use Rattle.line_folds.specs.Folds.{unfolded};
 ghost use Rattle.line_folds.specs.Logical.{rawLines};
-ghost use Rattle.property_table.specs.Rows.{Lists};
-ghost use Rattle.value_automaton.specs.States.{Scanner};
-ghost use Rattle.card_state.specs.State.{freshCard};
-ghost use Rattle.card_judge.specs.Judge.{judgeLine};
+ghost use Rattle.card_state.specs.State.{Counted, freshCard};
+ghost use Rattle.card_judge.specs.Judge.{Tables, judgeLine};
 ghost use Rattle.reader_walk.specs.Walk.{judgeLines};
 use card_state::Card;
 use card_state::Step;
@@ -32,10 +29,8 @@ fn judge_span(
     at: usize,
     c: Card,
 ) -> Step
-    requires { ⌜ Classes (now t) ⌝ }
-    requires { ⌜ Lists (now rows) ⌝ }
-    requires { ⌜ Scanner (now steps) ⌝ }
-    requires { ⌜ (c .cards ≤ c .lines) × (c .lines < 65536) ⌝ }
+    requires { ⌜ Tables (now t) (now rows) (now steps) ⌝ }
+    requires { ⌜ Counted c ⌝ }
     requires { ⌜ length (now s) ≤ limit.octets ⌝ }
     requires { ⌜ length (unfolded (now s)) ≤ length (now scratch) ⌝ }
     requires { ⌜ (folded ≡ false → unfolded (now s) ≡ now s) ⌝ }
@@ -51,9 +46,7 @@ fn judge_span(
 
 // Judges the lines one after the other, up to the first refusal.
 pub fn walk(t: &ClassTable, rows: &PropertyTable, steps: &Transitions, s: &[u8]) -> Step
-    requires { ⌜ Classes (now t) ⌝ }
-    requires { ⌜ Lists (now rows) ⌝ }
-    requires { ⌜ Scanner (now steps) ⌝ }
+    requires { ⌜ Tables (now t) (now rows) (now steps) ⌝ }
     requires { ⌜ length (now s) ≤ limit.octets ⌝ }
     ensures { λ r. ⌜ r ≡ judgeLines (rawLines (now (s .entry))) 0 freshCard ⌝ }
 {

@@ -31,10 +31,11 @@ pub fn judge_value(steps: &Transitions, row: usize, kind: usize, s: &[u8]) -> Fa
     requires { ⌜ kind < kinds.count ⌝ }
     ensures { λ r. ⌜ r ≡ valueScan row kind (now (s .entry)) ⌝ }
 {
-    match row {
-        property::BEGIN => scanner::scan(steps, states::VCARD, s),
-        property::END => scanner::scan(steps, states::VCARD, s),
-        property::VERSION => scanner::scan(steps, states::VERSION, s),
-        _ => value_fault(steps, kind, s),
+    if !property_table::is_framing(row) {
+        return value_fault(steps, kind, s);
     }
+    if row == property::VERSION {
+        return scanner::scan(steps, states::VERSION, s);
+    }
+    scanner::scan(steps, states::VCARD, s)
 }

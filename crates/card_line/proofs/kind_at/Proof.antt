@@ -3,6 +3,7 @@ use borrow.Author.Tests.{not-true, not-false}
 use mathlib.Core.Path.{sym, _∙_}
 use Rattle.card_line.proofs.PartLaws.{no-value, value-none, value-some, value-missing, Part, value-there}
 use Rattle.octets.specs.Ascii.{octets}
+use Rattle.property_table.specs.Rows.{valueName}
 use Rattle.card_line.specs.Parts.{firstValue}
 use borrow.Author.Needs.{needs}
 use Rattle.card_line.proofs.kind_at.Statement.{statement}
@@ -18,7 +19,7 @@ returns : tie.Need-returns
 returns c =
     let a = c .before .before .before .before .args in
     c .before .before .kind-of .ensures .0
-    ∙ no-value (a .row) (firstValue (a .s .now)) (sym (c .before .takes-value .ensures) ∙ not-true (c .before .takes-value .result) (c .if1 .taken))
+    ∙ no-value (a .row) (firstValue valueName (a .s .now)) (sym (c .before .takes-value .ensures) ∙ not-true (c .before .takes-value .result) (c .if1 .taken))
 
 slice-aggregate-param-first : tie.Need-slice-aggregate-param-first
 slice-aggregate-param-first c = search needs
@@ -37,16 +38,16 @@ unfolding octets
 returns-2 c =
     let a = c .before .before .before .before .before .before .before .before .args in
     c .before .before .before .before .before .before .kind-of .ensures .0
-    ∙ value-none (a .row) (firstValue (a .s .now))
-    (value-missing (a .s .now) (a .name-end) (c .before .before .before .before .before .before .before .before .pre .1 .1 .1) (sym (c .before .before .param-first .ensures) ∙ c .enum-told .given .1))
+    ∙ value-none (a .row) (firstValue valueName (a .s .now))
+    (value-missing (a .s .now) (a .name-end) (c .before .before .before .before .before .before .before .before .pre .1 .1 .1) valueName (sym (c .before .before .param-first .ensures) ∙ c .enum-told .given .1))
 
 -- the part of the line that was found
 there : (c : tie.After-known-told) → Part (c .before .before .before .before .before .before .before .before .before .args .s .now) (c .before .f .given .0 .0) (c .before .f .given .0 .1 .0)
-    (firstValue (c .before .before .before .before .before .before .before .before .before .args .s .now))
+    (firstValue valueName (c .before .before .before .before .before .before .before .before .before .args .s .now))
 unfolding octets
 there c =
     let a = c .before .before .before .before .before .before .before .before .before in
-    value-there (a .args .s .now) (a .args .name-end) (a .pre .1 .1 .1) (c .before .f .given .0 .0) (c .before .f .given .0 .1 .0) (sym (c .before .before .before .param-first .ensures) ∙ c .before .f .given .1)
+    value-there (a .args .s .now) (a .args .name-end) (a .pre .1 .1 .1) valueName (c .before .f .given .0 .0) (c .before .f .given .0 .1 .0) (sym (c .before .before .before .param-first .ensures) ∙ c .before .f .given .1)
 
 sub-kind-named : tie.Need-sub-kind-named
 sub-kind-named c = there c .order
@@ -64,7 +65,7 @@ returns-3 : tie.Need-returns-3
 returns-3 c =
     let a = c .before .before .before .before .before .before .before .before .before .before .before .args in
     c .kind-named .ensures .0
-    ∙ value-some (a .row) (firstValue (a .s .now)) _ (there (c .before .before) .octets)
+    ∙ value-some (a .row) (firstValue valueName (a .s .now)) _ (there (c .before .before) .octets)
     (sym (c .before .before .before .before .before .before .before .before .takes-value .ensures)
     ∙ not-false (c .before .before .before .before .before .before .before .before .takes-value .result) (c .before .before .before .before .before .before .before .if1 .left))
 

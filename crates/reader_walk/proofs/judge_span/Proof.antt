@@ -20,13 +20,13 @@ use Rattle.reader_walk.proofs.judge_span.Tie as tie
 judge-line-requires : tie.Need-judge-line-requires
 judge-line-requires c κs =
     let z = c .before .before .before .pre in
-    (z .0, (z .1 .0, (z .1 .1 .0, (z .1 .1 .1 .1 .0, z .1 .1 .1 .0))))
+    (z .0, (z .1 .1 .0, z .1 .0))
 
 returns : tie.Need-returns
 returns c =
     let a = c .before .before .before .before .args in
     let e = not-true (a .folded) (c .before .if1 .taken) in (
-      c .judge-line .ensures ∙ ap (judgeLine (a .c) (a .at)) (sym (c .before .before .before .before .pre .1 .1 .1 .1 .1 .1 e)),
+      c .judge-line .ensures ∙ ap (judgeLine (a .c) (a .at)) (sym (c .before .before .before .before .pre .1 .1 .1 .1 e)),
       sym (ap (λ (t : Bool). pick t (overlay (unfolded (a .s .now)) (a .scratch .now)) (a .scratch .now)) e),
     )
 
@@ -38,12 +38,12 @@ slice-reshare-prefix-judge-line c = search needs
 
 slice-aggregate-judge-line : tie.Need-slice-aggregate-judge-line
 slice-aggregate-judge-line c =
-    simp length-take (omega (arith, c .before .before .before .«unfold» .ensures .0, c .before .before .before .«unfold» .kept .1 .0, c .before .before .before .before .before .before .before .before .pre .1 .1 .1 .1 .1 .0))
+    simp length-take (omega (arith, c .before .before .before .«unfold» .ensures .0, c .before .before .before .«unfold» .kept .1 .0, c .before .before .before .before .before .before .before .before .pre .1 .1 .1 .0))
 
 judge-line-requires-2 : tie.Need-judge-line-requires-2
 judge-line-requires-2 c κs =
     let z = c .before .before .before .before .before .before .before .before .pre in
-    (z .0, (z .1 .0, (z .1 .1 .0, (simp length-take (omega (arith, c .before .before .before .«unfold» .ensures .0, unfold-shorter (c .before .before .before .before .before .before .before .before .args .s .now), z .1 .1 .1 .1 .0)), z .1 .1 .1 .0))))
+    (z .0, (simp length-take (omega (arith, c .before .before .before .«unfold» .ensures .0, unfold-shorter (c .before .before .before .before .before .before .before .before .args .s .now), z .1 .1 .0)), z .1 .0))
 
 same-length : tie.Need-same-length
 same-length c = search needs

@@ -71,18 +71,12 @@ judge-span-requires c κs =
     let n = part-length (a .s .now) (l .at) (v .result .end) (c .before .before .before .before .loop-test .taken) (v .ensures .1) (v .ensures .2) in (
       z .0,
       (
-        z .1 .0,
+        (l .inv .1, omega (arith, l .inv .2, z .1)),
         (
-          z .1 .1 .0,
+          omega (arith, n, z .1),
           (
-            (l .inv .1, omega (arith, l .inv .2, z .1 .1 .1)),
-            (
-              omega (arith, n, z .1 .1 .1),
-              (
-                omega (arith, unfold-shorter part, l .inv .0, z .1 .1 .1),
-                whole (a .s .now) (l .at) (v .result .cr) (v .result .end) (v .ensures .0),
-              ),
-            ),
+            omega (arith, unfold-shorter part, l .inv .0, z .1),
+            whole (a .s .now) (l .at) (v .result .cr) (v .result .end) (v .ensures .0),
           ),
         ),
       ),

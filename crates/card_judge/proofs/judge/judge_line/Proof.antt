@@ -50,7 +50,7 @@ part-judge-parts-end c = search needs
 judge-parts-requires : tie.Need-judge-parts-requires
 judge-parts-requires c κs =
     let s = c .before .before .before .before .before .before .before .before in
-    (s .pre .1 .0, (s .pre .1 .1 .0, ((there (c .before) .listed, there (c .before) .low), s .pre .1 .1 .1 .1)))
+    (s .pre .0 .1, (s .pre .0 .2, ((there (c .before) .listed, there (c .before) .low), s .pre .1 .1)))
 
 returns-3 : tie.Need-returns-3
 returns-3 c =

@@ -1,8 +1,8 @@
--- `card_judge::judge::is_framing` meets its contract. Assumes nothing.
+-- `property_table::is_framing` meets its contract. Assumes nothing.
 use borrow.Author.Tests.{eq-eqb, ne-eqb}
-use Rattle.card_judge.specs.Judge.{framing}
-use Rattle.card_judge.proofs.judge.is_framing.Statement.{statement}
-use Rattle.card_judge.proofs.judge.is_framing.Tie as tie
+use Rattle.property_table.specs.Rows.{framing}
+use Rattle.property_table.proofs.is_framing.Statement.{statement}
+use Rattle.property_table.proofs.is_framing.Tie as tie
 
 returns : tie.Need-returns
 unfolding framing
