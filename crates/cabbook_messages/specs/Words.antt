@@ -1,4 +1,4 @@
--- The words of a refusal, by document 01's table, and the rows in which they are kept. Assumes nothing.
+-- The words of a refusal, by REFERENCE, Refusals, and the rows in which they are kept. Assumes nothing.
 use Prim.Native.Nat.{ℕ, _+_, _*_, _<_}
 use Prim.Native.String.{String}
 use mathlib.Core.Path.{_≡_}

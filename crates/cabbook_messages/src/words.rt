@@ -1,4 +1,4 @@
-// The words of a refusal, by document 01's table.
+// The words of a refusal, by REFERENCE, Refusals.
 ghost use mathlib.Core.Path.{_≡_};
 ghost use Rattle.program_output.specs.Pages.{page, added};
 ghost use Rattle.cabbook_messages.specs.Words.{wordsOf, Worded};
@@ -45,7 +45,7 @@ fn table() -> [u8; 1792]
     WORDS
 }
 
-// Adds the words of a number; none where document 01 has no such number.
+// Adds the words of a number; none where no refusal has it.
 pub fn put_words(room: &mut [u8], at: usize, number: u32) -> usize
     ensures { λ r. ⌜ page r (now (room .exit)) ≡ added (wordsOf number) (page at (now (room .entry))) ⌝ }
 {

@@ -1,4 +1,4 @@
--- The judgement of one logical line within its card, by document 01's order 5, 6, 9, 8, 7, 10 and, at END, 11, 12. Assumes nothing.
+-- The judgement of one logical line within its card, by REFERENCE, The order of refusals: 5, 6, 9, 8, 7, 10 and, at END, 11, 12. Assumes nothing.
 use Prim.Native.Nat.{ℕ}
 use mathlib.Core.Bool.{Bool, true, false, not, _&&_, _||_}
 use mathlib.Core.List.{List}

@@ -1,4 +1,4 @@
-// The judgement of one logical line within its card: document 01's refusals 5 to 12 in their order.
+// The judgement of one logical line within its card: refusals 5 to 12 in the order of REFERENCE, The order of refusals.
 ghost use mathlib.Core.Path.{_≡_};
 ghost use mathlib.Core.Bool.{false};
 ghost use Prim.Native.Nat.{_≤_, _<_};

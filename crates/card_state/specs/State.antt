@@ -1,4 +1,4 @@
--- What is known of a card: which lines it has had so far, and what a line or its END does to it, by document 01's refusals 9 to 12.
+-- What is known of a card: which lines it has had so far, and what a line or its END does to it, by refusals 9 to 12 of REFERENCE, Refusals.
 -- Assumes nothing.
 use Prim.Native.Nat.{ℕ, zero, suc, _+_, _/_, _%_, _^_, _<_, _≤_}
 use mathlib.Core.Bool.{Bool, false, not, _&&_, _||_}

@@ -155,7 +155,7 @@ unescape-low t out after n e =
     let l : length (unescaped t) ≡ n = cc in
     omega (arith, ltb-false 16384 (length t) a, stands-low (stands-exactly t (unescaped t) .1 (z, refl)))))))
 
--- the lines that document 01 splits an input into are those that the folder's outcome names
+-- the lines that an input is split into are those that the folder's outcome names
 physical : (i out after : List ℕ) (n : ℕ) → foldOutcome i out ≡ filled (Wrote n) after → (rs ls : List (List ℕ)) → Lined i rs ls → Folds ls (take n after)
 unfolding logicalLines
 physical i out after n e rs ls h = subst (λ (xs : List (List ℕ)). Folds xs (take n after)) (sym (lined-only h .1)) (fold-written i out after n (sym e))

@@ -1,4 +1,4 @@
--- The marked examples of document 01, proved as one statement over their table: by computing a test of it. Assumes nothing.
+-- The marked worked examples, proved as one statement over their table: by computing a test of it. Assumes nothing.
 use mathlib.Core.Path.{_≡_, refl}
 use mathlib.Core.Bool.{true}
 use Rattle.octets.specs.Ascii as ascii

@@ -43,7 +43,7 @@ abbrev pub wrote : List ℕ → List ℕ → Filled
 wrote xs room = filled (Wrote (length xs)) (overlay xs room)
 
 pub record Demand2 : Type 0 where
-  -- the reader accepts exactly the cards that document 01 draws
+  -- the reader accepts exactly the cards that REFERENCE draws
   pub accepts : (i : List ℕ) (k n : ℕ) → (judgeOf i ≡ Accepted k n) ↔ InputOf i k n
   -- which have one reading
   pub one-reading : (i : List ℕ) (k m n p : ℕ) (h : InputOf i k n) (g : InputOf i m p) → h .lines ≡ g .lines

@@ -1,4 +1,4 @@
--- The examples of document 01 that are marked (*): inputs, and what the entries' outcome definitions give for each. Assumes nothing.
+-- The examples of REFERENCE, Worked examples that are marked (*): inputs, and what the entries' outcome definitions give for each. Assumes nothing.
 use Prim.Native.Nat.{ℕ, _-_}
 use Prim.Native.String.{String}
 use mathlib.Core.Path.{_≡_}

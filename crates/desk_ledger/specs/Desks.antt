@@ -15,7 +15,7 @@ pub record World : Type 0 where
   pub desk : Desk
   pub pool : List ℕ
 
--- an answer in document 01's numbers
+-- an answer in the numbers of REFERENCE, Refusals
 abbrev pub said : Answer → Reply
 said (Done n) = told n
 said (Refused n p) = refused n p

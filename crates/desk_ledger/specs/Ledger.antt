@@ -1,4 +1,4 @@
--- Document 01's plain ledger: it is fed the calls in order and knows no slots, no pool and no answers of a desk. Assumes nothing.
+-- The plain ledger, by REFERENCE, The plain ledger: it is fed the calls in order and knows no slots, no pool and no answers of a desk. Assumes nothing.
 use Prim.Native.Nat.{ℕ, _+_}
 use mathlib.Core.List.{List, [], _∷_, _++_}
 use lib.Dec.{ltb, eqb}

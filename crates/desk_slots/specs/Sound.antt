@@ -1,4 +1,4 @@
--- A sound desk by its entries, slot count and next ticket, in document 01's words and as a test. Assumes nothing.
+-- A sound desk by its entries, slot count and next ticket, in the words of REFERENCE, The desk and as a test. Assumes nothing.
 use Prim.Native.Nat.{ℕ, _<_, _≤_}
 use mathlib.Core.Path.{_≡_}
 use mathlib.Core.Bool.{Bool, false, not}

@@ -1,4 +1,4 @@
--- Document 01's examples of folding, computed: how long the pieces of a line are. Assumes nothing.
+-- The examples of REFERENCE, Folding, computed: how long the pieces of a line are. Assumes nothing.
 use mathlib.Core.Path.{_≡_, refl}
 use mathlib.Core.List.{List, [], _∷_, _++_, map}
 use Prim.Native.Nat.{ℕ}

@@ -1,4 +1,4 @@
--- What a greedy cutting of a logical line is, by document 01's words and RFC 3629's grammar, whatever finds it. Assumes nothing.
+-- What a greedy cutting of a logical line is, by REFERENCE, Folding and RFC 3629's grammar, whatever finds it. Assumes nothing.
 use Prim.Native.Nat.{ℕ, _+_, _<_, _≤_}
 use mathlib.Core.Path.{_≡_}
 use mathlib.Core.List.{List, [], _∷_, flatten}

@@ -1,4 +1,4 @@
--- Folding, by document 01: a logical line is cut greedily, its first physical line has up to 75 octets, each later one a space and up
+-- Folding, by REFERENCE, Folding: a logical line is cut greedily, its first physical line has up to 75 octets, each later one a space and up
 -- to 74, and every cut is at the last character boundary that fits. Assumes nothing.
 use Prim.Native.Nat.{ℕ, pred}
 use mathlib.Core.Path.{_≡_}

@@ -1,4 +1,4 @@
--- Refusals 3 and 4 of document 01: CR without LF after it, or LF without CR before it; and whether the last two octets are CR LF.
+-- Refusals 3 and 4 of REFERENCE, Refusals: CR without LF after it, or LF without CR before it; and whether the last two octets are CR LF.
 -- Assumes nothing.
 use Prim.Native.Nat.{ℕ, _-_}
 use mathlib.Core.Bool.{Bool, true, false, not, _&&_}

@@ -1,4 +1,4 @@
--- Folds, by document 01: CR LF followed by one space or tab. The logical line at the start of a list, and a list without its folds.
+-- Folds, by REFERENCE, Input and logical lines: CR LF followed by one space or tab. The logical line at the start of a list, and a list without its folds.
 -- Assumes nothing.
 use Prim.Native.Nat.{ℕ}
 use mathlib.Core.Bool.{Bool, not, _&&_, _||_}

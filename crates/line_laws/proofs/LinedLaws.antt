@@ -199,7 +199,7 @@ pub paired-text : (i : List ℕ) → firstLone i ≡ length i → EndsCrLf i →
 unfolding firstLone
 paired-text i e (j, q) = subst Text (sym q) (text-of j (subst (λ (l : List ℕ). scan loneStep l 0 ≡ length l) q e))
 
--- the walk splits the input as document 01 does, and there is no other such splitting
+-- the walk splits the input into its lines, and there is no other such splitting
 lined-from : (n : ℕ) (i : List ℕ) → length i ≤ n → (i ≡ []) ⊎ Text i → Lined i (rawLines i) (map unfolded (rawLines i))
 unfolding rawLines linesBy
 lined-from zero i h (inl q) = rw q no-line

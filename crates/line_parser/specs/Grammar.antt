@@ -1,4 +1,4 @@
--- What a line is by document 01's line rule, `[group "."] name *(";" parameter) ":" value`: its parts, when they are well-formed, and
+-- What a line is by REFERENCE, The line rule, `[group "."] name *(";" parameter) ":" value`: its parts, when they are well-formed, and
 -- how they are written. Assumes nothing.
 use Prim.Native.Nat.{ℕ, _<_}
 use mathlib.Core.Path.{_≡_}

@@ -1,4 +1,4 @@
--- The classes of an octet, by document 01's line rule and RFC 6350, section 3.3, and the longest run of octets of a class.
+-- The classes of an octet, by REFERENCE, The line rule and RFC 6350, section 3.3, and the longest run of octets of a class.
 -- Assumes nothing.
 use Prim.Native.Nat.{ℕ, suc, _+_, _<_}
 use mathlib.Core.Path.{_≡_}

@@ -1,4 +1,4 @@
--- Lent room: what it holds when a list was written to its start, and document 01's refusals 15 and 16. Assumes nothing.
+-- Lent room: what it holds when a list was written to its start, and refusals 15 and 16 of REFERENCE, Refusals. Assumes nothing.
 use Prim.Native.Nat.{ℕ}
 use mathlib.Core.List.{List, _++_}
 use lib.Dec.{ltb}

@@ -1,4 +1,4 @@
--- The property table, as document 01 lists it, the row of a name, and the kind of a line. Assumes nothing.
+-- The property table, by REFERENCE, The property table, the row of a name, and the kind of a line. Assumes nothing.
 use Prim.Native.Nat.{ℕ, zero, suc}
 use Prim.Native.String.{String}
 use mathlib.Core.Bool.{Bool, true, false, not, _&&_, _||_}
@@ -14,7 +14,7 @@ use Rattle.octets.specs.Cases.{same}
 use Rattle.octets.specs.Ascii.{octets}
 use Rattle.octets.specs.Tables.{TableOf}
 
--- how often a property may stand in a card: once where document 01 marks it *1
+-- how often a property may stand in a card: once where the table marks it so
 pub data Times : Type 0 where
   once often : Times
 

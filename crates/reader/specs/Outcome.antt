@@ -1,4 +1,4 @@
--- What the reader answers and writes, by document 01: the numbers 1 to 14, the copy and the records. Assumes nothing.
+-- What the reader answers and writes, by REFERENCE, What the unit reads and writes: the numbers 1 to 14, the copy and the records. Assumes nothing.
 use Prim.Native.Nat.{ℕ, _+_}
 use mathlib.Core.List.{List, [], _∷_, _++_}
 use lib.Dec.{eqb, ltb}

@@ -1,4 +1,4 @@
--- The reader refuses exactly the inputs that document 01 refuses, each with the number and place that come first. Assumes nothing.
+-- The reader refuses exactly the inputs that REFERENCE, Refusals lists, each with the number and place that come first. Assumes nothing.
 use mathlib.Core.Path.{_≡_, refl, sym, ap, subst, _∙_}
 use mathlib.Core.Bool.{Bool, true, false, false≢true}
 use mathlib.Core.List.{List, [], _∷_, _++_, map, map-append}
@@ -140,7 +140,7 @@ module _ (i : List ℕ) where
       (subst (λ (x : List ℕ). LineRefused ys x n) (line-there ds es ls ms r l e c) q)
   from (unfinished rs ls k zs ys f e h s) = stop-inside k zs ys f (subst (λ (x : List (List ℕ)). SoFar x k zs ys) (lined-only e .1) h) s
 
-  -- past 1 to 4 the walk splits the input as document 01 does
+  -- past 1 to 4 the walk splits the input into its lines
   split-so : Framed i → Lined i (rawLines i) (map unfolded (rawLines i))
   split-so f = lined-law i (paired-law i .1 (f .paired)) (f .ends)
 
@@ -199,6 +199,6 @@ module _ (i : List ℕ) where
   unfolding judgeOf
   to n p e = to-by n p (ltb 16384 (length i)) (eqb (length i) 0) (ltb (firstLone i) (length i)) (endsCrLf i) refl refl refl refl e
 
-  -- refused with number n at place p exactly where document 01 refuses it so
+  -- refused with number n at place p exactly where the table of refusals has it so
   pub refused-law : (n p : ℕ) → (judgeOf i ≡ Refused n p) ↔ RefusedBy i n p
   refused-law n p = (to n p, from)

@@ -1,4 +1,4 @@
--- The value of a line fits exactly where it is as document 01 says, and so for clean lines and for lines without group and parameter.
+-- The value of a line fits exactly where it is as REFERENCE, The kinds of value says, and so for clean lines and for lines without group and parameter.
 -- Assumes nothing.
 use mathlib.Core.Path.{_≡_, sym, subst, _∙_}
 use mathlib.Core.Bool.{false}

@@ -1,4 +1,4 @@
--- What a card is, and any number of cards, as document 01 draws them ("Card order and property table"). Assumes nothing.
+-- What a card is, and any number of cards, as REFERENCE, The order of lines draws them. Assumes nothing.
 use Prim.Native.Nat.{ℕ, zero, suc, _≤_}
 use mathlib.Core.Path.{_≡_}
 use mathlib.Core.Bool.{Bool, true, false, _&&_}

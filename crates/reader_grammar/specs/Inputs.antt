@@ -1,4 +1,4 @@
--- Which inputs are accepted, and with which counts, by document 01. Assumes nothing.
+-- Which inputs are accepted, and with which counts, by REFERENCE, Input and logical lines. Assumes nothing.
 use Prim.Native.Nat.{ℕ, _≤_}
 use mathlib.Core.Path.{_≡_}
 use mathlib.Core.List.{List, [], _∷_, _++_}

@@ -1,4 +1,4 @@
--- What the records say, by document 01 ("Property records"): the numbers of a line, and what stands in the copy at them. Assumes nothing.
+-- What the records say, by REFERENCE, Property records: the numbers of a line, and what stands in the copy at them. Assumes nothing.
 use Prim.Native.Nat.{ℕ, _+_, _-_}
 use mathlib.Core.Path.{_≡_}
 use mathlib.Core.List.{List, [], _∷_, _++_}

@@ -1,4 +1,4 @@
--- Which inputs are refused, with which number and place, by document 01's table and order. Assumes nothing.
+-- Which inputs are refused, with which number and place, by REFERENCE, Refusals and The order of refusals. Assumes nothing.
 use Prim.Native.Nat.{ℕ, _<_, _≤_}
 use mathlib.Core.Path.{_≡_}
 use mathlib.Core.Bool.{true}

@@ -1,4 +1,4 @@
--- Which values a line may have, by document 01: the kinds in plain words, and the fixed values of BEGIN, VERSION and END. Assumes nothing.
+-- Which values a line may have, by REFERENCE, The kinds of value: the kinds in plain words, and the fixed values of BEGIN, VERSION and END. Assumes nothing.
 use Prim.Native.Nat.{ℕ}
 use mathlib.Core.Path.{_≡_}
 use mathlib.Core.Bool.{true}

@@ -1,4 +1,4 @@
--- Property records, by document 01: eight numbers a logical line. Assumes nothing.
+-- Property records, by REFERENCE, Property records: eight numbers a logical line. Assumes nothing.
 use Prim.Native.Nat.{ℕ, _+_, _-_}
 use mathlib.Core.List.{List, [], _∷_, _++_}
 use lib.ListN.{length}

@@ -1,4 +1,4 @@
--- The outcomes of escape and unescape, by document 01: refusals 1, 31, 16, 15 and 1, 31, 30, 15, each over the whole text before the
+-- The outcomes of escape and unescape, by REFERENCE, Escaping: refusals 1, 31, 16, 15 and 1, 31, 30, 15, each over the whole text before the
 -- next. Assumes nothing.
 use Prim.Native.Nat.{ℕ}
 use mathlib.Core.Bool.{Bool, true, false}

@@ -1,4 +1,4 @@
--- Escaping, by document 01: backslash, comma and semicolon get a backslash, 0A becomes `\n`. Assumes nothing.
+-- Escaping, by REFERENCE, Escaping: backslash, comma and semicolon get a backslash, 0A becomes `\n`. Assumes nothing.
 use Prim.Native.Nat.{ℕ, _<_}
 use mathlib.Core.Path.{_≡_}
 use mathlib.Core.List.{List, [], _∷_, _++_}

@@ -1,4 +1,4 @@
--- Text with escapes, as document 01's refusal 30 draws it: the text that it stands for, and its faults. Assumes nothing.
+-- Text with escapes, as REFERENCE, Escaping draws it: the text that it stands for, and its faults. Assumes nothing.
 use Prim.Native.Nat.{ℕ}
 use mathlib.Core.Path.{_≡_}
 use mathlib.Core.List.{List, [], _∷_}

@@ -1,4 +1,4 @@
--- The octets that escaping changes, by document 01: backslash, comma, semicolon and 0A. Assumes nothing.
+-- The octets that escaping changes, by REFERENCE, Escaping: backslash, comma, semicolon and 0A. Assumes nothing.
 use Prim.Native.Nat.{ℕ}
 use mathlib.Core.Bool.{Bool, _||_}
 use lib.Dec.{eqb}

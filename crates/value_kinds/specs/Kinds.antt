@@ -1,4 +1,4 @@
--- The kinds of value and the fixed values of a card, each a regular expression, as document 01 has them. Assumes nothing.
+-- The kinds of value and the fixed values of a card, each a regular expression, by REFERENCE, The kinds of value. Assumes nothing.
 use Prim.Native.Nat.{ℕ, zero, suc}
 use mathlib.Core.List.{List, [], _∷_}
 use lib.Dec.{eqb}

@@ -1,4 +1,4 @@
--- The sets of octets from which document 01 builds the values of properties. Assumes nothing.
+-- The sets of octets from which REFERENCE, The kinds of value builds the values of properties. Assumes nothing.
 use Prim.Native.Nat.{ℕ}
 use Prim.Native.Char.{Char, code}
 use mathlib.Core.Bool.{Bool, true, not, _&&_, _||_}

@@ -1,4 +1,4 @@
--- The kinds of value and the rows of properties, tied to document 01's words. Assumes nothing.
+-- The kinds of value and the rows of properties, tied to the plain words. Assumes nothing.
 pub mod Places
 pub mod KindLaws
 pub mod Plain

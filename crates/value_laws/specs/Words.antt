@@ -1,4 +1,4 @@
--- The values of each kind in plain words, to be held beside document 01. Assumes nothing.
+-- The values of each kind in plain words, to be held beside REFERENCE, The kinds of value. Assumes nothing.
 use Prim.Native.Nat.{ℕ, suc}
 use mathlib.Core.Path.{_≡_}
 use mathlib.Core.Bool.{true}
