@@ -9,14 +9,10 @@ use lib.ListN.{length, drop}
 use borrow.Author.Tests.{lt-ltb, le-ltb, le-leb, leb-true, ltb-true, ltb-false, eqb-true, eqb-false, eq-eqb, ne-eqb}
 use Rattle.octets.specs.Pick.{pick}
 use Rattle.octets.specs.Classes.{within}
-use Rattle.octets.proofs.Bools.{clash}
+use Rattle.octets.proofs.Bools.{and-both}
 use Rattle.utf8.specs.Characters.{lengthBy, second, tail, rest, charLength}
 use Rattle.utf8.specs.Rfc3629.{In, Character, utf8-1, utf8-2, utf8-3-e0, utf8-3-low, utf8-3-ed, utf8-3-high, utf8-4-f0, utf8-4-mid, utf8-4-f4}
 use Rattle.utf8_laws.specs.Texts.{Begins, Each}
-
-and-both : (x y : Bool) → (x && y) ≡ true → (x ≡ true) × (y ≡ true)
-and-both true y e = (refl, e)
-and-both false y e = clash cc
 
 pub pick-suc : (b : Bool) (n m : ℕ) → pick b n 0 ≡ suc m → (b ≡ true) × (n ≡ suc m)
 pick-suc true n m e = (refl, e)
