@@ -1,9 +1,9 @@
--- `reader::concluded` meets its contract. Assumes nothing.
+-- `reader::conclude` meets its contract. Assumes nothing.
 use borrow.Author.Tests.{eq-eqb, ne-eqb}
 use Rattle.reader.specs.Outcome.{verdictOf}
 use borrow.Author.Needs.{needs}
-use Rattle.reader.proofs.concluded.Statement.{statement}
-use Rattle.reader.proofs.concluded.Tie as tie
+use Rattle.reader.proofs.conclude.Statement.{statement}
+use Rattle.reader.proofs.conclude.Tie as tie
 
 enum-known-last : tie.Need-enum-known-last
 enum-known-last c = search needs
@@ -26,5 +26,5 @@ unfolding verdictOf
 returns-3 c =
     simp (c .before .last2 .given .1)
 
-pub concluded-spec : {M : Type 1} → statement M
-concluded-spec = tie.close (tie.spec enum-known-last returns enum-known-last-2 returns-2 returns-3)
+pub conclude-spec : {M : Type 1} → statement M
+conclude-spec = tie.close (tie.spec enum-known-last returns enum-known-last-2 returns-2 returns-3)

@@ -1,4 +1,4 @@
--- `value_kinds::printing` meets its contract. Assumes nothing.
+-- `value_kinds::is_printing` meets its contract. Assumes nothing.
 use borrow.Author.Needs.{needs}
 use mathlib.Core.Path.{_≡_, refl, sym, _∙_}
 use mathlib.Core.Bool.{_&&_}
@@ -9,8 +9,8 @@ use lib.ListN.{length, drop}
 use Rattle.value_kinds.specs.Octets.{graphic, holds}
 use Rattle.octets.specs.Counts.{allIn}
 use Rattle.octets.proofs.CountLaws.{all-step, all-end}
-use Rattle.value_kinds.proofs.printing.Statement.{statement}
-use Rattle.value_kinds.proofs.printing.Tie as tie
+use Rattle.value_kinds.proofs.is_printing.Statement.{statement}
+use Rattle.value_kinds.proofs.is_printing.Tie as tie
 
 abbrev Inv-loop : tie.InvT-loop
 Inv-loop s hidden₀ i₀ hidden i = (i ≤ length s) × (allIn (holds graphic) s ≡ (eqb hidden 0 && allIn (holds graphic) (drop i s)))
@@ -45,8 +45,8 @@ returns c =
     let a = l .before .before .args in
     sym (l .loop .inv .1 ∙ all-end (holds graphic) (a .s .now) (l .loop .i) (c .loop-test .left) (l .loop .hidden))
 
-pub printing-spec : {M : Type 1} → statement M
-printing-spec =
+pub is-printing-spec : {M : Type 1} → statement M
+is-printing-spec =
     tie.close
     (tie.spec
     Inv-loop

@@ -1,4 +1,4 @@
--- `value_kinds::semicolons` meets its contract. Assumes nothing.
+-- `value_kinds::count_semicolons` meets its contract. Assumes nothing.
 use borrow.Author.Needs.{needs}
 use mathlib.Core.Path.{_≡_, refl, sym, _∙_}
 use mathlib.Core.Bool.{Bool, true, false}
@@ -12,8 +12,8 @@ use Rattle.octets.specs.Classes.{bit}
 use Rattle.value_kinds.specs.Octets.{semicolon, holds}
 use Rattle.octets.specs.Counts.{count}
 use Rattle.octets.proofs.CountLaws.{count-step, count-end}
-use Rattle.value_kinds.proofs.semicolons.Statement.{statement}
-use Rattle.value_kinds.proofs.semicolons.Tie as tie
+use Rattle.value_kinds.proofs.count_semicolons.Statement.{statement}
+use Rattle.value_kinds.proofs.count_semicolons.Tie as tie
 
 abbrev Inv-loop : tie.InvT-loop
 Inv-loop s n₀ i₀ n i = (i ≤ length s) × (n ≤ i) × (count (holds semicolon) s ≡ n + count (holds semicolon) (drop i s))
@@ -64,8 +64,8 @@ returns c =
     let l = c .before in
     sym (l .loop .inv .2 ∙ count-end (holds semicolon) (l .before .args .s .now) (l .loop .i) (c .loop-test .left) (l .loop .n))
 
-pub semicolons-spec : {M : Type 1} → statement M
-semicolons-spec =
+pub count-semicolons-spec : {M : Type 1} → statement M
+count-semicolons-spec =
     tie.close
     (tie.spec
     Inv-loop
