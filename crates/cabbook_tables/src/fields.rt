@@ -9,13 +9,14 @@ use numbers::property;
 pub fn is_frame(number: u32) -> bool
     ensures { λ r. ⌜ r ≡ framed number ⌝ }
 {
-    if number == property::BEGIN {
+    let row = number as usize;
+    if row == property::BEGIN {
         return true;
     }
-    if number == property::END {
+    if row == property::END {
         return true;
     }
-    number == property::VERSION
+    row == property::VERSION
 }
 
 // Adds the names of the columns.
