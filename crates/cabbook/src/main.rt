@@ -1,9 +1,9 @@
 // cabbook: the workshop's command-line tool over the reader, the folder, text and the desk.
 mod checking;
-mod print;
-mod shown;
+mod printing;
 mod table;
 mod usage;
+mod values;
 mod writing;
 
 ghost use Rattle.cabbook.specs.Numbers.{Status};
@@ -23,18 +23,18 @@ enum Command {
 }
 
 // Does the command with a file's octets, and answers the exit status.
-fn done(command: Command, path: &[u8], s: &[u8]) -> u8
+fn apply(command: Command, path: &[u8], s: &[u8]) -> u8
     ensures { λ r. ⌜ Status r ⌝ }
 {
     match command {
-        Command::Check => checking::judged(path, s),
-        Command::Show => table::shown(path, s),
-        Command::Write(form) => writing::delivered(form, path, s),
+        Command::Check => checking::check(path, s),
+        Command::Show => table::show(path, s),
+        Command::Write(form) => writing::deliver(form, path, s),
     }
 }
 
 // Does the command with the file of that name.
-fn named(command: Command, path: &[u8]) -> u8
+fn apply_to_file(command: Command, path: &[u8]) -> u8
     ensures { λ r. ⌜ Status r ⌝ }
 {
     let mut octets = [0u8; 16385];
@@ -43,11 +43,11 @@ fn named(command: Command, path: &[u8]) -> u8
         return 2;
     };
     let count = octets::slices::least(n, 16385);
-    done(command, path, &octets[0..count])
+    apply(command, path, &octets[0..count])
 }
 
 // Does the command with the file that argument i names.
-fn file(command: Command, i: usize) -> u8
+fn apply_to_argument(command: Command, i: usize) -> u8
     ensures { λ r. ⌜ Status r ⌝ }
 {
     let mut path = io::buffer();
@@ -56,7 +56,7 @@ fn file(command: Command, i: usize) -> u8
         os::fail(b"cabbook: a file's name");
         return 2;
     }
-    named(command, &path[..n])
+    apply_to_file(command, &path[..n])
 }
 
 // Judges the files that the arguments from the second on name.
@@ -64,12 +64,12 @@ fn check_all(count: usize) -> u8
     ensures { λ r. ⌜ Status r ⌝ }
 {
     if count < 3 {
-        return usage::wrong(b"check needs a FILE");
+        return usage::print_usage(b"check needs a FILE");
     }
     let mut status: u8 = 0;
     let mut i: usize = 2;
     while i < count {
-        let one = file(Command::Check, i);
+        let one = apply_to_argument(Command::Check, i);
         if status < one {
             status = one;
         }
@@ -79,29 +79,29 @@ fn check_all(count: usize) -> u8
 }
 
 // Does the command with the one file that is named.
-fn one(command: Command, count: usize) -> u8 {
+fn apply_to_one(command: Command, count: usize) -> u8 {
     if count == 3 {
-        return file(command, 2);
+        return apply_to_argument(command, 2);
     }
-    usage::wrong(b"this command takes one FILE")
+    usage::print_usage(b"this command takes one FILE")
 }
 
 // Does the command with the one file that is named, or with standard input.
-fn one_or_input(command: Command, count: usize) -> u8 {
+fn apply_to_one_or_input(command: Command, count: usize) -> u8 {
     if count == 2 {
-        return named(command, b"-");
+        return apply_to_file(command, b"-");
     }
-    one(command, count)
+    apply_to_one(command, count)
 }
 
 // Plays a morning of uploads, or says what its options lack.
-fn played(count: usize) -> u8
+fn run_morning(count: usize) -> u8
     ensures { λ r. ⌜ Status r ⌝ }
 {
     let p = cabbook_morning::play(count);
     match p {
-        Ending::NoSize => usage::wrong(b"--chunk takes a number from 1 to 16384"),
-        Ending::NoFile => usage::wrong(b"morning needs a FILE"),
+        Ending::NoSize => usage::print_usage(b"--chunk takes a number from 1 to 16384"),
+        Ending::NoFile => usage::print_usage(b"morning needs a FILE"),
         Ending::Played(status) => status,
     }
 }
@@ -112,31 +112,31 @@ fn run(name: &[u8], count: usize) -> u8 {
         return check_all(count);
     }
     if same_name(name, b"show") {
-        return one(Command::Show, count);
+        return apply_to_one(Command::Show, count);
     }
     if same_name(name, b"fold") {
-        return one(Command::Write(Form::Folded), count);
+        return apply_to_one(Command::Write(Form::Folded), count);
     }
     if same_name(name, b"escape") {
-        return one_or_input(Command::Write(Form::Escaped), count);
+        return apply_to_one_or_input(Command::Write(Form::Escaped), count);
     }
     if same_name(name, b"unescape") {
-        return one_or_input(Command::Write(Form::Unescaped), count);
+        return apply_to_one_or_input(Command::Write(Form::Unescaped), count);
     }
     if same_name(name, b"morning") {
-        return played(count);
+        return run_morning(count);
     }
     if same_name(name, b"help") || same_name(name, b"--help") {
-        return usage::told();
+        return usage::print_help();
     }
-    usage::wrong(b"there is no such command")
+    usage::print_usage(b"there is no such command")
 }
 
 // Runs the command that the first argument names.
 fn start() -> u8 {
     let count = os::arg_count();
     if count < 2 {
-        return usage::wrong(b"a command is missing");
+        return usage::print_usage(b"a command is missing");
     }
     let mut name = [0u8; 16];
     let n = os::arg(1, &mut name);

@@ -4,7 +4,7 @@ use libc::STDERR_FILENO;
 use libc::STDOUT_FILENO;
 
 // The commands, a line each.
-fn commands(to: i32) {
+fn print_commands(to: i32) {
     io::write_all(
         to,
         b"  cabbook check FILE..                judge each file, a row a file\n",
@@ -33,14 +33,14 @@ fn commands(to: i32) {
 }
 
 // The help, on standard output.
-pub fn told() -> u8
+pub fn print_help() -> u8
     ensures { λ r. ⌜ r ≡ 0 ⌝ }
 {
     io::write_all(
         STDOUT_FILENO,
         b"cabbook reads and checks the phone books of cab telephones (vCard 4.0).\n\n",
     );
-    commands(STDOUT_FILENO);
+    print_commands(STDOUT_FILENO);
     io::write_all(
         STDOUT_FILENO,
         b"\nFILE - is standard input. Exit status: 0 all accepted, 1 something refused,\n",
@@ -53,12 +53,12 @@ pub fn told() -> u8
 }
 
 // What was wrong and what to do, on standard error.
-pub fn wrong(what: &[u8]) -> u8
+pub fn print_usage(what: &[u8]) -> u8
     ensures { λ r. ⌜ r ≡ 2 ⌝ }
 {
     io::write_all(STDERR_FILENO, b"cabbook: ");
     io::write_all(STDERR_FILENO, what);
     io::write_all(STDERR_FILENO, b"; use it as\n");
-    commands(STDERR_FILENO);
+    print_commands(STDERR_FILENO);
     2
 }

@@ -1,6 +1,6 @@
 // `fold`, `escape` and `unescape`: octets to standard output.
 ghost use Rattle.cabbook.specs.Numbers.{Status};
-use crate::print;
+use crate::printing;
 use libc::STDERR_FILENO;
 use libc::STDOUT_FILENO;
 use numbers::limit;
@@ -13,7 +13,7 @@ pub enum Form {
     Unescaped,
 }
 
-fn written(form: Form, s: &[u8], room: &mut [u8]) -> Written {
+fn write(form: Form, s: &[u8], room: &mut [u8]) -> Written {
     match form {
         Form::Folded => folder::fold(s, room),
         Form::Escaped => text::escape(s, room),
@@ -22,7 +22,7 @@ fn written(form: Form, s: &[u8], room: &mut [u8]) -> Written {
 }
 
 // Writes octets to standard output, or says why that failed.
-fn sent(s: &[u8]) -> u8
+fn send(s: &[u8]) -> u8
     ensures { λ r. ⌜ Status r ⌝ }
 {
     let all = io::write_all(STDOUT_FILENO, s);
@@ -34,18 +34,18 @@ fn sent(s: &[u8]) -> u8
 }
 
 // Writes octets in a form, or the line on a refusal.
-pub fn delivered(form: Form, path: &[u8], s: &[u8]) -> u8
+pub fn deliver(form: Form, path: &[u8], s: &[u8]) -> u8
     ensures { λ r. ⌜ Status r ⌝ }
 {
     let mut room = [0u8; limit::OCTETS];
-    let w = written(form, s, &mut room);
+    let w = write(form, s, &mut room);
     match w {
         Written::Wrote(n) => {
             let count = octets::slices::least(n, limit::OCTETS);
-            sent(&room[0..count])
+            send(&room[0..count])
         }
         Written::Refused(number, place) => {
-            print::refused(STDERR_FILENO, path, s, number, place);
+            printing::print_refused(STDERR_FILENO, path, s, number, place);
             1
         }
     }

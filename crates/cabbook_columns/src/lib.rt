@@ -1,5 +1,5 @@
 // Text in columns of a lent page.
-pub mod seen;
+pub mod visible;
 
 ghost use mathlib.Core.Path.{_≡_};
 ghost use Prim.Native.Nat.{_-_};
@@ -21,7 +21,7 @@ pub fn put_gap(room: &mut [u8], at: usize, used: usize, width: usize) -> usize
 pub fn put_column(room: &mut [u8], at: usize, text: &[u8], width: usize) -> usize
     ensures { λ r. ⌜ page r (now (room .exit)) ≡ added (atLeft (now (text .entry)) width) (page at (now (room .entry))) ⌝ }
 {
-    let past = seen::put_visible(room, at, text);
+    let past = visible::put_visible(room, at, text);
     let next = put_gap(room, past, cabbook_positions::characters(text), width);
     program_output::put_spaces(room, next, 1)
 }

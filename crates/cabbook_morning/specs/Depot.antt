@@ -1,4 +1,4 @@
--- The depot: its numbers, its places, and what is left of it where an upload ends. Assumes nothing.
+-- The depot: its numbers, its uploads, and what is left of it where an upload ends. Assumes nothing.
 use Prim.Native.Nat.{ℕ, _+_, _-_}
 use lib.Dec.{eqb, ltb}
 use lib.IntN.{pos}
@@ -7,7 +7,7 @@ use Rattle.numbers.specs.Limits as limit
 use Rattle.octets.specs.Pick.{pick}
 use Rattle.desk.specs.declared.Desk.{Desk}
 use Rattle.desk.specs.Steps.{freshDesk}
-use Rattle.cabbook_morning.specs.declared.depot.Place.{Place}
+use Rattle.cabbook_morning.specs.declared.depot.Upload.{Upload}
 use Rattle.cabbook_morning.specs.declared.depot.Morning.{Morning}
 
 -- one more, as far as numbers of 64 bits go
@@ -19,15 +19,15 @@ abbrev pub asTicket : ℕ → ℕ
 asTicket n = pick (ltb limit.largest n) 0 n
 
 -- a place that no file has
-abbrev pub freePlace : Place
-freePlace = record { file = 0; fd = pos 0; ticket = 0 }
+abbrev pub noUpload : Upload
+noUpload = record { file = 0; fd = pos 0; ticket = 0 }
 
 -- before the first upload: a desk of 40 slots, and nothing counted
-abbrev pub freshMorning : ℕ → ℕ → ℕ → ℕ → Morning
-freshMorning next count chunk width =
+abbrev pub begun : ℕ → ℕ → ℕ → ℕ → Morning
+begun next count chunk width =
     record {
       desk = freshDesk limit.slots;
-      places = replicate limit.slots freePlace;
+      uploads = replicate limit.slots noUpload;
       next = next;
       count = count;
       used = 0;
@@ -40,11 +40,11 @@ freshMorning next count chunk width =
     }
 
 -- with a place free again, and the desk as it is then
-abbrev pub leftAt : ℕ → Desk → Morning → Morning
-leftAt k d m =
+abbrev pub releasedAt : ℕ → Desk → Morning → Morning
+releasedAt k d m =
     record {
       desk = d;
-      places = set (m .places) k freePlace;
+      uploads = set (m .uploads) k noUpload;
       next = m .next;
       count = m .count;
       used = m .used - 1;

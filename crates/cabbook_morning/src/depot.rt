@@ -3,13 +3,13 @@ ghost use mathlib.Core.Path.{_≡_};
 ghost use Prim.Native.Nat.{_<_};
 ghost use lib.ListN.{getD};
 ghost use Rattle.desk.specs.Steps.{releaseStep};
-ghost use Rattle.cabbook_morning.specs.Depot.{oneMore, asTicket, freePlace, freshMorning, leftAt};
+ghost use Rattle.cabbook_morning.specs.Depot.{oneMore, asTicket, noUpload, begun, releasedAt};
 use desk::Desk;
 use numbers::limit;
 use reader::Verdict;
 
 // A place in the depot: the argument that names its file, 0 where there is none, the file's descriptor, and the upload's ticket.
-pub struct Place {
+pub struct Upload {
     pub file: usize,
     pub fd: i32,
     pub ticket: u32,
@@ -18,7 +18,7 @@ pub struct Place {
 // The desk and the places at it, the next argument and the last, how many places are in use, the chunks' size, and what was counted.
 pub struct Morning {
     pub desk: Desk,
-    pub places: [Place; 40],
+    pub uploads: [Upload; 40],
     pub next: usize,
     pub count: usize,
     pub used: usize,
@@ -50,10 +50,10 @@ pub(crate) fn ticket_of(n: usize) -> u32
     n as u32
 }
 
-fn nobody() -> Place
-    ensures { λ r. ⌜ r ≡ freePlace ⌝ }
+fn no_upload() -> Upload
+    ensures { λ r. ⌜ r ≡ noUpload ⌝ }
 {
-    Place {
+    Upload {
         file: 0,
         fd: 0,
         ticket: 0,
@@ -61,16 +61,16 @@ fn nobody() -> Place
 }
 
 // Before the first upload.
-pub(crate) fn fresh(next: usize, count: usize, chunk: usize, width: usize) -> Morning
-    ensures { λ r. ⌜ r ≡ freshMorning next count chunk width ⌝ }
+pub(crate) fn begin(next: usize, count: usize, chunk: usize, width: usize) -> Morning
+    ensures { λ r. ⌜ r ≡ begun next count chunk width ⌝ }
 {
     let t = Desk::new(40);
     let d = t.desk;
-    let none = nobody();
-    let places = [none; 40];
+    let none = no_upload();
+    let uploads = [none; 40];
     Morning {
         desk: d,
-        places: places,
+        uploads: uploads,
         next: next,
         count: count,
         used: 0,
@@ -84,24 +84,24 @@ pub(crate) fn fresh(next: usize, count: usize, chunk: usize, width: usize) -> Mo
 }
 
 // The place is free again: the upload is released and its file closed.
-pub(crate) fn left(mut m: Morning, k: usize, pool: &mut [u8]) -> Morning
+pub(crate) fn release(mut m: Morning, k: usize, pool: &mut [u8]) -> Morning
     requires { ⌜ k < 40 ⌝ }
-    ensures { λ r. ⌜ r ≡ leftAt k (releaseStep (m .desk) (now (pool .entry)) (getD (m .places) k freePlace .ticket) .desk) m ⌝ }
-    ensures { λ r. ⌜ now (pool .exit) ≡ releaseStep (m .desk) (now (pool .entry)) (getD (m .places) k freePlace .ticket) .pool ⌝ }
+    ensures { λ r. ⌜ r ≡ releasedAt k (releaseStep (m .desk) (now (pool .entry)) (getD (m .uploads) k noUpload .ticket) .desk) m ⌝ }
+    ensures { λ r. ⌜ now (pool .exit) ≡ releaseStep (m .desk) (now (pool .entry)) (getD (m .uploads) k noUpload .ticket) .pool ⌝ }
 {
-    let p = m.places[k];
+    let p = m.uploads[k];
     let d = m.desk;
     let t = d.release(pool, p.ticket);
     let next = t.desk;
     m.desk = next;
     libc::close(p.fd);
-    m.places[k] = nobody();
+    m.uploads[k] = no_upload();
     m.used = cabbook_positions::before(m.used);
     m
 }
 
 // Counts a verdict.
-pub(crate) fn counted(mut m: Morning, v: Verdict, same: bool) -> Morning {
+pub(crate) fn count_verdict(mut m: Morning, v: Verdict, same: bool) -> Morning {
     if !same {
         m.differing = more(m.differing);
     }

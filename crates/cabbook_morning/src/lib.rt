@@ -1,12 +1,12 @@
 // A morning: many files as uploads on one desk, forty at a time, each opened with identifier 0, and a row for each.
 mod depot;
 mod options;
-mod rows;
+mod printing;
 
 ghost use Prim.Native.Nat.{_<_, _≤_};
 ghost use Rattle.cabbook_morning.specs.Ends.{Ends};
 use depot::Morning;
-use depot::Place;
+use depot::Upload;
 use desk::Answer;
 use desk::Desk;
 use libc::SEEK_SET;
@@ -15,7 +15,7 @@ use program_files::Input;
 use reader::Verdict;
 
 // Whether the upload's octets are its file's: the whole file's, or those with which it starts.
-fn compared(d: Desk, p: Place, whole: bool, pool: &[u8]) -> bool {
+fn compare(d: Desk, p: Upload, whole: bool, pool: &[u8]) -> bool {
     let held = d.show(pool, p.ticket);
     let mut room = [0u8; 16385];
     libc::lseek(p.fd, 0, SEEK_SET);
@@ -33,19 +33,19 @@ fn compared(d: Desk, p: Place, whole: bool, pool: &[u8]) -> bool {
 }
 
 // The upload ends with a verdict: its row, and the place is free again.
-fn ended(m: Morning, k: usize, v: Verdict, whole: bool, pool: &mut [u8]) -> Morning
+fn finish(m: Morning, k: usize, v: Verdict, whole: bool, pool: &mut [u8]) -> Morning
     requires { ⌜ k < 40 ⌝ }
 {
-    let p = m.places[k];
+    let p = m.uploads[k];
     let d = m.desk;
-    let same = compared(d, p, whole, pool);
+    let same = compare(d, p, whole, pool);
     let held = d.show(pool, p.ticket);
-    rows::row(p.file, m.width, p.ticket, held.len(), v, same);
-    depot::left(depot::counted(m, v, same), k, pool)
+    printing::print_row(p.file, m.width, p.ticket, held.len(), v, same);
+    depot::release(depot::count_verdict(m, v, same), k, pool)
 }
 
 // The next file comes to a place, if there is one.
-fn taken(mut m: Morning, k: usize, pool: &[u8]) -> Morning
+fn take_file(mut m: Morning, k: usize, pool: &[u8]) -> Morning
     requires { ⌜ k < 40 ⌝ }
 {
     let i = m.next;
@@ -65,7 +65,7 @@ fn taken(mut m: Morning, k: usize, pool: &[u8]) -> Morning
     m.desk = next;
     match a {
         Answer::Done(ticket) => {
-            m.places[k] = Place {
+            m.uploads[k] = Upload {
                 file: i,
                 fd: fd,
                 ticket: depot::ticket_of(ticket),
@@ -75,18 +75,18 @@ fn taken(mut m: Morning, k: usize, pool: &[u8]) -> Morning
         }
         Answer::Refused(number, place) => {
             let v = Verdict::Refused(number, place);
-            rows::row(i, m.width, 0, 0, v, true);
+            printing::print_row(i, m.width, 0, 0, v, true);
             libc::close(fd);
-            depot::counted(m, v, true)
+            depot::count_verdict(m, v, true)
         }
     }
 }
 
 // A chunk of a place's file goes to the desk.
-fn added(mut m: Morning, k: usize, chunk: &[u8], pool: &mut [u8]) -> Morning
+fn add_chunk(mut m: Morning, k: usize, chunk: &[u8], pool: &mut [u8]) -> Morning
     requires { ⌜ k < 40 ⌝ }
 {
-    let p = m.places[k];
+    let p = m.uploads[k];
     let d = m.desk;
     let t = d.add(pool, p.ticket, chunk);
     let a = t.answer;
@@ -95,48 +95,48 @@ fn added(mut m: Morning, k: usize, chunk: &[u8], pool: &mut [u8]) -> Morning
     match a {
         Answer::Done(_) => m,
         Answer::Refused(number, place) => {
-            ended(m, k, Verdict::Refused(number, place), false, pool)
+            finish(m, k, Verdict::Refused(number, place), false, pool)
         }
     }
 }
 
 // Reads a chunk of that size of a place's file, as far as there is room.
-fn chunk_of(p: Place, size: usize, room: &mut [u8]) -> Input {
+fn read_chunk(p: Upload, size: usize, room: &mut [u8]) -> Input {
     let n = octets::slices::least(size, room.len());
     program_files::fetch_argument(p.file, p.fd, &mut room[0..n])
 }
 
 // The next chunk of a place's file is added, or at the file's end the upload is judged.
-fn fed(mut m: Morning, k: usize, pool: &mut [u8]) -> Morning
+fn feed(mut m: Morning, k: usize, pool: &mut [u8]) -> Morning
     requires { ⌜ k < 40 ⌝ }
 {
-    let p = m.places[k];
+    let p = m.uploads[k];
     let mut room = [0u8; limit::OCTETS];
-    let got = chunk_of(p, m.chunk, &mut room);
+    let got = read_chunk(p, m.chunk, &mut room);
     let Input::Octets(n) = got else {
         m.unread = depot::more(m.unread);
-        return depot::left(m, k, pool);
+        return depot::release(m, k, pool);
     };
     if n == 0 {
         let d = m.desk;
-        return ended(m, k, d.judge(pool, p.ticket), true, pool);
+        return finish(m, k, d.judge(pool, p.ticket), true, pool);
     }
-    added(m, k, octets::slices::part(&room, 0, n), pool)
+    add_chunk(m, k, octets::slices::part(&room, 0, n), pool)
 }
 
 // One turn of a place.
 fn turn(m: Morning, k: usize, pool: &mut [u8]) -> Morning
     requires { ⌜ k < 40 ⌝ }
 {
-    let p = m.places[k];
+    let p = m.uploads[k];
     if p.file == 0 {
-        return taken(m, k, pool);
+        return take_file(m, k, pool);
     }
-    fed(m, k, pool)
+    feed(m, k, pool)
 }
 
 // One turn of each place.
-fn round(m: Morning, pool: &mut [u8]) -> Morning {
+fn run_round(m: Morning, pool: &mut [u8]) -> Morning {
     let mut now = m;
     let mut k: usize = 0;
     while k < 40 {
@@ -147,7 +147,7 @@ fn round(m: Morning, pool: &mut [u8]) -> Morning {
 }
 
 // Round after round until no file is left; the count of rounds only shows that this ends.
-fn rounds(m: Morning, pool: &mut [u8]) -> Morning {
+fn run_rounds(m: Morning, pool: &mut [u8]) -> Morning {
     let mut now = m;
     let mut left = u64::MAX;
     while left > 0 {
@@ -156,21 +156,21 @@ fn rounds(m: Morning, pool: &mut [u8]) -> Morning {
                 return now;
             }
         }
-        now = round(now, pool);
+        now = run_round(now, pool);
         left -= 1;
     }
     now
 }
 
 // Plays the morning with the files that the arguments from `first` on name.
-fn played(first: usize, count: usize, chunk: usize) -> u8
+fn run(first: usize, count: usize, chunk: usize) -> u8
     ensures { λ r. ⌜ r ≤ 2 ⌝ }
 {
     let width = options::widest(first, count);
-    rows::titles(width);
+    printing::print_titles(width);
     let mut pool = [0u8; 655360];
-    let m = rounds(depot::fresh(first, count, chunk, width), &mut pool);
-    rows::summary(m.accepted, m.refused, m.unread, m.differing)
+    let m = run_rounds(depot::begin(first, count, chunk, width), &mut pool);
+    printing::print_summary(m.accepted, m.refused, m.unread, m.differing)
 }
 
 // How a morning went: the options had no size of a chunk or no file; or it was played, with an exit status.
@@ -191,5 +191,5 @@ pub fn play(count: usize) -> Ending
     if o.first >= count {
         return Ending::NoFile;
     }
-    Ending::Played(played(o.first, count, o.chunk))
+    Ending::Played(run(o.first, count, o.chunk))
 }

@@ -4,7 +4,7 @@ ghost use Prim.Native.Nat.{_+_, _-_, _≤_, _<_, min};
 ghost use lib.Dec.{ltb};
 ghost use lib.ListN.{length, drop};
 ghost use Rattle.octets.specs.Pick.{pick};
-ghost use Rattle.cabbook_positions.specs.Places.{count, isLf, isFirst, backTo, opens, starts};
+ghost use Rattle.cabbook_positions.specs.Positions.{count, isLf, isFirst, backTo, opens, starts};
 ghost use Rattle.cabbook_positions.specs.Components.{bareStep, bareLength};
 
 // The place before a place, or 0.

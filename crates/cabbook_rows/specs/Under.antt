@@ -7,8 +7,8 @@ use Rattle.octets.specs.Pick.{pick}
 use Rattle.octets.specs.Ascii.{octets}
 use Rattle.line_folds.specs.Folds.{lineLength, unfolded}
 use Rattle.octets.specs.Slices.{part}
-use Rattle.cabbook_positions.specs.Places.{backTo, opens, starts}
-use Rattle.cabbook_columns.specs.Seen.{visible}
+use Rattle.cabbook_positions.specs.Positions.{backTo, opens, starts}
+use Rattle.cabbook_columns.specs.Visible.{visible}
 
 -- past a lone CR or LF, refusal 3, else at the end of the logical line
 abbrev pub shownEnd : List ℕ → ℕ → ℕ → ℕ → ℕ

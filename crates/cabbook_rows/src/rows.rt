@@ -8,7 +8,7 @@ use cabbook_messages::sentences;
 fn put_name(room: &mut [u8], at: usize, path: &[u8]) -> usize
     ensures { λ r. ⌜ page r (now (room .exit)) ≡ added (named (now (path .entry))) (page at (now (room .entry))) ⌝ }
 {
-    let a = cabbook_columns::seen::put_visible(room, at, path);
+    let a = cabbook_columns::visible::put_visible(room, at, path);
     program_output::put_all(room, a, b": ")
 }
 

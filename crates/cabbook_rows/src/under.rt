@@ -33,7 +33,7 @@ fn put_cut(room: &mut [u8], at: usize, line: &[u8]) -> usize
     ensures { λ r. ⌜ page r (now (room .exit)) ≡ added (cut (now (line .entry))) (page at (now (room .entry))) ⌝ }
 {
     let end = cabbook_positions::character_start(line, 120);
-    let a = cabbook_columns::seen::put_visible(room, at, octets::slices::part(line, 0, end));
+    let a = cabbook_columns::visible::put_visible(room, at, octets::slices::part(line, 0, end));
     if end == line.len() {
         return a;
     }

@@ -72,7 +72,7 @@ pub fn put_upload(
 }
 
 // Adds a text where there is none, else how many things there are and what is said of them.
-fn put_noted(room: &mut [u8], at: usize, n: usize, none: &[u8], thing: &[u8], end: &[u8]) -> usize
+fn put_note(room: &mut [u8], at: usize, n: usize, none: &[u8], thing: &[u8], end: &[u8]) -> usize
     ensures { λ r. ⌜ page r (now (room .exit)) ≡ added (noted n (now (none .entry)) (now (thing .entry)) (now (end .entry))) (page at (now (room .entry))) ⌝ }
 {
     if n == 0 {
@@ -115,7 +115,7 @@ pub fn put_summary(
     ensures { λ r. ⌜ page r (now (room .exit)) ≡ added (summary accepted refused differing unread) (page at (now (room .entry))) ⌝ }
 {
     let a = put_totals(room, at, accepted, refused);
-    let b = put_noted(
+    let b = put_note(
         room,
         a,
         differing,
@@ -123,7 +123,7 @@ pub fn put_summary(
         b" upload",
         b" with other octets than its file",
     );
-    put_noted(room, b, unread, b"\n", b" file", b" not read\n")
+    put_note(room, b, unread, b"\n", b" file", b" not read\n")
 }
 
 // The exit status of a morning: 2 where a file was not read, 1 where an upload is refused or differs from its file, else 0.

@@ -11,14 +11,14 @@ use reader::Verdict;
 pub mod hex;
 
 // The end of a line; LF.
-pub fn ended(out: &mut [u8], at: usize) -> usize
+pub fn put_end(out: &mut [u8], at: usize) -> usize
     ensures { λ r. ⌜ page r (now (out .exit)) ≡ added lineEnd (page at (now (out .entry))) ⌝ }
 {
     program_output::put(out, at, 10)
 }
 
 // `bad request`, a whole line.
-pub fn bad(out: &mut [u8], at: usize) -> usize
+pub fn put_bad(out: &mut [u8], at: usize) -> usize
     ensures { λ r. ⌜ page r (now (out .exit)) ≡ added badLine (page at (now (out .entry))) ⌝ }
 {
     program_output::put_all(out, at, b"bad request\n")
@@ -33,7 +33,7 @@ fn put_after(out: &mut [u8], at: usize, mark: u8, n: usize) -> usize
 }
 
 // `no NUMBER PLACE`.
-pub fn refusal(out: &mut [u8], at: usize, number: u32, place: usize) -> usize
+pub fn put_refusal(out: &mut [u8], at: usize, number: u32, place: usize) -> usize
     ensures { λ r. ⌜ page r (now (out .exit)) ≡ added (refusalText number place) (page at (now (out .entry))) ⌝ }
 {
     let word = program_output::put_all(out, at, b"no");
@@ -42,7 +42,7 @@ pub fn refusal(out: &mut [u8], at: usize, number: u32, place: usize) -> usize
 }
 
 // `ok NUMBER`.
-pub fn done(out: &mut [u8], at: usize, number: usize) -> usize
+pub fn put_done(out: &mut [u8], at: usize, number: usize) -> usize
     ensures { λ r. ⌜ page r (now (out .exit)) ≡ added (doneText number) (page at (now (out .entry))) ⌝ }
 {
     let word = program_output::put_all(out, at, b"ok");
@@ -50,43 +50,43 @@ pub fn done(out: &mut [u8], at: usize, number: usize) -> usize
 }
 
 // `ok CARDS LINES`, or the refusal.
-pub fn verdict(out: &mut [u8], at: usize, v: Verdict) -> usize
+pub fn put_verdict(out: &mut [u8], at: usize, v: Verdict) -> usize
     ensures { λ r. ⌜ page r (now (out .exit)) ≡ added (verdictText v) (page at (now (out .entry))) ⌝ }
 {
     match v {
         Verdict::Accepted(cards, lines) => {
-            let end = done(out, at, cards);
+            let end = put_done(out, at, cards);
             put_after(out, end, b' ', lines)
         }
-        Verdict::Refused(number, place) => refusal(out, at, number, place),
+        Verdict::Refused(number, place) => put_refusal(out, at, number, place),
     }
 }
 
 // `ok NUMBER`, or the refusal, of a call of the desk.
-pub fn answered(out: &mut [u8], at: usize, a: Answer) -> usize
+pub fn put_answer(out: &mut [u8], at: usize, a: Answer) -> usize
     ensures { λ r. ⌜ page r (now (out .exit)) ≡ added (answerText a) (page at (now (out .entry))) ⌝ }
 {
     match a {
-        Answer::Done(n) => done(out, at, n),
-        Answer::Refused(number, place) => refusal(out, at, number, place),
+        Answer::Done(n) => put_done(out, at, n),
+        Answer::Refused(number, place) => put_refusal(out, at, number, place),
     }
 }
 
 // `ok COUNT OCTETS` with the octets written to room, or the refusal.
-pub fn written(out: &mut [u8], at: usize, w: Written, room: &[u8]) -> usize
+pub fn put_written(out: &mut [u8], at: usize, w: Written, room: &[u8]) -> usize
     ensures { λ r. ⌜ page r (now (out .exit)) ≡ added (writtenText w (now (room .entry))) (page at (now (out .entry))) ⌝ }
 {
     match w {
         Written::Wrote(count) => {
-            let end = done(out, at, count);
-            octets(out, end, octets::slices::part(room, 0, count))
+            let end = put_done(out, at, count);
+            put_spaced_octets(out, end, octets::slices::part(room, 0, count))
         }
-        Written::Refused(number, place) => refusal(out, at, number, place),
+        Written::Refused(number, place) => put_refusal(out, at, number, place),
     }
 }
 
 // A space and octets.
-pub fn octets(out: &mut [u8], at: usize, s: &[u8]) -> usize
+pub fn put_spaced_octets(out: &mut [u8], at: usize, s: &[u8]) -> usize
     ensures { λ r. ⌜ page r (now (out .exit)) ≡ added (spaced (octetsWord (now (s .entry)))) (page at (now (out .entry))) ⌝ }
 {
     let end = program_output::put(out, at, b' ');
@@ -94,7 +94,7 @@ pub fn octets(out: &mut [u8], at: usize, s: &[u8]) -> usize
 }
 
 // A space and numbers joined by commas.
-pub fn numbers(out: &mut [u8], at: usize, s: &[u32]) -> usize
+pub fn put_spaced_numbers(out: &mut [u8], at: usize, s: &[u32]) -> usize
     ensures { λ r. ⌜ page r (now (out .exit)) ≡ added (spaced (joined (now (s .entry)))) (page at (now (out .entry))) ⌝ }
 {
     let mut end = program_output::put(out, at, b' ');
@@ -111,11 +111,11 @@ pub fn numbers(out: &mut [u8], at: usize, s: &[u32]) -> usize
 }
 
 // The line's end, after the word for room that is not as it was.
-pub fn looked_at(out: &mut [u8], at: usize, kept: bool) -> usize
+pub fn put_room_end(out: &mut [u8], at: usize, kept: bool) -> usize
     ensures { λ r. ⌜ page r (now (out .exit)) ≡ added (roomEnd kept) (page at (now (out .entry))) ⌝ }
 {
     if kept {
-        return ended(out, at);
+        return put_end(out, at);
     }
     program_output::put_all(out, at, b" touched\n")
 }

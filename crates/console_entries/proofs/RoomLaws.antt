@@ -13,7 +13,7 @@ use Rattle.octets.specs.Slices.{part}
 use Rattle.program_output.specs.Pages.{Page, added}
 use Rattle.console_answers.specs.Texts.{roomEnd}
 use Rattle.console_entries.specs.Rooms.{octetRoom, numberRoom, bothKept}
-use Rattle.console_entries.specs.Entries.{numbersOf, copyLength, takenText, roomsText, readText, outcomeOf, leftText}
+use Rattle.console_entries.specs.Entries.{numbersOf, copyLength, takenText, roomsText, readText, outcomeOf, writeText}
 use Rattle.console_entries.specs.declared.entries.Writer.{Writer}
 
 pub fill-step : (d e : List ℕ) (j : ℕ) → j < length d → e ≡ take j (octetRoom (length d)) ++ drop j d
@@ -45,7 +45,7 @@ module _ (i : List ℕ) (n r : ℕ) (p : Page) {q : Page} (h : r ≤ n) where
       → q ≡ added (readText i (octetRoom r) (numberRoom k)) p
   read-part k l e = rw (room-part r n 165 h, room-part k n 2779096485 l) at e
 
-  pub write-part : (w : Writer) → q ≡ added (leftText (outcomeOf w i (take (r - 0) (replicate n 165)))) p → q ≡ added (leftText (outcomeOf w i (octetRoom r))) p
+  pub write-part : (w : Writer) → q ≡ added (writeText (outcomeOf w i (take (r - 0) (replicate n 165)))) p → q ≡ added (writeText (outcomeOf w i (octetRoom r))) p
   write-part w e = rw (room-part r n 165 h) at e
 
 -- a slice whose first n elements became those of e

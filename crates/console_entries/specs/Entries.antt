@@ -77,8 +77,8 @@ count (Wrote n) = n
 count (Unwritten n p) = 0
 
 -- what the entry wrote, and the rest of the room looked at
-unfoldable pub leftText : Filled → List ℕ
-leftText f = writtenText (f .answer) (f .room) ++ roomEnd (all 165 (drop (count (f .answer)) (f .room)))
+unfoldable pub writeText : Filled → List ℕ
+writeText f = writtenText (f .answer) (f .room) ++ roomEnd (all 165 (drop (count (f .answer)) (f .room)))
 
 unfoldable pub writeAnswer : Writer → ℕ → List ℕ → List ℕ
-writeAnswer e r i = within r (leftText (outcomeOf e i (octetRoom r)))
+writeAnswer e r i = within r (writeText (outcomeOf e i (octetRoom r)))

@@ -4,7 +4,7 @@ ghost use Prim.Native.Nat.{_+_, _≤_};
 ghost use Rattle.octets.specs.Room.{filled};
 ghost use Rattle.program_output.specs.Pages.{page, added};
 ghost use Rattle.console_entries.specs.Rooms.{octetRoom, numberRoom};
-ghost use Rattle.console_entries.specs.Entries.{linesOf, count, numbersOf, copyLength, takenText, roomsText, readText, outcomeOf, leftText, judgeAnswer, readAnswer, writeAnswer};
+ghost use Rattle.console_entries.specs.Entries.{linesOf, count, numbersOf, copyLength, takenText, roomsText, readText, outcomeOf, writeText, judgeAnswer, readAnswer, writeAnswer};
 use crate::rooms;
 use numbers::limit;
 use octets::rooms::Written;
@@ -21,11 +21,11 @@ pub enum Writer {
 }
 
 // `judge OCTETS`.
-pub fn judge(input: &[u8], out: &mut [u8], at: usize) -> usize
+pub fn put_judge_answer(input: &[u8], out: &mut [u8], at: usize) -> usize
     ensures { λ r. ⌜ page r (now (out .exit)) ≡ added (judgeAnswer (now (input .entry))) (page at (now (out .entry))) ⌝ }
 {
-    let end = console_answers::verdict(out, at, reader::judge(input));
-    console_answers::ended(out, end)
+    let end = console_answers::put_verdict(out, at, reader::judge(input));
+    console_answers::put_end(out, end)
 }
 
 // How many lines the reader accepted; 0 on a refusal.
@@ -73,8 +73,8 @@ fn put_taken(copy: &[u8], records: &[u32], out: &mut [u8], at: usize) -> usize
     if records.len() == 0 {
         return at;
     }
-    let end = console_answers::octets(out, at, copy);
-    console_answers::numbers(out, end, records)
+    let end = console_answers::put_spaced_octets(out, at, copy);
+    console_answers::put_spaced_numbers(out, end, records)
 }
 
 // What the reader left in its rooms, after the verdict.
@@ -85,39 +85,39 @@ fn put_rooms(lines: usize, copy: &[u8], records: &[u32], out: &mut [u8], at: usi
     let taken = octets::slices::numbers(records, k);
     let n = copy_length(taken);
     let end = put_taken(octets::slices::part(copy, 0, n), taken, out, at);
-    console_answers::looked_at(out, end, rooms::both_kept(copy, n, records, k))
+    console_answers::put_room_end(out, end, rooms::both_kept(copy, n, records, k))
 }
 
 // The reader's answer with these rooms.
-fn read_to(input: &[u8], copy: &mut [u8], records: &mut [u32], out: &mut [u8], at: usize) -> usize
+fn put_read(input: &[u8], copy: &mut [u8], records: &mut [u32], out: &mut [u8], at: usize) -> usize
     ensures { λ r. ⌜ page r (now (out .exit)) ≡ added (readText (now (input .entry)) (now (copy .entry)) (now (records .entry))) (page at (now (out .entry))) ⌝ }
 {
     let v = reader::read(input, copy, records);
-    let end = console_answers::verdict(out, at, v);
+    let end = console_answers::put_verdict(out, at, v);
     put_rooms(lines_of(v), copy, records, out, end)
 }
 
 // The reader's answer with fresh rooms of r octets and k numbers.
-fn read_in(r: usize, k: usize, input: &[u8], out: &mut [u8], at: usize) -> usize
+fn put_read_fresh(r: usize, k: usize, input: &[u8], out: &mut [u8], at: usize) -> usize
     requires { ⌜ (r ≤ 70000) × (k ≤ 70000) ⌝ }
     ensures { λ q. ⌜ page q (now (out .exit)) ≡ added (readText (now (input .entry)) (octetRoom r) (numberRoom k)) (page at (now (out .entry))) ⌝ }
 {
     let mut room = [rooms::OCTET; ROOM];
     let mut records = [rooms::NUMBER; ROOM];
-    read_to(input, &mut room[0..r], &mut records[0..k], out, at)
+    put_read(input, &mut room[0..r], &mut records[0..k], out, at)
 }
 
 // `read COPYROOM RECORDROOM OCTETS`.
-pub fn read(r: usize, k: usize, input: &[u8], out: &mut [u8], at: usize) -> usize
+pub fn put_read_answer(r: usize, k: usize, input: &[u8], out: &mut [u8], at: usize) -> usize
     ensures { λ q. ⌜ page q (now (out .exit)) ≡ added (readAnswer r k (now (input .entry))) (page at (now (out .entry))) ⌝ }
 {
     if r > ROOM {
-        return console_answers::bad(out, at);
+        return console_answers::put_bad(out, at);
     }
     if k > ROOM {
-        return console_answers::bad(out, at);
+        return console_answers::put_bad(out, at);
     }
-    read_in(r, k, input, out, at)
+    put_read_fresh(r, k, input, out, at)
 }
 
 // What the entry writes to room.
@@ -142,29 +142,29 @@ fn count_of(w: Written) -> usize
 }
 
 // The entry's answer with this room.
-fn write_to(entry: Writer, input: &[u8], room: &mut [u8], out: &mut [u8], at: usize) -> usize
-    ensures { λ r. ⌜ page r (now (out .exit)) ≡ added (leftText (outcomeOf entry (now (input .entry)) (now (room .entry)))) (page at (now (out .entry))) ⌝ }
+fn put_write(entry: Writer, input: &[u8], room: &mut [u8], out: &mut [u8], at: usize) -> usize
+    ensures { λ r. ⌜ page r (now (out .exit)) ≡ added (writeText (outcomeOf entry (now (input .entry)) (now (room .entry)))) (page at (now (out .entry))) ⌝ }
 {
     let w = call(entry, input, room);
-    let end = console_answers::written(out, at, w, room);
-    console_answers::looked_at(out, end, rooms::is_kept(room, count_of(w)))
+    let end = console_answers::put_written(out, at, w, room);
+    console_answers::put_room_end(out, end, rooms::is_kept(room, count_of(w)))
 }
 
 // The entry's answer with a fresh room of r octets.
-fn write_in(entry: Writer, r: usize, input: &[u8], out: &mut [u8], at: usize) -> usize
+fn put_write_fresh(entry: Writer, r: usize, input: &[u8], out: &mut [u8], at: usize) -> usize
     requires { ⌜ r ≤ 70000 ⌝ }
-    ensures { λ q. ⌜ page q (now (out .exit)) ≡ added (leftText (outcomeOf entry (now (input .entry)) (octetRoom r))) (page at (now (out .entry))) ⌝ }
+    ensures { λ q. ⌜ page q (now (out .exit)) ≡ added (writeText (outcomeOf entry (now (input .entry)) (octetRoom r))) (page at (now (out .entry))) ⌝ }
 {
     let mut room = [rooms::OCTET; ROOM];
-    write_to(entry, input, &mut room[0..r], out, at)
+    put_write(entry, input, &mut room[0..r], out, at)
 }
 
 // `fold ROOM OCTETS`, and the others that write octets to room.
-pub fn write(entry: Writer, r: usize, input: &[u8], out: &mut [u8], at: usize) -> usize
+pub fn put_write_answer(entry: Writer, r: usize, input: &[u8], out: &mut [u8], at: usize) -> usize
     ensures { λ q. ⌜ page q (now (out .exit)) ≡ added (writeAnswer entry r (now (input .entry))) (page at (now (out .entry))) ⌝ }
 {
     if r > ROOM {
-        return console_answers::bad(out, at);
+        return console_answers::put_bad(out, at);
     }
-    write_in(entry, r, input, out, at)
+    put_write_fresh(entry, r, input, out, at)
 }

@@ -7,7 +7,7 @@ use borrow.Author.Tests.{eq-eqb, ne-eqb}
 use Rattle.octets.specs.Ascii.{octets}
 use Rattle.octets.specs.Slices.{part}
 use Rattle.program_output.specs.Pages.{page, added}
-use Rattle.cabbook_columns.specs.Seen.{visible}
+use Rattle.cabbook_columns.specs.Visible.{visible}
 use Rattle.program_output.proofs.PageLaws.{nothing, piece, pause}
 use Rattle.cabbook_rows.specs.Under.{cutAt}
 use borrow.Author.Needs.{needs}
