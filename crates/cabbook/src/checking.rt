@@ -1,19 +1,21 @@
 // `check`: a row a file, and under a refusal the logical line that it is about.
 ghost use Rattle.cabbook.specs.Numbers.{Status};
 use crate::printing;
+use cabbook_tables::status;
 use libc::STDOUT_FILENO;
+use numbers::refusal;
 use reader::Verdict;
 
-// The row of a file with so many cards and lines.
+// Prints the row of a file with so many cards and lines.
 fn print_accepted(path: &[u8], cards: usize, lines: usize) {
     let mut room = io::large_buffer();
     let n = cabbook_rows::rows::put_accepted(&mut room, 0, path, cards, lines);
     printing::send(STDOUT_FILENO, &room, n);
 }
 
-// The logical line in which a refusal's place lies; nothing where the input is too long or empty.
+// Prints the logical line in which a refusal's place lies; nothing where the input is too long or empty.
 fn print_under(s: &[u8], number: u32, place: usize) {
-    if number < 3 {
+    if number == refusal::TOO_LONG || number == refusal::EMPTY {
         return;
     }
     let line = cabbook_rows::under::offending(s, number, place);
@@ -26,7 +28,7 @@ fn print_under(s: &[u8], number: u32, place: usize) {
     printing::send(STDOUT_FILENO, &room, n);
 }
 
-// The row of a file with these octets.
+// Judges a file's octets, prints its row, and answers the exit status.
 pub fn check(path: &[u8], s: &[u8]) -> u8
     ensures { λ r. ⌜ Status r ⌝ }
 {
@@ -34,12 +36,12 @@ pub fn check(path: &[u8], s: &[u8]) -> u8
     match v {
         Verdict::Accepted(cards, lines) => {
             print_accepted(path, cards, lines);
-            0
+            status::ACCEPTED
         }
         Verdict::Refused(number, place) => {
             printing::print_refused(STDOUT_FILENO, path, s, number, place);
             print_under(s, number, place);
-            1
+            status::REFUSED
         }
     }
 }

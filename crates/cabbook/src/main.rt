@@ -8,12 +8,23 @@ mod writing;
 
 ghost use Rattle.cabbook.specs.Numbers.{Status};
 use cabbook_morning::Ending;
+use cabbook_tables::status;
+use numbers::limit;
 use octets::cases::same_name;
 use program_files::Input;
 use writing::Form;
 
 // The descriptor to which the exit status goes, one digit, at the end.
 const STATUS: i32 = 3;
+
+// The argument that names the command.
+const COMMAND: usize = 1;
+
+// The argument that names the first file.
+const FIRST_FILE: usize = 2;
+
+// The octets of a command's name that are looked at.
+const NAME: usize = 16;
 
 // What is done with the octets of a file.
 enum Command {
@@ -37,12 +48,12 @@ fn apply(command: Command, path: &[u8], s: &[u8]) -> u8
 fn apply_to_file(command: Command, path: &[u8]) -> u8
     ensures { λ r. ⌜ Status r ⌝ }
 {
-    let mut octets = [0u8; 16385];
+    let mut octets = [0u8; limit::READ_ROOM];
     let got = program_files::read(path, &mut octets);
     let Input::Octets(n) = got else {
-        return 2;
+        return status::FAILED;
     };
-    let count = octets::slices::least(n, 16385);
+    let count = octets::slices::least(n, limit::READ_ROOM);
     apply(command, path, &octets[0..count])
 }
 
@@ -54,7 +65,7 @@ fn apply_to_argument(command: Command, i: usize) -> u8
     let n = os::arg(i, &mut path);
     if os::errno() != 0 {
         os::fail(b"cabbook: a file's name");
-        return 2;
+        return status::FAILED;
     }
     apply_to_file(command, &path[..n])
 }
@@ -63,11 +74,11 @@ fn apply_to_argument(command: Command, i: usize) -> u8
 fn check_all(count: usize) -> u8
     ensures { λ r. ⌜ Status r ⌝ }
 {
-    if count < 3 {
+    if count <= FIRST_FILE {
         return usage::print_usage(b"check needs a FILE");
     }
-    let mut status: u8 = 0;
-    let mut i: usize = 2;
+    let mut status: u8 = status::ACCEPTED;
+    let mut i: usize = FIRST_FILE;
     while i < count {
         let one = apply_to_argument(Command::Check, i);
         if status < one {
@@ -80,21 +91,21 @@ fn check_all(count: usize) -> u8
 
 // Does the command with the one file that is named.
 fn apply_to_one(command: Command, count: usize) -> u8 {
-    if count == 3 {
-        return apply_to_argument(command, 2);
+    if count == FIRST_FILE + 1 {
+        return apply_to_argument(command, FIRST_FILE);
     }
     usage::print_usage(b"this command takes one FILE")
 }
 
 // Does the command with the one file that is named, or with standard input.
 fn apply_to_one_or_input(command: Command, count: usize) -> u8 {
-    if count == 2 {
+    if count == FIRST_FILE {
         return apply_to_file(command, b"-");
     }
     apply_to_one(command, count)
 }
 
-// Plays a morning of uploads, or says what its options lack.
+// Runs a morning of uploads, or says what its options lack.
 fn run_morning(count: usize) -> u8
     ensures { λ r. ⌜ Status r ⌝ }
 {
@@ -135,21 +146,22 @@ fn run(name: &[u8], count: usize) -> u8 {
 // Runs the command that the first argument names.
 fn start() -> u8 {
     let count = os::arg_count();
-    if count < 2 {
+    if count <= COMMAND {
         return usage::print_usage(b"a command is missing");
     }
-    let mut name = [0u8; 16];
-    let n = os::arg(1, &mut name);
+    let mut name = [0u8; NAME];
+    let n = os::arg(COMMAND, &mut name);
     run(&name[..n], count)
 }
 
+// Runs the command, and writes the exit status.
 fn main() {
     let status = start();
     match status {
-        0 => {
+        status::ACCEPTED => {
             io::write_all(STATUS, b"0");
         }
-        1 => {
+        status::REFUSED => {
             io::write_all(STATUS, b"1");
         }
         _ => {

@@ -6,14 +6,14 @@ pub(crate) fn send(to: i32, room: &[u8], n: usize) {
     io::write_all(to, octets::slices::part(room, 0, n));
 }
 
-// Text of up to 16,384 octets on standard output, with controls and octets of no character made visible.
+// Prints text on standard output, with controls and octets of no character made visible.
 pub(crate) fn print_visible(text: &[u8]) {
     let mut room = io::large_buffer();
     let n = cabbook_columns::visible::put_visible(&mut room, 0, text);
     send(STDOUT_FILENO, &room, n);
 }
 
-// The row of a file with these octets that is refused.
+// Prints the row of a file with these octets that is refused.
 pub(crate) fn print_refused(to: i32, path: &[u8], s: &[u8], number: u32, place: usize) {
     let mut room = io::large_buffer();
     let n = cabbook_rows::rows::put_refused(&mut room, 0, path, s, number, place);

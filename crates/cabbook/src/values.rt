@@ -2,27 +2,31 @@
 ghost use lib.ListN.{length};
 ghost use Prim.Native.Nat.{_≤_};
 use crate::printing;
+use cabbook_tables::fields;
 use libc::STDOUT_FILENO;
 use numbers::kind;
 use numbers::limit;
 use octets::rooms::Written;
 
-// Where the value's column starts.
-const INDENT: usize = 51;
+// Where the value's column starts: past three columns, each with a space after it.
+const INDENT: usize = fields::PROPERTY_WIDTH + fields::GROUP_WIDTH + fields::PARAMETERS_WIDTH + 3;
+
+// Room for a line's end and that many spaces.
+const ROOM: usize = 64;
 
 // Goes to the next line, to the value's column.
 fn print_indent() {
-    let mut room = [0u8; 64];
-    let a = program_output::put_all(&mut room, 0, b"\n");
-    let n = program_output::put_spaces(&mut room, a, INDENT);
+    let mut room = [0u8; ROOM];
+    let start = program_output::put_all(&mut room, 0, b"\n");
+    let n = program_output::put_spaces(&mut room, start, INDENT);
     printing::send(STDOUT_FILENO, &room, n);
 }
 
-// Text, each of its lines in the value's column.
+// Prints text, each of its lines in the value's column.
 fn print_paragraphs(s: &[u8]) {
     let mut from: usize = 0;
     while from < s.len() {
-        let end = bytes::scan::find(s, from, s.len(), 10);
+        let end = bytes::scan::find(s, from, s.len(), b'\n');
         printing::print_visible(&s[from..end]);
         if end < s.len() {
             print_indent();
@@ -31,7 +35,7 @@ fn print_paragraphs(s: &[u8]) {
     }
 }
 
-// The text that escapes stand for.
+// Prints the text that escapes stand for.
 fn print_text(s: &[u8]) {
     let mut room = [0u8; limit::OCTETS];
     let w = text::unescape(s, &mut room);
@@ -56,7 +60,7 @@ fn component_end(s: &[u8], from: usize, semicolons: bool) -> usize
     from + n
 }
 
-// The components of a value, each as the text that it stands for, with a bar for a semicolon.
+// Prints the components of a value, each as the text that it stands for, with a bar for a semicolon.
 fn print_components(s: &[u8], semicolons: bool) {
     let mut from: usize = 0;
     while from < s.len() {
@@ -73,8 +77,9 @@ fn print_components(s: &[u8], semicolons: bool) {
     }
 }
 
-// A value by its kind: text, lists of texts, or as it stands.
-pub(crate) fn print_value(s: &[u8], kind: u32) {
+// Prints a value by its kind: text, lists of texts, or as it stands.
+pub(crate) fn print_value(s: &[u8], number: u32) {
+    let kind = number as usize;
     match kind {
         kind::TEXT => print_text(s),
         kind::TEXTS => print_components(s, false),

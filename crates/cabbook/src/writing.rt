@@ -1,6 +1,7 @@
 // `fold`, `escape` and `unescape`: octets to standard output.
 ghost use Rattle.cabbook.specs.Numbers.{Status};
 use crate::printing;
+use cabbook_tables::status;
 use libc::STDERR_FILENO;
 use libc::STDOUT_FILENO;
 use numbers::limit;
@@ -13,6 +14,7 @@ pub enum Form {
     Unescaped,
 }
 
+// Writes octets in a form to room.
 fn write(form: Form, s: &[u8], room: &mut [u8]) -> Written {
     match form {
         Form::Folded => folder::fold(s, room),
@@ -28,12 +30,12 @@ fn send(s: &[u8]) -> u8
     let all = io::write_all(STDOUT_FILENO, s);
     if !all {
         os::fail(b"cabbook: standard output");
-        return 2;
+        return status::FAILED;
     }
-    0
+    status::ACCEPTED
 }
 
-// Writes octets in a form, or the line on a refusal.
+// Writes octets in a form to standard output, or the line on a refusal, and answers the exit status.
 pub fn deliver(form: Form, path: &[u8], s: &[u8]) -> u8
     ensures { λ r. ⌜ Status r ⌝ }
 {
@@ -46,7 +48,7 @@ pub fn deliver(form: Form, path: &[u8], s: &[u8]) -> u8
         }
         Written::Refused(number, place) => {
             printing::print_refused(STDERR_FILENO, path, s, number, place);
-            1
+            status::REFUSED
         }
     }
 }

@@ -1,4 +1,4 @@
--- The depot: its numbers, its uploads, and what is left of it where an upload ends. Assumes nothing.
+-- The depot: its numbers, its uploads, and the depot after an upload ends. Assumes nothing.
 use Prim.Native.Nat.{ℕ, _+_, _-_}
 use lib.Dec.{eqb, ltb}
 use lib.IntN.{pos}
@@ -12,17 +12,17 @@ use Rattle.cabbook_morning.specs.declared.depot.Morning.{Morning}
 
 -- one more, as far as numbers of 64 bits go
 abbrev pub oneMore : ℕ → ℕ
-oneMore n = pick (eqb n 18446744073709551615) n (n + 1)
+oneMore n = pick (eqb n limit.largest64) n (n + 1)
 
 -- a number as a ticket, 0 where it has more than 32 bits
 abbrev pub asTicket : ℕ → ℕ
 asTicket n = pick (ltb limit.largest n) 0 n
 
--- a place that no file has
+-- no upload
 abbrev pub noUpload : Upload
 noUpload = record { file = 0; fd = pos 0; ticket = 0 }
 
--- before the first upload: a desk of 40 slots, and nothing counted
+-- before the first upload: a desk with all its slots, and nothing counted
 abbrev pub begun : ℕ → ℕ → ℕ → ℕ → Morning
 begun next count chunk width =
     record {
@@ -30,7 +30,7 @@ begun next count chunk width =
       uploads = replicate limit.slots noUpload;
       next = next;
       count = count;
-      used = 0;
+      running = 0;
       chunk = chunk;
       width = width;
       accepted = 0;
@@ -39,7 +39,7 @@ begun next count chunk width =
       differing = 0;
     }
 
--- with a place free again, and the desk as it is then
+-- without an upload, and with the desk as it is then
 abbrev pub releasedAt : ℕ → Desk → Morning → Morning
 releasedAt k d m =
     record {
@@ -47,7 +47,7 @@ releasedAt k d m =
       uploads = set (m .uploads) k noUpload;
       next = m .next;
       count = m .count;
-      used = m .used - 1;
+      running = m .running - 1;
       chunk = m .chunk;
       width = m .width;
       accepted = m .accepted;

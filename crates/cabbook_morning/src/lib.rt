@@ -1,9 +1,11 @@
-// A morning: many files as uploads on one desk, forty at a time, each opened with identifier 0, and a row for each.
+// A morning: many files as uploads on one desk, as many at a time as it has slots, each opened with identifier 0, and a row for each.
 mod depot;
 mod options;
 mod printing;
 
 ghost use Prim.Native.Nat.{_<_, _≤_};
+ghost use Rattle.numbers.specs.Limits as limit;
+ghost use Rattle.cabbook_tables.specs.Statuses as status;
 ghost use Rattle.cabbook_morning.specs.Ends.{Ends};
 use depot::Morning;
 use depot::Upload;
@@ -15,11 +17,11 @@ use program_files::Input;
 use reader::Verdict;
 
 // Whether the upload's octets are its file's: the whole file's, or those with which it starts.
-fn compare(d: Desk, p: Upload, whole: bool, pool: &[u8]) -> bool {
-    let held = d.show(pool, p.ticket);
-    let mut room = [0u8; 16385];
-    libc::lseek(p.fd, 0, SEEK_SET);
-    let got = program_files::fetch(p.fd, b"cabbook: a file", &mut room);
+fn compare(d: Desk, upload: Upload, whole: bool, pool: &[u8]) -> bool {
+    let held = d.show(pool, upload.ticket);
+    let mut room = [0u8; limit::READ_ROOM];
+    libc::lseek(upload.fd, 0, SEEK_SET);
+    let got = program_files::fetch(upload.fd, b"cabbook: a file", &mut room);
     let Input::Octets(n) = got else {
         return false;
     };
@@ -32,21 +34,21 @@ fn compare(d: Desk, p: Upload, whole: bool, pool: &[u8]) -> bool {
     check::same(held, octets::slices::part(&room, 0, held.len()))
 }
 
-// The upload ends with a verdict: its row, and the place is free again.
+// Ends upload k with a verdict: prints its row and releases it.
 fn finish(m: Morning, k: usize, v: Verdict, whole: bool, pool: &mut [u8]) -> Morning
-    requires { ⌜ k < 40 ⌝ }
+    requires { ⌜ k < limit.slots ⌝ }
 {
-    let p = m.uploads[k];
+    let upload = m.uploads[k];
     let d = m.desk;
-    let same = compare(d, p, whole, pool);
-    let held = d.show(pool, p.ticket);
-    printing::print_row(p.file, m.width, p.ticket, held.len(), v, same);
+    let same = compare(d, upload, whole, pool);
+    let held = d.show(pool, upload.ticket);
+    printing::print_row(upload.file, m.width, upload.ticket, held.len(), v, same);
     depot::release(depot::count_verdict(m, v, same), k, pool)
 }
 
-// The next file comes to a place, if there is one.
+// Opens upload k with the next file, if there is one.
 fn take_file(mut m: Morning, k: usize, pool: &[u8]) -> Morning
-    requires { ⌜ k < 40 ⌝ }
+    requires { ⌜ k < limit.slots ⌝ }
 {
     let i = m.next;
     if i >= m.count {
@@ -70,7 +72,7 @@ fn take_file(mut m: Morning, k: usize, pool: &[u8]) -> Morning
                 fd: fd,
                 ticket: depot::ticket_of(ticket),
             };
-            m.used = depot::more(m.used);
+            m.running = depot::more(m.running);
             m
         }
         Answer::Refused(number, place) => {
@@ -82,13 +84,13 @@ fn take_file(mut m: Morning, k: usize, pool: &[u8]) -> Morning
     }
 }
 
-// A chunk of a place's file goes to the desk.
+// Adds a chunk to upload k, and ends it where the desk refuses that.
 fn add_chunk(mut m: Morning, k: usize, chunk: &[u8], pool: &mut [u8]) -> Morning
-    requires { ⌜ k < 40 ⌝ }
+    requires { ⌜ k < limit.slots ⌝ }
 {
-    let p = m.uploads[k];
+    let upload = m.uploads[k];
     let d = m.desk;
-    let t = d.add(pool, p.ticket, chunk);
+    let t = d.add(pool, upload.ticket, chunk);
     let a = t.answer;
     let next = t.desk;
     m.desk = next;
@@ -100,59 +102,59 @@ fn add_chunk(mut m: Morning, k: usize, chunk: &[u8], pool: &mut [u8]) -> Morning
     }
 }
 
-// Reads a chunk of that size of a place's file, as far as there is room.
-fn read_chunk(p: Upload, size: usize, room: &mut [u8]) -> Input {
+// Reads a chunk of that size of an upload's file, as far as there is room.
+fn read_chunk(upload: Upload, size: usize, room: &mut [u8]) -> Input {
     let n = octets::slices::least(size, room.len());
-    program_files::fetch_argument(p.file, p.fd, &mut room[0..n])
+    program_files::fetch_argument(upload.file, upload.fd, &mut room[0..n])
 }
 
-// The next chunk of a place's file is added, or at the file's end the upload is judged.
+// Adds the next chunk of its file to upload k, or at the file's end judges the upload.
 fn feed(mut m: Morning, k: usize, pool: &mut [u8]) -> Morning
-    requires { ⌜ k < 40 ⌝ }
+    requires { ⌜ k < limit.slots ⌝ }
 {
-    let p = m.uploads[k];
+    let upload = m.uploads[k];
     let mut room = [0u8; limit::OCTETS];
-    let got = read_chunk(p, m.chunk, &mut room);
+    let got = read_chunk(upload, m.chunk, &mut room);
     let Input::Octets(n) = got else {
         m.unread = depot::more(m.unread);
         return depot::release(m, k, pool);
     };
     if n == 0 {
         let d = m.desk;
-        return finish(m, k, d.judge(pool, p.ticket), true, pool);
+        return finish(m, k, d.judge(pool, upload.ticket), true, pool);
     }
     add_chunk(m, k, octets::slices::part(&room, 0, n), pool)
 }
 
-// One turn of a place.
+// One turn of upload k.
 fn turn(m: Morning, k: usize, pool: &mut [u8]) -> Morning
-    requires { ⌜ k < 40 ⌝ }
+    requires { ⌜ k < limit.slots ⌝ }
 {
-    let p = m.uploads[k];
-    if p.file == 0 {
+    let upload = m.uploads[k];
+    if upload.file == 0 {
         return take_file(m, k, pool);
     }
     feed(m, k, pool)
 }
 
-// One turn of each place.
+// One turn of each upload.
 fn run_round(m: Morning, pool: &mut [u8]) -> Morning {
     let mut now = m;
     let mut k: usize = 0;
-    while k < 40 {
+    while k < limit::SLOTS {
         now = turn(now, k, pool);
         k += 1;
     }
     now
 }
 
-// Round after round until no file is left; the count of rounds only shows that this ends.
+// Runs round after round until no file is left; the count of rounds only shows that this ends.
 fn run_rounds(m: Morning, pool: &mut [u8]) -> Morning {
     let mut now = m;
     let mut left = u64::MAX;
     while left > 0 {
         if now.next >= now.count {
-            if now.used == 0 {
+            if now.running == 0 {
                 return now;
             }
         }
@@ -162,13 +164,13 @@ fn run_rounds(m: Morning, pool: &mut [u8]) -> Morning {
     now
 }
 
-// Plays the morning with the files that the arguments from `first` on name.
+// Runs the morning with the files that the arguments from `first` on name.
 fn run(first: usize, count: usize, chunk: usize) -> u8
-    ensures { λ r. ⌜ r ≤ 2 ⌝ }
+    ensures { λ r. ⌜ r ≤ status.failed ⌝ }
 {
     let width = options::widest(first, count);
     printing::print_titles(width);
-    let mut pool = [0u8; 655360];
+    let mut pool = [0u8; limit::POOL];
     let m = run_rounds(depot::begin(first, count, chunk, width), &mut pool);
     printing::print_summary(m.accepted, m.refused, m.unread, m.differing)
 }

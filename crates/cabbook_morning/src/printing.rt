@@ -1,24 +1,25 @@
 // The rows of a morning, on standard output.
 ghost use mathlib.Core.Path.{_≡_};
 ghost use Prim.Native.Nat.{_≤_};
+ghost use Rattle.cabbook_tables.specs.Statuses as status;
 ghost use Rattle.cabbook_tables.specs.Uploads.{statusOf};
 use cabbook_tables::uploads;
 use libc::STDOUT_FILENO;
 use reader::Verdict;
 
-// Writes the first n octets of a page.
+// Writes the first n octets of a page to standard output.
 fn send(room: &[u8], n: usize) {
     io::write_all(STDOUT_FILENO, octets::slices::part(room, 0, n));
 }
 
-// The names of the columns.
+// Prints the names of the columns.
 pub(crate) fn print_titles(width: usize) {
     let mut room = io::buffer();
     let n = uploads::put_titles(&mut room, 0, width);
     send(&room, n);
 }
 
-// The row of the upload of the file that argument i names.
+// Prints the row of the upload of the file that argument i names.
 pub(crate) fn print_row(
     i: usize,
     width: usize,
@@ -43,10 +44,10 @@ pub(crate) fn print_row(
     send(&room, n);
 }
 
-// The last line, with the counts; answers the exit status.
+// Prints the last line, with the counts, and answers the exit status.
 pub fn print_summary(accepted: usize, refused: usize, unread: usize, differing: usize) -> u8
     ensures { λ r. ⌜ r ≡ statusOf refused differing unread ⌝ }
-    ensures { λ r. ⌜ r ≤ 2 ⌝ }
+    ensures { λ r. ⌜ r ≤ status.failed ⌝ }
 {
     let mut room = io::buffer();
     let n = uploads::put_summary(&mut room, 0, accepted, refused, differing, unread);

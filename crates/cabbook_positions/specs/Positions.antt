@@ -1,4 +1,4 @@
--- Places in a text as a person counts them: lines by LF, and the last place up to a place at which a line or a character starts.
+-- Positions in a text as a person counts them: lines by LF, and the last position up to a place at which a line or a character starts.
 -- Assumes nothing.
 use Prim.Native.Nat.{ℕ, zero, suc, _+_, _-_}
 use mathlib.Core.Bool.{Bool, not, _&&_, _||_}

@@ -43,6 +43,14 @@ answerFrom x t pool = answerTo (x .request) (part (x .room) 0 (x .request .count
 unfoldable pub answerIn : List ℕ → List ℕ → State → List ℕ → WithPool
 answerIn line room t pool = answerFrom (requestOf line room) t pool
 
--- a line of over 140,000 octets is no request
+-- the most octets of a line, its LF and a CR before it not counted
+abbrev pub mostLine : ℕ
+mostLine = 140000
+
+-- the most octets that such a line can send
+abbrev pub mostSent : ℕ
+mostSent = 70000
+
+-- a longer line is no request
 unfoldable pub answerLine : List ℕ → State → List ℕ → WithPool
-answerLine line t pool = pick (ltb 140000 (length line)) (withPool (saysBad t) pool) (answerIn line (replicate 70000 0) t pool)
+answerLine line t pool = pick (ltb mostLine (length line)) (withPool (saysBad t) pool) (answerIn line (replicate mostSent 0) t pool)

@@ -7,9 +7,16 @@ use input::Input;
 use input::Line;
 use libc::STDIN_FILENO;
 use libc::STDOUT_FILENO;
+use numbers::limit;
 
-// The most octets of an answer: all of the pool that 40 slots have, two digits an octet, and LF.
-const ANSWER: usize = 1310721;
+// The most octets of an answer: all of the pool, two digits an octet, and LF.
+const ANSWER: usize = 2 * limit::POOL + 1;
+
+// The octets of input that are read ahead.
+const INPUT: usize = 262144;
+
+// The octets of output that wait until they are sent on.
+const OUTPUT: usize = 2097152;
 
 // Sends on what waits, and answers that nothing waits any more.
 fn send(out: &[u8], at: usize) -> usize {
@@ -121,10 +128,10 @@ fn serve(buffer: &mut [u8], pool: &mut [u8], out: &mut [u8]) {
     }
 }
 
-// Lends each buffer once; the pool is that of 40 slots.
+// Lends each buffer once; the pool is that of a desk with all its slots.
 fn main() {
-    let mut buffer = [0u8; 262144];
-    let mut pool = [0u8; 655360];
-    let mut out = [0u8; 2097152];
+    let mut buffer = [0u8; INPUT];
+    let mut pool = [0u8; limit::POOL];
+    let mut out = [0u8; OUTPUT];
     serve(&mut buffer, &mut pool, &mut out);
 }

@@ -14,7 +14,7 @@ pub mod hex;
 pub fn put_end(out: &mut [u8], at: usize) -> usize
     ensures { λ r. ⌜ page r (now (out .exit)) ≡ added lineEnd (page at (now (out .entry))) ⌝ }
 {
-    program_output::put(out, at, 10)
+    program_output::put(out, at, b'\n')
 }
 
 // `bad request`, a whole line.

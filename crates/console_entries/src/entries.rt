@@ -3,15 +3,19 @@ ghost use mathlib.Core.Path.{_≡_};
 ghost use Prim.Native.Nat.{_+_, _≤_};
 ghost use Rattle.octets.specs.Room.{filled};
 ghost use Rattle.program_output.specs.Pages.{page, added};
-ghost use Rattle.console_entries.specs.Rooms.{octetRoom, numberRoom};
-ghost use Rattle.console_entries.specs.Entries.{linesOf, count, numbersOf, copyLength, takenText, roomsText, readText, outcomeOf, writeText, judgeAnswer, readAnswer, writeAnswer};
+ghost use Rattle.console_entries.specs.Rooms.{mostRoom, octetRoom, numberRoom};
+ghost use Rattle.console_entries.specs.Entries.{lineEndLength, linesOf, count, numbersOf, copyLength, takenText, roomsText, readText, outcomeOf, writeText, judgeAnswer, readAnswer, writeAnswer};
 use crate::rooms;
+use numbers::field;
 use numbers::limit;
 use octets::rooms::Written;
 use reader::Verdict;
 
-// The most octets or numbers of room.
+// The most octets or numbers of room that a request may ask for.
 const ROOM: usize = 70000;
+
+// How many octets end a line: CR LF.
+const LINE_END: usize = 2;
 
 // The entries that write octets to room.
 pub enum Writer {
@@ -42,7 +46,7 @@ fn lines_of(v: Verdict) -> usize
 fn numbers_of(lines: usize, most: usize) -> usize
     ensures { λ r. ⌜ r ≡ numbersOf lines most ⌝ }
 {
-    if lines > most / 8 {
+    if lines > most / limit::RECORD_LENGTH {
         return most;
     }
     lines * limit::RECORD_LENGTH
@@ -50,9 +54,9 @@ fn numbers_of(lines: usize, most: usize) -> usize
 
 // Where a line that starts and is so long ends, CR LF and all.
 fn past_line(start: u32, length: u32) -> usize
-    ensures { λ r. ⌜ r ≡ start + length + 2 ⌝ }
+    ensures { λ r. ⌜ r ≡ start + length + lineEndLength ⌝ }
 {
-    start as usize + length as usize + 2
+    start as usize + length as usize + LINE_END
 }
 
 // How long the copy is: the last record says where its last line ends.
@@ -60,10 +64,11 @@ fn copy_length(records: &[u32]) -> usize
     ensures { λ r. ⌜ r ≡ copyLength (now (records .entry)) ⌝ }
 {
     let n = records.len();
-    if n < 8 {
+    if n < limit::RECORD_LENGTH {
         return 0;
     }
-    past_line(records[n - 7], records[n - 6])
+    let last = n - limit::RECORD_LENGTH;
+    past_line(records[last + field::START], records[last + field::LENGTH])
 }
 
 // The octets and numbers that the reader wrote, if it wrote any.
@@ -99,11 +104,11 @@ fn put_read(input: &[u8], copy: &mut [u8], records: &mut [u32], out: &mut [u8], 
 
 // The reader's answer with fresh rooms of r octets and k numbers.
 fn put_read_fresh(r: usize, k: usize, input: &[u8], out: &mut [u8], at: usize) -> usize
-    requires { ⌜ (r ≤ 70000) × (k ≤ 70000) ⌝ }
+    requires { ⌜ (r ≤ mostRoom) × (k ≤ mostRoom) ⌝ }
     ensures { λ q. ⌜ page q (now (out .exit)) ≡ added (readText (now (input .entry)) (octetRoom r) (numberRoom k)) (page at (now (out .entry))) ⌝ }
 {
-    let mut room = [rooms::OCTET; ROOM];
-    let mut records = [rooms::NUMBER; ROOM];
+    let mut room = [rooms::OCTET_FILL; ROOM];
+    let mut records = [rooms::NUMBER_FILL; ROOM];
     put_read(input, &mut room[0..r], &mut records[0..k], out, at)
 }
 
@@ -152,10 +157,10 @@ fn put_write(entry: Writer, input: &[u8], room: &mut [u8], out: &mut [u8], at: u
 
 // The entry's answer with a fresh room of r octets.
 fn put_write_fresh(entry: Writer, r: usize, input: &[u8], out: &mut [u8], at: usize) -> usize
-    requires { ⌜ r ≤ 70000 ⌝ }
+    requires { ⌜ r ≤ mostRoom ⌝ }
     ensures { λ q. ⌜ page q (now (out .exit)) ≡ added (writeText (outcomeOf entry (now (input .entry)) (octetRoom r))) (page at (now (out .entry))) ⌝ }
 {
-    let mut room = [rooms::OCTET; ROOM];
+    let mut room = [rooms::OCTET_FILL; ROOM];
     put_write(entry, input, &mut room[0..r], out, at)
 }
 

@@ -6,12 +6,12 @@ use native.Mathlib.Omega.{arith}
 use lib.ListN.{length}
 use borrow.Author.Tests.{lt-ltb, le-ltb, eq-eqb, ne-eqb}
 use Rattle.console_words.specs.Words.{wordsOf, wordAt}
-use Rattle.program_numbers.specs.Numbers.{numberOf}
+use Rattle.program_numbers.specs.Decimal.{numberOf}
 use Rattle.program_numbers.specs.Hex.{taken, octetsOf}
 use Rattle.console_requests.specs.Names.{Row, rowAt, rowOf}
 use Rattle.console_requests.specs.Requests.{request, noRequest, requested, numberAt, octetsAt, counted, whole, read, requestOf}
-use Rattle.program_numbers.specs.declared.numbers.Number.{Number}
-use Rattle.program_numbers.specs.declared.numbers.Number.the-variants.{Is, Bad}
+use Rattle.program_numbers.specs.declared.decimal.Number.{Number}
+use Rattle.program_numbers.specs.declared.decimal.Number.the-variants.{Is, Bad}
 use Rattle.program_numbers.specs.declared.hex.Octets.{Octets}
 use Rattle.program_numbers.specs.declared.hex.Octets.the-variants.{Are, Bad as NoOctets}
 

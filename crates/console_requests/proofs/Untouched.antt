@@ -11,8 +11,8 @@ use Rattle.octets.specs.Ascii.{octets}
 use Rattle.console_words.specs.Words.{wordsOf, wordAt}
 use Rattle.program_numbers.specs.Alike.{alike}
 use Rattle.program_numbers.specs.Hex.{Taken, taken, stored, decoded, paired, octetsOf}
-use Rattle.program_numbers.specs.declared.numbers.Number.{Number}
-use Rattle.program_numbers.specs.declared.numbers.Number.the-variants.{Is, Bad as NoNumber}
+use Rattle.program_numbers.specs.declared.decimal.Number.{Number}
+use Rattle.program_numbers.specs.declared.decimal.Number.the-variants.{Is, Bad as NoNumber}
 use Rattle.program_numbers.specs.declared.hex.Octets.{Octets}
 use Rattle.program_numbers.specs.declared.hex.Octets.the-variants.{Are, Bad as NoOctets}
 use Rattle.octets.proofs.Bools.{and-both}

@@ -5,14 +5,14 @@ use lib.Dec.{ltb, eqb}
 use lib.ListN.{length}
 use Rattle.octets.specs.Pick.{pick}
 use Rattle.console_words.specs.Words.{wordsOf, wordAt}
-use Rattle.program_numbers.specs.Numbers.{numberOf}
+use Rattle.program_numbers.specs.Decimal.{numberOf}
 use Rattle.program_numbers.specs.Hex.{Taken, taken, octetsOf}
 use Rattle.console_requests.specs.Names.{Row, rowOf}
 use Rattle.console_requests.specs.declared.Request.{Request}
 use Rattle.console_requests.specs.declared.Name.{Name}
 use Rattle.console_requests.specs.declared.Name.the-variants.{Bad}
-use Rattle.program_numbers.specs.declared.numbers.Number.{Number}
-use Rattle.program_numbers.specs.declared.numbers.Number.the-variants.{Is, Bad as NoNumber}
+use Rattle.program_numbers.specs.declared.decimal.Number.{Number}
+use Rattle.program_numbers.specs.declared.decimal.Number.the-variants.{Is, Bad as NoNumber}
 use Rattle.program_numbers.specs.declared.hex.Octets.{Octets}
 use Rattle.program_numbers.specs.declared.hex.Octets.the-variants.{Are, Bad as NoOctets}
 

@@ -7,8 +7,8 @@ ghost use Rattle.program_numbers.specs.Hex.{taken};
 ghost use Rattle.console_words.specs.Words.{wordAt};
 ghost use Rattle.console_requests.specs.Names.{Lists, rowAt};
 ghost use Rattle.console_requests.specs.Requests.{noRequest, numberAt, octetsAt, requested, read, requestOf};
+use program_numbers::decimal::Number;
 use program_numbers::hex::Octets;
-use program_numbers::numbers::Number;
 
 // The requests, and what a line has that is none.
 pub enum Name {
@@ -56,7 +56,7 @@ fn number(line: &[u8], k: usize, numbers: usize) -> Number
     if numbers < k {
         return Number::Is(0);
     }
-    program_numbers::numbers::number_of(console_words::word(line, k))
+    program_numbers::decimal::number_of(console_words::word(line, k))
 }
 
 // The octets after the numbers, where the request has octets.

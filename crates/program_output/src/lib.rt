@@ -37,7 +37,7 @@ pub fn put_spaces(room: &mut [u8], at: usize, n: usize) -> usize
     let mut next = at;
     let mut left = n;
     while left > 0 {
-        next = put(room, next, 32);
+        next = put(room, next, b' ');
         left -= 1;
     }
     next

@@ -5,11 +5,11 @@ use borrow.Author.Needs.{needs}
 use Rattle.cabbook_morning.proofs.depot.release.Statement.{statement}
 use Rattle.cabbook_morning.proofs.depot.release.Tie as tie
 
-mul-p : tie.Need-mul-p
-mul-p c = search needs
+mul-upload : tie.Need-mul-upload
+mul-upload c = search needs
 
-element-copy-out-p : tie.Need-element-copy-out-p
-element-copy-out-p c = search needs
+element-copy-out-upload : tie.Need-element-copy-out-upload
+element-copy-out-upload c = search needs
 
 release-requires : tie.Need-release-requires
 release-requires c κs = search needs
@@ -42,8 +42,8 @@ pub release-spec : {M : Type 1} → statement M
 release-spec =
     tie.close
     (tie.spec
-    mul-p
-    element-copy-out-p
+    mul-upload
+    element-copy-out-upload
     release-requires
     close-requires
     no-upload-requires

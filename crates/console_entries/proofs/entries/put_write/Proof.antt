@@ -10,7 +10,7 @@ use Rattle.program_output.specs.Pages.{page, added}
 use Rattle.console_answers.specs.Texts.{writtenText, roomEnd}
 use Rattle.octets.specs.Room.{Filled}
 use Rattle.program_output.proofs.PageLaws.{then}
-use Rattle.console_entries.specs.Rooms.{all}
+use Rattle.console_entries.specs.Rooms.{octetFill, all}
 use Rattle.console_entries.specs.Entries.{writeText}
 use Rattle.console_entries.proofs.entries.put_write.Statement.{statement}
 use Rattle.console_entries.proofs.entries.put_write.Tie as tie
@@ -49,7 +49,7 @@ returns c =
     let room = call .last .1 .1 .0 in
     then (writtenText (call .result) room) (roomEnd (is-kept .result)) o (put-written .ensures) (put-room-end .ensures)
     ∙ ap (λ (b : Bool). added (writtenText (call .result) room ++ roomEnd b) o) (is-kept .ensures)
-    ∙ ap (λ (n : ℕ). added (writtenText (call .result) room ++ roomEnd (all 165 (drop n room))) o) (count-of .ensures)
+    ∙ ap (λ (n : ℕ). added (writtenText (call .result) room ++ roomEnd (all octetFill (drop n room))) o) (count-of .ensures)
     ∙ ap (λ (f : Filled). added (writeText f) o) (call .ensures)
 
 pub put-write-spec : {M : Type 1} → statement M

@@ -4,11 +4,12 @@ use mathlib.Core.Bool.{Bool, _&&_}
 use mathlib.Core.List.{List, [], _∷_}
 use lib.Dec.{leb, ltb, eqb}
 use lib.ListN.{length}
+use Rattle.numbers.specs.Limits as limit
 use Rattle.octets.specs.Pick.{pick}
 use Rattle.octets.specs.Classes.{within}
 use Rattle.octets.specs.Counts.{allIn}
-use Rattle.program_numbers.specs.declared.numbers.Number.{Number}
-use Rattle.program_numbers.specs.declared.numbers.Number.the-variants.{Is, Bad}
+use Rattle.program_numbers.specs.declared.decimal.Number.{Number}
+use Rattle.program_numbers.specs.declared.decimal.Number.the-variants.{Is, Bad}
 
 -- what a decimal digit stands for, or 10
 unfoldable pub ones : ℕ → ℕ
@@ -22,13 +23,9 @@ unfoldable pub valueFrom : ℕ → List ℕ → ℕ
 valueFrom n [] = n
 valueFrom n (x ∷ xs) = valueFrom (10 * n + ones x) xs
 
--- the largest number of 64 bits
-abbrev pub largest : ℕ
-largest = 18446744073709551615
-
 -- the digits of n and then these, where they are digits and the number fits
 unfoldable pub numberFrom : ℕ → List ℕ → Number
-numberFrom n w = pick (allIn digit w && leb (valueFrom n w) largest) (Is (valueFrom n w)) Bad
+numberFrom n w = pick (allIn digit w && leb (valueFrom n w) limit.largest64) (Is (valueFrom n w)) Bad
 
 -- one or more decimal digits whose number fits 64 bits
 unfoldable pub numberOf : List ℕ → Number

@@ -1,18 +1,19 @@
--- `program_numbers::numbers::number_of` meets its contract. Assumes nothing.
+-- `program_numbers::decimal::number_of` meets its contract. Assumes nothing.
 use borrow.Author.Needs.{needs}
 use mathlib.Core.Path.{_≡_, sym, _∙_}
 use Prim.Native.Nat.{_-_, _≤_}
 use native.Mathlib.Omega.{arith}
 use lib.ListN.{length, drop}
 use borrow.Author.Tests.{eq-eqb, ne-eqb}
-use Rattle.program_numbers.specs.Numbers.{ones, largest, numberFrom, numberOf}
+use Rattle.numbers.specs.Limits as limit
+use Rattle.program_numbers.specs.Decimal.{ones, numberFrom, numberOf}
 use Rattle.program_numbers.proofs.NumberLaws.{number-stop, number-large, number-step, number-end}
-use Rattle.program_numbers.proofs.numbers.number_of.Statement.{statement}
-use Rattle.program_numbers.proofs.numbers.number_of.Tie as tie
+use Rattle.program_numbers.proofs.decimal.number_of.Statement.{statement}
+use Rattle.program_numbers.proofs.decimal.number_of.Tie as tie
 
 abbrev Inv-loop : tie.InvT-loop
 Inv-loop word n₀ i₀ n i =
-    (i ≤ length word) × (n ≤ largest) × (numberOf word ≡ numberFrom n (drop i word))
+    (i ≤ length word) × (n ≤ limit.largest64) × (numberOf word ≡ numberFrom n (drop i word))
 
 abbrev μ-loop : tie.MeasureT-loop
 μ-loop word n₀ i₀ n i =

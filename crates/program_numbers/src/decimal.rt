@@ -1,7 +1,11 @@
 // Numbers in decimal digits.
 ghost use mathlib.Core.Path.{_≡_};
-ghost use Rattle.program_numbers.specs.Numbers.{ones, numberOf};
+ghost use Rattle.program_numbers.specs.Decimal.{ones, numberOf};
 
+// What a digit is never worth: the answer for an octet that is no digit.
+const NO_DIGIT: usize = 10;
+
+// The number that a word stands for, or that it stands for none.
 pub enum Number {
     Is(usize),
     Bad,
@@ -11,13 +15,13 @@ pub enum Number {
 fn ones(octet: u8) -> usize
     ensures { λ r. ⌜ r ≡ ones octet ⌝ }
 {
-    if octet < 48 {
-        return 10;
+    if octet < b'0' {
+        return NO_DIGIT;
     }
-    if octet < 58 {
-        return (octet - 48) as usize;
+    if octet <= b'9' {
+        return (octet - b'0') as usize;
     }
-    10
+    NO_DIGIT
 }
 
 // The number that a word has in decimal digits, where it is one that fits.
@@ -31,7 +35,7 @@ pub fn number_of(word: &[u8]) -> Number
     let mut i: usize = 0;
     while i < word.len() {
         let one = ones(word[i]);
-        if one > 9 {
+        if one >= NO_DIGIT {
             return Number::Bad;
         }
         if n > (usize::MAX - one) / 10 {

@@ -1,10 +1,10 @@
--- `program_numbers::numbers::ones` meets its contract. Assumes nothing.
+-- `program_numbers::decimal::ones` meets its contract. Assumes nothing.
 use native.Mathlib.Omega.{arith}
-use Rattle.program_numbers.specs.Numbers.{ones}
+use Rattle.program_numbers.specs.Decimal.{ones}
 use Rattle.program_numbers.proofs.ListLaws.{below, above, inside}
 use borrow.Author.Needs.{needs}
-use Rattle.program_numbers.proofs.numbers.ones.Statement.{statement}
-use Rattle.program_numbers.proofs.numbers.ones.Tie as tie
+use Rattle.program_numbers.proofs.decimal.ones.Statement.{statement}
+use Rattle.program_numbers.proofs.decimal.ones.Tie as tie
 
 returns : tie.Need-returns
 unfolding ones
