@@ -16,10 +16,7 @@ pub fn put_count(room: &mut [u8], at: usize, n: usize, thing: &[u8]) -> usize
     ensures { λ r. ⌜ page r (now (room .exit)) ≡ added (counted n (now (thing .entry))) (page at (now (room .entry))) ⌝ }
 {
     let end = put_amount(room, at, n, thing);
-    if n == 1 {
-        return end;
-    }
-    program_output::put_all(room, end, b"s")
+    program_output::put_unless(room, end, n == 1, b"s")
 }
 
 // Adds `refused NUMBER at octet PLACE`.

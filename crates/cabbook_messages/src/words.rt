@@ -4,6 +4,9 @@ ghost use Rattle.program_output.specs.Pages.{page, added};
 ghost use Rattle.cabbook_messages.specs.Words.{messages, wordsOf, tableOf};
 use octets::indices::wide;
 
+// The octets before a message's words: its number and their length.
+const HEAD: usize = 2;
+
 // tools/messages makes the table from here on.
 const SIZE: usize = 804;
 
@@ -48,7 +51,7 @@ fn words_of(t: &[u8], number: u32) -> &[u8]
 {
     let mut from: usize = 0;
     while from < t.len() {
-        let start = from + 2;
+        let start = from + HEAD;
         let end = start + wide(t[from + 1]);
         if wide(t[from]) == number as usize {
             return &t[start..end];

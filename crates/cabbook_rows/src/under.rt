@@ -43,10 +43,7 @@ fn put_cut(room: &mut [u8], at: usize, line: &[u8]) -> usize
         at,
         octets::slices::part(line, 0, end),
     );
-    if end == line.len() {
-        return text_end;
-    }
-    program_output::put_all(room, text_end, b"...")
+    program_output::put_unless(room, text_end, end == line.len(), b"...")
 }
 
 // Adds a logical line without its folds; nothing where it is longer than a text that was read.

@@ -16,7 +16,7 @@ const LINE: usize = 140000;
 // The most octets that such a line can send.
 const OCTETS: usize = 70000;
 
-// The answer to a request.
+// Answers a request.
 fn answer_request(q: Request, c: Console, sent: &[u8], pool: &mut [u8], out: &mut [u8]) -> Console
     ensures { λ r. ⌜ withPool (stateOf r (now (out .exit))) (now (pool .exit)) ≡ answerTo q (now (sent .entry)) (stateOf c (now (out .entry))) (now (pool .entry)) ⌝ }
 {
@@ -54,7 +54,7 @@ fn answer_request(q: Request, c: Console, sent: &[u8], pool: &mut [u8], out: &mu
     }
 }
 
-// The answer to a line, with room for the octets that it sends.
+// Answers a line, with room for the octets that it sends.
 fn answer_in(c: Console, line: &[u8], room: &mut [u8], pool: &mut [u8], out: &mut [u8]) -> Console
     ensures { λ r. ⌜ withPool (stateOf r (now (out .exit))) (now (pool .exit)) ≡ answerIn (now (line .entry)) (now (room .entry)) (stateOf c (now (out .entry))) (now (pool .entry)) ⌝ }
 {
@@ -62,7 +62,7 @@ fn answer_in(c: Console, line: &[u8], room: &mut [u8], pool: &mut [u8], out: &mu
     answer_request(q, c, octets::slices::part(room, 0, q.count), pool, out)
 }
 
-// The answer to a line without its end.
+// Answers a line without its end.
 pub fn answer_line(c: Console, line: &[u8], pool: &mut [u8], out: &mut [u8]) -> Console
     ensures { λ r. ⌜ withPool (stateOf r (now (out .exit))) (now (pool .exit)) ≡ answerLine (now (line .entry)) (stateOf c (now (out .entry))) (now (pool .entry)) ⌝ }
 {

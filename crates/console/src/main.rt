@@ -24,7 +24,7 @@ fn send(out: &[u8], at: usize) -> usize {
     0
 }
 
-// With room for an answer; what waits is sent on where there is less.
+// Makes room for an answer: what waits is sent on where there is less.
 fn make_room(c: Console, out: &[u8]) -> Console {
     let at = c.at;
     if at > out.len() {
@@ -36,7 +36,7 @@ fn make_room(c: Console, out: &[u8]) -> Console {
     c
 }
 
-// The answer to a line, or to one that is too long, added to the output; where there is no line the output is sent on.
+// Answers a line, or one that is too long; where there is no line the output is sent on.
 fn answer(
     c: Console,
     line: Line,
@@ -82,7 +82,7 @@ fn read_from(buffer: &mut [u8], from: usize) -> usize {
     from + n
 }
 
-// With more of the input after what was not taken yet; where that fills the buffer, the line is too long and is dropped.
+// Reads more of the input after what was not taken yet; where that fills the buffer, the line is too long and is dropped.
 fn refill(buffer: &mut [u8], i: Input) -> Input {
     let withPool = move_down(buffer, i.from, i.to);
     if withPool >= buffer.len() {
@@ -103,7 +103,7 @@ fn refill(buffer: &mut [u8], i: Input) -> Input {
     }
 }
 
-// After a line, or with more of the input where there was none.
+// Goes past a line, or reads more of the input where there was none.
 fn advance(buffer: &mut [u8], i: Input, line: Line) -> Input {
     if line.found {
         return i.past(line.next);
@@ -111,7 +111,7 @@ fn advance(buffer: &mut [u8], i: Input, line: Line) -> Input {
     refill(buffer, i)
 }
 
-// Line after line; the count of turns only shows that this ends.
+// Answers line after line; the count of turns only shows that this ends.
 fn serve(buffer: &mut [u8], pool: &mut [u8], out: &mut [u8]) {
     let mut i = Input::new();
     let mut c = Console::new();

@@ -10,14 +10,14 @@ use reader::Verdict;
 
 pub mod hex;
 
-// The end of a line; LF.
+// Adds the end of a line, LF.
 pub fn put_end(out: &mut [u8], at: usize) -> usize
     ensures { λ r. ⌜ page r (now (out .exit)) ≡ added lineEnd (page at (now (out .entry))) ⌝ }
 {
     program_output::put(out, at, b'\n')
 }
 
-// `bad request`, a whole line.
+// Adds `bad request`, a whole line.
 pub fn put_bad(out: &mut [u8], at: usize) -> usize
     ensures { λ r. ⌜ page r (now (out .exit)) ≡ added badLine (page at (now (out .entry))) ⌝ }
 {
@@ -32,7 +32,7 @@ fn put_after(out: &mut [u8], at: usize, mark: u8, n: usize) -> usize
     program_output::digits::put_number(out, end, n)
 }
 
-// `no NUMBER PLACE`.
+// Adds `no NUMBER PLACE`.
 pub fn put_refusal(out: &mut [u8], at: usize, number: u32, place: usize) -> usize
     ensures { λ r. ⌜ page r (now (out .exit)) ≡ added (refusalText number place) (page at (now (out .entry))) ⌝ }
 {
@@ -41,7 +41,7 @@ pub fn put_refusal(out: &mut [u8], at: usize, number: u32, place: usize) -> usiz
     put_after(out, end, b' ', place)
 }
 
-// `ok NUMBER`.
+// Adds `ok NUMBER`.
 pub fn put_done(out: &mut [u8], at: usize, number: usize) -> usize
     ensures { λ r. ⌜ page r (now (out .exit)) ≡ added (doneText number) (page at (now (out .entry))) ⌝ }
 {
@@ -49,7 +49,7 @@ pub fn put_done(out: &mut [u8], at: usize, number: usize) -> usize
     put_after(out, word, b' ', number)
 }
 
-// `ok CARDS LINES`, or the refusal.
+// Adds `ok CARDS LINES`, or the refusal.
 pub fn put_verdict(out: &mut [u8], at: usize, v: Verdict) -> usize
     ensures { λ r. ⌜ page r (now (out .exit)) ≡ added (verdictText v) (page at (now (out .entry))) ⌝ }
 {
@@ -62,7 +62,7 @@ pub fn put_verdict(out: &mut [u8], at: usize, v: Verdict) -> usize
     }
 }
 
-// `ok NUMBER`, or the refusal, of a call of the desk.
+// Adds `ok NUMBER`, or the refusal, of a call of the desk.
 pub fn put_answer(out: &mut [u8], at: usize, a: Answer) -> usize
     ensures { λ r. ⌜ page r (now (out .exit)) ≡ added (answerText a) (page at (now (out .entry))) ⌝ }
 {
@@ -72,7 +72,7 @@ pub fn put_answer(out: &mut [u8], at: usize, a: Answer) -> usize
     }
 }
 
-// `ok COUNT OCTETS` with the octets written to room, or the refusal.
+// Adds `ok COUNT OCTETS` with the octets written to room, or the refusal.
 pub fn put_written(out: &mut [u8], at: usize, w: Written, room: &[u8]) -> usize
     ensures { λ r. ⌜ page r (now (out .exit)) ≡ added (writtenText w (now (room .entry))) (page at (now (out .entry))) ⌝ }
 {
@@ -85,7 +85,7 @@ pub fn put_written(out: &mut [u8], at: usize, w: Written, room: &[u8]) -> usize
     }
 }
 
-// A space and octets.
+// Adds a space and octets.
 pub fn put_spaced_octets(out: &mut [u8], at: usize, s: &[u8]) -> usize
     ensures { λ r. ⌜ page r (now (out .exit)) ≡ added (spaced (octetsWord (now (s .entry)))) (page at (now (out .entry))) ⌝ }
 {
@@ -93,7 +93,7 @@ pub fn put_spaced_octets(out: &mut [u8], at: usize, s: &[u8]) -> usize
     hex::put_octets(out, end, s)
 }
 
-// A space and numbers joined by commas.
+// Adds a space and numbers joined by commas.
 pub fn put_spaced_numbers(out: &mut [u8], at: usize, s: &[u32]) -> usize
     ensures { λ r. ⌜ page r (now (out .exit)) ≡ added (spaced (joined (now (s .entry)))) (page at (now (out .entry))) ⌝ }
 {
@@ -110,7 +110,7 @@ pub fn put_spaced_numbers(out: &mut [u8], at: usize, s: &[u32]) -> usize
     end
 }
 
-// The line's end, after the word for room that is not as it was.
+// Adds the line's end, after the word `touched` where the room is not as it was.
 pub fn put_room_end(out: &mut [u8], at: usize, kept: bool) -> usize
     ensures { λ r. ⌜ page r (now (out .exit)) ≡ added (roomEnd kept) (page at (now (out .entry))) ⌝ }
 {

@@ -1,7 +1,8 @@
 -- What the console answers to a request of the desk, and what it keeps then: desk, pool and output. Assumes nothing.
 use Prim.Native.Nat.{ℕ, _+_, _-_}
 use mathlib.Core.List.{List, _++_}
-use lib.Dec.{ltb}
+use mathlib.Core.Bool.{Bool, true, false}
+use lib.Dec.{ltb, leb}
 use lib.ListN.{length, take}
 use Rattle.numbers.specs.Limits as limit
 use Rattle.octets.specs.Pick.{pick}
@@ -50,6 +51,10 @@ moved c at = record { desk = c .desk; size = c .size; at = at }
 abbrev pub says : List ℕ → State → State
 says text t = state (t .desk) (t .size) (added text (t .output))
 
+-- the line of an answer ends, after what was added
+abbrev pub endsLine : State → Page → State
+endsLine t o = state (t .desk) (t .size) (added lineEnd o)
+
 abbrev pub saysBad : State → State
 saysBad t = says badLine t
 
@@ -59,22 +64,23 @@ afterTurn t size o = state (t .desk) size (added (answerText (t .answer) ++ line
 
 -- ---- desk, next
 
--- a pool larger than there is octets for is no request
+-- a pool larger than there is room for is no request
 unfoldable pub deskAnswer : ℕ → ℕ → State → List ℕ → WithPool
 deskAnswer slots n t pool =
     pick (ltb (length pool) n) (withPool (saysBad t) pool) (withPool (afterTurn (newStep slots) n (t .output)) (overlay (octetRoom n) pool))
 
--- a number over 32 bits is no request
-abbrev pub fitting : {A : Type 0} → ℕ → A → A → A
-fitting n bad a = pick (ltb limit.largest n) bad a
-
 abbrev pub withNext : Desk → ℕ → Desk
 withNext d n = record { entries = d .entries; slots = d .slots; next = n }
 
+-- a number over 32 bits is no request
 unfoldable pub nextAnswer : ℕ → State → State
-nextAnswer n t = fitting n (saysBad t) (state (withNext (t .desk) n) (t .size) (added (doneText n ++ lineEnd) (t .output)))
+nextAnswer n t = pick (ltb limit.largest n) (saysBad t) (state (withNext (t .desk) n) (t .size) (added (doneText n ++ lineEnd) (t .output)))
 
 -- ---- open, add, release
+
+-- a call has a number of 32 bits, and the pool that is lent is there
+unfoldable pub callable : ℕ → ℕ → List ℕ → Bool
+callable n size pool = pick (ltb limit.largest n) false (leb size (length pool))
 
 abbrev pub changeOf : Change → Desk → List ℕ → ℕ → List ℕ → Turned
 changeOf Open d p n chunk = openStep d p n
@@ -87,8 +93,7 @@ over u t pool = withPool (state (u .desk) (t .size) (added (answerText (u .answe
 
 unfoldable pub changeAnswer : Change → ℕ → List ℕ → State → List ℕ → WithPool
 changeAnswer w n chunk t pool =
-    fitting n (withPool (saysBad t) pool)
-    (pick (ltb (length pool) (t .size)) (withPool (saysBad t) pool) (over (changeOf w (t .desk) (take (t .size) pool) n chunk) t pool))
+    pick (callable n (t .size) pool) (over (changeOf w (t .desk) (take (t .size) pool) n chunk) t pool) (withPool (saysBad t) pool)
 
 -- ---- check, show, held, pool
 
@@ -99,13 +104,14 @@ lookText Held d p n = answerText (heldStep d p n)
 
 unfoldable pub lookAnswer : Look → ℕ → State → List ℕ → State
 lookAnswer w n t pool =
-    fitting n (saysBad t)
-    (pick (ltb (length pool) (t .size)) (saysBad t) (says (lookText w (t .desk) (take (t .size) pool) n ++ lineEnd) t))
+    pick (callable n (t .size) pool) (says (lookText w (t .desk) (take (t .size) pool) n ++ lineEnd) t) (saysBad t)
+
+-- so many octets from a place on lie in the pool that is lent
+unfoldable pub lies : ℕ → ℕ → List ℕ → Bool
+lies from count lent = pick (ltb (length lent) from) false (leb count (length lent - from))
 
 abbrev pub partOf : ℕ → ℕ → State → List ℕ → State
-partOf from count t lent =
-    pick (ltb (length lent) from) (saysBad t)
-    (pick (ltb (length lent - from) count) (saysBad t) (says (octetsWord (part lent from (from + count)) ++ lineEnd) t))
+partOf from count t lent = pick (lies from count lent) (says (octetsWord (part lent from (from + count)) ++ lineEnd) t) (saysBad t)
 
 unfoldable pub poolAnswer : ℕ → ℕ → State → List ℕ → State
 poolAnswer from count t pool = partOf from count t (part pool 0 (t .size))

@@ -24,7 +24,7 @@ pub enum Writer {
     Unescape,
 }
 
-// `judge OCTETS`.
+// Adds the answer to `judge OCTETS`.
 pub fn put_judge_answer(input: &[u8], out: &mut [u8], at: usize) -> usize
     ensures { λ r. ⌜ page r (now (out .exit)) ≡ added (judgeAnswer (now (input .entry))) (page at (now (out .entry))) ⌝ }
 {
@@ -71,7 +71,7 @@ fn copy_length(records: &[u32]) -> usize
     past_line(records[last + field::START], records[last + field::LENGTH])
 }
 
-// The octets and numbers that the reader wrote, if it wrote any.
+// Adds the octets and numbers that the reader wrote, if it wrote any.
 fn put_taken(copy: &[u8], records: &[u32], out: &mut [u8], at: usize) -> usize
     ensures { λ r. ⌜ page r (now (out .exit)) ≡ added (takenText (now (copy .entry)) (now (records .entry))) (page at (now (out .entry))) ⌝ }
 {
@@ -82,7 +82,7 @@ fn put_taken(copy: &[u8], records: &[u32], out: &mut [u8], at: usize) -> usize
     console_answers::put_spaced_numbers(out, end, records)
 }
 
-// What the reader left in its rooms, after the verdict.
+// Adds what the reader left in its rooms, after the verdict.
 fn put_rooms(lines: usize, copy: &[u8], records: &[u32], out: &mut [u8], at: usize) -> usize
     ensures { λ r. ⌜ page r (now (out .exit)) ≡ added (roomsText lines (now (copy .entry)) (now (records .entry))) (page at (now (out .entry))) ⌝ }
 {
@@ -93,7 +93,7 @@ fn put_rooms(lines: usize, copy: &[u8], records: &[u32], out: &mut [u8], at: usi
     console_answers::put_room_end(out, end, rooms::both_kept(copy, n, records, k))
 }
 
-// The reader's answer with these rooms.
+// Adds the reader's answer with these rooms.
 fn put_read(input: &[u8], copy: &mut [u8], records: &mut [u32], out: &mut [u8], at: usize) -> usize
     ensures { λ r. ⌜ page r (now (out .exit)) ≡ added (readText (now (input .entry)) (now (copy .entry)) (now (records .entry))) (page at (now (out .entry))) ⌝ }
 {
@@ -102,7 +102,7 @@ fn put_read(input: &[u8], copy: &mut [u8], records: &mut [u32], out: &mut [u8], 
     put_rooms(lines_of(v), copy, records, out, end)
 }
 
-// The reader's answer with fresh rooms of r octets and k numbers.
+// Adds the reader's answer with fresh rooms of r octets and k numbers.
 fn put_read_fresh(r: usize, k: usize, input: &[u8], out: &mut [u8], at: usize) -> usize
     requires { ⌜ (r ≤ mostRoom) × (k ≤ mostRoom) ⌝ }
     ensures { λ q. ⌜ page q (now (out .exit)) ≡ added (readText (now (input .entry)) (octetRoom r) (numberRoom k)) (page at (now (out .entry))) ⌝ }
@@ -112,7 +112,7 @@ fn put_read_fresh(r: usize, k: usize, input: &[u8], out: &mut [u8], at: usize) -
     put_read(input, &mut room[0..r], &mut records[0..k], out, at)
 }
 
-// `read COPYROOM RECORDROOM OCTETS`.
+// Adds the answer to `read COPYROOM RECORDROOM OCTETS`.
 pub fn put_read_answer(r: usize, k: usize, input: &[u8], out: &mut [u8], at: usize) -> usize
     ensures { λ q. ⌜ page q (now (out .exit)) ≡ added (readAnswer r k (now (input .entry))) (page at (now (out .entry))) ⌝ }
 {
@@ -125,7 +125,7 @@ pub fn put_read_answer(r: usize, k: usize, input: &[u8], out: &mut [u8], at: usi
     put_read_fresh(r, k, input, out, at)
 }
 
-// What the entry writes to room.
+// Calls the entry, which writes to room.
 fn call(entry: Writer, input: &[u8], room: &mut [u8]) -> Written
     ensures { λ r. ⌜ filled r (now (room .exit)) ≡ outcomeOf entry (now (input .entry)) (now (room .entry)) ⌝ }
 {
@@ -146,7 +146,7 @@ fn count_of(w: Written) -> usize
     }
 }
 
-// The entry's answer with this room.
+// Adds the entry's answer with this room.
 fn put_write(entry: Writer, input: &[u8], room: &mut [u8], out: &mut [u8], at: usize) -> usize
     ensures { λ r. ⌜ page r (now (out .exit)) ≡ added (writeText (outcomeOf entry (now (input .entry)) (now (room .entry)))) (page at (now (out .entry))) ⌝ }
 {
@@ -155,7 +155,7 @@ fn put_write(entry: Writer, input: &[u8], room: &mut [u8], out: &mut [u8], at: u
     console_answers::put_room_end(out, end, rooms::is_kept(room, count_of(w)))
 }
 
-// The entry's answer with a fresh room of r octets.
+// Adds the entry's answer with a fresh room of r octets.
 fn put_write_fresh(entry: Writer, r: usize, input: &[u8], out: &mut [u8], at: usize) -> usize
     requires { ⌜ r ≤ mostRoom ⌝ }
     ensures { λ q. ⌜ page q (now (out .exit)) ≡ added (writeText (outcomeOf entry (now (input .entry)) (octetRoom r))) (page at (now (out .entry))) ⌝ }
@@ -164,7 +164,7 @@ fn put_write_fresh(entry: Writer, r: usize, input: &[u8], out: &mut [u8], at: us
     put_write(entry, input, &mut room[0..r], out, at)
 }
 
-// `fold ROOM OCTETS`, and the others that write octets to room.
+// Adds the answer to `fold ROOM OCTETS`, and to the others that write octets to room.
 pub fn put_write_answer(entry: Writer, r: usize, input: &[u8], out: &mut [u8], at: usize) -> usize
     ensures { λ q. ⌜ page q (now (out .exit)) ≡ added (writeAnswer entry r (now (input .entry))) (page at (now (out .entry))) ⌝ }
 {

@@ -4,6 +4,7 @@ pub mod digits;
 ghost use mathlib.Core.Path.{_≡_};
 ghost use mathlib.Core.List.{_∷_, []};
 ghost use lib.ListN.{replicate};
+ghost use Rattle.octets.specs.Pick.{pick};
 ghost use Rattle.program_output.specs.Pages.{page, added};
 
 // Adds an octet, and answers how many octets are written then.
@@ -28,6 +29,16 @@ pub fn put_all(room: &mut [u8], at: usize, text: &[u8]) -> usize
         i += 1;
     }
     next
+}
+
+// Adds a text, or nothing where that is told.
+pub fn put_unless(room: &mut [u8], at: usize, nothing: bool, text: &[u8]) -> usize
+    ensures { λ r. ⌜ page r (now (room .exit)) ≡ added (pick nothing [] (now (text .entry))) (page at (now (room .entry))) ⌝ }
+{
+    if nothing {
+        return at;
+    }
+    put_all(room, at, text)
 }
 
 // Adds n spaces.

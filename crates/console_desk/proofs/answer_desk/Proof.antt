@@ -24,10 +24,8 @@ same-length c = search needs
 returns : tie.Need-returns
 unfolding deskAnswer
 returns c =
-    let answer-bad = c .before .before .answer-bad in
-    let if1 = c .before .before .before .before .if1 in
     let a = c .before .before .before .before .before .before .before .args in
-    rw (lt-ltb _ _ (if1 .taken)) (ap (λ (x : State). withPool x (now (a .pool))) (answer-bad .ensures))
+    rw (lt-ltb _ _ (c .before .before .before .before .if1 .taken)) (ap (λ (x : State). withPool x (now (a .pool))) (c .before .before .answer-bad .ensures))
 
 sub-fill : tie.Need-sub-fill
 sub-fill c = search needs

@@ -31,14 +31,14 @@ same-length-3 c = search needs
 returns : tie.Need-returns
 unfolding answerIn
 returns c =
-    let c7 = c .before .before .before .before .before .before .before in
-    let c11 = c7 .before .before .before .before in
-    let a = c11 .before .before .before .before .before .before .args in
+    let part = c .before .before .before .before .before .before .before .part in
+    let request-of = c .before .before .before .before .before .before .before .before .before .before .before .request-of in
+    let a = c .before .before .before .before .before .before .before .before .before .before .before .before .before .before .before .before .before .args in
     let t = stateOf (a .c) (now (a .out)) in
     let p = now (a .pool) in
     c .before .before .before .before .answer-request .ensures
-    ∙ ap (λ (l : List ℕ). answerTo (c11 .request-of .result) l t p) (c7 .part .ensures)
-    ∙ ap (λ (x : Requested). answerFrom x t p) (c11 .request-of .ensures)
+    ∙ ap (λ (l : List ℕ). answerTo (request-of .result) l t p) (part .ensures)
+    ∙ ap (λ (x : Requested). answerFrom x t p) (request-of .ensures)
 
 pub answer-in-spec : {M : Type 1} → statement M
 answer-in-spec =
