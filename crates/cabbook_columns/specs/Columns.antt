@@ -2,9 +2,9 @@
 use Prim.Native.Nat.{ℕ, _-_}
 use mathlib.Core.List.{List, [], _∷_, _++_}
 use lib.ListN.{length, replicate}
-use Rattle.cabbook_positions.specs.Places.{count, isFirst}
+use Rattle.cabbook_positions.specs.Positions.{count, isFirst}
 use Rattle.program_output.specs.Digits.{decimal}
-use Rattle.cabbook_columns.specs.Seen.{visible}
+use Rattle.cabbook_columns.specs.Visible.{visible}
 
 -- a text at the left of a column of so many characters, and a space
 abbrev pub atLeft : List ℕ → ℕ → List ℕ

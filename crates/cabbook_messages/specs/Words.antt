@@ -1,53 +1,59 @@
--- The words of a refusal, by REFERENCE, Refusals, and the rows in which they are kept. Assumes nothing.
-use Prim.Native.Nat.{ℕ, _+_, _*_, _<_}
+-- The words of a refusal, by REFERENCE, Refusals. tools/messages makes the table of src/words.rt from the list here. Assumes nothing.
+use Prim.Native.Nat.{ℕ}
 use Prim.Native.String.{String}
-use mathlib.Core.Path.{_≡_}
-use mathlib.Core.List.{List, [], _∷_}
-use lib.ListN.{length, getD, take, drop}
+use mathlib.Core.List.{List, [], _∷_, _++_}
+use lib.Dec.{eqb}
+use lib.ListN.{length}
+use Rattle.numbers.specs.Refusals as refusal
+use Rattle.octets.specs.Pick.{pick}
 use Rattle.octets.specs.Ascii.{octets}
 
--- from number 0 on; a number that the table lacks has none
-unfoldable pub words : List String
-words =
-    "" ∷
-    "input over 16,384 octets" ∷
-    "input of 0 octets" ∷
-    "CR without LF after it, or LF without CR before it" ∷
-    "last two octets aren't CR LF" ∷
-    "a control character, or not UTF-8" ∷
-    "line breaks the line rule" ∷
-    "value breaks its kind" ∷
-    "group or parameter on BEGIN, VERSION or END" ∷
-    "line out of order, or input ends inside a card" ∷
-    "second line of a property that a card has once" ∷
-    "no FN in the card" ∷
-    "MEMBER without a KIND line that says group" ∷
-    "copy room too small" ∷
-    "record room too small" ∷
-    "output room too small" ∷
-    "folded or escaped form over 16,384 octets" ∷
-    "" ∷
-    "" ∷
-    "" ∷
-    "no free slot" ∷
-    "tickets used up" ∷
-    "ticket not open" ∷
-    "chunk would take the session over 16,384 octets" ∷
-    "pool length isn't slots times 16,384" ∷
-    "desk value not sound" ∷
-    "new desk of 0 or over 40 slots" ∷
-    "" ∷
-    "" ∷
-    "" ∷
-    "bare comma, or backslash without \\ , ; n or N after it" ∷
-    "octet not allowed, or bad UTF-8" ∷
+-- a refusal and its words
+pub record Message : Type 0 where
+  pub number : ℕ
+  pub text : String
+
+abbrev pub message : ℕ → String → Message
+message n s = record { number = n; text = s }
+
+unfoldable pub messages : List Message
+messages =
+    message refusal.tooLong "input over 16,384 octets" ∷
+    message refusal.empty "input of 0 octets" ∷
+    message refusal.loneCrOrLf "CR without LF after it, or LF without CR before it" ∷
+    message refusal.noEnd "last two octets aren't CR LF" ∷
+    message refusal.badOctet "a control character, or not UTF-8" ∷
+    message refusal.lineRule "line breaks the line rule" ∷
+    message refusal.value "value breaks its kind" ∷
+    message refusal.laden "group or parameter on BEGIN, VERSION or END" ∷
+    message refusal.order "line out of order, or input ends inside a card" ∷
+    message refusal.second "second line of a property that a card has once" ∷
+    message refusal.noFn "no FN in the card" ∷
+    message refusal.member "MEMBER without a KIND line that says group" ∷
+    message refusal.copyRoom "copy room too small" ∷
+    message refusal.recordRoom "record room too small" ∷
+    message refusal.room "output room too small" ∷
+    message refusal.formTooLong "folded or escaped form over 16,384 octets" ∷
+    message refusal.noFreeSlot "no free slot" ∷
+    message refusal.ticketsUsedUp "tickets used up" ∷
+    message refusal.notOpen "ticket not open" ∷
+    message refusal.slotFull "chunk would take the session over 16,384 octets" ∷
+    message refusal.poolLength "pool length isn't slots times 16,384" ∷
+    message refusal.unsound "desk value not sound" ∷
+    message refusal.slotCount "new desk of 0 or over 40 slots" ∷
+    message refusal.escape "bare comma, or backslash without \\ , ; n or N after it" ∷
+    message refusal.textOctet "octet not allowed, or bad UTF-8" ∷
     []
 
-unfoldable pub wordsOf : ℕ → List ℕ
-wordsOf n = octets (getD words n "")
+-- the words of a number among messages; none where no message has it
+unfoldable pub wordsIn : List Message → ℕ → List ℕ
+wordsIn [] n = []
+wordsIn (m ∷ ms) n = pick (eqb n (m .number)) (octets (m .text)) (wordsIn ms n)
 
--- a row of 56 octets for each number has its words, and at its end their length
-pub record Worded (t : List ℕ) : Type 0 where
-  pub whole : length t ≡ 1792
-  pub counts : (k : ℕ) → k < 32 → getD t (k * 56 + 55) 0 ≡ length (wordsOf k)
-  pub texts : (k : ℕ) → k < 32 → take (length (wordsOf k)) (drop (k * 56) t) ≡ wordsOf k
+unfoldable pub wordsOf : ℕ → List ℕ
+wordsOf n = wordsIn messages n
+
+-- messages as octets: of each its number, the length of its words, and the words
+unfoldable pub tableOf : List Message → List ℕ
+tableOf [] = []
+tableOf (m ∷ ms) = m .number ∷ length (octets (m .text)) ∷ (octets (m .text) ++ tableOf ms)

@@ -1,4 +1,4 @@
--- The depot: its numbers, its places, and what is left of it where an upload ends. Assumes nothing.
+-- The depot: its numbers, its uploads, and the depot after an upload ends. Assumes nothing.
 use Prim.Native.Nat.{ℕ, _+_, _-_}
 use lib.Dec.{eqb, ltb}
 use lib.IntN.{pos}
@@ -7,30 +7,30 @@ use Rattle.numbers.specs.Limits as limit
 use Rattle.octets.specs.Pick.{pick}
 use Rattle.desk.specs.declared.Desk.{Desk}
 use Rattle.desk.specs.Steps.{freshDesk}
-use Rattle.cabbook_morning.specs.declared.depot.Place.{Place}
+use Rattle.cabbook_morning.specs.declared.depot.Upload.{Upload}
 use Rattle.cabbook_morning.specs.declared.depot.Morning.{Morning}
 
 -- one more, as far as numbers of 64 bits go
 abbrev pub oneMore : ℕ → ℕ
-oneMore n = pick (eqb n 18446744073709551615) n (n + 1)
+oneMore n = pick (eqb n limit.largest64) n (n + 1)
 
 -- a number as a ticket, 0 where it has more than 32 bits
 abbrev pub asTicket : ℕ → ℕ
 asTicket n = pick (ltb limit.largest n) 0 n
 
--- a place that no file has
-abbrev pub freePlace : Place
-freePlace = record { file = 0; fd = pos 0; ticket = 0 }
+-- no upload
+abbrev pub noUpload : Upload
+noUpload = record { file = 0; fd = pos 0; ticket = 0 }
 
--- before the first upload: a desk of 40 slots, and nothing counted
-abbrev pub freshMorning : ℕ → ℕ → ℕ → ℕ → Morning
-freshMorning next count chunk width =
+-- before the first upload: a desk with all its slots, and nothing counted
+abbrev pub begun : ℕ → ℕ → ℕ → ℕ → Morning
+begun next count chunk width =
     record {
       desk = freshDesk limit.slots;
-      places = replicate limit.slots freePlace;
+      uploads = replicate limit.slots noUpload;
       next = next;
       count = count;
-      used = 0;
+      running = 0;
       chunk = chunk;
       width = width;
       accepted = 0;
@@ -39,15 +39,15 @@ freshMorning next count chunk width =
       differing = 0;
     }
 
--- with a place free again, and the desk as it is then
-abbrev pub leftAt : ℕ → Desk → Morning → Morning
-leftAt k d m =
+-- without an upload, and with the desk as it is then
+abbrev pub releasedAt : ℕ → Desk → Morning → Morning
+releasedAt k d m =
     record {
       desk = d;
-      places = set (m .places) k freePlace;
+      uploads = set (m .uploads) k noUpload;
       next = m .next;
       count = m .count;
-      used = m .used - 1;
+      running = m .running - 1;
       chunk = m .chunk;
       width = m .width;
       accepted = m .accepted;

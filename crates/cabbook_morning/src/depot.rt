@@ -1,27 +1,28 @@
-// The depot in the morning: the desk, the places at it, and what is counted.
+// The depot in the morning: the desk, the uploads at it, and what is counted.
 ghost use mathlib.Core.Path.{_≡_};
 ghost use Prim.Native.Nat.{_<_};
 ghost use lib.ListN.{getD};
 ghost use Rattle.desk.specs.Steps.{releaseStep};
-ghost use Rattle.cabbook_morning.specs.Depot.{oneMore, asTicket, freePlace, freshMorning, leftAt};
+ghost use Rattle.numbers.specs.Limits as limit;
+ghost use Rattle.cabbook_morning.specs.Depot.{oneMore, asTicket, noUpload, begun, releasedAt};
 use desk::Desk;
 use numbers::limit;
 use reader::Verdict;
 
-// A place in the depot: the argument that names its file, 0 where there is none, the file's descriptor, and the upload's ticket.
-pub struct Place {
+// An upload: the argument that names its file, 0 where there is no upload, the file's descriptor, and the ticket.
+pub struct Upload {
     pub file: usize,
     pub fd: i32,
     pub ticket: u32,
 }
 
-// The desk and the places at it, the next argument and the last, how many places are in use, the chunks' size, and what was counted.
+// The desk and the uploads at it, the next argument and how many there are, how many uploads run, the chunks' size, the width of the column of names, and what was counted.
 pub struct Morning {
     pub desk: Desk,
-    pub places: [Place; 40],
+    pub uploads: [Upload; limit::SLOTS],
     pub next: usize,
     pub count: usize,
-    pub used: usize,
+    pub running: usize,
     pub chunk: usize,
     pub width: usize,
     pub accepted: usize,
@@ -30,7 +31,7 @@ pub struct Morning {
     pub differing: usize,
 }
 
-// One more, as far as numbers go.
+// One more, or the same where there is no larger number.
 pub(crate) fn more(n: usize) -> usize
     ensures { λ r. ⌜ r ≡ oneMore n ⌝ }
 {
@@ -40,7 +41,7 @@ pub(crate) fn more(n: usize) -> usize
     n + 1
 }
 
-// A ticket from an answer.
+// A number as a ticket, 0 where it has more than 32 bits.
 pub(crate) fn ticket_of(n: usize) -> u32
     ensures { λ r. ⌜ r ≡ asTicket n ⌝ }
 {
@@ -50,10 +51,11 @@ pub(crate) fn ticket_of(n: usize) -> u32
     n as u32
 }
 
-fn nobody() -> Place
-    ensures { λ r. ⌜ r ≡ freePlace ⌝ }
+// No upload.
+fn no_upload() -> Upload
+    ensures { λ r. ⌜ r ≡ noUpload ⌝ }
 {
-    Place {
+    Upload {
         file: 0,
         fd: 0,
         ticket: 0,
@@ -61,19 +63,19 @@ fn nobody() -> Place
 }
 
 // Before the first upload.
-pub(crate) fn fresh(next: usize, count: usize, chunk: usize, width: usize) -> Morning
-    ensures { λ r. ⌜ r ≡ freshMorning next count chunk width ⌝ }
+pub(crate) fn begin(next: usize, count: usize, chunk: usize, width: usize) -> Morning
+    ensures { λ r. ⌜ r ≡ begun next count chunk width ⌝ }
 {
-    let t = Desk::new(40);
+    let t = Desk::new(limit::SLOTS);
     let d = t.desk;
-    let none = nobody();
-    let places = [none; 40];
+    let none = no_upload();
+    let uploads = [none; limit::SLOTS];
     Morning {
         desk: d,
-        places: places,
+        uploads: uploads,
         next: next,
         count: count,
-        used: 0,
+        running: 0,
         chunk: chunk,
         width: width,
         accepted: 0,
@@ -83,25 +85,25 @@ pub(crate) fn fresh(next: usize, count: usize, chunk: usize, width: usize) -> Mo
     }
 }
 
-// The place is free again: the upload is released and its file closed.
-pub(crate) fn left(mut m: Morning, k: usize, pool: &mut [u8]) -> Morning
-    requires { ⌜ k < 40 ⌝ }
-    ensures { λ r. ⌜ r ≡ leftAt k (releaseStep (m .desk) (now (pool .entry)) (getD (m .places) k freePlace .ticket) .desk) m ⌝ }
-    ensures { λ r. ⌜ now (pool .exit) ≡ releaseStep (m .desk) (now (pool .entry)) (getD (m .places) k freePlace .ticket) .pool ⌝ }
+// Releases upload k and closes its file.
+pub(crate) fn release(mut m: Morning, k: usize, pool: &mut [u8]) -> Morning
+    requires { ⌜ k < limit.slots ⌝ }
+    ensures { λ r. ⌜ r ≡ releasedAt k (releaseStep (m .desk) (now (pool .entry)) (getD (m .uploads) k noUpload .ticket) .desk) m ⌝ }
+    ensures { λ r. ⌜ now (pool .exit) ≡ releaseStep (m .desk) (now (pool .entry)) (getD (m .uploads) k noUpload .ticket) .pool ⌝ }
 {
-    let p = m.places[k];
+    let upload = m.uploads[k];
     let d = m.desk;
-    let t = d.release(pool, p.ticket);
+    let t = d.release(pool, upload.ticket);
     let next = t.desk;
     m.desk = next;
-    libc::close(p.fd);
-    m.places[k] = nobody();
-    m.used = cabbook_positions::before(m.used);
+    libc::close(upload.fd);
+    m.uploads[k] = no_upload();
+    m.running = cabbook_positions::before(m.running);
     m
 }
 
 // Counts a verdict.
-pub(crate) fn counted(mut m: Morning, v: Verdict, same: bool) -> Morning {
+pub(crate) fn count_verdict(mut m: Morning, v: Verdict, same: bool) -> Morning {
     if !same {
         m.differing = more(m.differing);
     }

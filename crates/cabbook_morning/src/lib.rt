@@ -1,12 +1,14 @@
-// A morning: many files as uploads on one desk, forty at a time, each opened with identifier 0, and a row for each.
+// A morning: many files as uploads on one desk, as many at a time as it has slots, each opened with identifier 0, and a row for each.
 mod depot;
 mod options;
-mod rows;
+mod printing;
 
 ghost use Prim.Native.Nat.{_<_, _≤_};
+ghost use Rattle.numbers.specs.Limits as limit;
+ghost use Rattle.cabbook_tables.specs.Statuses as status;
 ghost use Rattle.cabbook_morning.specs.Ends.{Ends};
 use depot::Morning;
-use depot::Place;
+use depot::Upload;
 use desk::Answer;
 use desk::Desk;
 use libc::SEEK_SET;
@@ -15,11 +17,11 @@ use program_files::Input;
 use reader::Verdict;
 
 // Whether the upload's octets are its file's: the whole file's, or those with which it starts.
-fn compared(d: Desk, p: Place, whole: bool, pool: &[u8]) -> bool {
-    let held = d.show(pool, p.ticket);
-    let mut room = [0u8; 16385];
-    libc::lseek(p.fd, 0, SEEK_SET);
-    let got = program_files::fetch(p.fd, b"cabbook: a file", &mut room);
+fn compare(d: Desk, upload: Upload, whole: bool, pool: &[u8]) -> bool {
+    let held = d.show(pool, upload.ticket);
+    let mut room = [0u8; limit::READ_ROOM];
+    libc::lseek(upload.fd, 0, SEEK_SET);
+    let got = program_files::fetch(upload.fd, b"cabbook: a file", &mut room);
     let Input::Octets(n) = got else {
         return false;
     };
@@ -32,21 +34,21 @@ fn compared(d: Desk, p: Place, whole: bool, pool: &[u8]) -> bool {
     check::same(held, octets::slices::part(&room, 0, held.len()))
 }
 
-// The upload ends with a verdict: its row, and the place is free again.
-fn ended(m: Morning, k: usize, v: Verdict, whole: bool, pool: &mut [u8]) -> Morning
-    requires { ⌜ k < 40 ⌝ }
+// Ends upload k with a verdict: prints its row and releases it.
+fn finish(m: Morning, k: usize, v: Verdict, whole: bool, pool: &mut [u8]) -> Morning
+    requires { ⌜ k < limit.slots ⌝ }
 {
-    let p = m.places[k];
+    let upload = m.uploads[k];
     let d = m.desk;
-    let same = compared(d, p, whole, pool);
-    let held = d.show(pool, p.ticket);
-    rows::row(p.file, m.width, p.ticket, held.len(), v, same);
-    depot::left(depot::counted(m, v, same), k, pool)
+    let same = compare(d, upload, whole, pool);
+    let held = d.show(pool, upload.ticket);
+    printing::print_row(upload.file, m.width, upload.ticket, held.len(), v, same);
+    depot::release(depot::count_verdict(m, v, same), k, pool)
 }
 
-// The next file comes to a place, if there is one.
-fn taken(mut m: Morning, k: usize, pool: &[u8]) -> Morning
-    requires { ⌜ k < 40 ⌝ }
+// Opens upload k with the next file, if there is one.
+fn take_file(mut m: Morning, k: usize, pool: &[u8]) -> Morning
+    requires { ⌜ k < limit.slots ⌝ }
 {
     let i = m.next;
     if i >= m.count {
@@ -65,112 +67,112 @@ fn taken(mut m: Morning, k: usize, pool: &[u8]) -> Morning
     m.desk = next;
     match a {
         Answer::Done(ticket) => {
-            m.places[k] = Place {
+            m.uploads[k] = Upload {
                 file: i,
                 fd: fd,
                 ticket: depot::ticket_of(ticket),
             };
-            m.used = depot::more(m.used);
+            m.running = depot::more(m.running);
             m
         }
         Answer::Refused(number, place) => {
             let v = Verdict::Refused(number, place);
-            rows::row(i, m.width, 0, 0, v, true);
+            printing::print_row(i, m.width, 0, 0, v, true);
             libc::close(fd);
-            depot::counted(m, v, true)
+            depot::count_verdict(m, v, true)
         }
     }
 }
 
-// A chunk of a place's file goes to the desk.
-fn added(mut m: Morning, k: usize, chunk: &[u8], pool: &mut [u8]) -> Morning
-    requires { ⌜ k < 40 ⌝ }
+// Adds a chunk to upload k, and ends it where the desk refuses that.
+fn add_chunk(mut m: Morning, k: usize, chunk: &[u8], pool: &mut [u8]) -> Morning
+    requires { ⌜ k < limit.slots ⌝ }
 {
-    let p = m.places[k];
+    let upload = m.uploads[k];
     let d = m.desk;
-    let t = d.add(pool, p.ticket, chunk);
+    let t = d.add(pool, upload.ticket, chunk);
     let a = t.answer;
     let next = t.desk;
     m.desk = next;
     match a {
         Answer::Done(_) => m,
         Answer::Refused(number, place) => {
-            ended(m, k, Verdict::Refused(number, place), false, pool)
+            finish(m, k, Verdict::Refused(number, place), false, pool)
         }
     }
 }
 
-// Reads a chunk of that size of a place's file, as far as there is room.
-fn chunk_of(p: Place, size: usize, room: &mut [u8]) -> Input {
+// Reads a chunk of that size of an upload's file, as far as there is room.
+fn read_chunk(upload: Upload, size: usize, room: &mut [u8]) -> Input {
     let n = octets::slices::least(size, room.len());
-    program_files::fetch_argument(p.file, p.fd, &mut room[0..n])
+    program_files::fetch_argument(upload.file, upload.fd, &mut room[0..n])
 }
 
-// The next chunk of a place's file is added, or at the file's end the upload is judged.
-fn fed(mut m: Morning, k: usize, pool: &mut [u8]) -> Morning
-    requires { ⌜ k < 40 ⌝ }
+// Adds the next chunk of its file to upload k, or at the file's end judges the upload.
+fn feed(mut m: Morning, k: usize, pool: &mut [u8]) -> Morning
+    requires { ⌜ k < limit.slots ⌝ }
 {
-    let p = m.places[k];
+    let upload = m.uploads[k];
     let mut room = [0u8; limit::OCTETS];
-    let got = chunk_of(p, m.chunk, &mut room);
+    let got = read_chunk(upload, m.chunk, &mut room);
     let Input::Octets(n) = got else {
         m.unread = depot::more(m.unread);
-        return depot::left(m, k, pool);
+        return depot::release(m, k, pool);
     };
     if n == 0 {
         let d = m.desk;
-        return ended(m, k, d.judge(pool, p.ticket), true, pool);
+        return finish(m, k, d.judge(pool, upload.ticket), true, pool);
     }
-    added(m, k, octets::slices::part(&room, 0, n), pool)
+    add_chunk(m, k, octets::slices::part(&room, 0, n), pool)
 }
 
-// One turn of a place.
+// One turn of upload k.
 fn turn(m: Morning, k: usize, pool: &mut [u8]) -> Morning
-    requires { ⌜ k < 40 ⌝ }
+    requires { ⌜ k < limit.slots ⌝ }
 {
-    let p = m.places[k];
-    if p.file == 0 {
-        return taken(m, k, pool);
+    let upload = m.uploads[k];
+    if upload.file == 0 {
+        return take_file(m, k, pool);
     }
-    fed(m, k, pool)
+    feed(m, k, pool)
 }
 
-// One turn of each place.
-fn round(m: Morning, pool: &mut [u8]) -> Morning {
+// One turn of each upload.
+fn run_round(m: Morning, pool: &mut [u8]) -> Morning {
     let mut now = m;
     let mut k: usize = 0;
-    while k < 40 {
+    while k < limit::SLOTS {
         now = turn(now, k, pool);
         k += 1;
     }
     now
 }
 
-// Round after round until no file is left; the count of rounds only shows that this ends.
-fn rounds(m: Morning, pool: &mut [u8]) -> Morning {
+// Runs round after round until no file is left; the count of rounds only shows that this ends.
+fn run_rounds(m: Morning, pool: &mut [u8]) -> Morning {
     let mut now = m;
     let mut left = u64::MAX;
     while left > 0 {
         if now.next >= now.count {
-            if now.used == 0 {
+            if now.running == 0 {
                 return now;
             }
         }
-        now = round(now, pool);
+        now = run_round(now, pool);
         left -= 1;
     }
     now
 }
 
-// Plays the morning with the files that the arguments from `first` on name.
-fn played(first: usize, count: usize, chunk: usize) -> u8
-    ensures { λ r. ⌜ r ≤ 2 ⌝ }
+// Runs the morning with the files that the arguments from `first` on name.
+fn run(first: usize, count: usize, chunk: usize) -> u8
+    ensures { λ r. ⌜ r ≤ status.failed ⌝ }
 {
     let width = options::widest(first, count);
-    rows::titles(width);
-    let mut pool = [0u8; 655360];
-    let m = rounds(depot::fresh(first, count, chunk, width), &mut pool);
-    rows::summary(m.accepted, m.refused, m.unread, m.differing)
+    printing::print_titles(width);
+    let mut pool = [0u8; limit::POOL];
+    let m = run_rounds(depot::begin(first, count, chunk, width), &mut pool);
+    printing::print_summary(m.accepted, m.refused, m.unread, m.differing)
 }
 
 // How a morning went: the options had no size of a chunk or no file; or it was played, with an exit status.
@@ -191,5 +193,5 @@ pub fn play(count: usize) -> Ending
     if o.first >= count {
         return Ending::NoFile;
     }
-    Ending::Played(played(o.first, count, o.chunk))
+    Ending::Played(run(o.first, count, o.chunk))
 }

@@ -1,3 +1,3 @@
 -- The definitions that the contracts of `cabbook_positions` cite. Assumes nothing.
-pub mod Places
+pub mod Positions
 pub mod Components

@@ -1,10 +1,10 @@
-// Places in a text as a person counts them: lines, characters, where a line or a character starts, and where a component ends.
+// Positions in a text as a person counts them: lines, characters, where a line or a character starts, and where a component ends.
 ghost use mathlib.Core.Path.{_≡_};
 ghost use Prim.Native.Nat.{_+_, _-_, _≤_, _<_, min};
 ghost use lib.Dec.{ltb};
 ghost use lib.ListN.{length, drop};
 ghost use Rattle.octets.specs.Pick.{pick};
-ghost use Rattle.cabbook_positions.specs.Places.{count, isLf, isFirst, backTo, opens, starts};
+ghost use Rattle.cabbook_positions.specs.Positions.{count, isLf, isFirst, backTo, opens, starts};
 ghost use Rattle.cabbook_positions.specs.Components.{bareStep, bareLength};
 
 // The place before a place, or 0.
@@ -24,7 +24,7 @@ pub fn line_number(before: &[u8]) -> usize
     let mut n: usize = 1;
     let mut i: usize = 0;
     while i < before.len() {
-        if before[i] == 10 {
+        if before[i] == b'\n' {
             n += 1;
         }
         i += 1;
@@ -53,22 +53,22 @@ fn line_opens(s: &[u8], i: usize) -> bool
     requires { ⌜ (1 ≤ i) × (i ≤ length (now s)) ⌝ }
     ensures { λ r. ⌜ r ≡ opens (now (s .entry)) i ⌝ }
 {
-    if s[i - 1] != 10 {
+    if s[i - 1] != b'\n' {
         return false;
     }
     if i < 2 {
         return false;
     }
-    if s[i - 2] != 13 {
+    if s[i - 2] != b'\r' {
         return false;
     }
     if i == s.len() {
         return true;
     }
-    if s[i] == 32 {
+    if s[i] == b' ' {
         return false;
     }
-    s[i] != 9
+    s[i] != b'\t'
 }
 
 // The start of the logical line in which a place lies; of the last line where the place is past the end.

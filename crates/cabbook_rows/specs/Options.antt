@@ -4,9 +4,9 @@ use mathlib.Core.List.{List}
 use lib.Dec.{ltb}
 use Rattle.numbers.specs.Limits as limit
 use Rattle.octets.specs.Pick.{pick}
-use Rattle.program_numbers.specs.Numbers.{numberOf}
-use Rattle.program_numbers.specs.declared.numbers.Number.{Number}
-use Rattle.program_numbers.specs.declared.numbers.Number.the-variants.{Is, Bad}
+use Rattle.program_numbers.specs.Decimal.{numberOf}
+use Rattle.program_numbers.specs.declared.decimal.Number.{Number}
+use Rattle.program_numbers.specs.declared.decimal.Number.the-variants.{Is, Bad}
 
 -- a number up to 16,384, and 0 for any other and for none
 abbrev pub upTo16384 : Number → ℕ

@@ -4,8 +4,8 @@ use mathlib.Core.List.{List, _++_}
 use lib.ListN.{length}
 use Rattle.octets.specs.Ascii.{octets}
 use Rattle.octets.specs.Slices.{part}
-use Rattle.cabbook_positions.specs.Places.{count, isLf}
-use Rattle.cabbook_columns.specs.Seen.{visible}
+use Rattle.cabbook_positions.specs.Positions.{count, isLf}
+use Rattle.cabbook_columns.specs.Visible.{visible}
 use Rattle.cabbook_messages.specs.Sentences.{amount, counted, refusal}
 use Rattle.cabbook_messages.specs.Words.{wordsOf}
 

@@ -8,37 +8,37 @@ use cabbook_messages::sentences;
 fn put_name(room: &mut [u8], at: usize, path: &[u8]) -> usize
     ensures { λ r. ⌜ page r (now (room .exit)) ≡ added (named (now (path .entry))) (page at (now (room .entry))) ⌝ }
 {
-    let a = cabbook_columns::seen::put_visible(room, at, path);
-    program_output::put_all(room, a, b": ")
+    let path_end = cabbook_columns::visible::put_visible(room, at, path);
+    program_output::put_all(room, path_end, b": ")
 }
 
 // Adds the row of a file with so many cards and lines.
 pub fn put_accepted(room: &mut [u8], at: usize, path: &[u8], cards: usize, lines: usize) -> usize
     ensures { λ r. ⌜ page r (now (room .exit)) ≡ added (acceptedRow (now (path .entry)) cards lines) (page at (now (room .entry))) ⌝ }
 {
-    let a = put_name(room, at, path);
-    let b = sentences::put_count(room, a, cards, b" card");
-    let c = program_output::put_all(room, b, b", ");
-    let d = sentences::put_count(room, c, lines, b" line");
-    program_output::put_all(room, d, b"\n")
+    let name_end = put_name(room, at, path);
+    let cards_end = sentences::put_count(room, name_end, cards, b" card");
+    let comma_end = program_output::put_all(room, cards_end, b", ");
+    let lines_end = sentences::put_count(room, comma_end, lines, b" line");
+    program_output::put_all(room, lines_end, b"\n")
 }
 
 // The number of the line in which a place lies; of the last line where the place is past the end.
 fn line_of(s: &[u8], place: usize) -> usize
     ensures { λ r. ⌜ r ≡ lineOf (now (s .entry)) place ⌝ }
 {
-    let at = octets::slices::least(place, s.len());
-    cabbook_positions::line_number(octets::slices::part(s, 0, at))
+    let end = octets::slices::least(place, s.len());
+    cabbook_positions::line_number(octets::slices::part(s, 0, end))
 }
 
 // Adds the line in which a refusal's place lies, and the refusal's words.
 fn put_reason(room: &mut [u8], at: usize, s: &[u8], number: u32, place: usize) -> usize
     ensures { λ r. ⌜ page r (now (room .exit)) ≡ added (reason (now (s .entry)) number place) (page at (now (room .entry))) ⌝ }
 {
-    let a = program_output::put_all(room, at, b", line ");
-    let b = sentences::put_amount(room, a, line_of(s, place), b": ");
-    let c = cabbook_messages::words::put_words(room, b, number);
-    program_output::put_all(room, c, b"\n")
+    let start = program_output::put_all(room, at, b", line ");
+    let number_end = sentences::put_amount(room, start, line_of(s, place), b": ");
+    let words_end = cabbook_messages::words::put_words(room, number_end, number);
+    program_output::put_all(room, words_end, b"\n")
 }
 
 // Adds the row of a file with these octets that is refused.
@@ -52,7 +52,7 @@ pub fn put_refused(
 ) -> usize
     ensures { λ r. ⌜ page r (now (room .exit)) ≡ added (refusedRow (now (path .entry)) (now (s .entry)) number place) (page at (now (room .entry))) ⌝ }
 {
-    let a = put_name(room, at, path);
-    let b = sentences::put_refusal(room, a, number, place);
-    put_reason(room, b, s, number, place)
+    let name_end = put_name(room, at, path);
+    let refusal_end = sentences::put_refusal(room, name_end, number, place);
+    put_reason(room, refusal_end, s, number, place)
 }

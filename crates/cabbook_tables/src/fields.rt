@@ -2,8 +2,18 @@
 ghost use mathlib.Core.Path.{_≡_};
 ghost use Prim.Native.Nat.{_+_, _≤_};
 ghost use Rattle.program_output.specs.Pages.{page, added};
-ghost use Rattle.cabbook_tables.specs.Fields.{framed, nameStart, fields, titleText, cardText};
+ghost use Rattle.line_parser.specs.Places.{nameStart};
+ghost use Rattle.cabbook_tables.specs.Fields.{framed, fields, titleText, cardText};
 use numbers::property;
+
+// How many characters the column of the property has.
+pub const PROPERTY_WIDTH: usize = 14;
+
+// How many characters the column of the group has.
+pub const GROUP_WIDTH: usize = 8;
+
+// How many characters the column of the parameters has.
+pub const PARAMETERS_WIDTH: usize = 26;
 
 // Whether a property is BEGIN, END or VERSION, which have no row.
 pub fn is_frame(number: u32) -> bool
@@ -23,53 +33,51 @@ pub fn is_frame(number: u32) -> bool
 pub fn put_titles(room: &mut [u8], at: usize) -> usize
     ensures { λ r. ⌜ page r (now (room .exit)) ≡ added titleText (page at (now (room .entry))) ⌝ }
 {
-    let a = cabbook_columns::put_column(room, at, b"property", 14);
-    let b = cabbook_columns::put_column(room, a, b"group", 8);
-    let c = cabbook_columns::put_column(room, b, b"parameters", 26);
-    program_output::put_all(room, c, b"value\n")
+    let property_end = cabbook_columns::put_column(room, at, b"property", PROPERTY_WIDTH);
+    let group_end = cabbook_columns::put_column(room, property_end, b"group", GROUP_WIDTH);
+    let end = cabbook_columns::put_column(room, group_end, b"parameters", PARAMETERS_WIDTH);
+    program_output::put_all(room, end, b"value\n")
 }
 
 // Adds the line above a card's rows.
 pub fn put_card(room: &mut [u8], at: usize, number: usize) -> usize
     ensures { λ r. ⌜ page r (now (room .exit)) ≡ added (cardText number) (page at (now (room .entry))) ⌝ }
 {
-    let a = program_output::put_all(room, at, b"card ");
-    cabbook_messages::sentences::put_amount(room, a, number, b"\n")
+    let start = program_output::put_all(room, at, b"card ");
+    cabbook_messages::sentences::put_amount(room, start, number, b"\n")
 }
 
-// Where the name starts in a line with a group of that length.
-fn name_start(start: u32, group: u32) -> usize
-    ensures { λ r. ⌜ r ≡ nameStart start group ⌝ }
-    ensures { λ r. ⌜ r ≤ start + group + 1 ⌝ }
+// Where the name starts in a line that starts there and has a group of that length.
+fn name_start(start: u32, group_length: u32) -> usize
+    ensures { λ r. ⌜ r ≡ start + nameStart «group_length» ⌝ }
+    ensures { λ r. ⌜ r ≤ start + «group_length» + 1 ⌝ }
 {
-    if group == 0 {
+    if group_length == 0 {
         return start as usize;
     }
-    start as usize + group as usize + 1
+    start as usize + group_length as usize + 1
 }
 
-// Adds the columns before the value, of a line that starts and has a group, a name and a value so.
+// Adds the columns before the value, of a line that starts there, has a group and a name of these lengths, and a value from there on.
 pub fn put_fields(
     room: &mut [u8],
     at: usize,
     copy: &[u8],
     start: u32,
-    group: u32,
-    name: u32,
-    value: u32,
+    group_length: u32,
+    name_length: u32,
+    value_start: u32,
 ) -> usize
-    ensures { λ r. ⌜ page r (now (room .exit)) ≡ added (fields (now (copy .entry)) start group name value) (page at (now (room .entry))) ⌝ }
+    ensures { λ r. ⌜ page r (now (room .exit)) ≡ added (fields (now (copy .entry)) start «group_length» «name_length» «value_start») (page at (now (room .entry))) ⌝ }
 {
-    let from = name_start(start, group);
-    let past = from + name as usize;
-    let group_end = start as usize + group as usize;
-    let a = cabbook_columns::put_column(room, at, octets::slices::part(copy, from, past), 14);
-    let b = cabbook_columns::put_column(
-        room,
-        a,
-        octets::slices::part(copy, start as usize, group_end),
-        8,
-    );
-    let end = cabbook_positions::before(value as usize);
-    cabbook_columns::put_column(room, b, octets::slices::part(copy, past + 1, end), 26)
+    let name_from = name_start(start, group_length);
+    let name_end = name_from + name_length as usize;
+    let group_end = start as usize + group_length as usize;
+    let name = octets::slices::part(copy, name_from, name_end);
+    let property_column = cabbook_columns::put_column(room, at, name, PROPERTY_WIDTH);
+    let group = octets::slices::part(copy, start as usize, group_end);
+    let group_column = cabbook_columns::put_column(room, property_column, group, GROUP_WIDTH);
+    let end = cabbook_positions::before(value_start as usize);
+    let parameters = octets::slices::part(copy, name_end + 1, end);
+    cabbook_columns::put_column(room, group_column, parameters, PARAMETERS_WIDTH)
 }

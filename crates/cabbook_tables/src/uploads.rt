@@ -2,16 +2,25 @@
 ghost use mathlib.Core.Path.{_≡_};
 ghost use Prim.Native.Nat.{_+_, _≤_, min};
 ghost use Rattle.program_output.specs.Pages.{page, added};
-ghost use Rattle.cabbook_tables.specs.Uploads.{titles, verdictText, sameText, countsText, uploadRow, noted, totals, summary, statusOf};
+ghost use Rattle.cabbook_tables.specs.Uploads.{titles, verdictText, sameText, countsText, uploadRow, note, totals, summary, statusOf};
+ghost use Rattle.cabbook_tables.specs.Statuses as status;
+ghost use Rattle.numbers.specs.Limits as limit;
+use crate::status;
 use cabbook_messages::sentences;
 use reader::Verdict;
+
+// How many characters the column of the cards has.
+const CARDS_WIDTH: usize = 5;
+
+// How many characters the columns of the tickets and of the octets have.
+const COUNT_WIDTH: usize = 6;
 
 // Adds the names of the columns, where that of the trams has so many characters.
 pub fn put_titles(room: &mut [u8], at: usize, width: usize) -> usize
     ensures { λ r. ⌜ page r (now (room .exit)) ≡ added (titles width) (page at (now (room .entry))) ⌝ }
 {
-    let a = cabbook_columns::put_column(room, at, b"tram", width);
-    program_output::put_all(room, a, b"ticket  octets  cards  verdict\n")
+    let tram_end = cabbook_columns::put_column(room, at, b"tram", width);
+    program_output::put_all(room, tram_end, b"ticket  octets  cards  verdict\n")
 }
 
 // Adds the count of cards and the verdict.
@@ -20,14 +29,14 @@ fn put_verdict(room: &mut [u8], at: usize, v: Verdict) -> usize
 {
     match v {
         Verdict::Accepted(cards, _) => {
-            let a = cabbook_columns::put_right(room, at, cards, 5);
-            program_output::put_all(room, a, b"  accepted")
+            let cards_end = cabbook_columns::put_right(room, at, cards, CARDS_WIDTH);
+            program_output::put_all(room, cards_end, b"  accepted")
         }
         Verdict::Refused(number, place) => {
-            let a = program_output::put_all(room, at, b"    -  ");
-            let b = sentences::put_refusal(room, a, number, place);
-            let c = program_output::put_all(room, b, b": ");
-            cabbook_messages::words::put_words(room, c, number)
+            let start = program_output::put_all(room, at, b"    -  ");
+            let refusal_end = sentences::put_refusal(room, start, number, place);
+            let colon_end = program_output::put_all(room, refusal_end, b": ");
+            cabbook_messages::words::put_words(room, colon_end, number)
         }
     }
 }
@@ -46,10 +55,10 @@ fn put_sameness(room: &mut [u8], at: usize, same: bool) -> usize
 fn put_counts(room: &mut [u8], at: usize, ticket: usize, octets: usize) -> usize
     ensures { λ r. ⌜ page r (now (room .exit)) ≡ added (countsText ticket octets) (page at (now (room .entry))) ⌝ }
 {
-    let a = cabbook_columns::put_right(room, at, ticket, 6);
-    let b = program_output::put_all(room, a, b"  ");
-    let c = cabbook_columns::put_right(room, b, octets, 6);
-    program_output::put_all(room, c, b"  ")
+    let ticket_end = cabbook_columns::put_right(room, at, ticket, COUNT_WIDTH);
+    let gap_end = program_output::put_all(room, ticket_end, b"  ");
+    let octets_end = cabbook_columns::put_right(room, gap_end, octets, COUNT_WIDTH);
+    program_output::put_all(room, octets_end, b"  ")
 }
 
 // Adds the row of an upload.
@@ -65,30 +74,30 @@ pub fn put_upload(
 ) -> usize
     ensures { λ r. ⌜ page r (now (room .exit)) ≡ added (uploadRow (now (path .entry)) width ticket octets v same) (page at (now (room .entry))) ⌝ }
 {
-    let a = cabbook_columns::put_column(room, at, path, width);
-    let b = put_counts(room, a, ticket, octets);
-    let c = put_verdict(room, b, v);
-    put_sameness(room, c, same)
+    let path_end = cabbook_columns::put_column(room, at, path, width);
+    let counts_end = put_counts(room, path_end, ticket, octets);
+    let verdict_end = put_verdict(room, counts_end, v);
+    put_sameness(room, verdict_end, same)
 }
 
 // Adds a text where there is none, else how many things there are and what is said of them.
-fn put_noted(room: &mut [u8], at: usize, n: usize, none: &[u8], thing: &[u8], end: &[u8]) -> usize
-    ensures { λ r. ⌜ page r (now (room .exit)) ≡ added (noted n (now (none .entry)) (now (thing .entry)) (now (end .entry))) (page at (now (room .entry))) ⌝ }
+fn put_note(room: &mut [u8], at: usize, n: usize, none: &[u8], thing: &[u8], end: &[u8]) -> usize
+    ensures { λ r. ⌜ page r (now (room .exit)) ≡ added (note n (now (none .entry)) (now (thing .entry)) (now (end .entry))) (page at (now (room .entry))) ⌝ }
 {
     if n == 0 {
         return program_output::put_all(room, at, none);
     }
-    let a = program_output::put_all(room, at, b"; ");
-    let b = sentences::put_count(room, a, n, thing);
-    program_output::put_all(room, b, end)
+    let start = program_output::put_all(room, at, b"; ");
+    let count_end = sentences::put_count(room, start, n, thing);
+    program_output::put_all(room, count_end, end)
 }
 
 // A sum, as far as numbers go.
 fn sum(a: usize, b: usize) -> usize
-    ensures { λ r. ⌜ r ≡ min (a + b) 18446744073709551615 ⌝ }
+    ensures { λ r. ⌜ r ≡ min (a + b) limit.largest64 ⌝ }
 {
-    if a > 18446744073709551615 - b {
-        return 18446744073709551615;
+    if a > usize::MAX - b {
+        return usize::MAX;
     }
     a + b
 }
@@ -97,10 +106,10 @@ fn sum(a: usize, b: usize) -> usize
 fn put_totals(room: &mut [u8], at: usize, accepted: usize, refused: usize) -> usize
     ensures { λ r. ⌜ page r (now (room .exit)) ≡ added (totals accepted refused) (page at (now (room .entry))) ⌝ }
 {
-    let a = sentences::put_count(room, at, sum(accepted, refused), b" upload");
-    let b = program_output::put_all(room, a, b": ");
-    let c = sentences::put_amount(room, b, accepted, b" accepted, ");
-    sentences::put_amount(room, c, refused, b" refused")
+    let count_end = sentences::put_count(room, at, sum(accepted, refused), b" upload");
+    let start = program_output::put_all(room, count_end, b": ");
+    let accepted_end = sentences::put_amount(room, start, accepted, b" accepted, ");
+    sentences::put_amount(room, accepted_end, refused, b" refused")
 }
 
 // Adds the line under the table.
@@ -114,31 +123,38 @@ pub fn put_summary(
 ) -> usize
     ensures { λ r. ⌜ page r (now (room .exit)) ≡ added (summary accepted refused differing unread) (page at (now (room .entry))) ⌝ }
 {
-    let a = put_totals(room, at, accepted, refused);
-    let b = put_noted(
+    let totals_end = put_totals(room, at, accepted, refused);
+    let comparison_end = put_note(
         room,
-        a,
+        totals_end,
         differing,
         b"; what each upload holds is its file's",
         b" upload",
         b" with other octets than its file",
     );
-    put_noted(room, b, unread, b"\n", b" file", b" not read\n")
+    put_note(
+        room,
+        comparison_end,
+        unread,
+        b"\n",
+        b" file",
+        b" not read\n",
+    )
 }
 
-// The exit status of a morning: 2 where a file was not read, 1 where an upload is refused or differs from its file, else 0.
+// The exit status of a morning.
 pub fn status_of(refused: usize, differing: usize, unread: usize) -> u8
     ensures { λ r. ⌜ r ≡ statusOf refused differing unread ⌝ }
-    ensures { λ r. ⌜ r ≤ 2 ⌝ }
+    ensures { λ r. ⌜ r ≤ status.failed ⌝ }
 {
     if unread > 0 {
-        return 2;
+        return status::FAILED;
     }
     if refused > 0 {
-        return 1;
+        return status::REFUSED;
     }
     if differing > 0 {
-        return 1;
+        return status::REFUSED;
     }
-    0
+    status::ACCEPTED
 }

@@ -10,15 +10,15 @@ use reader::Verdict;
 
 pub mod hex;
 
-// The end of a line; LF.
-pub fn ended(out: &mut [u8], at: usize) -> usize
+// Adds the end of a line, LF.
+pub fn put_end(out: &mut [u8], at: usize) -> usize
     ensures { λ r. ⌜ page r (now (out .exit)) ≡ added lineEnd (page at (now (out .entry))) ⌝ }
 {
-    program_output::put(out, at, 10)
+    program_output::put(out, at, b'\n')
 }
 
-// `bad request`, a whole line.
-pub fn bad(out: &mut [u8], at: usize) -> usize
+// Adds `bad request`, a whole line.
+pub fn put_bad(out: &mut [u8], at: usize) -> usize
     ensures { λ r. ⌜ page r (now (out .exit)) ≡ added badLine (page at (now (out .entry))) ⌝ }
 {
     program_output::put_all(out, at, b"bad request\n")
@@ -32,8 +32,8 @@ fn put_after(out: &mut [u8], at: usize, mark: u8, n: usize) -> usize
     program_output::digits::put_number(out, end, n)
 }
 
-// `no NUMBER PLACE`.
-pub fn refusal(out: &mut [u8], at: usize, number: u32, place: usize) -> usize
+// Adds `no NUMBER PLACE`.
+pub fn put_refusal(out: &mut [u8], at: usize, number: u32, place: usize) -> usize
     ensures { λ r. ⌜ page r (now (out .exit)) ≡ added (refusalText number place) (page at (now (out .entry))) ⌝ }
 {
     let word = program_output::put_all(out, at, b"no");
@@ -41,60 +41,60 @@ pub fn refusal(out: &mut [u8], at: usize, number: u32, place: usize) -> usize
     put_after(out, end, b' ', place)
 }
 
-// `ok NUMBER`.
-pub fn done(out: &mut [u8], at: usize, number: usize) -> usize
+// Adds `ok NUMBER`.
+pub fn put_done(out: &mut [u8], at: usize, number: usize) -> usize
     ensures { λ r. ⌜ page r (now (out .exit)) ≡ added (doneText number) (page at (now (out .entry))) ⌝ }
 {
     let word = program_output::put_all(out, at, b"ok");
     put_after(out, word, b' ', number)
 }
 
-// `ok CARDS LINES`, or the refusal.
-pub fn verdict(out: &mut [u8], at: usize, v: Verdict) -> usize
+// Adds `ok CARDS LINES`, or the refusal.
+pub fn put_verdict(out: &mut [u8], at: usize, v: Verdict) -> usize
     ensures { λ r. ⌜ page r (now (out .exit)) ≡ added (verdictText v) (page at (now (out .entry))) ⌝ }
 {
     match v {
         Verdict::Accepted(cards, lines) => {
-            let end = done(out, at, cards);
+            let end = put_done(out, at, cards);
             put_after(out, end, b' ', lines)
         }
-        Verdict::Refused(number, place) => refusal(out, at, number, place),
+        Verdict::Refused(number, place) => put_refusal(out, at, number, place),
     }
 }
 
-// `ok NUMBER`, or the refusal, of a call of the desk.
-pub fn answered(out: &mut [u8], at: usize, a: Answer) -> usize
+// Adds `ok NUMBER`, or the refusal, of a call of the desk.
+pub fn put_answer(out: &mut [u8], at: usize, a: Answer) -> usize
     ensures { λ r. ⌜ page r (now (out .exit)) ≡ added (answerText a) (page at (now (out .entry))) ⌝ }
 {
     match a {
-        Answer::Done(n) => done(out, at, n),
-        Answer::Refused(number, place) => refusal(out, at, number, place),
+        Answer::Done(n) => put_done(out, at, n),
+        Answer::Refused(number, place) => put_refusal(out, at, number, place),
     }
 }
 
-// `ok COUNT OCTETS` with the octets written to room, or the refusal.
-pub fn written(out: &mut [u8], at: usize, w: Written, room: &[u8]) -> usize
+// Adds `ok COUNT OCTETS` with the octets written to room, or the refusal.
+pub fn put_written(out: &mut [u8], at: usize, w: Written, room: &[u8]) -> usize
     ensures { λ r. ⌜ page r (now (out .exit)) ≡ added (writtenText w (now (room .entry))) (page at (now (out .entry))) ⌝ }
 {
     match w {
         Written::Wrote(count) => {
-            let end = done(out, at, count);
-            octets(out, end, octets::slices::part(room, 0, count))
+            let end = put_done(out, at, count);
+            put_spaced_octets(out, end, octets::slices::part(room, 0, count))
         }
-        Written::Refused(number, place) => refusal(out, at, number, place),
+        Written::Refused(number, place) => put_refusal(out, at, number, place),
     }
 }
 
-// A space and octets.
-pub fn octets(out: &mut [u8], at: usize, s: &[u8]) -> usize
+// Adds a space and octets.
+pub fn put_spaced_octets(out: &mut [u8], at: usize, s: &[u8]) -> usize
     ensures { λ r. ⌜ page r (now (out .exit)) ≡ added (spaced (octetsWord (now (s .entry)))) (page at (now (out .entry))) ⌝ }
 {
     let end = program_output::put(out, at, b' ');
     hex::put_octets(out, end, s)
 }
 
-// A space and numbers joined by commas.
-pub fn numbers(out: &mut [u8], at: usize, s: &[u32]) -> usize
+// Adds a space and numbers joined by commas.
+pub fn put_spaced_numbers(out: &mut [u8], at: usize, s: &[u32]) -> usize
     ensures { λ r. ⌜ page r (now (out .exit)) ≡ added (spaced (joined (now (s .entry)))) (page at (now (out .entry))) ⌝ }
 {
     let mut end = program_output::put(out, at, b' ');
@@ -110,12 +110,12 @@ pub fn numbers(out: &mut [u8], at: usize, s: &[u32]) -> usize
     end
 }
 
-// The line's end, after the word for room that is not as it was.
-pub fn looked_at(out: &mut [u8], at: usize, kept: bool) -> usize
+// Adds the line's end, after the word `touched` where the room is not as it was.
+pub fn put_room_end(out: &mut [u8], at: usize, kept: bool) -> usize
     ensures { λ r. ⌜ page r (now (out .exit)) ≡ added (roomEnd kept) (page at (now (out .entry))) ⌝ }
 {
     if kept {
-        return ended(out, at);
+        return put_end(out, at);
     }
     program_output::put_all(out, at, b" touched\n")
 }

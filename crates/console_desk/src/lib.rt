@@ -1,8 +1,12 @@
 // The calls of the desk, and what is kept from one to the next.
 ghost use mathlib.Core.Path.{_≡_};
+ghost use mathlib.Core.Bool.{true};
+ghost use Prim.Native.Nat.{_+_, _≤_};
+ghost use lib.ListN.{length};
+ghost use Rattle.numbers.specs.Limits as limit;
 ghost use Rattle.desk.specs.Steps.{turned};
 ghost use Rattle.program_output.specs.Pages.{page, added};
-ghost use Rattle.console_desk.specs.Uploads.{told, kept, first, moved, badTold, turnedTold, newDesk, nextTicket, changeOf, change, lookText, look, poolPart};
+ghost use Rattle.console_desk.specs.DeskAnswers.{stateOf, withPool, first, moved, endsLine, callable, lies, saysBad, afterTurn, deskAnswer, nextAnswer, changeOf, changeAnswer, lookText, lookAnswer, poolAnswer};
 use console_entries::rooms;
 use desk::Desk;
 use desk::Turn;
@@ -51,50 +55,58 @@ impl Console {
         self
     }
 
-    // `bad request`.
-    pub fn refused(self, out: &mut [u8]) -> Console
-        ensures { λ r. ⌜ told r (now (out .exit)) ≡ badTold (told self (now (out .entry))) ⌝ }
+    // Ends the line of an answer that was added up to there.
+    fn end_line(self, out: &mut [u8], end: usize) -> Console
+        ensures { λ r. ⌜ stateOf r (now (out .exit)) ≡ endsLine (stateOf self (now (out .entry))) (page end (now (out .entry))) ⌝ }
     {
-        let at = console_answers::bad(out, self.at);
+        let at = console_answers::put_end(out, end);
+        self.with_output(at)
+    }
+
+    // Answers `bad request`.
+    pub fn answer_bad(self, out: &mut [u8]) -> Console
+        ensures { λ r. ⌜ stateOf r (now (out .exit)) ≡ saysBad (stateOf self (now (out .entry))) ⌝ }
+    {
+        let at = console_answers::put_bad(out, self.at);
         self.with_output(at)
     }
 }
 
-// After a call that hands the next desk back, with its answer.
-fn turned(t: Turn, size: usize, out: &mut [u8], at: usize) -> Console
-    ensures { λ r. ⌜ told r (now (out .exit)) ≡ turnedTold t size (page at (now (out .entry))) ⌝ }
+// Adds the answer of a call, and keeps the next desk that it hands back.
+fn answer_turn(t: Turn, size: usize, out: &mut [u8], at: usize) -> Console
+    ensures { λ r. ⌜ stateOf r (now (out .exit)) ≡ afterTurn t size (page at (now (out .entry))) ⌝ }
 {
     let a = t.answer;
     let d = t.desk;
-    let end = console_answers::answered(out, at, a);
+    let end = console_answers::put_answer(out, at, a);
     Console {
         desk: d,
         size: size,
-        at: console_answers::ended(out, end),
+        at: console_answers::put_end(out, end),
     }
 }
 
-// `desk SLOTS POOL`.
-pub fn new_desk(c: Console, slots: usize, n: usize, pool: &mut [u8], out: &mut [u8]) -> Console
-    ensures { λ r. ⌜ kept (told r (now (out .exit))) (now (pool .exit)) ≡ newDesk slots n (told c (now (out .entry))) (now (pool .entry)) ⌝ }
+// Answers `desk SLOTS POOL`: a new desk over so many octets of pool.
+pub fn answer_desk(c: Console, slots: usize, n: usize, pool: &mut [u8], out: &mut [u8]) -> Console
+    ensures { λ r. ⌜ withPool (stateOf r (now (out .exit))) (now (pool .exit)) ≡ deskAnswer slots n (stateOf c (now (out .entry))) (now (pool .entry)) ⌝ }
 {
     if n > pool.len() {
-        return c.refused(out);
+        return c.answer_bad(out);
     }
     rooms::fill(&mut pool[0..n]);
-    turned(Desk::new(slots), n, out, c.at)
+    answer_turn(Desk::new(slots), n, out, c.at)
 }
 
-// `next TICKET`: no entry; the desk is as one that has given out all tickets before it.
-pub fn next_ticket(c: Console, ticket: usize, out: &mut [u8]) -> Console
-    ensures { λ r. ⌜ told r (now (out .exit)) ≡ nextTicket ticket (told c (now (out .entry))) ⌝ }
+// Answers `next TICKET`, which is no entry: the desk is as one that has given out all tickets before it.
+pub fn answer_next(c: Console, ticket: usize, out: &mut [u8]) -> Console
+    ensures { λ r. ⌜ stateOf r (now (out .exit)) ≡ nextAnswer ticket (stateOf c (now (out .entry))) ⌝ }
 {
     if ticket > limit::LARGEST {
-        return c.refused(out);
+        return c.answer_bad(out);
     }
     let d = c.desk;
     let es = d.entries;
-    let end = console_answers::done(out, c.at, ticket);
+    let end = console_answers::put_done(out, c.at, ticket);
     Console {
         desk: Desk {
             entries: es,
@@ -102,11 +114,22 @@ pub fn next_ticket(c: Console, ticket: usize, out: &mut [u8]) -> Console
             next: ticket as u32,
         },
         size: c.size,
-        at: console_answers::ended(out, end),
+        at: console_answers::put_end(out, end),
     }
 }
 
-// `open TRAM`, `add TICKET OCTETS` or `release TICKET`, over the pool that is lent.
+// Whether a call has a number of 32 bits, and the pool that is lent is there.
+fn is_callable(n: usize, size: usize, pool: &[u8]) -> bool
+    ensures { λ r. ⌜ r ≡ callable n size (now (pool .entry)) ⌝ }
+    ensures { λ r. ⌜ (r ≡ true → (n ≤ limit.largest) × (size ≤ length (now (pool .entry)))) ⌝ }
+{
+    if n > limit::LARGEST {
+        return false;
+    }
+    size <= pool.len()
+}
+
+// Calls `open TRAM`, `add TICKET OCTETS` or `release TICKET` over the pool that is lent.
 fn call(which: Change, d: Desk, t: u32, chunk: &[u8], pool: &mut [u8]) -> Turn
     ensures { λ r. ⌜ turned r (now (pool .exit)) ≡ changeOf which d (now (pool .entry)) t (now (chunk .entry)) ⌝ }
 {
@@ -117,8 +140,8 @@ fn call(which: Change, d: Desk, t: u32, chunk: &[u8], pool: &mut [u8]) -> Turn
     }
 }
 
-// The answer to such a request; its number is a ticket or a tram's identifier.
-pub fn changed(
+// Answers such a request; its number is a ticket or a tram's identifier.
+pub fn answer_change(
     which: Change,
     c: Console,
     n: usize,
@@ -126,56 +149,58 @@ pub fn changed(
     pool: &mut [u8],
     out: &mut [u8],
 ) -> Console
-    ensures { λ r. ⌜ kept (told r (now (out .exit))) (now (pool .exit)) ≡ change which n (now (chunk .entry)) (told c (now (out .entry))) (now (pool .entry)) ⌝ }
+    ensures { λ r. ⌜ withPool (stateOf r (now (out .exit))) (now (pool .exit)) ≡ changeAnswer which n (now (chunk .entry)) (stateOf c (now (out .entry))) (now (pool .entry)) ⌝ }
 {
     let size = c.size;
-    if n > limit::LARGEST {
-        return c.refused(out);
+    if is_callable(n, size, pool) {
+        let t = call(which, c.desk, n as u32, chunk, &mut pool[0..size]);
+        return answer_turn(t, size, out, c.at);
     }
-    if size > pool.len() {
-        return c.refused(out);
-    }
-    let t = call(which, c.desk, n as u32, chunk, &mut pool[0..size]);
-    turned(t, size, out, c.at)
+    c.answer_bad(out)
 }
 
-// What `check TICKET`, `show TICKET` or `held TICKET` answers, over the pool that is lent.
-fn seen(which: Look, d: Desk, t: u32, pool: &[u8], out: &mut [u8], at: usize) -> usize
+// Adds what `check TICKET`, `show TICKET` or `held TICKET` answers, over the pool that is lent.
+fn put_look(which: Look, d: Desk, t: u32, pool: &[u8], out: &mut [u8], at: usize) -> usize
     ensures { λ r. ⌜ page r (now (out .exit)) ≡ added (lookText which d (now (pool .entry)) t) (page at (now (out .entry))) ⌝ }
 {
     match which {
-        Look::Check => console_answers::verdict(out, at, d.judge(pool, t)),
+        Look::Check => console_answers::put_verdict(out, at, d.judge(pool, t)),
         Look::Show => console_answers::hex::put_octets(out, at, d.show(pool, t)),
-        Look::Held => console_answers::answered(out, at, d.held(pool, t)),
+        Look::Held => console_answers::put_answer(out, at, d.held(pool, t)),
     }
 }
 
-// The answer to such a request.
-pub fn looked(which: Look, c: Console, n: usize, pool: &[u8], out: &mut [u8]) -> Console
-    ensures { λ r. ⌜ told r (now (out .exit)) ≡ look which n (told c (now (out .entry))) (now (pool .entry)) ⌝ }
+// Answers such a request.
+pub fn answer_look(which: Look, c: Console, n: usize, pool: &[u8], out: &mut [u8]) -> Console
+    ensures { λ r. ⌜ stateOf r (now (out .exit)) ≡ lookAnswer which n (stateOf c (now (out .entry))) (now (pool .entry)) ⌝ }
 {
     let size = c.size;
-    if n > limit::LARGEST {
-        return c.refused(out);
+    if is_callable(n, size, pool) {
+        let end = put_look(which, c.desk, n as u32, &pool[0..size], out, c.at);
+        return c.end_line(out, end);
     }
-    if size > pool.len() {
-        return c.refused(out);
-    }
-    let end = seen(which, c.desk, n as u32, &pool[0..size], out, c.at);
-    c.with_output(console_answers::ended(out, end))
+    c.answer_bad(out)
 }
 
-// `pool FROM COUNT`: no entry; that part of the pool that is lent.
-pub fn pool_part(c: Console, from: usize, count: usize, pool: &[u8], out: &mut [u8]) -> Console
-    ensures { λ r. ⌜ told r (now (out .exit)) ≡ poolPart from count (told c (now (out .entry))) (now (pool .entry)) ⌝ }
+// Whether so many octets from a place on lie in a pool.
+fn lies_inside(from: usize, count: usize, lent: &[u8]) -> bool
+    ensures { λ r. ⌜ r ≡ lies from count (now (lent .entry)) ⌝ }
+    ensures { λ r. ⌜ (r ≡ true → from + count ≤ length (now (lent .entry))) ⌝ }
+{
+    if from > lent.len() {
+        return false;
+    }
+    count <= lent.len() - from
+}
+
+// Answers `pool FROM COUNT`, which is no entry: that part of the pool that is lent.
+pub fn answer_pool(c: Console, from: usize, count: usize, pool: &[u8], out: &mut [u8]) -> Console
+    ensures { λ r. ⌜ stateOf r (now (out .exit)) ≡ poolAnswer from count (stateOf c (now (out .entry))) (now (pool .entry)) ⌝ }
 {
     let lent = octets::slices::part(pool, 0, c.size);
-    if from > lent.len() {
-        return c.refused(out);
+    if lies_inside(from, count, lent) {
+        let end = console_answers::hex::put_octets(out, c.at, &lent[from..from + count]);
+        return c.end_line(out, end);
     }
-    if count > lent.len() - from {
-        return c.refused(out);
-    }
-    let end = console_answers::hex::put_octets(out, c.at, &lent[from..from + count]);
-    c.with_output(console_answers::ended(out, end))
+    c.answer_bad(out)
 }

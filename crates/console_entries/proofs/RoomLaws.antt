@@ -12,14 +12,14 @@ use Rattle.octets.specs.Room.{overlay}
 use Rattle.octets.specs.Slices.{part}
 use Rattle.program_output.specs.Pages.{Page, added}
 use Rattle.console_answers.specs.Texts.{roomEnd}
-use Rattle.console_entries.specs.Rooms.{octetRoom, numberRoom, bothKept}
-use Rattle.console_entries.specs.Entries.{numbersOf, copyLength, takenText, roomsText, readText, outcomeOf, leftText}
+use Rattle.console_entries.specs.Rooms.{octetFill, numberFill, octetRoom, numberRoom, bothKept}
+use Rattle.console_entries.specs.Entries.{numbersOf, copyLength, takenText, roomsText, readText, outcomeOf, writeText}
 use Rattle.console_entries.specs.declared.entries.Writer.{Writer}
 
 pub fill-step : (d e : List ℕ) (j : ℕ) → j < length d → e ≡ take j (octetRoom (length d)) ++ drop j d
-    → set e j 165 ≡ take (j + 1) (octetRoom (length d)) ++ drop (j + 1) d
+    → set e j octetFill ≡ take (j + 1) (octetRoom (length d)) ++ drop (j + 1) d
 fill-step d e j hd h =
-    rw (getD-replicate {A = ℕ} (length d) j 165 0 hd) at (copy-step d (octetRoom (length d)) e j hd (rw length-replicate hd) h)
+    rw (getD-replicate {A = ℕ} (length d) j octetFill 0 hd) at (copy-step d (octetRoom (length d)) e j hd (rw length-replicate hd) h)
 
 pub fill-done : (d e : List ℕ) (j : ℕ) → length d ≤ j → j ≤ length d → e ≡ take j (octetRoom (length d)) ++ drop j d → e ≡ octetRoom (length d)
 fill-done d e j h k p =
@@ -41,12 +41,12 @@ room-part r n v h = ap (λ (m : ℕ). take m (replicate n v)) (less-none r) ∙ 
 
 -- what is answered with the first elements of larger rooms
 module _ (i : List ℕ) (n r : ℕ) (p : Page) {q : Page} (h : r ≤ n) where
-  pub read-part : (k : ℕ) → k ≤ n → q ≡ added (readText i (take (r - 0) (replicate n 165)) (take (k - 0) (replicate n 2779096485))) p
+  pub read-part : (k : ℕ) → k ≤ n → q ≡ added (readText i (take (r - 0) (replicate n octetFill)) (take (k - 0) (replicate n numberFill))) p
       → q ≡ added (readText i (octetRoom r) (numberRoom k)) p
-  read-part k l e = rw (room-part r n 165 h, room-part k n 2779096485 l) at e
+  read-part k l e = rw (room-part r n octetFill h, room-part k n numberFill l) at e
 
-  pub write-part : (w : Writer) → q ≡ added (leftText (outcomeOf w i (take (r - 0) (replicate n 165)))) p → q ≡ added (leftText (outcomeOf w i (octetRoom r))) p
-  write-part w e = rw (room-part r n 165 h) at e
+  pub write-part : (w : Writer) → q ≡ added (writeText (outcomeOf w i (take (r - 0) (replicate n octetFill)))) p → q ≡ added (writeText (outcomeOf w i (octetRoom r))) p
+  write-part w e = rw (room-part r n octetFill h) at e
 
 -- a slice whose first n elements became those of e
 pub put-front : (p e : List ℕ) (n : ℕ) → n ≤ length p → length e ≡ length (take (n - 0) p) → e ++ drop (n - 0) p ≡ overlay e p
@@ -58,7 +58,7 @@ put-front p e n h k =
 pub fill-front : (p e : List ℕ) (n : ℕ) → n ≤ length p → e ≡ octetRoom (length (take (n - 0) p)) → e ++ drop (n - 0) p ≡ overlay (octetRoom n) p
 fill-front p e n h k =
     let l : length (take (n - 0) p) ≡ n = ap (λ (m : ℕ). length (take m p)) (less-none n) ∙ length-take-le n p h in
-    put-front p e n h (rw k (length-replicate {A = ℕ} (length (take (n - 0) p)) 165)) ∙ rw (k, l)
+    put-front p e n h (rw k (length-replicate {A = ℕ} (length (take (n - 0) p)) octetFill)) ∙ rw (k, l)
 
 pub part-whole : (s : List ℕ) (a e : ℕ) → a ≤ e → e ≤ length s → part s a e ≡ take (e - a) (drop a s)
 part-whole s a e h k = rw (le-ltb (length s) e k, le-ltb e a h)

@@ -4,6 +4,7 @@ use mathlib.Core.List.{List, [], _++_}
 use lib.Dec.{ltb, eqb}
 use lib.ListN.{length, getD, drop}
 use Rattle.numbers.specs.Limits as limit
+use Rattle.numbers.specs.Fields as field
 use Rattle.octets.specs.Pick.{pick}
 use Rattle.octets.specs.Room.{Filled}
 use Rattle.octets.specs.declared.rooms.Written.{Written}
@@ -15,13 +16,13 @@ use Rattle.reader.specs.declared.Verdict.the-variants.{Accepted, Refused}
 use Rattle.folder.specs.Outcome.{foldOutcome}
 use Rattle.text.specs.Outcomes.{escapeOutcome, unescapeOutcome}
 use Rattle.console_answers.specs.Texts.{lineEnd, badLine, verdictText, writtenText, octetsWord, joined, spaced, roomEnd}
-use Rattle.console_entries.specs.Rooms.{octetRoom, numberRoom, all, bothKept}
+use Rattle.console_entries.specs.Rooms.{octetFill, mostRoom, octetRoom, numberRoom, all, bothKept}
 use Rattle.console_entries.specs.declared.entries.Writer.{Writer}
 use Rattle.console_entries.specs.declared.entries.Writer.the-variants.{Fold, Escape, Unescape}
 
--- over 70,000 octets or numbers of room are no request
+-- more room than that is no request
 abbrev pub within : ℕ → List ℕ → List ℕ
-within r t = pick (ltb 70000 r) badLine t
+within r t = pick (ltb mostRoom r) badLine t
 
 -- ---- judge
 
@@ -38,9 +39,13 @@ linesOf (Refused n p) = 0
 abbrev pub numbersOf : ℕ → ℕ → ℕ
 numbersOf lines most = min (lines * limit.recordLength) most
 
+-- CR LF
+abbrev pub lineEndLength : ℕ
+lineEndLength = 2
+
 -- the last record says where the last line of the copy starts and how long it is; CR LF ends it
 unfoldable pub copyLength : List ℕ → ℕ
-copyLength ns = pick (ltb (length ns) 8) 0 (getD ns (length ns - 7) 0 + getD ns (length ns - 6) 0 + 2)
+copyLength ns = pick (ltb (length ns) limit.recordLength) 0 (getD ns (length ns - limit.recordLength + field.start) 0 + getD ns (length ns - limit.recordLength + field.length) 0 + lineEndLength)
 
 -- the octets and the numbers written, if there are any
 unfoldable pub takenText : List ℕ → List ℕ → List ℕ
@@ -77,8 +82,8 @@ count (Wrote n) = n
 count (Unwritten n p) = 0
 
 -- what the entry wrote, and the rest of the room looked at
-unfoldable pub leftText : Filled → List ℕ
-leftText f = writtenText (f .answer) (f .room) ++ roomEnd (all 165 (drop (count (f .answer)) (f .room)))
+unfoldable pub writeText : Filled → List ℕ
+writeText f = writtenText (f .answer) (f .room) ++ roomEnd (all octetFill (drop (count (f .answer)) (f .room)))
 
 unfoldable pub writeAnswer : Writer → ℕ → List ℕ → List ℕ
-writeAnswer e r i = within r (leftText (outcomeOf e i (octetRoom r)))
+writeAnswer e r i = within r (writeText (outcomeOf e i (octetRoom r)))

@@ -1,20 +1,21 @@
 -- The search of a request from a row on, and what the table says of a row. Assumes nothing.
-use mathlib.Core.Path.{_≡_, refl, sym, ap, subst}
+use mathlib.Core.Path.{_≡_, refl, ap, _∙_}
 use mathlib.Core.Bool.{Bool, true, false}
 use mathlib.Core.List.{List}
 use Prim.Native.Nat.{ℕ, _+_, _*_, _-_, _≤_, _<_}
 use native.Mathlib.Numerals.{add-one}
 use native.Mathlib.Omega.{arith}
-use lib.Dec.{T, leb, eqb, leb→le, eqb→eq}
+use lib.Dec.{T, leb, leb→le}
 use lib.ListN.{length, getD, take, drop, List·getD-eq-default}
 use lib.Seq.{drop-cons}
 use borrow.Author.Tests.{eq-eqb, ne-eqb}
 use Rattle.octets.proofs.Upto.{upto, alike as same-upto}
+use Rattle.octets.proofs.TableLaws.{entry-at, front-at}
+use Rattle.octets.specs.Tables.{entriesFrom, TableOf}
 use Rattle.program_numbers.specs.Alike.{alike}
-use Rattle.program_numbers.proofs.ListLaws.{alike-same}
 use Rattle.octets.specs.Pick.{pick}
 use Rattle.octets.specs.Ascii.{octets}
-use Rattle.console_requests.specs.Names.{Row, rows, noRow, rowAt, fits, search, rowOf, entries, entriesFrom, Lists}
+use Rattle.console_requests.specs.Names.{Row, rows, noRow, rowAt, fits, search, rowOf, entries, Lists}
 
 -- the search from row n on
 unfoldable pub searchFrom : List ℕ → ℕ → ℕ → Row
@@ -55,25 +56,38 @@ pub record Listed (t : List ℕ) (n : ℕ) : Type 0 where
   pub octets : getD t (n * 11 + 10) 0 ≡ rowAt n .octets
   pub once : rowAt n .octets ≤ 1
 
-listed-right : (n : ℕ) → n < 15 → Listed (entriesFrom 0 15) n
-unfolding entriesFrom entries rowAt rows octets alike upto
-listed-right n h =
-    record {
-      spelt = alike-same _ _ (each-row (λ j. alike (take (length (rowAt j .spelling)) (drop (j * 11) (entriesFrom 0 15))) (rowAt j .spelling)) refl n h);
-      long = eqb→eq _ _ (true-T _ (each-row (λ j. eqb (getD (entriesFrom 0 15) (j * 11 + 8) 0) (length (rowAt j .spelling))) refl n h));
-      short = leb→le _ _ (true-T _ (each-row (λ j. leb (length (rowAt j .spelling)) 8) refl n h));
-      numbers = eqb→eq _ _ (true-T _ (each-row (λ j. eqb (getD (entriesFrom 0 15) (j * 11 + 9) 0) (rowAt j .numbers)) refl n h));
-      few = leb→le _ _ (true-T _ (each-row (λ j. leb (rowAt j .numbers) 2) refl n h));
-      octets = eqb→eq _ _ (true-T _ (each-row (λ j. eqb (getD (entriesFrom 0 15) (j * 11 + 10) 0) (rowAt j .octets)) refl n h));
-      once = leb→le _ _ (true-T _ (each-row (λ j. leb (rowAt j .octets) 1) refl n h));
-    }
+row-length : (n : ℕ) → n < 15 → length (entries n) ≡ 11
+unfolding entries rowAt rows octets upto
+row-length n h = same-upto (λ j. length (entries j)) (λ j. 11) 15 refl n h
 
-pub listed : (t : List ℕ) → Lists t → (n : ℕ) → n < 15 → Listed t n
-unfolding Lists
-listed t e n h = subst (λ (l : List ℕ). Listed l n) (sym e) (listed-right n h)
+module _ (t : List ℕ) (table : Lists t) (n : ℕ) (h : n < 15) where
+  at : (i : ℕ) → i < 11 → getD t (n * 11 + i) 0 ≡ getD (entries n) i 0
+  unfolding Lists
+  at i l = entry-at entries 11 15 row-length t table n h i l
+
+  short-name : length (rowAt n .spelling) ≤ 8
+  unfolding rowAt rows octets upto
+  short-name = leb→le _ _ (true-T _ (each-row (λ j. leb (length (rowAt j .spelling)) 8) refl n h))
+
+  spelt-at : take (length (rowAt n .spelling)) (drop (n * 11) t) ≡ take (length (rowAt n .spelling)) (entries n)
+  unfolding Lists
+  spelt-at = front-at entries 11 15 row-length t table n h (length (rowAt n .spelling)) (omega (arith, short-name))
+
+  pub listed : Listed t n
+  unfolding entries rowAt rows octets upto
+  listed =
+      record {
+        spelt = spelt-at ∙ same-upto (λ j. take (length (rowAt j .spelling)) (entries j)) (λ j. rowAt j .spelling) 15 refl n h;
+        long = at 8 (omega arith) ∙ same-upto (λ j. getD (entries j) 8 0) (λ j. length (rowAt j .spelling)) 15 refl n h;
+        short = short-name;
+        numbers = at 9 (omega arith) ∙ same-upto (λ j. getD (entries j) 9 0) (λ j. rowAt j .numbers) 15 refl n h;
+        few = leb→le _ _ (true-T _ (each-row (λ j. leb (rowAt j .numbers) 2) refl n h));
+        octets = at 10 (omega arith) ∙ same-upto (λ j. getD (entries j) 10 0) (λ j. rowAt j .octets) 15 refl n h;
+        once = leb→le _ _ (true-T _ (each-row (λ j. leb (rowAt j .octets) 1) refl n h));
+      }
 
 pub listed-length : (t : List ℕ) → Lists t → length t ≡ 165
-unfolding Lists entriesFrom entries rowAt rows octets
+unfolding Lists TableOf entriesFrom entries rowAt rows octets
 listed-length t e = ap length e
 
 -- the part of the table that spells a row's name

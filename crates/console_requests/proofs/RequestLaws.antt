@@ -6,14 +6,14 @@ use native.Mathlib.Omega.{arith}
 use lib.ListN.{length}
 use borrow.Author.Tests.{lt-ltb, le-ltb, eq-eqb, ne-eqb}
 use Rattle.console_words.specs.Words.{wordsOf, wordAt}
-use Rattle.program_numbers.specs.Numbers.{numberOf}
+use Rattle.program_numbers.specs.Decimal.{numberOf}
 use Rattle.program_numbers.specs.Hex.{taken, octetsOf}
 use Rattle.console_requests.specs.Names.{Row, rowAt, rowOf}
-use Rattle.console_requests.specs.Requests.{request, noRequest, requested, numberAt, octetsAt, counted, whole, read, requestOf}
-use Rattle.program_numbers.specs.declared.numbers.Number.{Number}
-use Rattle.program_numbers.specs.declared.numbers.Number.the-variants.{Is, Bad}
+use Rattle.console_requests.specs.Requests.{noRequest, requested, numberAt, octetsAt, makeRequest, whole, read, requestOf}
+use Rattle.program_numbers.specs.declared.decimal.Number.{Number}
+use Rattle.program_numbers.specs.declared.decimal.Number.the-variants.{Is, Bad}
 use Rattle.program_numbers.specs.declared.hex.Octets.{Octets}
-use Rattle.program_numbers.specs.declared.hex.Octets.the-variants.{Are, Bad as NoOctets}
+use Rattle.program_numbers.specs.declared.hex.Octets.the-variants.{Are}
 
 -- a request of a row, once the row is known
 pub of-row : (line room w : List ℕ) (row k : ℕ) → w ≡ wordAt line 0 → length (wordsOf line) ≡ k + 1 → rowAt row ≡ rowOf w k
@@ -56,11 +56,5 @@ module _ (r : Row) (line room : List ℕ) (n : ℕ) (e : n ≡ r .numbers) where
       second-bad h = rw (read-at, sym p, f, sym q, h)
 
       module _ (b o : ℕ) (g : y ≡ Is b) (d : o ≡ r .octets) (z : Octets) (out : List ℕ) (s : taken z out ≡ octetsAt (wordAt line (n + 1)) o room) where
-        read-rest : read r line room ≡ requested (counted (r .name) a b z) out
-        read-rest = rw (read-at, sym p, f, sym q, g, sym d, sym s)
-
-        pub octets-bad : z ≡ NoOctets → read r line room ≡ requested noRequest out
-        octets-bad h = rw (read-rest, h)
-
-        pub all-read : (k : ℕ) → z ≡ Are k → read r line room ≡ requested (request (r .name) a b k) out
-        all-read k h = rw (read-rest, h)
+        pub all-read : read r line room ≡ requested (makeRequest (r .name) a b z) out
+        all-read = rw (read-at, sym p, f, sym q, g, sym d, sym s)

@@ -11,14 +11,14 @@ use Rattle.octets.specs.Ascii.{octets}
 use Rattle.console_words.specs.Words.{wordsOf, wordAt}
 use Rattle.program_numbers.specs.Alike.{alike}
 use Rattle.program_numbers.specs.Hex.{Taken, taken, stored, decoded, paired, octetsOf}
-use Rattle.program_numbers.specs.declared.numbers.Number.{Number}
-use Rattle.program_numbers.specs.declared.numbers.Number.the-variants.{Is, Bad as NoNumber}
+use Rattle.program_numbers.specs.declared.decimal.Number.{Number}
+use Rattle.program_numbers.specs.declared.decimal.Number.the-variants.{Is, Bad as NoNumber}
 use Rattle.program_numbers.specs.declared.hex.Octets.{Octets}
 use Rattle.program_numbers.specs.declared.hex.Octets.the-variants.{Are, Bad as NoOctets}
 use Rattle.octets.proofs.Bools.{and-both}
 use Rattle.console_requests.proofs.RequestLaws.{no-octets}
 use Rattle.console_requests.specs.Names.{Row, rows, noRow, fits, search, rowOf}
-use Rattle.console_requests.specs.Requests.{numberAt, octetsAt, counted, whole, requestOf}
+use Rattle.console_requests.specs.Requests.{numberAt, octetsAt, makeRequest, whole, requestOf}
 use Rattle.console_requests.specs.declared.Name.{Name}
 use Rattle.console_requests.specs.declared.Name.the-variants.{Judge, Read, Fold, Escape, Unescape, Desk, Open, Add, Check, Show, Held, Release, Pool, Next, Bad}
 
@@ -90,7 +90,7 @@ unfolding rowOf rows named all-named
 no-name w k e = bad-search w k rows refl e
 
 counted-room : (n : Name) (a b : ℕ) (x : Octets) (out room : List ℕ) → (n ≡ Bad → out ≡ room) → (x ≡ NoOctets → out ≡ room)
-    → counted n a b x .name ≡ Bad → out ≡ room
+    → makeRequest n a b x .name ≡ Bad → out ≡ room
 counted-room n a b (Are k) out room f g e = f e
 counted-room n a b NoOctets out room f g e = g refl
 

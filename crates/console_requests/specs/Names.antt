@@ -1,14 +1,14 @@
 -- The requests, as the console's table lists them: the name, how many numbers stand after it, and whether octets stand after those.
 -- Assumes nothing.
-use Prim.Native.Nat.{ℕ, zero, suc, _+_}
+use Prim.Native.Nat.{ℕ, _+_}
 use Prim.Native.String.{String}
-use mathlib.Core.Path.{_≡_}
 use mathlib.Core.Bool.{Bool, _&&_}
 use mathlib.Core.List.{List, [], _∷_, _++_}
 use lib.Dec.{eqb}
 use lib.ListN.{length, getD, take}
 use Rattle.octets.specs.Pick.{pick}
 use Rattle.octets.specs.Ascii.{octets}
+use Rattle.octets.specs.Tables.{TableOf}
 use Rattle.program_numbers.specs.Alike.{alike}
 use Rattle.console_requests.specs.declared.Name.{Name}
 use Rattle.console_requests.specs.declared.Name.the-variants.{Judge, Read, Fold, Escape, Unescape, Desk, Open, Add, Check, Show, Held, Release, Pool, Next, Bad}
@@ -71,11 +71,6 @@ rowOf w k = search w k rows
 unfoldable pub entries : ℕ → List ℕ
 entries n = take 8 (rowAt n .spelling ++ octets "........") ++ length (rowAt n .spelling) ∷ rowAt n .numbers ∷ rowAt n .octets ∷ []
 
--- k rows from row n on
-unfoldable pub entriesFrom : ℕ → ℕ → List ℕ
-entriesFrom n zero = []
-entriesFrom n (suc k) = entries n ++ entriesFrom (suc n) k
-
 -- a list is the table of requests, with a last row for none
 unfoldable pub Lists : List ℕ → Type 0
-Lists t = t ≡ entriesFrom 0 15
+Lists t = TableOf entries 15 t

@@ -5,14 +5,14 @@ use lib.Dec.{ltb, eqb}
 use lib.ListN.{length}
 use Rattle.octets.specs.Pick.{pick}
 use Rattle.console_words.specs.Words.{wordsOf, wordAt}
-use Rattle.program_numbers.specs.Numbers.{numberOf}
+use Rattle.program_numbers.specs.Decimal.{numberOf}
 use Rattle.program_numbers.specs.Hex.{Taken, taken, octetsOf}
 use Rattle.console_requests.specs.Names.{Row, rowOf}
 use Rattle.console_requests.specs.declared.Request.{Request}
 use Rattle.console_requests.specs.declared.Name.{Name}
 use Rattle.console_requests.specs.declared.Name.the-variants.{Bad}
-use Rattle.program_numbers.specs.declared.numbers.Number.{Number}
-use Rattle.program_numbers.specs.declared.numbers.Number.the-variants.{Is, Bad as NoNumber}
+use Rattle.program_numbers.specs.declared.decimal.Number.{Number}
+use Rattle.program_numbers.specs.declared.decimal.Number.the-variants.{Is, Bad as NoNumber}
 use Rattle.program_numbers.specs.declared.hex.Octets.{Octets}
 use Rattle.program_numbers.specs.declared.hex.Octets.the-variants.{Are, Bad as NoOctets}
 
@@ -39,12 +39,12 @@ unfoldable pub octetsAt : List ℕ → ℕ → List ℕ → Taken
 octetsAt w octets room = pick (eqb octets 0) (taken (Are 0) room) (octetsOf w room)
 
 -- a request has its numbers and its octets, or there is none
-abbrev pub counted : Name → ℕ → ℕ → Octets → Request
-counted n a b (Are k) = request n a b k
-counted n a b NoOctets = noRequest
+abbrev pub makeRequest : Name → ℕ → ℕ → Octets → Request
+makeRequest n a b (Are k) = request n a b k
+makeRequest n a b NoOctets = noRequest
 
 abbrev pub whole : Name → Number → Number → Taken → List ℕ → Requested
-whole n (Is a) (Is b) t room = requested (counted n a b (t .answer)) (t .room)
+whole n (Is a) (Is b) t room = requested (makeRequest n a b (t .answer)) (t .room)
 whole n (Is a) NoNumber t room = requested noRequest room
 whole n NoNumber b t room = requested noRequest room
 

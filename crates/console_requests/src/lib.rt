@@ -6,9 +6,9 @@ ghost use Prim.Native.Nat.{_+_, _≤_, _<_};
 ghost use Rattle.program_numbers.specs.Hex.{taken};
 ghost use Rattle.console_words.specs.Words.{wordAt};
 ghost use Rattle.console_requests.specs.Names.{Lists, rowAt};
-ghost use Rattle.console_requests.specs.Requests.{noRequest, numberAt, octetsAt, requested, read, requestOf};
+ghost use Rattle.console_requests.specs.Requests.{noRequest, makeRequest, numberAt, octetsAt, requested, read, requestOf};
+use program_numbers::decimal::Number;
 use program_numbers::hex::Octets;
-use program_numbers::numbers::Number;
 
 // The requests, and what a line has that is none.
 pub enum Name {
@@ -56,7 +56,7 @@ fn number(line: &[u8], k: usize, numbers: usize) -> Number
     if numbers < k {
         return Number::Is(0);
     }
-    program_numbers::numbers::number_of(console_words::word(line, k))
+    program_numbers::decimal::number_of(console_words::word(line, k))
 }
 
 // The octets after the numbers, where the request has octets.
@@ -70,28 +70,36 @@ fn last(line: &[u8], numbers: usize, octets: usize, out: &mut [u8]) -> Octets
     program_numbers::hex::octets_of(console_words::word(line, numbers + 1), out)
 }
 
+// The request with these numbers and octets, or none where the octets are bad.
+fn make_request(name: Name, first: usize, second: usize, octets: Octets) -> Request
+    ensures { λ r. ⌜ r ≡ makeRequest name first second octets ⌝ }
+{
+    let Octets::Are(count) = octets else {
+        return none();
+    };
+    Request {
+        name: name,
+        first: first,
+        second: second,
+        count: count,
+    }
+}
+
 // What a line says that starts with this row's name, with its octets at the front of out.
 fn read_row(t: &[u8], row: usize, line: &[u8], out: &mut [u8]) -> Request
     requires { ⌜ Lists (now t) ⌝ }
     requires { ⌜ row < 15 ⌝ }
     ensures { λ r. ⌜ requested r (now (out .exit)) ≡ read (rowAt row) (now (line .entry)) (now (out .entry)) ⌝ }
 {
-    let n = names::numbers_at(t, row);
-    let Number::Is(first) = number(line, 1, n) else {
+    let after = names::after_name(t, row);
+    let Number::Is(first) = number(line, 1, after.numbers) else {
         return none();
     };
-    let Number::Is(second) = number(line, 2, n) else {
+    let Number::Is(second) = number(line, 2, after.numbers) else {
         return none();
     };
-    let Octets::Are(count) = last(line, n, names::octets_at(t, row), out) else {
-        return none();
-    };
-    Request {
-        name: names::name_at(row),
-        first: first,
-        second: second,
-        count: count,
-    }
+    let octets = last(line, after.numbers, after.octets, out);
+    make_request(names::name_at(row), first, second, octets)
 }
 
 // The request of a line, with its octets at the front of out; out stays as it is where there is none.

@@ -5,8 +5,26 @@ ghost use Rattle.console_requests.specs.Names.{Lists, rowAt, fits, rowOf
 use crate::Name;
 use octets::indices::wide;
 
+// The entries of a row.
+const ROW: usize = 11;
+
+// Where a row has its name's length.
+const LENGTH: usize = 8;
+
+// Where a row has how many numbers stand after the name.
+const NUMBERS: usize = 9;
+
+// Where a row has 1 if octets stand after the numbers.
+const OCTETS: usize = 10;
+
+// The entries of the table.
+const TABLE: usize = 165;
+
+// The row of no request, after those of the requests.
+const NO_REQUEST: usize = 14;
+
 // Eleven entries for each row, and a last row for no request: name, its length, how many numbers stand after it, 1 where octets do.
-const ROWS: [u8; 165] = *b"\
+const ROWS: [u8; TABLE] = *b"\
     judge...\x05\x00\x01\
     read....\x04\x02\x01\
     fold....\x04\x01\x01\
@@ -24,30 +42,30 @@ const ROWS: [u8; 165] = *b"\
     ........\x00\x00\x00";
 
 // The table as a value, which its users are lent.
-pub fn table() -> [u8; 165]
+pub fn table() -> [u8; TABLE]
     ensures { λ r. ⌜ Lists r ⌝ }
 {
     ROWS
 }
 
-// How many numbers stand after a row's name.
-pub fn numbers_at(t: &[u8], row: usize) -> usize
-    requires { ⌜ Lists (now t) ⌝ }
-    requires { ⌜ row < 15 ⌝ }
-    ensures { λ r. ⌜ r ≡ rowAt row .numbers ⌝ }
-    ensures { λ r. ⌜ r ≤ 2 ⌝ }
-{
-    wide(t[row * 11 + 9])
+// What stands after a name: how many numbers, and 1 where octets do, else 0.
+pub struct After {
+    pub numbers: usize,
+    pub octets: usize,
 }
 
-// 1 where octets stand after a row's numbers, else 0.
-pub fn octets_at(t: &[u8], row: usize) -> usize
+// What stands after a row's name.
+pub fn after_name(t: &[u8], row: usize) -> After
     requires { ⌜ Lists (now t) ⌝ }
     requires { ⌜ row < 15 ⌝ }
-    ensures { λ r. ⌜ r ≡ rowAt row .octets ⌝ }
-    ensures { λ r. ⌜ r ≤ 1 ⌝ }
+    ensures { λ r. ⌜ (r .numbers ≡ rowAt row .numbers) × (r .octets ≡ rowAt row .octets) ⌝ }
+    ensures { λ r. ⌜ (r .numbers ≤ 2) × (r .octets ≤ 1) ⌝ }
 {
-    wide(t[row * 11 + 10])
+    let base = row * ROW;
+    After {
+        numbers: wide(t[base + NUMBERS]),
+        octets: wide(t[base + OCTETS]),
+    }
 }
 
 // Whether a row has this name and so many words after it.
@@ -56,22 +74,23 @@ fn is_row(t: &[u8], row: usize, word: &[u8], after: usize) -> bool
     requires { ⌜ row < 15 ⌝ }
     ensures { λ r. ⌜ r ≡ fits (now (word .entry)) after (rowAt row) ⌝ }
 {
-    if numbers_at(t, row) + octets_at(t, row) != after {
+    let a = after_name(t, row);
+    if a.numbers + a.octets != after {
         return false;
     }
-    let base = row * 11;
-    let end = base + wide(t[base + 8]);
+    let base = row * ROW;
+    let end = base + wide(t[base + LENGTH]);
     check::same(word, &t[base..end])
 }
 
-// The row of the request that has this name and so many words after it; 14 for none.
+// The row of the request that has this name and so many words after it, or that of no request.
 pub fn row_of(t: &[u8], word: &[u8], after: usize) -> usize
     requires { ⌜ Lists (now t) ⌝ }
     ensures { λ r. ⌜ rowAt r ≡ rowOf (now (word .entry)) after ⌝ }
     ensures { λ r. ⌜ r < 15 ⌝ }
 {
     let mut row: usize = 0;
-    while row < 14 {
+    while row < NO_REQUEST {
         if is_row(t, row, word, after) {
             return row;
         }

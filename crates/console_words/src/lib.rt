@@ -76,7 +76,7 @@ pub fn without_cr(line: &[u8]) -> &[u8]
         return line;
     }
     let last = line.len() - 1;
-    if line[last] == 13 {
+    if line[last] == b'\r' {
         return &line[0..last];
     }
     line

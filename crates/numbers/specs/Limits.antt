@@ -5,9 +5,17 @@ use Prim.Native.Nat.{ℕ}
 abbrev pub octets : ℕ
 octets = 16384
 
+-- room for an input and one octet more, so that a longer one is seen
+abbrev pub readRoom : ℕ
+readRoom = 16385
+
 -- the most slots of a desk
 abbrev pub slots : ℕ
 slots = 40
+
+-- the octets of pool that a desk of so many slots has
+abbrev pub pool : ℕ
+pool = 655360
 
 -- the next ticket of a desk whose tickets are used up: one more than the last ticket
 abbrev pub tickets : ℕ
@@ -36,3 +44,7 @@ word = 4294967296
 -- the largest number of 32 bits
 abbrev pub largest : ℕ
 largest = 4294967295
+
+-- the largest number of 64 bits
+abbrev pub largest64 : ℕ
+largest64 = 18446744073709551615

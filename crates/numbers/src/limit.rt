@@ -3,8 +3,14 @@
 // The most octets of an input, a text, a written form and a session; a slot of a pool has as many.
 pub const OCTETS: usize = 16384;
 
+// Room for an input and one octet more, so that a longer one is seen.
+pub const READ_ROOM: usize = 16385;
+
 // The most slots of a desk.
 pub const SLOTS: usize = 40;
+
+// The octets of pool that a desk of so many slots has.
+pub const POOL: usize = 655360;
 
 // The next ticket of a desk whose tickets are used up: one more than the last ticket.
 pub const TICKETS: u32 = 4294967295;

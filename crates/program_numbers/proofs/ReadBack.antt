@@ -8,13 +8,14 @@ use native.Mathlib.Omega.{arith}
 use lib.Dec.{ltb, eqb}
 use lib.ListN.{length, length-append}
 use borrow.Author.Tests.{ltb-true, ltb-false, lt-ltb, le-leb, ne-eqb}
+use Rattle.numbers.specs.Limits as limit
 use Rattle.octets.specs.Pick.{pick}
 use Rattle.octets.specs.Ascii.{octets}
 use Rattle.octets.specs.Counts.{allIn}
 use Rattle.program_numbers.specs.Alike.{alike}
-use Rattle.program_numbers.specs.Numbers.{ones, digit, valueFrom, largest, numberFrom, numberOf}
+use Rattle.program_numbers.specs.Decimal.{ones, digit, valueFrom, numberFrom, numberOf}
 use Rattle.program_numbers.specs.Hex.{value, hexed, paired, decoded, stored, octetsOf}
-use Rattle.program_numbers.specs.declared.numbers.Number.the-variants.{Is}
+use Rattle.program_numbers.specs.declared.decimal.Number.the-variants.{Is}
 use Rattle.octets.proofs.Bools.{and-both}
 use Rattle.program_numbers.proofs.ListLaws.{above, inside}
 use Rattle.program_numbers.proofs.NumberLaws.{value-join}
@@ -50,10 +51,10 @@ unfolding digitsOf
 digits-some k n e = omega (arith, length-append (digitsOf k (n / 10)) ((48 + n % 10) ∷ []))
 
 -- as many digits as a number needs, or more, are that number
-pub number-back : (k n : ℕ) → n < 10 ^ suc k → n ≤ largest → numberOf (digitsOf (suc k) n) ≡ Is n
+pub number-back : (k n : ℕ) → n < 10 ^ suc k → n ≤ limit.largest64 → numberOf (digitsOf (suc k) n) ≡ Is n
 unfolding numberOf numberFrom
 number-back k n h g =
-    rw (ne-eqb (length (digitsOf (suc k) n)) 0 (digits-some k n), digits-are (suc k) n, digits-value (suc k) n h, le-leb n largest g)
+    rw (ne-eqb (length (digitsOf (suc k) n)) 0 (digits-some k n), digits-are (suc k) n, digits-value (suc k) n h, le-leb n limit.largest64 g)
 
 -- the digit of a number below 16, and an octet's two digits
 abbrev pub glyph : ℕ → ℕ

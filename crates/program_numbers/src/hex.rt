@@ -7,6 +7,15 @@ ghost use Rattle.octets.specs.Room.{overlay};
 ghost use Rattle.octets.specs.Counts.{allIn};
 ghost use Rattle.program_numbers.specs.Hex.{value, hexed, paired, decoded, taken, octetsOf};
 
+// How far a digit that is a capital or a small letter stands above its value.
+const CAPITALS: u8 = b'A' - 10;
+
+const LETTERS: u8 = b'a' - 10;
+
+// What a digit is never worth: the answer for an octet that is no digit.
+const NO_DIGIT: u8 = 16;
+
+// How many octets a word stands for, or that it stands for none.
 pub enum Octets {
     Are(usize),
     Bad,
@@ -16,25 +25,25 @@ pub enum Octets {
 fn value(octet: u8) -> u8
     ensures { λ r. ⌜ r ≡ value octet ⌝ }
 {
-    if octet < 48 {
-        return 16;
+    if octet < b'0' {
+        return NO_DIGIT;
     }
-    if octet < 58 {
-        return octet - 48;
+    if octet <= b'9' {
+        return octet - b'0';
     }
-    if octet < 65 {
-        return 16;
+    if octet < b'A' {
+        return NO_DIGIT;
     }
-    if octet < 71 {
-        return octet - 55;
+    if octet <= b'F' {
+        return octet - CAPITALS;
     }
-    if octet < 97 {
-        return 16;
+    if octet < b'a' {
+        return NO_DIGIT;
     }
-    if octet < 103 {
-        return octet - 87;
+    if octet <= b'f' {
+        return octet - LETTERS;
     }
-    16
+    NO_DIGIT
 }
 
 // Whether every octet is a digit.
@@ -43,7 +52,7 @@ fn all_digits(word: &[u8]) -> bool
 {
     let mut i: usize = 0;
     while i < word.len() {
-        if value(word[i]) > 15 {
+        if value(word[i]) >= NO_DIGIT {
             return false;
         }
         i += 1;

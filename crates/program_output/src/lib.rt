@@ -4,6 +4,7 @@ pub mod digits;
 ghost use mathlib.Core.Path.{_≡_};
 ghost use mathlib.Core.List.{_∷_, []};
 ghost use lib.ListN.{replicate};
+ghost use Rattle.octets.specs.Pick.{pick};
 ghost use Rattle.program_output.specs.Pages.{page, added};
 
 // Adds an octet, and answers how many octets are written then.
@@ -30,6 +31,16 @@ pub fn put_all(room: &mut [u8], at: usize, text: &[u8]) -> usize
     next
 }
 
+// Adds a text, or nothing where that is told.
+pub fn put_unless(room: &mut [u8], at: usize, nothing: bool, text: &[u8]) -> usize
+    ensures { λ r. ⌜ page r (now (room .exit)) ≡ added (pick nothing [] (now (text .entry))) (page at (now (room .entry))) ⌝ }
+{
+    if nothing {
+        return at;
+    }
+    put_all(room, at, text)
+}
+
 // Adds n spaces.
 pub fn put_spaces(room: &mut [u8], at: usize, n: usize) -> usize
     ensures { λ r. ⌜ page r (now (room .exit)) ≡ added (replicate n 32) (page at (now (room .entry))) ⌝ }
@@ -37,7 +48,7 @@ pub fn put_spaces(room: &mut [u8], at: usize, n: usize) -> usize
     let mut next = at;
     let mut left = n;
     while left > 0 {
-        next = put(room, next, 32);
+        next = put(room, next, b' ');
         left -= 1;
     }
     next

@@ -12,7 +12,7 @@ pub enum Verdict {
 }
 
 // What the last line leaves, at the end of an input of n octets: 9 inside a card.
-fn concluded(n: usize, last: Step) -> Verdict
+fn conclude(n: usize, last: Step) -> Verdict
     ensures { λ r. ⌜ r ≡ verdictOf n last ⌝ }
 {
     match last {
@@ -48,7 +48,7 @@ pub fn judge(input: &[u8]) -> Verdict
     let rows = property_table::table();
     let steps = value_automaton::scanner::table();
     let last = reader_walk::walk(&t, &rows, &steps, input);
-    concluded(input.len(), last)
+    conclude(input.len(), last)
 }
 
 // The verdict on an input, 1 to 14 or the counts; where it is accepted, its copy and its records are written to the start of their

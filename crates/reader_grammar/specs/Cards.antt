@@ -35,13 +35,13 @@ pub record Frame (number : ℕ) (P : List ℕ → Type 0) (x : Line) : Type 0 wh
   pub value : P (x .value)
 
 abbrev pub Begins : Line → Type 0
-Begins x = Frame 1 Vcard x
+Begins x = Frame property.begin Vcard x
 
 abbrev pub Versions : Line → Type 0
-Versions x = Frame 34 Four x
+Versions x = Frame property.version Four x
 
 abbrev pub Ends : Line → Type 0
-Ends x = Frame 2 Vcard x
+Ends x = Frame property.end Vcard x
 
 -- any other line: its value is of its kind
 pub record Inside (x : Line) : Type 0 where
@@ -68,7 +68,7 @@ linesOf row xs = count (ofRow row) xs
 
 -- a KIND line whose value is `group` in any case
 abbrev pub saysGroup : Line → Bool
-saysGroup x = eqb (rowOfLine x) 4 && isGroup (x .value)
+saysGroup x = eqb (rowOfLine x) property.kind && isGroup (x .value)
 
 abbrev pub groupLines : List Line → ℕ
 groupLines xs = count saysGroup xs

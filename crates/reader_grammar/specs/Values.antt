@@ -5,20 +5,21 @@ use mathlib.Core.Bool.{true}
 use mathlib.Core.List.{List}
 use Rattle.numbers.specs.Properties as property
 use Rattle.octets.specs.Cases.{same}
+use Rattle.numbers.specs.Kinds as kinds
 use Rattle.octets.specs.Ascii.{octets}
 use Rattle.value_laws.specs.Words.{Text, Texts, Semicolons, Uri, Gender, Pidmap}
 
 -- "Kinds: 0 anything; 1 text; 2 texts split by bare commas; 3 URI; [..]"
 pub data OfKind : ℕ → List ℕ → Type 0 where
-  anything : {v : List ℕ} → OfKind 0 v
-  text : {v : List ℕ} → Text v → OfKind 1 v
-  texts : {v : List ℕ} → Texts v → OfKind 2 v
-  uri : {v : List ℕ} → Uri v → OfKind 3 v
-  five : {v : List ℕ} → Semicolons 4 v → OfKind 4 v
-  seven : {v : List ℕ} → Semicolons 6 v → OfKind 5 v
-  components : {v : List ℕ} → Text v → OfKind 6 v
-  gender : {v : List ℕ} → Gender v → OfKind 7 v
-  pidmap : {v : List ℕ} → Pidmap v → OfKind 8 v
+  anything : {v : List ℕ} → OfKind kinds.anything v
+  text : {v : List ℕ} → Text v → OfKind kinds.text v
+  texts : {v : List ℕ} → Texts v → OfKind kinds.texts v
+  uri : {v : List ℕ} → Uri v → OfKind kinds.uri v
+  five : {v : List ℕ} → Semicolons 4 v → OfKind kinds.name v
+  seven : {v : List ℕ} → Semicolons 6 v → OfKind kinds.address v
+  components : {v : List ℕ} → Text v → OfKind kinds.organization v
+  gender : {v : List ℕ} → Gender v → OfKind kinds.gender v
+  pidmap : {v : List ℕ} → Pidmap v → OfKind kinds.pidmap v
 
 -- "BEGIN and END have value VCARD in any case"
 abbrev pub Vcard : List ℕ → Type 0

@@ -11,8 +11,8 @@ ghost use Rattle.line_folds.specs.Logical.{rawLines};
 ghost use Rattle.property_table.specs.Rows.{Lists};
 ghost use Rattle.reader_records.specs.Records.{numbers, recordOf, recordsFrom};
 use card_line::LineParts;
-use octets::classes::ClassTable;
 use numbers::limit;
+use octets::classes::ClassTable;
 use property_table::rows::PropertyTable;
 
 // One record: eight numbers.

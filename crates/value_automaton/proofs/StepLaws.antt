@@ -73,6 +73,6 @@ module _ (s : List ℕ) (q i : ℕ) where
   fault-none h l e = rw (drop-of-length-le s h, ends-right q l, le-leb 29 q e)
 
 -- printing octets alone are left of a URI
-pub quick-uri : (v : List ℕ) (i n : ℕ) → n ≡ 32 → allIn (holds graphic) v ≡ true → faultFrom (stateShape n) i v ≡ Fits
+pub uri-tail : (v : List ℕ) (i n : ℕ) → n ≡ 32 → allIn (holds graphic) v ≡ true → faultFrom (stateShape n) i v ≡ Fits
 unfolding stateShape states
-quick-uri v i n e h = rw e (fits-from (many (one graphic)) i v (run-many (one graphic) (holds graphic) (itself graphic) v h))
+uri-tail v i n e h = rw e (fits-from (many (one graphic)) i v (run-many (one graphic) (holds graphic) (itself graphic) v h))

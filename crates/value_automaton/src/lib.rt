@@ -18,7 +18,7 @@ pub fn value_fault(steps: &Transitions, kind: usize, s: &[u8]) -> Fault
     requires { ⌜ kind < kinds.count ⌝ }
     ensures { λ r. ⌜ r ≡ kindScan kind (now (s .entry)) ⌝ }
 {
-    if value_kinds::quick(kind, s) {
+    if value_kinds::fits_at_once(kind, s) {
         return Fault::Fits;
     }
     let first = scanner::start(kind);

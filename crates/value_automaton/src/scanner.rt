@@ -52,7 +52,7 @@ fn step(steps: &Transitions, q: u8, x: u8) -> u8
 }
 
 // True only where the step at i led into a URI's last part and all that comes is of it.
-fn settled(n: u8, s: &[u8], i: usize) -> bool
+fn is_settled(n: u8, s: &[u8], i: usize) -> bool
     requires { ⌜ i < length (now s) ⌝ }
     ensures { λ r. ⌜ (r ≡ true → (n ≡ uriTail) × (allIn (holds graphic) (drop (i + 1) (now (s .entry))) ≡ true)) ⌝ }
 {
@@ -60,7 +60,7 @@ fn settled(n: u8, s: &[u8], i: usize) -> bool
         return false;
     }
     let a = i + 1;
-    value_kinds::printing(&s[a..])
+    value_kinds::is_printing(&s[a..])
 }
 
 // A place up to which all octets from `from` on leave the state as it is.
@@ -97,7 +97,7 @@ pub fn scan(steps: &Transitions, first: u8, s: &[u8]) -> Fault
         if n == q {
             i = stay(steps, q, s, i + 1);
         } else {
-            if settled(n, s, i) {
+            if is_settled(n, s, i) {
                 return Fault::Fits;
             }
             q = n;

@@ -131,23 +131,23 @@ unfolding Matches joined each holds
 whole [] = ([], refl, tt)
 whole (x ∷ xs) = put (one any) x xs (x, refl, refl) (whole xs)
 
--- what the quick looks say
-pub quick-any : (v : List ℕ) → kindScan 0 v ≡ Fits
+-- what the tests of each octet say
+pub at-once-any : (v : List ℕ) → kindScan 0 v ≡ Fits
 unfolding kindScan shapeOf
-quick-any v = fits-from (many (one any)) 0 v (whole v)
+at-once-any v = fits-from (many (one any)) 0 v (whole v)
 
-pub quick-text : (v : List ℕ) → allIn (neither 92 44) v ≡ true → kindScan 1 v ≡ Fits
+pub at-once-text : (v : List ℕ) → allIn (neither 92 44) v ≡ true → kindScan 1 v ≡ Fits
 unfolding kindScan shapeOf text holds
-quick-text v e = fits-from text 0 v (run-many (one plain or one backslash then one escapee) (neither 92 44) (bare plain) v e)
+at-once-text v e = fits-from text 0 v (run-many (one plain or one backslash then one escapee) (neither 92 44) (bare plain) v e)
 
-pub quick-texts : (v : List ℕ) → allIn (neither 92 92) v ≡ true → kindScan 2 v ≡ Fits
+pub at-once-texts : (v : List ℕ) → allIn (neither 92 92) v ≡ true → kindScan 2 v ≡ Fits
 unfolding kindScan shapeOf text texts
-quick-texts v e = fits-from texts 0 v (run-split comma plain (neither 92 92) comma-or v e)
+at-once-texts v e = fits-from texts 0 v (run-split comma plain (neither 92 92) comma-or v e)
 
-pub quick-components : (v : List ℕ) → allIn (neither 92 44) v ≡ true → kindScan 6 v ≡ Fits
+pub at-once-components : (v : List ℕ) → allIn (neither 92 44) v ≡ true → kindScan 6 v ≡ Fits
 unfolding kindScan shapeOf components holds
-quick-components v e =
+at-once-components v e =
     fits-from components 0 v (run-split semicolon inner (neither 92 44) (λ x h. ⊎-elim (λ k. inl k) (λ k. inr (k .0)) (semicolon-or x h)) v e)
 
-pub quick-parts : (v : List ℕ) (n : ℕ) → allIn (neither 92 92) v ≡ true → count (holds semicolon) v ≡ n → faultFrom (parts (suc n)) 0 v ≡ Fits
-quick-parts v n e f = fits-from (parts (suc n)) 0 v (subst (λ (m : ℕ). Matches (parts (suc m)) v) f (run-parts v e))
+pub at-once-parts : (v : List ℕ) (n : ℕ) → allIn (neither 92 92) v ≡ true → count (holds semicolon) v ≡ n → faultFrom (parts (suc n)) 0 v ≡ Fits
+at-once-parts v n e f = fits-from (parts (suc n)) 0 v (subst (λ (m : ℕ). Matches (parts (suc m)) v) f (run-parts v e))

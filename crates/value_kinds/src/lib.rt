@@ -41,7 +41,7 @@ fn hidden_bit(x: u8) -> u8
 }
 
 // Whether all octets of s are 21-7E.
-pub fn printing(s: &[u8]) -> bool
+pub fn is_printing(s: &[u8]) -> bool
     ensures { λ r. ⌜ r ≡ allIn (holds graphic) (now (s .entry)) ⌝ }
 {
     let mut hidden: u8 = 0;
@@ -54,7 +54,7 @@ pub fn printing(s: &[u8]) -> bool
 }
 
 // How many semicolons s has.
-fn semicolons(s: &[u8]) -> usize
+fn count_semicolons(s: &[u8]) -> usize
     ensures { λ r. ⌜ r ≡ count (holds semicolon) (now (s .entry)) ⌝ }
 {
     let mut n: usize = 0;
@@ -67,25 +67,25 @@ fn semicolons(s: &[u8]) -> usize
 }
 
 // True only where s has no backslash, and n semicolons.
-fn counted(s: &[u8], n: usize) -> bool
+fn has_semicolons(s: &[u8], n: usize) -> bool
     ensures { λ r. ⌜ (r ≡ true → (allIn (neither 92 92) (now (s .entry)) ≡ true) × (count (holds semicolon) (now (s .entry)) ≡ n)) ⌝ }
 {
-    if semicolons(s) != n {
+    if count_semicolons(s) != n {
         return false;
     }
     lacks(b'\\', b'\\', s)
 }
 
 // True only where a look at each octet by itself shows that s fits.
-pub fn quick(kind: usize, s: &[u8]) -> bool
+pub fn fits_at_once(kind: usize, s: &[u8]) -> bool
     ensures { λ r. ⌜ (r ≡ true → kindScan kind (now (s .entry)) ≡ Fault.Fits) ⌝ }
 {
     match kind {
         kind::ANYTHING => true,
         kind::TEXT => lacks(b'\\', b',', s),
         kind::TEXTS => lacks(b'\\', b'\\', s),
-        kind::NAME => counted(s, 4),
-        kind::ADDRESS => counted(s, 6),
+        kind::NAME => has_semicolons(s, 4),
+        kind::ADDRESS => has_semicolons(s, 6),
         kind::ORGANIZATION => lacks(b'\\', b',', s),
         _ => false,
     }

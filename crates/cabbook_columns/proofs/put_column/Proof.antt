@@ -6,7 +6,7 @@ use Prim.Native.Nat.{ℕ, _-_}
 use lib.ListN.{replicate}
 use Rattle.program_output.specs.Pages.{page, added}
 use Rattle.program_output.proofs.PageLaws.{then}
-use Rattle.cabbook_columns.specs.Seen.{visible}
+use Rattle.cabbook_columns.specs.Visible.{visible}
 use borrow.Author.Needs.{needs}
 use Rattle.cabbook_columns.proofs.put_column.Statement.{statement}
 use Rattle.cabbook_columns.proofs.put_column.Tie as tie

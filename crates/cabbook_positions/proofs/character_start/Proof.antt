@@ -6,8 +6,8 @@ use Prim.Native.Nat.{_≤_, _<_}
 use native.Mathlib.Omega.{arith}
 use lib.ListN.{length}
 use borrow.Author.Tests.{not-true, not-false, lt-ltb, le-ltb}
-use Rattle.cabbook_positions.specs.Places.{backTo, starts}
-use Rattle.cabbook_positions.proofs.PlaceLaws.{back-here, back-on, back-end}
+use Rattle.cabbook_positions.specs.Positions.{backTo, starts}
+use Rattle.cabbook_positions.proofs.PositionLaws.{back-here, back-on, back-end}
 use Rattle.cabbook_positions.proofs.character_start.Statement.{statement}
 use Rattle.cabbook_positions.proofs.character_start.Tie as tie
 

@@ -7,8 +7,8 @@ use Prim.Native.Nat.{_≤_, _<_, _+_, _-_}
 use native.Mathlib.Omega.{arith}
 use lib.ListN.{length, drop}
 use borrow.Author.Tests.{not-true, not-false}
-use Rattle.cabbook_positions.specs.Places.{count, isFirst}
-use Rattle.cabbook_positions.proofs.PlaceLaws.{count-one, count-none, count-end}
+use Rattle.cabbook_positions.specs.Positions.{count, isFirst}
+use Rattle.cabbook_positions.proofs.PositionLaws.{count-one, count-none, count-end}
 use Rattle.cabbook_positions.proofs.characters.Statement.{statement}
 use Rattle.cabbook_positions.proofs.characters.Tie as tie
 

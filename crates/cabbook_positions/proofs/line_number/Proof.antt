@@ -6,8 +6,8 @@ use Prim.Native.Nat.{_≤_, _<_, _+_, _-_}
 use native.Mathlib.Omega.{arith}
 use lib.ListN.{length, drop}
 use borrow.Author.Tests.{eq-eqb, ne-eqb}
-use Rattle.cabbook_positions.specs.Places.{count, isLf}
-use Rattle.cabbook_positions.proofs.PlaceLaws.{count-one, count-none, count-end}
+use Rattle.cabbook_positions.specs.Positions.{count, isLf}
+use Rattle.cabbook_positions.proofs.PositionLaws.{count-one, count-none, count-end}
 use Rattle.cabbook_positions.proofs.line_number.Statement.{statement}
 use Rattle.cabbook_positions.proofs.line_number.Tie as tie
 

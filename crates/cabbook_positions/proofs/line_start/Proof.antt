@@ -4,8 +4,8 @@ use mathlib.Core.Path.{_≡_, sym, ap, _∙_}
 use Prim.Native.Nat.{_≤_, min}
 use native.Mathlib.Omega.{arith}
 use lib.ListN.{length}
-use Rattle.cabbook_positions.specs.Places.{backTo, opens}
-use Rattle.cabbook_positions.proofs.PlaceLaws.{back-here, back-on, back-end}
+use Rattle.cabbook_positions.specs.Positions.{backTo, opens}
+use Rattle.cabbook_positions.proofs.PositionLaws.{back-here, back-on, back-end}
 use Rattle.cabbook_positions.proofs.line_start.Statement.{statement}
 use Rattle.cabbook_positions.proofs.line_start.Tie as tie
 

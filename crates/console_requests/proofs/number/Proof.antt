@@ -1,6 +1,6 @@
 -- `console_requests::number` meets its contract. Assumes nothing.
 use mathlib.Core.Path.{sym, ap, _∙_}
-use Rattle.program_numbers.specs.Numbers.{numberOf}
+use Rattle.program_numbers.specs.Decimal.{numberOf}
 use Rattle.console_words.specs.Words.{wordAt}
 use Rattle.console_requests.proofs.RequestLaws.{no-number, a-number}
 use borrow.Author.Needs.{needs}

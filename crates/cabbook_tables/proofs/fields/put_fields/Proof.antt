@@ -9,8 +9,8 @@ use Rattle.cabbook_tables.proofs.fields.put_fields.Tie as tie
 name-start-requires : tie.Need-name-start-requires
 name-start-requires c κs = search needs
 
-add-past : tie.Need-add-past
-add-past c = search needs
+add-name-end : tie.Need-add-name-end
+add-name-end c = search needs
 
 add-group-end : tie.Need-add-group-end
 add-group-end c = search needs
@@ -44,23 +44,15 @@ same-length c = search needs
 
 returns : tie.Need-returns
 returns c =
-    let at-put-column3 = c .before .before in
-    let at-part3 = at-put-column3 .before in
-    let at-before2 = at-part3 .before .before in
-    let at-put-column2 = at-before2 .before .before .before in
-    let at-part2 = at-put-column2 .before in
-    let at-put-column = at-part2 .before .before .before .before in
-    let at-part = at-put-column .before in
-    let at-name-start = at-part .before .before in
-    let a = at-name-start .before .before .before .args in
-    rw (← at-name-start .name-start .ensures .0, ← at-before2 .before2 .ensures, ← at-part .part .ensures, ← at-part2 .part2 .ensures, ← at-part3 .part3 .ensures) ((piece _ (piece _ (piece _ (nothing (page (a .at) (a .room .now))) (at-put-column .put-column .ensures)) (at-put-column2 .put-column2 .ensures)) (at-put-column3 .put-column3 .ensures)) .sum)
+    rw (← c .before .before .before .before .before .before .before .before .before .before .before .before .before .before .before .before .name-start .ensures .0, ← c .before .before .before .before .before .before2 .ensures, ← c .before .before .before .before .before .before .before .before .before .before .before .before .before .before .before .part .ensures, ← c .before .before .before .before .before .before .before .before .before .before .part2 .ensures, ← c .before .before .before .before .part3 .ensures)
+    ((piece _ (piece _ (piece _ (nothing (page (c .before .before .before .before .before .before .before .before .before .before .before .before .before .before .before .before .before .before .before .args .at) (c .before .before .before .before .before .before .before .before .before .before .before .before .before .before .before .before .before .before .before .args .room .now))) (c .before .before .before .before .before .before .before .before .before .before .before .before .before .put-column .ensures)) (c .before .before .before .before .before .before .before .before .put-column2 .ensures)) (c .before .before .put-column3 .ensures)) .sum)
 
 pub put-fields-spec : {M : Type 1} → statement M
 put-fields-spec =
     tie.close
     (tie.spec
     name-start-requires
-    add-past
+    add-name-end
     add-group-end
     part-requires
     put-column-requires

@@ -1,7 +1,5 @@
 -- `cabbook_tables::uploads::put_sameness` meets its contract. Assumes nothing.
 use Rattle.octets.specs.Ascii.{octets}
-use Rattle.program_output.specs.Pages.{page}
-use Rattle.program_output.proofs.PageLaws.{nothing, piece}
 use borrow.Author.Needs.{needs}
 use Rattle.cabbook_tables.proofs.uploads.put_sameness.Statement.{statement}
 use Rattle.cabbook_tables.proofs.uploads.put_sameness.Tie as tie
@@ -17,11 +15,7 @@ same-length c = search needs
 
 returns : tie.Need-returns
 unfolding octets
-returns c =
-    let at-put-all = c .before .before in
-    let at-if1 = at-put-all .before .before .before in
-    let a = at-if1 .before .before .args in
-    rw (at-if1 .if1 .taken) ((piece _ (nothing (page (a .at) (a .room .now))) (at-put-all .put-all .ensures)) .sum)
+returns c = rw (c .before .before .before .before .before .if1 .taken) (c .before .before .put-all .ensures)
 
 slice-aggregate-put-all-2 : tie.Need-slice-aggregate-put-all-2
 slice-aggregate-put-all-2 c = search needs
@@ -34,11 +28,7 @@ same-length-2 c = search needs
 
 returns-2 : tie.Need-returns-2
 unfolding octets
-returns-2 c =
-    let at-put-all2 = c .before .before in
-    let at-if1 = at-put-all2 .before .before .before in
-    let a = at-if1 .before .before .args in
-    rw (at-if1 .if1 .left) ((piece _ (nothing (page (a .at) (a .room .now))) (at-put-all2 .put-all2 .ensures)) .sum)
+returns-2 c = rw (c .before .before .before .before .before .if1 .left) (c .before .before .put-all2 .ensures)
 
 pub put-sameness-spec : {M : Type 1} → statement M
 put-sameness-spec =

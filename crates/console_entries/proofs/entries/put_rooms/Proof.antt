@@ -30,8 +30,8 @@ put-taken-requires c κs = search needs
 both-kept-requires : tie.Need-both-kept-requires
 both-kept-requires c κs = search needs
 
-looked-at-requires : tie.Need-looked-at-requires
-looked-at-requires c κs = search needs
+put-room-end-requires : tie.Need-put-room-end-requires
+put-room-end-requires c κs = search needs
 
 same-length : tie.Need-same-length
 same-length c = search needs
@@ -40,7 +40,7 @@ returns : tie.Need-returns
 returns c =
     let c7 = c .before .before .before .before .before .before .before in
     let c12 = c7 .before .before .before .before .before in
-    let looked-at = c .before .before .looked-at in
+    let put-room-end = c .before .before .put-room-end in
     let both-kept = c .before .before .before .both-kept in
     let put-taken = c7 .put-taken in
     let part = c7 .before .before .part in
@@ -49,7 +49,7 @@ returns c =
     let numbers-of = c12 .numbers-of in
     let a = c12 .before .before .before .before .args in
     let o = page (a .at) (now (a .out)) in
-    then (takenText (now (part .result)) (now (numbers .result))) (roomEnd (both-kept .result)) o (put-taken .ensures) (looked-at .ensures)
+    then (takenText (now (part .result)) (now (numbers .result))) (roomEnd (both-kept .result)) o (put-taken .ensures) (put-room-end .ensures)
     ∙ ap (λ (t : List ℕ). added t o)
     (rooms-text (now (a .copy)) (now (a .records)) (now (part .result)) (now (numbers .result)) (a .lines) (copy-length .result) (numbers-of .result) (both-kept .result)
     (numbers-of .ensures) (numbers .ensures) (copy-length .ensures) (part .ensures) (both-kept .ensures))
@@ -64,6 +64,6 @@ put-rooms-spec =
     part-requires
     put-taken-requires
     both-kept-requires
-    looked-at-requires
+    put-room-end-requires
     same-length
     returns)

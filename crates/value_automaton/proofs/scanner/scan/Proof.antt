@@ -6,7 +6,7 @@ use native.Mathlib.Omega.{arith}
 use lib.ListN.{length, drop}
 use Rattle.value_kinds.specs.Shapes.{faultFrom}
 use Rattle.value_automaton.specs.States.{stateShape}
-use Rattle.value_automaton.proofs.StepLaws.{quick-uri, fault-stop, fault-step, fault-short, fault-none}
+use Rattle.value_automaton.proofs.StepLaws.{uri-tail, fault-stop, fault-step, fault-short, fault-none}
 use Rattle.value_automaton.proofs.scanner.scan.Statement.{statement}
 use Rattle.value_automaton.proofs.scanner.scan.Tie as tie
 
@@ -56,16 +56,16 @@ loop-again c =
     let same = ap (λ (n : ℕ). faultFrom (stateShape n) (l .loop .i + 1) (drop (l .loop .i + 1) s)) (c .before .if2 .taken) in
     (c .stay .ensures .0 .1, l .loop .inv .1, onward w (c .before .before .if1 .left) ∙ same ∙ c .stay .ensures .1)
 
-settled-requires : tie.Need-settled-requires Inv-loop μ-loop
-settled-requires c κs = search needs
+is-settled-requires : tie.Need-is-settled-requires Inv-loop μ-loop
+is-settled-requires c κs = search needs
 
 returns-2 : tie.Need-returns-2 Inv-loop μ-loop
 returns-2 c =
     let w = c .before .before .before .before in
     let l = w .before .before .before in
     let s = l .before .before .args .s .now in
-    let h = c .before .settled .ensures (c .if3 .taken) in
-    sym (onward w (c .before .before .before .if1 .left) ∙ quick-uri (drop (l .loop .i + 1) s) (l .loop .i + 1) (w .step .result) (h .0) (h .1))
+    let h = c .before .is-settled .ensures (c .if3 .taken) in
+    sym (onward w (c .before .before .before .if1 .left) ∙ uri-tail (drop (l .loop .i + 1) s) (l .loop .i + 1) (w .step .result) (h .0) (h .1))
 
 add-i : tie.Need-add-i Inv-loop μ-loop
 add-i c = search needs
@@ -102,7 +102,7 @@ scan-spec =
     stay-requires
     loop-less
     loop-again
-    settled-requires
+    is-settled-requires
     returns-2
     add-i
     loop-less-2
