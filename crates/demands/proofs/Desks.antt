@@ -32,8 +32,8 @@ use Rattle.desk_slots.proofs.SlotLaws.{slot-inside}
 use Rattle.desk.proofs.DeskLaws.{sound-is, is-sound, granted}
 use Rattle.desk_laws.specs.Demand.{OpenOn}
 use Rattle.reader_grammar.proofs.Refused.{refused-law}
-use Rattle.demands.specs.Demand1.{Exactly, Turning, Ready, unsound, other-size, TicketBy, unready, closed, Holds, NewBy, range, OpenBy, no-desk, used-up, full, AddBy, no-upload, too-much, JudgeBy, nothing, octets}
-use Rattle.demands.proofs.Refusing.{clash, not-true, Telling, itself, first, last}
+use Rattle.demands.specs.Demand1.{Ready, unsound, other-size, TicketBy, unready, closed, Holds, NewBy, range, OpenBy, no-desk, used-up, full, AddBy, no-upload, too-much, JudgeBy, nothing, octets}
+use Rattle.demands.proofs.Refusing.{ByCase as Exactly, TurningByCase as Turning, clash, not-true, Telling, itself, first, last}
 use Rattle.demands.proofs.Cards.{verdict-tells}
 
 refusal-number : (m q n p : ℕ) → Refused m q ≡ Refused n p → m ≡ n
@@ -73,7 +73,7 @@ new-so slots n q (range h) = rw (not-true (bounds slots 1) (λ b. outside slots 
     outside slots (inr z) b = omega arith
 
 pub new-exactly : (slots : ℕ) → Exactly (λ (r : Turn). r .answer) (newStep slots) (λ n q. refuse (freshDesk 0) n q) (NewBy slots)
-new-exactly slots = record { told = new-told slots; unchanged = new-so slots }
+new-exactly slots = record { only = new-told slots; unchanged = new-so slots }
 
 module _ (d : Desk) (p : List ℕ) where
   pub turn-tells : Telling (λ (r : Turned). r .answer) (λ n q. refused d p q n)
@@ -130,7 +130,7 @@ module _ (d : Desk) (p : List ℕ) where
             absurd (f i (omega arith) (so-free (stateAt (d .entries) i) (w .0)))
 
     pub open-exactly : Turning (openStep d p m) d p (OpenBy d p)
-    open-exactly = record { told = open-told; unchanged = open-so }
+    open-exactly = record { only = open-told; unchanged = open-so }
 
   module _ (t : ℕ) where
     session : (i : ℕ) (x : State) → stateAt (d .entries) i ≡ x → openAt (d .entries) t i ≡ true → (s : Session) × ((x ≡ Open s) × (s .ticket ≡ t))
@@ -222,7 +222,7 @@ module _ (d : Desk) (p : List ℕ) where
     release-so n q b = let w = slot-so n q b in rw (w .0, w .1)
 
     pub release-exactly : Turning (releaseStep d p t) d p (TicketBy d p t)
-    release-exactly = record { told = release-told; unchanged = release-so }
+    release-exactly = record { only = release-told; unchanged = release-so }
 
     held-told : (n q : ℕ) → heldStep d p t ≡ Refused n q → TicketBy d p t n q
     unfolding heldStep
@@ -237,7 +237,7 @@ module _ (d : Desk) (p : List ℕ) where
     held-refused n q b = let w = slot-so n q b in rw (w .0, w .1)
 
     pub held-exactly : Exactly (λ (a : Answer). a) (heldStep d p t) Refused (TicketBy d p t)
-    held-exactly = record { told = held-told; unchanged = held-refused }
+    held-exactly = record { only = held-told; unchanged = held-refused }
 
     pub shows-none : (n q : ℕ) → TicketBy d p t n q → showStep d p t .octets ≡ []
     unfolding showStep
@@ -263,7 +263,7 @@ module _ (d : Desk) (p : List ℕ) where
     judge-so n q (octets {i} {s = s} h b) = rw (held-so i s h) (refused-law (octetsIn p i s) n q .1 b)
 
     pub judge-held-exactly : Exactly (λ (v : Verdict). v) (judgeStep d p t) Unread (JudgeBy d p t)
-    judge-held-exactly = record { told = judge-told; unchanged = judge-so }
+    judge-held-exactly = record { only = judge-told; unchanged = judge-so }
 
     -- ---- add
 
@@ -284,4 +284,4 @@ module _ (d : Desk) (p : List ℕ) where
       add-so n q (too-much {i} {s} h l) = rw (held-so i s h, lt-ltb 16384 (s .held + length chunk) l)
 
       pub add-exactly : Turning (addStep d p t chunk) d p (AddBy d p t chunk)
-      add-exactly = record { told = add-told; unchanged = add-so }
+      add-exactly = record { only = add-told; unchanged = add-so }

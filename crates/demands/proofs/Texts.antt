@@ -19,8 +19,8 @@ use Rattle.text_unescaping.specs.Unescaped.{textStep, firstFault, unescaped}
 use Rattle.text.specs.Outcomes.{checked, faultless, escapeOutcome, unescapeOutcome}
 use Rattle.text_laws.specs.Stands.{Stands, Faulty}
 use Rattle.text_laws.proofs.StandsLaws.{stands-exactly, fault-found, fault-first}
-use Rattle.demands.specs.Demand1.{Filling, BadAt, Fair, Unfair, long, octet, EscapeBy, no-text, escape-over, escape-room, UnescapeBy, no-kind-1, fault, text-room}
-use Rattle.demands.proofs.Refusing.{clash, Telling, first}
+use Rattle.demands.specs.Demand1.{BadAt, Fair, Unfair, long, octet, EscapeBy, no-text, escape-over, escape-room, UnescapeBy, no-kind-1, fault, text-room}
+use Rattle.demands.proofs.Refusing.{FillingByCase as Filling, clash, Telling, first}
 
 -- refusals of an entry that writes octets
 pub written-tells : (out : List ℕ) → Telling (λ (f : Filled). f .answer) (λ n p. refuse n p out)
@@ -114,7 +114,7 @@ module _ (t out : List ℕ) where
   escape-so n p (escape-room f h k) = checked-fair true t out _ f ∙ within-so (escaped t) out h ∙ short-so (escaped t) out k
 
   pub escape-exactly : Filling (escapeOutcome t out) out (EscapeBy t out)
-  escape-exactly = record { told = escape-told; unchanged = escape-so }
+  escape-exactly = record { only = escape-told; unchanged = escape-so }
 
   -- ---- unescape
 
@@ -147,4 +147,4 @@ module _ (t out : List ℕ) where
       ∙ rw (le-ltb (firstFault t) (length t) (omega (arith, w .0)), w .1) (short-so u out h)
 
   pub unescape-exactly : Filling (unescapeOutcome t out) out (UnescapeBy t out)
-  unescape-exactly = record { told = unescape-told; unchanged = unescape-so }
+  unescape-exactly = record { only = unescape-told; unchanged = unescape-so }
