@@ -176,7 +176,7 @@ filled-so : (f : Filled) (n : ℕ) → written-as (f .answer) ≡ told n → f �
 filled-so f n e = let r : filled (f .answer) (f .room) ≡ filled (Wrote n) (f .room) = rw (wrote-told (f .answer) n e) in r
 
 writes : {f : Filled} {xs room : List ℕ} → f ≡ wrote xs room → Writes f xs room
-writes e = record { count = ap (λ (f : Filled). written-as (f .answer)) e; holds = ap (λ (f : Filled). f .room) e }
+writes {f} {xs} {room} e = record { count = ap (λ (f : Filled). written-as (f .answer)) e; holds = ap (λ (f : Filled). f .room) e }
 
 -- ---- the whole
 

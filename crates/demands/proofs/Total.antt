@@ -46,7 +46,7 @@ module _ {By : ℕ → ℕ → Type 0} where
       record { only = λ n p f. e .only n p (said-refused a n p f); answers = λ n p b. ap said (e .unchanged n p b); unchanged = λ n p b. tt }
 
   reading-exactly : {t : Taken} {copy records : List ℕ} → ByCase (λ (t : Taken). t .answer) t (λ n p. took (Unread n p) copy records) By → Reading t copy records By
-  reading-exactly {t} e =
+  reading-exactly {t} {copy} {records} e =
       record {
         only = λ n p f. e .only n p (verdict-refused (t .answer) n p f);
         answers = λ n p b. ap (λ (t : Taken). verdict (t .answer)) (e .unchanged n p b);
@@ -54,7 +54,7 @@ module _ {By : ℕ → ℕ → Type 0} where
       }
 
   filling-exactly : {f : Filled} {room : List ℕ} → FillingByCase f room By → Filling f room By
-  filling-exactly {f} e =
+  filling-exactly {f} {room} e =
       record {
         only = λ n p g. e .only n p (wrote-refused (f .answer) n p g);
         answers = λ n p b. ap (λ (f : Filled). wrote (f .answer)) (e .unchanged n p b);
@@ -62,7 +62,7 @@ module _ {By : ℕ → ℕ → Type 0} where
       }
 
   turning-exactly : {r : Turned} {d : Desk} {pool : List ℕ} → TurningByCase r d pool By → Turning r d pool By
-  turning-exactly {r} e =
+  turning-exactly {r} {d} {pool} e =
       record {
         only = λ n p f. e .only n p (said-refused (r .answer) n p f);
         answers = λ n p b. ap (λ (r : Turned). said (r .answer)) (e .unchanged n p b);
