@@ -5,7 +5,7 @@ use mathlib.Core.Bool.{Bool, true, false}
 use mathlib.Core.List.{List, _++_}
 use native.Mathlib.Omega.{arith}
 use lib.Dec.{ltb, eqb}
-use lib.ListN.{length, getD, take, drop, set, length-set, getD-replicate, List·getD-append}
+use lib.ListN.{length, getD, take, drop, length-set, getD-replicate, List·getD-append}
 use lib.Seq.{length-take-le, getD-append-add, getD-take, getD-drop}
 use borrow.Author.Tests.{ltb-false, eqb-true, eqb-false, eq-eqb}
 use Rattle.octets.specs.Pick.{pick}
@@ -26,7 +26,7 @@ use Rattle.desk_entries.specs.declared.State.the-variants.{Free, Open}
 use Rattle.desk_slots.specs.declared.Slot.{Slot}
 use Rattle.desk_slots.specs.declared.Slot.the-variants.{Held, No}
 use Rattle.desk.specs.declared.Desk.{Desk}
-use Rattle.desk_ledger.specs.Answers.{refused, told, said}
+use Rattle.desk_ledger.specs.Answers.{told, said}
 use Rattle.desk_laws.specs.Granted.{Usable, OpenAt, EntryBecomes, OctetsBecome, Opened, Added, Released, Granted}
 use Rattle.desk_laws.proofs.Patched.{length-patch}
 use Rattle.desk_laws.proofs.Relation.{same-at, other-at, made}

@@ -9,3 +9,4 @@ pub mod Joins
 pub mod Demand
 pub mod PoolNoninterference
 pub mod Granted
+pub mod GrantedOnly
