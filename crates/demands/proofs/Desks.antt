@@ -9,6 +9,7 @@ use lib.Dec.{ltb, eqb}
 use lib.ListN.{length}
 use borrow.Author.Tests.{ltb-true, ltb-false, lt-ltb, eqb-true, eqb-false, eq-eqb, ne-eqb}
 use Rattle.octets.specs.Pick.{pick}
+use Rattle.reader.specs.Outcome.{judgeOf}
 use Rattle.reader.specs.declared.Verdict.{Verdict}
 use Rattle.reader.specs.declared.Verdict.the-variants.{Refused as Unread}
 use Rattle.desk_entries.specs.Search.{firstAt}
@@ -246,6 +247,14 @@ module _ (d : Desk) (p : List ℕ) where
     pub shows : (i : ℕ) (s : Session) → Holds d p t i s → showStep d p t .octets ≡ octetsIn p i s
     unfolding showStep
     shows i s h = rw (held-so i s h)
+
+    pub counted : (i : ℕ) (s : Session) → Holds d p t i s → heldStep d p t ≡ Done (s .held)
+    unfolding heldStep
+    counted i s h = rw (held-so i s h)
+
+    pub judged : (i : ℕ) (s : Session) → Holds d p t i s → judgeStep d p t ≡ judgeOf (octetsIn p i s)
+    unfolding judgeStep
+    judged i s h = rw (held-so i s h)
 
     -- ---- judge
 

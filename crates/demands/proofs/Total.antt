@@ -23,7 +23,7 @@ use Rattle.demands.specs.Demand1.{Exactly, Answering, Reading, Filling, 
 use Rattle.demands.proofs.Refusing.{ByCase, FillingByCase, TurningByCase}
 use Rattle.demands.proofs.Texts.{escape-exactly, unescape-exactly}
 use Rattle.demands.proofs.Cards.{judge-exactly, read-exactly, fold-exactly}
-use Rattle.demands.proofs.Desks.{new-exactly, open-exactly, add-exactly, release-exactly, held-exactly, judge-held-exactly, shows-none, shows}
+use Rattle.demands.proofs.Desks.{new-exactly, open-exactly, add-exactly, release-exactly, held-exactly, judge-held-exactly, shows-none, shows, counted, judged}
 
 judge-word : (i : List ℕ) (n p : ℕ) → RefusedBy i n p → Halves (verdictWord (judgeOf i)) n p
 judge-word i n p b =
@@ -93,6 +93,8 @@ demand1 =
       judges-held = λ d pool t. verdict-exactly (judge-held-exactly d pool t);
       shows-none = shows-none;
       shows = shows;
+      counted = λ d pool t i s h. ap said (counted d pool t i s h);
+      judged = λ d pool t i s h. ap verdict (judged d pool t i s h);
       c-judge = judge-word;
       c-fold = λ i out n p b. refusal-word _ out n p (fold-exactly i out .unchanged n p b) (low-fold i out);
       c-unescape = λ t out n p b. refusal-word _ out n p (unescape-exactly t out .unchanged n p b) (low-unescape t out);

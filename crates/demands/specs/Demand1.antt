@@ -24,7 +24,7 @@ use Rattle.desk_entries.specs.declared.Session.{Session}
 use Rattle.desk_entries.specs.declared.State.the-variants.{Free, Open}
 use Rattle.desk.specs.declared.Desk.{Desk}
 use Rattle.firmware.specs.Word.{verdictWord, wordOutcome}
-use Rattle.desk_ledger.specs.Answers.{Reply, refused, verdict, wrote, said}
+use Rattle.desk_ledger.specs.Answers.{Reply, refused, told, verdict, wrote, said}
 use Rattle.desk_laws.specs.Demand.{OpenOn}
 use Rattle.reader_grammar.specs.Inputs.{InputOf}
 use Rattle.reader_grammar.specs.Refusals.{RefusedBy}
@@ -166,6 +166,9 @@ pub record Demand1 : Type 0 where
   -- show answers a part alone: the session's octets, and an empty one on a refusal
   pub shows-none : (d : Desk) (pool : List ℕ) (t n p : ℕ) → TicketBy d pool t n p → showStep d pool t .octets ≡ []
   pub shows : (d : Desk) (pool : List ℕ) (t i : ℕ) (s : Session) → Holds d pool t i s → showStep d pool t .octets ≡ octetsIn pool i s
+  -- the octets held are counted, and judged as the reader judges them
+  pub counted : (d : Desk) (pool : List ℕ) (t i : ℕ) (s : Session) → Holds d pool t i s → said (heldStep d pool t) ≡ told (s .held)
+  pub judged : (d : Desk) (pool : List ℕ) (t i : ℕ) (s : Session) → Holds d pool t i s → verdict (judgeStep d pool t) ≡ verdict (judgeOf (octetsIn pool i s))
   -- the routines for C answer a refusal as one word, and leave the room as it was
   pub c-judge : (i : List ℕ) (n p : ℕ) → RefusedBy i n p → Halves (verdictWord (judgeOf i)) n p
   pub c-fold : (i out : List ℕ) (n p : ℕ) → FoldBy i out n p → Halves (wordOutcome (foldOutcome i out) .answer) n p × (wordOutcome (foldOutcome i out) .room ≡ out)
