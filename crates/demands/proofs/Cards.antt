@@ -17,8 +17,8 @@ use Rattle.reader_grammar.specs.Refusals.{RefusedBy}
 use Rattle.reader_grammar.proofs.Accepted.{lines-law, accepted-law}
 use Rattle.reader_grammar.proofs.RecordLaws.{copy-law}
 use Rattle.reader_grammar.proofs.Refused.{refused-law}
-use Rattle.demands.specs.Demand1.{Exactly, Filling, copied, folded, ReadBy, unread, copy-room, record-room, FoldBy, not-read, fold-over, fold-room}
-use Rattle.demands.proofs.Refusing.{clash, Telling, itself, first}
+use Rattle.demands.specs.Demand1.{copied, folded, ReadBy, unread, copy-room, record-room, FoldBy, not-read, fold-over, fold-room}
+use Rattle.demands.proofs.Refusing.{ByCase as Exactly, FillingByCase as Filling, clash, Telling, itself, first}
 use Rattle.demands.proofs.Texts.{written-tells, bounded-told, over-so, short-so, within-so}
 
 refusal-number : (m q n p : ℕ) → Refused m q ≡ Refused n p → m ≡ n

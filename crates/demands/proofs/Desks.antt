@@ -9,6 +9,7 @@ use lib.Dec.{ltb, eqb}
 use lib.ListN.{length}
 use borrow.Author.Tests.{ltb-true, ltb-false, lt-ltb, eqb-true, eqb-false, eq-eqb, ne-eqb}
 use Rattle.octets.specs.Pick.{pick}
+use Rattle.reader.specs.Outcome.{judgeOf}
 use Rattle.reader.specs.declared.Verdict.{Verdict}
 use Rattle.reader.specs.declared.Verdict.the-variants.{Refused as Unread}
 use Rattle.desk_entries.specs.Search.{firstAt}
@@ -31,8 +32,8 @@ use Rattle.desk_slots.proofs.SlotLaws.{free-is, session-at, slot-inside}
 use Rattle.desk.proofs.DeskLaws.{sound-is, is-sound, granted}
 use Rattle.desk_laws.specs.Demand.{OpenOn}
 use Rattle.reader_grammar.proofs.Refused.{refused-law}
-use Rattle.demands.specs.Demand1.{Exactly, Turning, Ready, unsound, other-size, TicketBy, unready, closed, Holds, NewBy, range, OpenBy, no-desk, used-up, full, AddBy, no-upload, too-much, JudgeBy, nothing, octets}
-use Rattle.demands.proofs.Refusing.{clash, not-true, Telling, itself, first, last}
+use Rattle.demands.specs.Demand1.{Ready, unsound, other-size, TicketBy, unready, closed, Holds, NewBy, range, OpenBy, no-desk, used-up, full, AddBy, no-upload, too-much, JudgeBy, nothing, octets}
+use Rattle.demands.proofs.Refusing.{ByCase as Exactly, TurningByCase as Turning, clash, not-true, Telling, itself, first, last}
 use Rattle.demands.proofs.Cards.{verdict-tells}
 
 refusal-number : (m q n p : ℕ) → Refused m q ≡ Refused n p → m ≡ n
@@ -237,6 +238,14 @@ module _ (d : Desk) (p : List ℕ) where
     pub shows : (i : ℕ) (s : Session) → Holds d p t i s → showStep d p t .octets ≡ octetsIn p i s
     unfolding showStep
     shows i s h = rw (held-so i s h)
+
+    pub counted : (i : ℕ) (s : Session) → Holds d p t i s → heldStep d p t ≡ Done (s .held)
+    unfolding heldStep
+    counted i s h = rw (held-so i s h)
+
+    pub judged : (i : ℕ) (s : Session) → Holds d p t i s → judgeStep d p t ≡ judgeOf (octetsIn p i s)
+    unfolding judgeStep
+    judged i s h = rw (held-so i s h)
 
     -- ---- judge
 

@@ -42,7 +42,9 @@ use Rattle.reader_grammar.specs.Inputs.{InputOf}
 use Rattle.reader_grammar.proofs.Accepted.{accepted-law, one-reading}
 use Rattle.reader_grammar.proofs.RecordLaws.{copy-law, records-law}
 use Rattle.demands.specs.Demand1.{folded, Fair}
-use Rattle.demands.specs.Demand2.{Roomy, ReadAs, wrote, Demand2}
+use Rattle.desk_ledger.specs.Answers.{counts, told, verdict, wrote as written-as}
+use Rattle.desk_ledger.proofs.AnswerLaws.{verdict-counts, wrote-told}
+use Rattle.demands.specs.Demand2.{Roomy, ReadAs, Writes, Demand2}
 use Rattle.demands.proofs.Texts.{wrote-no, checked-fair, within-so, fault-le}
 use Rattle.demands.proofs.Cards.{accepted-no, fold-form}
 
@@ -91,6 +93,10 @@ module _ (i copy records : List ℕ) (k n : ℕ) where
       go (Accepted l m) v = fits l m v (ltb (length copy) (length (copyOf i))) refl (ltb (length records) (m * 8)) refl
 
 -- ---- fold
+
+-- xs stand at the start of the room, which is as it was past them
+abbrev wrote : List ℕ → List ℕ → Filled
+wrote xs room = filled (Wrote (length xs)) (overlay xs room)
 
 fill-so : (xs out : List ℕ) → length xs ≤ length out → fill xs out ≡ wrote xs out
 unfolding fill
@@ -160,23 +166,35 @@ physical : (i out after : List ℕ) (n : ℕ) → foldOutcome i out ≡ filled (
 unfolding logicalLines
 physical i out after n e rs ls h = subst (λ (xs : List (List ℕ)). Folds xs (take n after)) (sym (lined-only h .1)) (fold-written i out after n (sym e))
 
+-- ---- answers in document 01's numbers
+
+accepts : (i : List ℕ) (k n : ℕ) → (verdict (judgeOf i) ≡ counts k n) ↔ InputOf i k n
+accepts i k n = (λ e. accepted-law i k n .0 (verdict-counts (judgeOf i) k n e), λ h. ap verdict (accepted-law i k n .1 h))
+
+-- an outcome that tells a count is one that wrote as many octets
+filled-so : (f : Filled) (n : ℕ) → written-as (f .answer) ≡ told n → f ≡ filled (Wrote n) (f .room)
+filled-so f n e = let r : filled (f .answer) (f .room) ≡ filled (Wrote n) (f .room) = rw (wrote-told (f .answer) n e) in r
+
+writes : {f : Filled} {xs room : List ℕ} → f ≡ wrote xs room → Writes f xs room
+writes {f} {xs} {room} e = record { count = ap (λ (f : Filled). written-as (f .answer)) e; holds = ap (λ (f : Filled). f .room) e }
+
 -- ---- the whole
 
 pub demand2 : Demand2
 demand2 =
     record {
-      accepts = accepted-law;
+      accepts = accepts;
       one-reading = one-reading;
       reads = reads;
-      only = only;
-      folds = λ i out k n h s l. (fold-form i out k n h ∙ bounded-so (folded h) out s l);
+      only = λ i copy records k n e. only i copy records k n (verdict-counts (readOutcome i copy records .answer) k n e);
+      folds = λ i out k n h s l. writes (fold-form i out k n h ∙ bounded-so (folded h) out s l);
       greedy = greedy;
-      physical = physical;
-      read-again = λ i out after n e. read-again i out after n (sym e);
-      escapes = escapes;
-      unescapes = unescapes;
-      back = λ t out after room n e r. round-trip t out after room n e r;
+      physical = λ i out n e. physical i out (foldOutcome i out .room) n (filled-so (foldOutcome i out) n e);
+      read-again = λ i out n e. read-again i out (foldOutcome i out .room) n (sym (filled-so (foldOutcome i out) n e));
+      escapes = λ t out f s h. writes (escapes t out f s h);
+      unescapes = λ t u out f s h. writes (unescapes t u out f s h);
+      back = λ t out room n e r. writes (round-trip t out (escapeOutcome t out .room) room n (filled-so (escapeOutcome t out) n e) r);
       c-judge = λ i k n h. (rw (accepted-law i k n .1 h), cards-low i k n h);
-      c-fold = λ i out after n e. (ap wordOutcome e, fold-low i out after n e);
-      c-unescape = λ t out after n e. (ap wordOutcome e, unescape-low t out after n e);
+      c-fold = λ i out n e. let f = filled-so (foldOutcome i out) n e in (ap wordOutcome f, fold-low i out (foldOutcome i out .room) n f);
+      c-unescape = λ t out n e. let f = filled-so (unescapeOutcome t out) n e in (ap wordOutcome f, unescape-low t out (unescapeOutcome t out .room) n f);
     }

@@ -19,8 +19,8 @@ use Rattle.text_unescaping.specs.Unescaped.{textStep, firstFault, unescaped}
 use Rattle.text.specs.Outcomes.{checked, faultless, escapeOutcome, unescapeOutcome}
 use Rattle.text_laws.specs.Stands.{Stands, Faulty}
 use Rattle.text_laws.proofs.StandsLaws.{stands-exactly, fault-found, fault-first}
-use Rattle.demands.specs.Demand1.{Filling, BadAt, Fair, Unfair, long, octet, EscapeBy, no-text, escape-over, escape-room, UnescapeBy, not-text, fault, text-room}
-use Rattle.demands.proofs.Refusing.{clash, Telling, first}
+use Rattle.demands.specs.Demand1.{BadAt, Fair, Unfair, long, octet, EscapeBy, no-text, escape-over, escape-room, UnescapeBy, not-text, fault, text-room}
+use Rattle.demands.proofs.Refusing.{FillingByCase as Filling, clash, Telling, first}
 
 -- refusals of an entry that writes octets
 pub written-tells : (out : List ℕ) → Telling (λ (f : Filled). f .answer) (λ n p. refuse n p out)

@@ -9,35 +9,31 @@ use lib.ListN.{length, take, drop}
 use Rattle.numbers.specs.Limits as limit
 use Rattle.numbers.specs.Refusals as refusal
 use Rattle.utf8.specs.Characters.{allowed}
-use Rattle.octets.specs.Room.{Filled, refuse}
+use Rattle.octets.specs.Room.{Filled}
 use Rattle.utf8_laws.specs.Texts.{Text, Stops}
 use Rattle.text_escaping.specs.Escaped.{escaped}
 use Rattle.text.specs.Outcomes.{escapeOutcome, unescapeOutcome}
 use Rattle.text_laws.specs.Stands.{Stands, Faulty}
 use Rattle.line_parser.specs.Grammar.{render}
-use Rattle.reader.specs.Outcome.{judgeOf, ended, Taken, took, readOutcome}
-use Rattle.reader.specs.declared.Verdict.{Verdict}
-use Rattle.reader.specs.declared.Verdict.the-variants.{Refused as Unread}
+use Rattle.reader.specs.Outcome.{judgeOf, ended, Taken, readOutcome}
 use Rattle.folder_line.specs.Pieces.{foldedLines}
 use Rattle.folder.specs.Outcome.{foldOutcome}
 use Rattle.desk_slots.specs.Sound.{stateAt}
-use Rattle.desk.specs.Steps.{Sound, Turned, refuse as refuseNew, refused, freshDesk}
-use Rattle.desk.specs.Steps.{newStep, openStep, addStep, releaseStep, octetsIn, showStep, heldStep, judgeStep}
+use Rattle.desk.specs.Steps.{Sound, Turned, freshDesk, newStep, openStep, addStep, releaseStep, octetsIn, showStep, heldStep, judgeStep}
 use Rattle.desk_entries.specs.declared.Session.{Session}
 use Rattle.desk_entries.specs.declared.State.the-variants.{Free, Open}
 use Rattle.desk.specs.declared.Desk.{Desk}
-use Rattle.desk.specs.declared.Turn.{Turn}
-use Rattle.desk.specs.declared.Answer.{Answer}
-use Rattle.desk.specs.declared.Answer.the-variants.{Refused}
 use Rattle.firmware.specs.Word.{verdictWord, wordOutcome}
+use Rattle.desk_ledger.specs.Answers.{Reply, refused, told, verdict, wrote, said}
 use Rattle.desk_laws.specs.Demand.{OpenOn}
 use Rattle.reader_grammar.specs.Inputs.{InputOf}
 use Rattle.reader_grammar.specs.Refusals.{RefusedBy}
 
--- an outcome answers a refusal only where `By` has its number and place; and there the whole outcome, lent memory too, is that refusal's
-pub record Exactly {A B : Type 0} (answer : A → B) (outcome : A) (refusal : ℕ → ℕ → A) (By : ℕ → ℕ → Type 0) : Type 0 where
-  pub only : (n p : ℕ) → answer outcome ≡ answer (refusal n p) → By n p
-  pub unchanged : (n p : ℕ) → By n p → outcome ≡ refusal n p
+-- a refusal is answered only where `By` has its number and place; there it is answered, and what is left is `Left`
+pub record Exactly (answer : Reply) (Left : Type 0) (By : ℕ → ℕ → Type 0) : Type 0 where
+  pub only : (n p : ℕ) → answer ≡ refused n p → By n p
+  pub answers : (n p : ℕ) → By n p → answer ≡ refused n p
+  pub unchanged : (n p : ℕ) → By n p → Left
 
 -- ---- reader and folder
 
@@ -137,12 +133,18 @@ pub data JudgeBy (d : Desk) (p : List ℕ) (t : ℕ) : ℕ → ℕ → Type 0 wh
 
 -- ---- the whole
 
--- outcomes that are answers alone, and those that have lent memory or a desk beside the answer
+-- outcomes that are answers alone, and those that have lent memory or a desk beside the answer, which a refusal leaves as they were
+abbrev pub Answering : Reply → (ℕ → ℕ → Type 0) → Type 0
+Answering answer By = Exactly answer (Unit {0}) By
+
+abbrev pub Reading : Taken → List ℕ → List ℕ → (ℕ → ℕ → Type 0) → Type 0
+Reading outcome copy records By = Exactly (verdict (outcome .answer)) ((outcome .copy ≡ copy) × (outcome .records ≡ records)) By
+
 abbrev pub Filling : Filled → List ℕ → (ℕ → ℕ → Type 0) → Type 0
-Filling outcome room By = Exactly (λ (f : Filled). f .answer) outcome (λ n p. refuse n p room) By
+Filling outcome room By = Exactly (wrote (outcome .answer)) (outcome .room ≡ room) By
 
 abbrev pub Turning : Turned → Desk → List ℕ → (ℕ → ℕ → Type 0) → Type 0
-Turning outcome d pool By = Exactly (λ (r : Turned). r .answer) outcome (λ n p. refused d pool p n) By
+Turning outcome d pool By = Exactly (said (outcome .answer)) ((outcome .desk ≡ d) × (outcome .pool ≡ pool)) By
 
 -- a word whose halves are a refusal's number and place
 pub record Halves (r n p : ℕ) : Type 0 where
@@ -150,22 +152,24 @@ pub record Halves (r n p : ℕ) : Type 0 where
   pub low : p < limit.word
 
 pub record Demand1 : Type 0 where
-  pub judges : (i : List ℕ) → Exactly (λ (v : Verdict). v) (judgeOf i) Unread (RefusedBy i)
-  pub reads : (i copy records : List ℕ)
-      → Exactly (λ (t : Taken). t .answer) (readOutcome i copy records) (λ n p. took (Unread n p) copy records) (ReadBy i copy records)
+  pub judges : (i : List ℕ) → Answering (verdict (judgeOf i)) (RefusedBy i)
+  pub reads : (i copy records : List ℕ) → Reading (readOutcome i copy records) copy records (ReadBy i copy records)
   pub folds : (i out : List ℕ) → Filling (foldOutcome i out) out (FoldBy i out)
   pub escapes : (t out : List ℕ) → Filling (escapeOutcome t out) out (EscapeBy t out)
   pub unescapes : (t out : List ℕ) → Filling (unescapeOutcome t out) out (UnescapeBy t out)
   -- a refused desk has 0 slots
-  pub starts : (slots : ℕ) → Exactly (λ (r : Turn). r .answer) (newStep slots) (λ n p. refuseNew (freshDesk 0) n p) (NewBy slots)
+  pub starts : (slots : ℕ) → Exactly (said (newStep slots .answer)) (newStep slots .desk ≡ freshDesk 0) (NewBy slots)
   pub opens : (d : Desk) (pool : List ℕ) (m : ℕ) → Turning (openStep d pool m) d pool (OpenBy d pool)
   pub adds : (d : Desk) (pool : List ℕ) (t : ℕ) (chunk : List ℕ) → Turning (addStep d pool t chunk) d pool (AddBy d pool t chunk)
   pub releases : (d : Desk) (pool : List ℕ) (t : ℕ) → Turning (releaseStep d pool t) d pool (TicketBy d pool t)
-  pub counts : (d : Desk) (pool : List ℕ) (t : ℕ) → Exactly (λ (a : Answer). a) (heldStep d pool t) Refused (TicketBy d pool t)
-  pub judges-held : (d : Desk) (pool : List ℕ) (t : ℕ) → Exactly (λ (v : Verdict). v) (judgeStep d pool t) Unread (JudgeBy d pool t)
+  pub counts : (d : Desk) (pool : List ℕ) (t : ℕ) → Answering (said (heldStep d pool t)) (TicketBy d pool t)
+  pub judges-held : (d : Desk) (pool : List ℕ) (t : ℕ) → Answering (verdict (judgeStep d pool t)) (JudgeBy d pool t)
   -- show answers a part alone: the session's octets, and an empty one on a refusal
   pub shows-none : (d : Desk) (pool : List ℕ) (t n p : ℕ) → TicketBy d pool t n p → showStep d pool t .octets ≡ []
   pub shows : (d : Desk) (pool : List ℕ) (t i : ℕ) (s : Session) → Holds d pool t i s → showStep d pool t .octets ≡ octetsIn pool i s
+  -- the octets held are counted, and judged as the reader judges them
+  pub counted : (d : Desk) (pool : List ℕ) (t i : ℕ) (s : Session) → Holds d pool t i s → said (heldStep d pool t) ≡ told (s .held)
+  pub judged : (d : Desk) (pool : List ℕ) (t i : ℕ) (s : Session) → Holds d pool t i s → verdict (judgeStep d pool t) ≡ verdict (judgeOf (octetsIn pool i s))
   -- the routines for C answer a refusal as one word, and leave the room as it was
   pub c-judge : (i : List ℕ) (n p : ℕ) → RefusedBy i n p → Halves (verdictWord (judgeOf i)) n p
   pub c-fold : (i out : List ℕ) (n p : ℕ) → FoldBy i out n p

@@ -4,19 +4,17 @@ use Prim.Native.String.{String}
 use mathlib.Core.Path.{_≡_}
 use mathlib.Core.List.{List, [], _∷_, _++_, map}
 use lib.ListN.{replicate}
-use Rattle.octets.specs.Room.{Filled, filled}
-use Rattle.octets.specs.declared.rooms.Written.the-variants.{Wrote, Refused as Unwritten}
+use Rattle.octets.specs.Room.{Filled}
 use Rattle.folder.specs.Outcome.{foldOutcome}
 use Rattle.text.specs.Outcomes.{unescapeOutcome}
 use Rattle.octets.specs.Ascii.{octets}
-use Rattle.reader.specs.Outcome.{Taken, took, readOutcome}
-use Rattle.reader.specs.declared.Verdict.the-variants.{Accepted, Refused}
+use Rattle.reader.specs.Outcome.{Taken, readOutcome}
 use Rattle.desk_slots.specs.Sound.{stateAt}
 use Rattle.desk.specs.Steps.{newStep}
 use Rattle.desk_entries.specs.declared.Session.{Session}
 use Rattle.desk_entries.specs.declared.State.the-variants.{Open}
-use Rattle.desk.specs.declared.Answer.the-variants.{Done}
-use Rattle.desk_ledger.specs.Ledger.{Call, opens, on, releases, told}
+use Rattle.desk_ledger.specs.Answers.{Reply, refused, told, counts, verdict, wrote, said}
+use Rattle.desk_ledger.specs.Ledger.{Call, opens, on, releases}
 use Rattle.desk_ledger.specs.Desks.{Proper, answers, world}
 
 -- CR LF
@@ -51,36 +49,46 @@ recordsM =
 abbrev fullName : String
 fullName = "N:Public;John;Quinlan;Mr.;Esq."
 
--- an example: what is read, folded or unescaped, the rooms, and the outcome; or the calls on a fresh desk, the number that answers each,
--- and which session then stands in which slot
+-- an example: what is read, folded or unescaped, the rooms, the answer, and what the rooms hold then; or the calls on a fresh desk, the
+-- number that answers each, and which session then stands in which slot
 pub data Example : Type 0 where
-  reads : (input copy records : List ℕ) → Taken → Example
-  folds : (input room : List ℕ) → Filled → Example
-  unescapes : (text room : List ℕ) → Filled → Example
+  reads : (input copy records : List ℕ) → Reply → (copy′ records′ : List ℕ) → Example
+  folds : (input room : List ℕ) → Reply → (room′ : List ℕ) → Example
+  unescapes : (text room : List ℕ) → Reply → (room′ : List ℕ) → Example
   turns : (slots : ℕ) (calls : List Call) (numbers : List ℕ) (slot : ℕ) (session : Session) → Example
 
 -- such a desk is granted; and with its proper pool, whatever this holds, the steps of the desk's contracts answer and end so
 pub record Turns (n : ℕ) (cs : List Call) (ns : List ℕ) (i : ℕ) (s : Session) : Type 0 where
-  pub granted : newStep n .answer ≡ Done 0
+  pub granted : said (newStep n .answer) ≡ told 0
   pub answered : (p : List ℕ) → Proper n p → answers n p cs ≡ map told ns
   pub slot : (p : List ℕ) → Proper n p → stateAt (world n p cs .desk .entries) i ≡ Open s
 
--- the outcome that the entry's contract names is the one that the example has
+-- an outcome that answers a and leaves these octets, or numbers, in its rooms
+pub record Fills (f : Filled) (a : Reply) (o : List ℕ) : Type 0 where
+  pub answer : wrote (f .answer) ≡ a
+  pub room : f .room ≡ o
+
+pub record Reads (t : Taken) (a : Reply) (c r : List ℕ) : Type 0 where
+  pub answer : verdict (t .answer) ≡ a
+  pub copy : t .copy ≡ c
+  pub records : t .records ≡ r
+
+-- the outcome that the entry's contract names is the one expected
 abbrev pub Holds : Example → Type 0
-Holds (reads i c r t) = readOutcome i c r ≡ t
-Holds (folds i o f) = foldOutcome i o ≡ f
-Holds (unescapes t o f) = unescapeOutcome t o ≡ f
+Holds (reads i c r a c′ r′) = Reads (readOutcome i c r) a c′ r′
+Holds (folds i o a o′) = Fills (foldOutcome i o) a o′
+Holds (unescapes t o a o′) = Fills (unescapeOutcome t o) a o′
 Holds (turns n cs ns i s) = Turns n cs ns i s
 
 -- refused: both rooms stay
 abbrev pub refuses : List ℕ → ℕ → ℕ → Example
-refuses i n p = reads i (replicate 64 0) (replicate 64 0) (took (Refused n p) (replicate 64 0) (replicate 64 0))
+refuses i n p = reads i (replicate 64 0) (replicate 64 0) (refused n p) (replicate 64 0) (replicate 64 0)
 
 -- accepted with card M's counts, copy and records, the rest of the rooms as it was
 abbrev pub asM : List ℕ → Example
 asM i =
     reads i (replicate 64 0) (replicate 64 0)
-    (took (Accepted 1 4) (cardM ++ replicate 21 0) (recordsM ++ replicate 32 0))
+    (counts 1 4) (cardM ++ replicate 21 0) (recordsM ++ replicate 32 0)
 
 -- a NOTE line of n octets, and what may stand after it, in card M
 abbrev note : ℕ → List ℕ → List ℕ
@@ -88,7 +96,7 @@ note n more = cardWith (octets "NOTE:" ++ (replicate (n - 5) 97 ++ more))
 
 -- a card is folded into a room of 160 octets to another, of n octets
 abbrev pub folding : List ℕ → ℕ → List ℕ → Example
-folding i n o = folds i (replicate 160 0) (filled (Wrote n) (o ++ replicate (160 - n) 0))
+folding i n o = folds i (replicate 160 0) (told n) (o ++ replicate (160 - n) 0)
 
 -- all of them
 abbrev pub marked : List Example
@@ -104,8 +112,8 @@ marked =
     folding (note 75 end) 120 (note 75 end) ∷
     folding (note 76 end) 124 (note 75 (end ++ 32 ∷ 97 ∷ end)) ∷
     folding (note 74 (195 ∷ 169 ∷ end)) 124 (note 74 (end ++ 32 ∷ 195 ∷ 169 ∷ end)) ∷
-    unescapes (octets "a\\,b") (replicate 8 0) (filled (Wrote 3) (octets "a,b" ++ replicate 5 0)) ∷
-    unescapes (octets "\\N") (replicate 8 0) (filled (Wrote 1) (10 ∷ replicate 7 0)) ∷
-    unescapes (octets "a,b") (replicate 8 0) (filled (Unwritten 30 1) (replicate 8 0)) ∷
+    unescapes (octets "a\\,b") (replicate 8 0) (told 3) (octets "a,b" ++ replicate 5 0) ∷
+    unescapes (octets "\\N") (replicate 8 0) (told 1) (10 ∷ replicate 7 0) ∷
+    unescapes (octets "a,b") (replicate 8 0) (refused 30 1) (replicate 8 0) ∷
     turns 2 (opens 0 ∷ opens 0 ∷ on 1 releases ∷ opens 0 ∷ []) (1 ∷ 2 ∷ 0 ∷ 3 ∷ []) 0 (record { ticket = 3; tram = 0; held = 0 }) ∷
     []

@@ -2,7 +2,7 @@
 use Prim.Native.Nat.{ℕ, _*_, _<_}
 use mathlib.Core.Path.{_≡_, refl, sym, ap, _∙_}
 use mathlib.Core.Bool.{Bool, true, false}
-use mathlib.Core.List.{List, [], _∷_, _++_, map}
+use mathlib.Core.List.{List, [], _∷_, _++_}
 use native.Mathlib.Omega.{arith}
 use lib.Dec.{eqb}
 use lib.ListN.{length, take}
@@ -22,15 +22,15 @@ use Rattle.desk_entries.specs.declared.Session.{Session}
 use Rattle.desk_entries.specs.declared.State.{State}
 use Rattle.desk_entries.specs.declared.State.the-variants.{Free, Open}
 use Rattle.desk.specs.declared.Desk.{Desk}
-use Rattle.desk.specs.declared.Answer.the-variants.{Done, Refused}
-use Rattle.desk_ledger.specs.Ledger.{Deed, releases, Call, opens, on, Reply, Found, absent, present, shut, answer, leaves, Ledger, lookup, ledgerStep, freshLedger, run, after}
-use Rattle.desk_ledger.specs.Uploads.{keep, mine, own, solo, joined, unnamed}
+use Rattle.desk_ledger.specs.Answers.{Reply, refused as refusal, told, verdict, said}
+use Rattle.desk_ledger.specs.Ledger.{Deed, releases, Call, opens, on, Found, absent, present, shut, answer, leaves, Ledger, lookup, ledgerStep, freshLedger, run, after}
+use Rattle.desk_ledger.specs.Uploads.{keep, mine, own, solo, joined, SameCalls}
 use Rattle.desk_ledger.specs.Desks.{World, deskStep, fresh, Proper, answers, world, ledger}
 use Rattle.desk_laws.specs.Demand.{OpenOn, OpenIn, Holds, Afterwards, Grants, ownAnswers, asked, Alike, Closed, used-up, no-slot, Opening, Demand3}
 use Rattle.desk_laws.proofs.LedgerRows.{no}
 use Rattle.desk_laws.proofs.Relation.{Refines, View, seen, unseen, view}
 use Rattle.desk_laws.proofs.Refinement.{octets-length, step-refines, run-refines, after-refines, fresh-refines}
-use Rattle.desk_laws.proofs.Noninterference.{Given, same-slots, falls-after, starts, own-solo, fates, after-fates, solo-take, fates-append, fates-absent, mine-append, after-append, run-unnamed}
+use Rattle.desk_laws.proofs.Noninterference.{Given, same-slots, falls-after, starts, own-solo, fates, after-fates, solo-take, fates-append, fates-absent, mine-append, after-append, given-after, next-granted, run-same, same-calls}
 use Rattle.desk_laws.proofs.Joins.{joins}
 
 -- ---- desk and ledger after the same calls
@@ -86,8 +86,8 @@ module _ (n : ℕ) (p : List ℕ) (f : Proper n p) where
           let j = row-joined cs t (octetsIn (w .pool) i s) q in
           record {
             shown = rw e j;
-            judged = rw e (ap judgeOf j);
-            held = rw e (ap Done (sym (octets-length (w .desk) (w .pool) t i s g) ∙ ap (λ (o : List ℕ). length o) j));
+            judged = rw e (ap (λ (o : List ℕ). verdict (judgeOf o)) j);
+            held = rw e (ap told (sym (octets-length (w .desk) (w .pool) t i s g) ∙ ap (λ (o : List ℕ). length o) j));
           }
 
   -- ---- an upload
@@ -133,13 +133,24 @@ alike n p f xs m t g n′ p′ f′ xs′ m′ t′ g′ =
           (asked-so n p f xs m t g ys x ∙ ap (λ (ds : List Deed). answer (fates (present []) ds) x) e ∙ sym (asked-so n′ p′ f′ xs′ m′ t′ g′ ys′ x));
     }
 
-pub unseen-by : (n : ℕ) (p p′ : List ℕ) → Proper n p → Proper n p′ → (cs ds : List Call) → map unnamed cs ≡ map unnamed ds → answers n p cs ≡ answers n p′ ds
+pub unseen-by : (n : ℕ) (p p′ : List ℕ) → Proper n p → Proper n p′ → (cs ds : List Call) → SameCalls cs ds → answers n p cs ≡ answers n p′ ds
 unseen-by n p p′ f f′ cs ds e =
-    answered n p f cs
-    ∙ sym (run-unnamed (freshLedger n) cs)
-    ∙ ap (run ledgerStep (freshLedger n)) e
-    ∙ run-unnamed (freshLedger n) ds
-    ∙ sym (answered n p′ f′ ds)
+    answered n p f cs ∙ run-same (freshLedger n) e ∙ sym (answered n p′ f′ ds)
+
+-- ---- a later grant
+
+-- the ledger grants what the desk grants: its next ticket
+granted-next : (n : ℕ) (p : List ℕ) → Proper n p → (xs : List Call) (m t : ℕ) → Grants n p xs m t → ledger n xs .next ≡ t
+granted-next n p f xs m t g =
+    next-granted (ledger n xs) m t (sym (step-refines (world n p xs) (ledger n xs) (opens m) (then-refines n p f xs) .same) ∙ g)
+
+pub later : (n : ℕ) (p : List ℕ) → Proper n p → (xs : List Call) (m t : ℕ) → Grants n p xs m t → (ys : List Call) (m′ t′ : ℕ) → Grants n p (xs ++ opens m ∷ ys) m′ t′ → t < t′
+unfolding after
+later n p f xs m t g ys m′ t′ h =
+    let a = given-after ys (ledgerStep (ledger n xs) (opens m) .then) t (begun n p f xs m t g .1) .past in
+    let e : ledger n (xs ++ opens m ∷ ys) .next ≡ t′ = granted-next n p f (xs ++ opens m ∷ ys) m′ t′ h in
+    let q = ap (λ (l : Ledger). l .next) (after-append ledgerStep xs (opens m ∷ ys) (freshLedger n)) in
+    omega arith
 
 -- ---- an opening on any sound desk
 
@@ -171,32 +182,32 @@ module _ (d : Desk) (p : List ℕ) (m : ℕ) (s : Sound d) (z : length p ≡ d .
   pub opening : Opening d p m
   opening =
       record {
-        first = λ h. ap (λ (r : Turned). r .answer) (used h);
+        first = λ h. ap (λ (r : Turned). said (r .answer)) (used h);
         second = λ n c. second n c (firstAt (freeAt (d .entries)) 0 (d .slots)) refl;
         only = λ r a e. only r a e (eqb (d .next) 4294967295) refl (firstAt (freeAt (d .entries)) 0 (d .slots)) refl;
         else = λ n. else n (firstAt (freeAt (d .entries)) 0 (d .slots)) refl;
       }
     where
-      second : (d .next ≡ 4294967295 → ⊥) → Closed d → (x : Position) → firstAt (freeAt (d .entries)) 0 (d .slots) ≡ x → openStep d p m .answer ≡ Refused 20 0
+      second : (d .next ≡ 4294967295 → ⊥) → Closed d → (x : Position) → firstAt (freeAt (d .entries)) 0 (d .slots) ≡ x → said (openStep d p m .answer) ≡ refusal 20 0
       second n (used-up h) x e = absurd (n h)
       second n (no-slot f) (Barred k) e = unbarred (freeAt (d .entries)) (d .slots) 0 k e
-      second n (no-slot f) Nowhere e = ap (λ (r : Turned). r .answer) (left n ∙ ap (openIn d p m) e)
+      second n (no-slot f) Nowhere e = ap (λ (r : Turned). said (r .answer)) (left n ∙ ap (openIn d p m) e)
       second n (no-slot f) (At i) e =
           let w = firstAt-is (freeAt (d .entries)) (d .slots) 0 i e in
           absurd (f i (omega arith) (free-is (stateAt (d .entries) i) (w .0)))
 
-      only : (r a : ℕ) → openStep d p m .answer ≡ Refused r a → (b : Bool) → eqb (d .next) 4294967295 ≡ b → (x : Position) → firstAt (freeAt (d .entries)) 0 (d .slots) ≡ x → Closed d
+      only : (r a : ℕ) → said (openStep d p m .answer) ≡ refusal r a → (b : Bool) → eqb (d .next) 4294967295 ≡ b → (x : Position) → firstAt (freeAt (d .entries)) 0 (d .slots) ≡ x → Closed d
       only r a e true b x q = used-up (eqb-true (d .next) 4294967295 b)
       only r a e false b (Barred k) q = unbarred (freeAt (d .entries)) (d .slots) 0 k q
       only r a e false b Nowhere q = full q
       only r a e false b (At i) q =
-          let w : Done (d .next) ≡ Refused r a = sym (ap (λ (r : Turned). r .answer) (left (eqb-false (d .next) 4294967295 b) ∙ ap (openIn d p m) q)) ∙ e in
+          let w : told (d .next) ≡ refusal r a = sym (ap (λ (r : Turned). said (r .answer)) (left (eqb-false (d .next) 4294967295 b) ∙ ap (openIn d p m) q)) ∙ e in
           clash cc
 
-      else : (Closed d → ⊥) → (x : Position) → firstAt (freeAt (d .entries)) 0 (d .slots) ≡ x → openStep d p m .answer ≡ Done (d .next)
+      else : (Closed d → ⊥) → (x : Position) → firstAt (freeAt (d .entries)) 0 (d .slots) ≡ x → said (openStep d p m .answer) ≡ told (d .next)
       else n (Barred k) e = unbarred (freeAt (d .entries)) (d .slots) 0 k e
       else n Nowhere e = absurd (n (full e))
-      else n (At i) e = ap (λ (r : Turned). r .answer) (left (λ h. n (used-up h)) ∙ ap (openIn d p m) e)
+      else n (At i) e = ap (λ (r : Turned). said (r .answer)) (left (λ h. n (used-up h)) ∙ ap (openIn d p m) e)
 
 -- ---- the whole
 
@@ -208,6 +219,7 @@ demand3 =
       alone = alone;
       alike = alike;
       unseen = unseen-by;
+      never-twice = later;
       opening = opening;
     }
 
@@ -224,12 +236,12 @@ pub in-two-lists : (n n′ : ℕ) (p p′ : List ℕ) → Proper n p → Proper 
 in-two-lists n n′ p p′ f f′ xs xs′ m t m′ t′ g g′ = demand3 .alike n p f xs m t g n′ p′ f′ xs′ m′ t′ g′
 
 -- other identifiers
-pub identifiers : (n : ℕ) (p : List ℕ) → Proper n p → (cs ds : List Call) → map unnamed cs ≡ map unnamed ds → answers n p cs ≡ answers n p ds
+pub identifiers : (n : ℕ) (p : List ℕ) → Proper n p → (cs ds : List Call) → SameCalls cs ds → answers n p cs ≡ answers n p ds
 identifiers n p f cs ds e = demand3 .unseen n p p f f cs ds e
 
 -- another proper pool
 pub other-pool : (n : ℕ) (p p′ : List ℕ) → Proper n p → Proper n p′ → (cs : List Call) → answers n p cs ≡ answers n p′ cs
-other-pool n p p′ f f′ cs = demand3 .unseen n p p′ f f′ cs cs refl
+other-pool n p p′ f f′ cs = demand3 .unseen n p p′ f f′ cs cs (same-calls cs)
 
 -- a released ticket answers 22, and an empty part to show, for ever
 pub released : (n : ℕ) (p : List ℕ) → Proper n p → (xs : List Call) (m t : ℕ) → Grants n p xs m t → (ys zs : List Call) (x : Deed)

@@ -8,3 +8,5 @@ pub mod Noninterference
 pub mod Joins
 pub mod Demand
 pub mod PoolNoninterference
+pub mod Granted
+pub mod GrantedOnly

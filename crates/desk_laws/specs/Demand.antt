@@ -2,7 +2,7 @@
 -- its proper pool. Assumes nothing.
 use Prim.Native.Nat.{ℕ, _*_, _<_}
 use mathlib.Core.Path.{_≡_}
-use mathlib.Core.List.{List, [], _∷_, _++_, map}
+use mathlib.Core.List.{List, [], _∷_, _++_}
 use lib.ListN.{length, take}
 use Rattle.numbers.specs.Limits as limit
 use Rattle.numbers.specs.Refusals as refusal
@@ -12,9 +12,9 @@ use Rattle.desk.specs.Steps.{Sound, openStep, showStep, heldStep, judgeStep}
 use Rattle.desk_entries.specs.declared.Session.{Session}
 use Rattle.desk_entries.specs.declared.State.the-variants.{Free, Open}
 use Rattle.desk.specs.declared.Desk.{Desk}
-use Rattle.desk.specs.declared.Answer.the-variants.{Done, Refused}
-use Rattle.desk_ledger.specs.Ledger.{Deed, Call, opens, on, Reply, told, present, Ledger, lookup, ledgerStep, freshLedger, run, after}
-use Rattle.desk_ledger.specs.Uploads.{mine, own, solo, joined, unnamed}
+use Rattle.desk_ledger.specs.Answers.{Reply, refused, told, verdict, said}
+use Rattle.desk_ledger.specs.Ledger.{Deed, Call, opens, on, present, Ledger, lookup, ledgerStep, freshLedger, run, after}
+use Rattle.desk_ledger.specs.Uploads.{mine, own, solo, joined, SameCalls}
 use Rattle.desk_ledger.specs.Desks.{World, deskStep, Proper, answers, world, ledger}
 
 -- a ticket is open on a desk; in a ledger
@@ -27,8 +27,8 @@ OpenIn l t = (o : List ℕ) × (lookup (l .rows) t ≡ present o)
 -- what show, judge and the octets held say of octets o
 pub record Holds (w : World) (t : ℕ) (o : List ℕ) : Type 0 where
   pub shown : showStep (w .desk) (w .pool) t .octets ≡ o
-  pub judged : judgeStep (w .desk) (w .pool) t ≡ judgeOf o
-  pub held : heldStep (w .desk) (w .pool) t ≡ Done (length o)
+  pub judged : verdict (judgeStep (w .desk) (w .pool) t) ≡ verdict (judgeOf o)
+  pub held : said (heldStep (w .desk) (w .pool) t) ≡ told (length o)
 
 -- after a list of calls: the desk is sound and its pool proper; the same tickets are open as in the ledger; and an open one holds the
 -- chunks of its accepted adds, joined
@@ -66,10 +66,10 @@ pub data Closed (d : Desk) : Type 0 where
 
 -- an opening is refused exactly where the desk is closed: 21 where tickets are used up, else 20; else the next ticket is granted
 pub record Opening (d : Desk) (p : List ℕ) (m : ℕ) : Type 0 where
-  pub first : d .next ≡ limit.tickets → openStep d p m .answer ≡ Refused refusal.ticketsUsedUp 0
-  pub second : (d .next ≡ limit.tickets → ⊥) → Closed d → openStep d p m .answer ≡ Refused refusal.noFreeSlot 0
-  pub only : (r a : ℕ) → openStep d p m .answer ≡ Refused r a → Closed d
-  pub else : (Closed d → ⊥) → openStep d p m .answer ≡ Done (d .next)
+  pub first : d .next ≡ limit.tickets → said (openStep d p m .answer) ≡ refused refusal.ticketsUsedUp 0
+  pub second : (d .next ≡ limit.tickets → ⊥) → Closed d → said (openStep d p m .answer) ≡ refused refusal.noFreeSlot 0
+  pub only : (r a : ℕ) → said (openStep d p m .answer) ≡ refused r a → Closed d
+  pub else : (Closed d → ⊥) → said (openStep d p m .answer) ≡ told (d .next)
 
 pub record Demand3 : Type 0 where
   -- refinement: every list of calls is answered as the ledger answers it
@@ -82,6 +82,8 @@ pub record Demand3 : Type 0 where
       → (n′ : ℕ) (p′ : List ℕ) → Proper n′ p′ → (xs′ : List Call) (m′ t′ : ℕ) → Grants n′ p′ xs′ m′ t′
       → Alike n p xs m t n′ p′ xs′ m′ t′
   -- no identifier and no octet that the pool held at first changes an answer
-  pub unseen : (n : ℕ) (p p′ : List ℕ) → Proper n p → Proper n p′ → (cs ds : List Call) → map unnamed cs ≡ map unnamed ds → answers n p cs ≡ answers n p′ ds
+  pub unseen : (n : ℕ) (p p′ : List ℕ) → Proper n p → Proper n p′ → (cs ds : List Call) → SameCalls cs ds → answers n p cs ≡ answers n p′ ds
+  -- no ticket is given twice, a released one neither: a later opening gets a higher one
+  pub never-twice : (n : ℕ) (p : List ℕ) → Proper n p → (xs : List Call) (m t : ℕ) → Grants n p xs m t → (ys : List Call) (m′ t′ : ℕ) → Grants n p (xs ++ opens m ∷ ys) m′ t′ → t < t′
   -- on every sound desk with its proper pool
   pub opening : (d : Desk) (p : List ℕ) (m : ℕ) → Sound d → length p ≡ d .slots * limit.octets → Opening d p m

@@ -6,19 +6,12 @@ use lib.ListN.{length}
 use Rattle.numbers.specs.Limits as limit
 use Rattle.desk.specs.Steps.{Turned, newStep, openStep, addStep, releaseStep, showStep, heldStep, judgeStep}
 use Rattle.desk.specs.declared.Desk.{Desk}
-use Rattle.desk.specs.declared.Answer.{Answer}
-use Rattle.desk.specs.declared.Answer.the-variants.{Done, Refused}
-use Rattle.desk_ledger.specs.Ledger.{Deed, adds, judges, shows, asks, releases, Call, opens, on}
-use Rattle.desk_ledger.specs.Ledger.{Reply, refused, told, part, verdict, Ledger, Out, ledgerStep, freshLedger, run, after}
+pub use Rattle.desk_ledger.specs.Answers.{said}
+use Rattle.desk_ledger.specs.Ledger.{Deed, adds, judges, shows, asks, releases, Call, opens, on, Reply, part, verdict, Ledger, Out, ledgerStep, freshLedger, run, after}
 
 pub record World : Type 0 where
   pub desk : Desk
   pub pool : List ℕ
-
--- an answer in the numbers of REFERENCE, Refusals
-abbrev pub said : Answer → Reply
-said (Done n) = told n
-said (Refused n p) = refused n p
 
 abbrev pub took : Turned → Out World
 took r = record { reply = said (r .answer); then = record { desk = r .desk; pool = r .pool } }

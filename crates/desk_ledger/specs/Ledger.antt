@@ -7,8 +7,7 @@ use Rattle.numbers.specs.Limits as limit
 use Rattle.numbers.specs.Refusals as refusal
 use Rattle.octets.specs.Pick.{pick}
 use Rattle.reader.specs.Outcome.{judgeOf}
-use Rattle.reader.specs.declared.Verdict.{Verdict}
-use Rattle.reader.specs.declared.Verdict.the-variants.{Accepted, Refused}
+pub use Rattle.desk_ledger.specs.Answers.{Reply, refused, told, counts, part, verdict}
 
 -- what is asked of a ticket: add a chunk, judge, show, say the octets held, release
 pub data Deed : Type 0 where
@@ -19,17 +18,6 @@ pub data Deed : Type 0 where
 pub data Call : Type 0 where
   opens : ℕ → Call
   on : ℕ → Deed → Call
-
--- an answer: a refusal's number and place; a ticket, a count of octets or 0; counts of cards and lines; octets shown
-pub data Reply : Type 0 where
-  refused : ℕ → ℕ → Reply
-  told : ℕ → Reply
-  counts : ℕ → ℕ → Reply
-  part : List ℕ → Reply
-
-abbrev pub verdict : Verdict → Reply
-verdict (Accepted k n) = counts k n
-verdict (Refused n p) = refused n p
 
 -- ---- one ticket: not open, or open with its octets
 

@@ -49,7 +49,12 @@ joined t (c ∷ cs) [] = []
 joined t (opens m ∷ cs) (r ∷ rs) = joined t cs rs
 joined t (on u x ∷ cs) (r ∷ rs) = pick (eqb u t) (chunk x r) [] ++ joined t cs rs
 
--- a call with no identifier
-abbrev pub unnamed : Call → Call
-unnamed (opens m) = opens 0
-unnamed (on t x) = on t x
+-- two calls that agree but for an opening's identifier
+pub data SameCall : Call → Call → Type 0 where
+  openings : (m m′ : ℕ) → SameCall (opens m) (opens m′)
+  deeds : (t : ℕ) (x : Deed) → SameCall (on t x) (on t x)
+
+-- two lists of such calls, call by call
+pub data SameCalls : List Call → List Call → Type 0 where
+  none : SameCalls [] []
+  next : {c d : Call} {cs ds : List Call} → SameCall c d → SameCalls cs ds → SameCalls (c ∷ cs) (d ∷ ds)

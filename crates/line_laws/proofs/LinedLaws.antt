@@ -192,7 +192,7 @@ split (pair (inner {b = b} {s = s} h t)) =
 pub split-raw : (i : List ℕ) (s : Split i) → rawLines i ≡ s .raw ∷ rawLines (s .rest)
 split-raw i s = ap rawLines (s .whole) ∙ first-raw (s .raw) (s .rest) (folded-length (s .folded) (s .each) (s .rest) (s .unled))
 
-cons-nil : {A B : Type 0} {x : A} {xs : List A} → x ∷ xs ≡ [] → B
+pub cons-nil : {A B : Type 0} {x : A} {xs : List A} → x ∷ xs ≡ [] → B
 cons-nil e = let z : _≡_ {A = ℕ} 0 1 = cc in absurd (omega arith)
 
 pub paired-text : (i : List ℕ) → firstLone i ≡ length i → EndsCrLf i → Text i

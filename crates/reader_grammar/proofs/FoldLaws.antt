@@ -18,7 +18,7 @@ use Rattle.line_parameters.proofs.PlacesLaw.{accepted-starts}
 use Rattle.line_breaks.specs.Lone.{firstLone}
 use Rattle.reader_grammar.specs.Cards.{Readable}
 use Rattle.line_laws.specs.Lined.{Folded, end, octet, fold, Unbroken, Unled, EndsCrLf}
-use Rattle.line_laws.proofs.LinedLaws.{lone-pair, folded-lone, folded-length, folded-unfolds, first-raw, Text, split, split-raw, paired-text}
+use Rattle.line_laws.proofs.LinedLaws.{cons-nil, lone-pair, folded-lone, folded-length, folded-unfolds, first-raw, Text, split, split-raw, paired-text}
 use Rattle.reader_grammar.specs.Inputs.{Written, none, more}
 
 clean-inner : (l : List ℕ) → EachOctet (allowed false) l → Unbroken l

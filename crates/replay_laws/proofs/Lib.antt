@@ -5,3 +5,4 @@ pub mod VerdictLaws
 pub mod SmallLaws
 pub mod Refinement
 pub mod TellLaws
+pub mod Replays
