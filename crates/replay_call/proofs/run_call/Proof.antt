@@ -7,6 +7,7 @@ use lib.ListN.{getD, take, drop}
 use Rattle.desk_pool.proofs.Patches.{part-size}
 use Rattle.desk_ledger.specs.Ledger.{Out}
 use Rattle.desk_ledger.specs.Desks.{World, deedStep, deskStep}
+use Rattle.replay_script.specs.Numerals.{twoAt}
 use Rattle.replay_script.specs.Scripts.{queryOf, callOf}
 use Rattle.replay_call.specs.Stepped.{worldOf}
 use Rattle.replay_script.proofs.ScriptLaws.{needed-add, whole}
