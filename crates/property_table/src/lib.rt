@@ -16,17 +16,22 @@ use octets::cases::same_name;
 use octets::indices::wide;
 use rows::PropertyTable;
 
-// How many entries the table has for a row, how many of them are the name, and the column of each entry behind it.
+// How many entries the table has for a row.
 const ROW: usize = 16;
 
+// The most octets of a name; as many entries of a row are its name.
 const LONGEST: usize = 12;
 
+// The column of the number among the properties that a card has at most once.
 const ONCE: usize = LONGEST;
 
+// The column of the kind.
 const KIND: usize = 13;
 
+// The column of the next row whose name is as long.
 const NEXT: usize = 14;
 
+// The column with 1 where a VALUE parameter sets the kind.
 const VALUE: usize = 15;
 
 // The table as a value, which its users are lent: a use of the constant in a loop would build it there at each turn.

@@ -1,32 +1,45 @@
 // The states of the automaton that code cites, and its table. Made by tools/value-automaton from specs/.
 
-// The dead state, the state in which a value of each kind starts, the tail of a URI, and the first state in which a value may end.
+// Nothing can follow.
 pub const DEAD: u8 = 0;
 
+// A value of kind 0 starts.
 pub const ANYTHING: u8 = 29;
 
+// A value of kind 1 starts.
 pub const TEXT: u8 = 30;
 
+// A value of kind 2 starts.
 pub const TEXTS: u8 = 31;
 
+// A value of kind 3 starts.
 pub const URI: u8 = 3;
 
+// A value of kind 4 starts.
 pub const NAME: u8 = 5;
 
+// A value of kind 5 starts.
 pub const ADDRESS: u8 = 14;
 
+// A value of kind 6 starts.
 pub const ORGANIZATION: u8 = 34;
 
+// A value of kind 7 starts.
 pub const GENDER: u8 = 35;
 
+// A value of kind 8 starts.
 pub const PIDMAP: u8 = 19;
 
+// The value of BEGIN or END starts.
 pub const VCARD: u8 = 21;
 
+// The value of VERSION starts.
 pub const VERSION: u8 = 26;
 
+// The part of a URI after its colon.
 pub const URI_TAIL: u8 = 32;
 
+// The first of the states in which a value may end.
 pub const FIRST_NULLABLE: u8 = 29;
 
 // How many entries the table has for a state: one for each sort of octet, and fill.

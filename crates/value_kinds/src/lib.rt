@@ -76,7 +76,7 @@ fn has_semicolons(s: &[u8], n: usize) -> bool
     lacks(b'\\', b'\\', s)
 }
 
-// True only where a look at each octet by itself shows that s fits.
+// True only where tests of each octet by itself show that s fits.
 pub fn fits_at_once(kind: usize, s: &[u8]) -> bool
     ensures { λ r. ⌜ (r ≡ true → kindScan kind (now (s .entry)) ≡ Fault.Fits) ⌝ }
 {

@@ -1,5 +1,5 @@
--- What the scans of values say: a value fits exactly where it is of its kind's shape, or of its line's, and a place is the first octet
--- from which no continuation is. Assumes nothing.
+-- What the scans of values say: a value fits exactly where it matches its kind's shape, or its line's, and a place is the first octet
+-- from which no continuation does. Assumes nothing.
 use mathlib.Core.Path.{_≡_, refl}
 use mathlib.Core.Bool.{Bool, true, false}
 use mathlib.Core.List.{List}
