@@ -3,7 +3,7 @@
  * Each answers one number: on acceptance a count alone, else refusal * 4294967296 + place. GERSTEBOLK_REFUSAL and GERSTEBOLK_PLACE take it apart;
  * a refusal of 0 is acceptance. On a refusal nothing is written; on acceptance the room past what was written stays as it was.
  *
- * What a caller owes: each pointer is valid for its length (a range of 0 octets may have any pointer that is not null), the ranges do not overlap,
+ * What a caller owes: each pointer is valid for its length (a range of 0 octets may have any pointer, null too), the ranges do not overlap,
  * and about 64 KB of stack are free. The routines keep nothing between calls and may be called from several threads at once.
  */
 #ifndef GERSTEBOLK_H

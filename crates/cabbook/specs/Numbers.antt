@@ -1,6 +1,16 @@
--- The statuses with which the tool ends. Assumes nothing.
-use Prim.Native.Nat.{ℕ, _≤_}
+-- The bounds of statuses and records. Assumes nothing.
+use Prim.Native.Nat.{ℕ, _≤_, _*_}
+use Rattle.numbers.specs.Limits as limit
+use Rattle.cabbook_tables.specs.Statuses as status
 
--- 0 all accepted, 1 something refused, 2 wrong use or a file that can't be read
+-- one of the tool's statuses
 abbrev pub Status : ℕ → Type 0
-Status n = n ≤ 2
+Status n = n ≤ status.failed
+
+-- the most lines of an input: a line has at least four octets, as `A:` and CR LF
+abbrev pub mostLines : ℕ
+mostLines = 4096
+
+-- the numbers of their records
+abbrev pub mostNumbers : ℕ
+mostNumbers = mostLines * limit.recordLength

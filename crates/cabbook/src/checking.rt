@@ -1,45 +1,47 @@
 // `check`: a row a file, and under a refusal the logical line that it is about.
 ghost use Rattle.cabbook.specs.Numbers.{Status};
-use crate::print;
+use crate::printing;
+use cabbook_tables::status;
 use libc::STDOUT_FILENO;
+use numbers::refusal;
 use reader::Verdict;
 
-// The row of a file with so many cards and lines.
-fn accepted(path: &[u8], cards: usize, lines: usize) {
+// Prints the row of a file with so many cards and lines.
+fn print_accepted(path: &[u8], cards: usize, lines: usize) {
     let mut room = io::large_buffer();
-    let n = workshop::rows::put_accepted(&mut room, 0, path, cards, lines);
-    print::sent(STDOUT_FILENO, &room, n);
+    let n = cabbook_rows::rows::put_accepted(&mut room, 0, path, cards, lines);
+    printing::send(STDOUT_FILENO, &room, n);
 }
 
-// The logical line in which a refusal's place lies; nothing where the input is too long or empty.
-fn under(s: &[u8], number: u32, place: usize) {
-    if number < 3 {
+// Prints the logical line in which a refusal's place lies; nothing where the input is too long or empty.
+fn print_under(s: &[u8], number: u32, place: usize) {
+    if number == refusal::TOO_LONG || number == refusal::EMPTY {
         return;
     }
-    let line = workshop::under::offending(s, number, place);
+    let line = cabbook_rows::under::offending(s, number, place);
     if line.len() == 0 {
         io::write_all(STDOUT_FILENO, b"    (the end of the file)\n");
         return;
     }
     let mut room = io::buffer();
-    let n = workshop::under::put_under(&mut room, 0, line);
-    print::sent(STDOUT_FILENO, &room, n);
+    let n = cabbook_rows::under::put_under(&mut room, 0, line);
+    printing::send(STDOUT_FILENO, &room, n);
 }
 
-// The row of a file with these octets.
-pub fn judged(path: &[u8], s: &[u8]) -> u8
+// Judges a file's octets, prints its row, and answers the exit status.
+pub fn check(path: &[u8], s: &[u8]) -> u8
     ensures { λ r. ⌜ Status r ⌝ }
 {
     let v = reader::judge(s);
     match v {
         Verdict::Accepted(cards, lines) => {
-            accepted(path, cards, lines);
-            0
+            print_accepted(path, cards, lines);
+            status::ACCEPTED
         }
         Verdict::Refused(number, place) => {
-            print::refused(STDOUT_FILENO, path, s, number, place);
-            under(s, number, place);
-            1
+            printing::print_refused(STDOUT_FILENO, path, s, number, place);
+            print_under(s, number, place);
+            status::REFUSED
         }
     }
 }

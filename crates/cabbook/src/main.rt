@@ -1,19 +1,30 @@
 // cabbook: the workshop's command-line tool over the reader, the folder, text and the desk.
 mod checking;
-mod print;
-mod shown;
+mod printing;
 mod table;
 mod usage;
+mod values;
 mod writing;
 
 ghost use Rattle.cabbook.specs.Numbers.{Status};
-use files::Input;
-use morning::Ending;
+use cabbook_morning::Ending;
+use cabbook_tables::status;
+use numbers::limit;
 use octets::cases::same_name;
+use program_files::Input;
 use writing::Form;
 
 // The descriptor to which the exit status goes, one digit, at the end.
 const STATUS: i32 = 3;
+
+// The argument that names the command.
+const COMMAND: usize = 1;
+
+// The argument that names the first file.
+const FIRST_FILE: usize = 2;
+
+// The octets of a command's name that are looked at.
+const NAME: usize = 16;
 
 // What is done with the octets of a file.
 enum Command {
@@ -23,53 +34,53 @@ enum Command {
 }
 
 // Does the command with a file's octets, and answers the exit status.
-fn done(command: Command, path: &[u8], s: &[u8]) -> u8
+fn apply(command: Command, path: &[u8], s: &[u8]) -> u8
     ensures { λ r. ⌜ Status r ⌝ }
 {
     match command {
-        Command::Check => checking::judged(path, s),
-        Command::Show => table::shown(path, s),
-        Command::Write(form) => writing::delivered(form, path, s),
+        Command::Check => checking::check(path, s),
+        Command::Show => table::show(path, s),
+        Command::Write(form) => writing::deliver(form, path, s),
     }
 }
 
 // Does the command with the file of that name.
-fn named(command: Command, path: &[u8]) -> u8
+fn apply_to_file(command: Command, path: &[u8]) -> u8
     ensures { λ r. ⌜ Status r ⌝ }
 {
-    let mut octets = [0u8; 16385];
-    let got = files::read(path, &mut octets);
+    let mut octets = [0u8; limit::READ_ROOM];
+    let got = program_files::read(path, &mut octets);
     let Input::Octets(n) = got else {
-        return 2;
+        return status::FAILED;
     };
-    let count = parts::least(n, 16385);
-    done(command, path, &octets[0..count])
+    let count = octets::slices::least(n, limit::READ_ROOM);
+    apply(command, path, &octets[0..count])
 }
 
 // Does the command with the file that argument i names.
-fn file(command: Command, i: usize) -> u8
+fn apply_to_argument(command: Command, i: usize) -> u8
     ensures { λ r. ⌜ Status r ⌝ }
 {
     let mut path = io::buffer();
     let n = os::arg(i, &mut path);
     if os::errno() != 0 {
         os::fail(b"cabbook: a file's name");
-        return 2;
+        return status::FAILED;
     }
-    named(command, &path[..n])
+    apply_to_file(command, &path[..n])
 }
 
 // Judges the files that the arguments from the second on name.
 fn check_all(count: usize) -> u8
     ensures { λ r. ⌜ Status r ⌝ }
 {
-    if count < 3 {
-        return usage::wrong(b"check needs a FILE");
+    if count <= FIRST_FILE {
+        return usage::print_usage(b"check needs a FILE");
     }
-    let mut status: u8 = 0;
-    let mut i: usize = 2;
+    let mut status: u8 = status::ACCEPTED;
+    let mut i: usize = FIRST_FILE;
     while i < count {
-        let one = file(Command::Check, i);
+        let one = apply_to_argument(Command::Check, i);
         if status < one {
             status = one;
         }
@@ -79,29 +90,29 @@ fn check_all(count: usize) -> u8
 }
 
 // Does the command with the one file that is named.
-fn one(command: Command, count: usize) -> u8 {
-    if count == 3 {
-        return file(command, 2);
+fn apply_to_one(command: Command, count: usize) -> u8 {
+    if count == FIRST_FILE + 1 {
+        return apply_to_argument(command, FIRST_FILE);
     }
-    usage::wrong(b"this command takes one FILE")
+    usage::print_usage(b"this command takes one FILE")
 }
 
 // Does the command with the one file that is named, or with standard input.
-fn one_or_input(command: Command, count: usize) -> u8 {
-    if count == 2 {
-        return named(command, b"-");
+fn apply_to_one_or_input(command: Command, count: usize) -> u8 {
+    if count == FIRST_FILE {
+        return apply_to_file(command, b"-");
     }
-    one(command, count)
+    apply_to_one(command, count)
 }
 
-// Plays a morning of uploads, or says what its options lack.
-fn played(count: usize) -> u8
+// Runs a morning of uploads, or says what its options lack.
+fn run_morning(count: usize) -> u8
     ensures { λ r. ⌜ Status r ⌝ }
 {
-    let p = morning::play(count);
+    let p = cabbook_morning::play(count);
     match p {
-        Ending::NoSize => usage::wrong(b"--chunk takes a number from 1 to 16384"),
-        Ending::NoFile => usage::wrong(b"morning needs a FILE"),
+        Ending::NoSize => usage::print_usage(b"--chunk takes a number from 1 to 16384"),
+        Ending::NoFile => usage::print_usage(b"morning needs a FILE"),
         Ending::Played(status) => status,
     }
 }
@@ -112,44 +123,45 @@ fn run(name: &[u8], count: usize) -> u8 {
         return check_all(count);
     }
     if same_name(name, b"show") {
-        return one(Command::Show, count);
+        return apply_to_one(Command::Show, count);
     }
     if same_name(name, b"fold") {
-        return one(Command::Write(Form::Folded), count);
+        return apply_to_one(Command::Write(Form::Folded), count);
     }
     if same_name(name, b"escape") {
-        return one_or_input(Command::Write(Form::Escaped), count);
+        return apply_to_one_or_input(Command::Write(Form::Escaped), count);
     }
     if same_name(name, b"unescape") {
-        return one_or_input(Command::Write(Form::Unescaped), count);
+        return apply_to_one_or_input(Command::Write(Form::Unescaped), count);
     }
     if same_name(name, b"morning") {
-        return played(count);
+        return run_morning(count);
     }
     if same_name(name, b"help") || same_name(name, b"--help") {
-        return usage::told();
+        return usage::print_help();
     }
-    usage::wrong(b"there is no such command")
+    usage::print_usage(b"there is no such command")
 }
 
 // Runs the command that the first argument names.
 fn start() -> u8 {
     let count = os::arg_count();
-    if count < 2 {
-        return usage::wrong(b"a command is missing");
+    if count <= COMMAND {
+        return usage::print_usage(b"a command is missing");
     }
-    let mut name = [0u8; 16];
-    let n = os::arg(1, &mut name);
+    let mut name = [0u8; NAME];
+    let n = os::arg(COMMAND, &mut name);
     run(&name[..n], count)
 }
 
+// Runs the command, and writes the exit status.
 fn main() {
     let status = start();
     match status {
-        0 => {
+        status::ACCEPTED => {
             io::write_all(STATUS, b"0");
         }
-        1 => {
+        status::REFUSED => {
             io::write_all(STATUS, b"1");
         }
         _ => {

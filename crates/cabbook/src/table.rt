@@ -1,92 +1,112 @@
 // `show`: the cards of a file as a table, from the records.
 ghost use lib.ListN.{length};
 ghost use Prim.Native.Nat.{_+_, _≤_, _<_};
-ghost use Rattle.cabbook.specs.Numbers.{Status};
-use crate::print;
-use crate::shown;
+ghost use Rattle.numbers.specs.Limits as limit;
+ghost use Rattle.cabbook.specs.Numbers.{Status, mostNumbers};
+use crate::printing;
+use crate::values;
+use cabbook_tables::status;
 use libc::STDERR_FILENO;
 use libc::STDOUT_FILENO;
+use numbers::field;
+use numbers::limit;
+use numbers::property;
+use octets::indices::wide_number;
 use reader::Verdict;
 
-fn wide(n: u32) -> usize
-    ensures { λ r. ⌜ r < 4294967296 ⌝ }
-{
-    n as usize
-}
+// The most lines of an input: a line has at least four octets, as `A:` and CR LF.
+const LINES: usize = 4096;
 
-// The columns before the value, of a line that starts and has a group, a name and a value so.
-fn fields(copy: &[u8], start: u32, group: u32, name: u32, value: u32) {
+// The numbers of their records.
+const NUMBERS: usize = LINES * limit::RECORD_LENGTH;
+
+// Room for the line above a card's rows.
+const CARD_LINE: usize = 32;
+
+// Prints the columns before the value of a record.
+fn print_fields(copy: &[u8], start: u32, group_length: u32, name_length: u32, value_start: u32) {
     let mut room = io::large_buffer();
-    let n = tables::fields::put_fields(&mut room, 0, copy, start, group, name, value);
-    print::sent(STDOUT_FILENO, &room, n);
+    let n = cabbook_tables::fields::put_fields(
+        &mut room,
+        0,
+        copy,
+        start,
+        group_length,
+        name_length,
+        value_start,
+    );
+    printing::send(STDOUT_FILENO, &room, n);
 }
 
-// The row of a record of eight numbers.
-fn row(copy: &[u8], r: &[u32]) {
-    if r.len() < 8 {
+// Prints the row of a record.
+fn print_row(copy: &[u8], r: &[u32]) {
+    if r.len() < limit::RECORD_LENGTH {
         return;
     }
-    if tables::fields::is_frame(r[0]) {
+    if cabbook_tables::fields::is_frame(r[field::PROPERTY]) {
         return;
     }
-    fields(copy, r[1], r[3], r[4], r[6]);
-    let end = wide(r[1]) + wide(r[2]);
-    shown::value(parts::part(copy, wide(r[6]), end), r[7]);
+    let start = r[field::START];
+    let value_start = r[field::VALUE];
+    print_fields(copy, start, r[field::GROUP], r[field::NAME], value_start);
+    let end = wide_number(start) + wide_number(r[field::LENGTH]);
+    let value = octets::slices::part(copy, wide_number(value_start), end);
+    values::print_value(value, r[field::KIND]);
     io::write_all(STDOUT_FILENO, b"\n");
 }
 
-// The line above a card's rows, at its BEGIN; answers how many cards there are so far.
-fn headed(number: u32, cards: usize) -> usize
-    requires { ⌜ cards ≤ 32768 ⌝ }
+// Prints the line above a card's rows, at its BEGIN, and answers how many cards there are so far.
+fn print_card(number: u32, cards: usize) -> usize
+    requires { ⌜ cards ≤ mostNumbers ⌝ }
     ensures { λ r. ⌜ r ≤ cards + 1 ⌝ }
 {
-    if number != 1 {
+    if wide_number(number) != property::BEGIN {
         return cards;
     }
-    let mut room = [0u8; 32];
-    let n = tables::fields::put_card(&mut room, 0, cards + 1);
-    print::sent(STDOUT_FILENO, &room, n);
+    let mut room = [0u8; CARD_LINE];
+    let n = cabbook_tables::fields::put_card(&mut room, 0, cards + 1);
+    printing::send(STDOUT_FILENO, &room, n);
     cards + 1
 }
 
-// The rows of all records.
-fn rows(copy: &[u8], records: &[u32])
-    requires { ⌜ length (now records) ≤ 32768 ⌝ }
+// Prints the rows of all records.
+fn print_rows(copy: &[u8], records: &[u32])
+    requires { ⌜ length (now records) ≤ mostNumbers ⌝ }
 {
     let mut cards: usize = 0;
     let mut at: usize = 0;
-    while 8 <= records.len() - at {
-        cards = headed(records[at], cards);
-        let end = at + 8;
-        row(copy, &records[at..end]);
+    while limit::RECORD_LENGTH <= records.len() - at {
+        cards = print_card(records[at], cards);
+        let end = at + limit::RECORD_LENGTH;
+        print_row(copy, &records[at..end]);
         at = end;
     }
 }
 
-// The names of the columns.
-fn titles() {
+// Prints the names of the columns.
+fn print_titles() {
     let mut room = io::buffer();
-    let n = tables::fields::put_titles(&mut room, 0);
-    print::sent(STDOUT_FILENO, &room, n);
+    let n = cabbook_tables::fields::put_titles(&mut room, 0);
+    printing::send(STDOUT_FILENO, &room, n);
 }
 
-// The table of a file with these octets, or the line on a refusal.
-pub fn shown(path: &[u8], s: &[u8]) -> u8
+// Prints the table of a file with these octets, or the line on a refusal, and answers the exit status.
+pub fn show(path: &[u8], s: &[u8]) -> u8
     ensures { λ r. ⌜ Status r ⌝ }
 {
-    let mut copy = [0u8; 16384];
-    let mut records = [0u32; 32768];
+    let mut copy = [0u8; limit::OCTETS];
+    let mut records = [0u32; NUMBERS];
     let v = reader::read(s, &mut copy, &mut records);
     match v {
         Verdict::Accepted(_, lines) => {
-            titles();
-            let n = parts::least(lines, 4096) * 8;
-            rows(&copy, &records[0..n]);
-            0
+            print_titles();
+            let n = octets::slices::least(lines, LINES) * limit::RECORD_LENGTH;
+            print_rows(&copy, &records[0..n]);
+            status::ACCEPTED
         }
         Verdict::Refused(number, place) => {
-            print::refused(STDERR_FILENO, path, s, number, place);
-            1
+            printing::print_refused(STDERR_FILENO, path, s, number, place);
+            status::REFUSED
         }
     }
 }

@@ -1,10 +1,12 @@
 // What to do: the help, and the few lines after a wrong use.
 ghost use mathlib.Core.Path.{_≡_};
+ghost use Rattle.cabbook_tables.specs.Statuses as status;
+use cabbook_tables::status;
 use libc::STDERR_FILENO;
 use libc::STDOUT_FILENO;
 
-// The commands, a line each.
-fn commands(to: i32) {
+// Prints the commands, a line each.
+fn print_commands(to: i32) {
     io::write_all(
         to,
         b"  cabbook check FILE..                judge each file, a row a file\n",
@@ -32,15 +34,15 @@ fn commands(to: i32) {
     io::write_all(to, b"  cabbook help                        this\n");
 }
 
-// The help, on standard output.
-pub fn told() -> u8
-    ensures { λ r. ⌜ r ≡ 0 ⌝ }
+// Prints the help on standard output.
+pub fn print_help() -> u8
+    ensures { λ r. ⌜ r ≡ status.accepted ⌝ }
 {
     io::write_all(
         STDOUT_FILENO,
         b"cabbook reads and checks the phone books of cab telephones (vCard 4.0).\n\n",
     );
-    commands(STDOUT_FILENO);
+    print_commands(STDOUT_FILENO);
     io::write_all(
         STDOUT_FILENO,
         b"\nFILE - is standard input. Exit status: 0 all accepted, 1 something refused,\n",
@@ -49,16 +51,16 @@ pub fn told() -> u8
         STDOUT_FILENO,
         b"2 wrong use or a file that can't be read.\n",
     );
-    0
+    status::ACCEPTED
 }
 
-// What was wrong and what to do, on standard error.
-pub fn wrong(what: &[u8]) -> u8
-    ensures { λ r. ⌜ r ≡ 2 ⌝ }
+// Prints what was wrong and what to do on standard error.
+pub fn print_usage(what: &[u8]) -> u8
+    ensures { λ r. ⌜ r ≡ status.failed ⌝ }
 {
     io::write_all(STDERR_FILENO, b"cabbook: ");
     io::write_all(STDERR_FILENO, what);
     io::write_all(STDERR_FILENO, b"; use it as\n");
-    commands(STDERR_FILENO);
-    2
+    print_commands(STDERR_FILENO);
+    status::FAILED
 }

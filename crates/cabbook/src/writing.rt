@@ -1,8 +1,10 @@
 // `fold`, `escape` and `unescape`: octets to standard output.
 ghost use Rattle.cabbook.specs.Numbers.{Status};
-use crate::print;
+use crate::printing;
+use cabbook_tables::status;
 use libc::STDERR_FILENO;
 use libc::STDOUT_FILENO;
+use numbers::limit;
 use octets::rooms::Written;
 
 // The form in which octets are written.
@@ -12,7 +14,8 @@ pub enum Form {
     Unescaped,
 }
 
-fn written(form: Form, s: &[u8], room: &mut [u8]) -> Written {
+// Writes octets in a form to room.
+fn write(form: Form, s: &[u8], room: &mut [u8]) -> Written {
     match form {
         Form::Folded => folder::fold(s, room),
         Form::Escaped => text::escape(s, room),
@@ -21,31 +24,31 @@ fn written(form: Form, s: &[u8], room: &mut [u8]) -> Written {
 }
 
 // Writes octets to standard output, or says why that failed.
-fn sent(s: &[u8]) -> u8
+fn send(s: &[u8]) -> u8
     ensures { λ r. ⌜ Status r ⌝ }
 {
     let all = io::write_all(STDOUT_FILENO, s);
     if !all {
         os::fail(b"cabbook: standard output");
-        return 2;
+        return status::FAILED;
     }
-    0
+    status::ACCEPTED
 }
 
-// Writes octets in a form, or the line on a refusal.
-pub fn delivered(form: Form, path: &[u8], s: &[u8]) -> u8
+// Writes octets in a form to standard output, or the line on a refusal, and answers the exit status.
+pub fn deliver(form: Form, path: &[u8], s: &[u8]) -> u8
     ensures { λ r. ⌜ Status r ⌝ }
 {
-    let mut room = [0u8; 16384];
-    let w = written(form, s, &mut room);
+    let mut room = [0u8; limit::OCTETS];
+    let w = write(form, s, &mut room);
     match w {
         Written::Wrote(n) => {
-            let count = parts::least(n, 16384);
-            sent(&room[0..count])
+            let count = octets::slices::least(n, limit::OCTETS);
+            send(&room[0..count])
         }
         Written::Refused(number, place) => {
-            print::refused(STDERR_FILENO, path, s, number, place);
-            1
+            printing::print_refused(STDERR_FILENO, path, s, number, place);
+            status::REFUSED
         }
     }
 }

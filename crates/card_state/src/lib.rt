@@ -3,17 +3,32 @@ ghost use mathlib.Core.Path.{_≡_};
 ghost use mathlib.Core.Bool.{false, _||_, _&&_};
 ghost use lib.Dec.{eqb};
 ghost use Prim.Native.Nat.{ℕ, _<_, _≤_};
-ghost use Rattle.card_state.specs.State.{onceBit, isSeen, phaseAfter, freshCard, closed, noted};
+ghost use Rattle.numbers.specs.Limits as limit;
+ghost use Rattle.numbers.specs.Properties as property;
+ghost use Rattle.property_table.specs.Rows.{onceAt};
+ghost use Rattle.card_state.specs.State.{Counted, flagOf, onceFlag, isSeen, phaseAfter, freshCard, closed, noted};
+use numbers::property;
+use numbers::refusal;
 
+// The phase of a card: BEGIN has not come.
+pub const BEFORE_BEGIN: u32 = 0;
+
+// The phase of a card: BEGIN has come, and VERSION not yet.
+pub const BEFORE_VERSION: u32 = 1;
+
+// The phase of a card: VERSION has come.
+pub const INSIDE: u32 = 2;
+
+// What is known of the card that is being read.
 pub struct Card {
-    // 0 before BEGIN, 1 before VERSION, 2 after it.
+    // How far it has come: BEFORE_BEGIN, BEFORE_VERSION or INSIDE.
     pub phase: u32,
     // The flags of the single properties that stand in the card so far.
     pub seen: u32,
     // An FN line, a MEMBER line, a KIND line with the value group.
-    pub named: bool,
-    pub member: bool,
-    pub group: bool,
+    pub has_fn: bool,
+    pub has_member: bool,
+    pub is_group: bool,
     // The cards that have ended, and the lines that were judged.
     pub cards: usize,
     pub lines: usize,
@@ -30,16 +45,17 @@ pub fn fresh() -> Card
     ensures { λ r. ⌜ r ≡ freshCard ⌝ }
 {
     Card {
-        phase: 0,
+        phase: BEFORE_BEGIN,
         seen: 0,
-        named: false,
-        member: false,
-        group: false,
+        has_fn: false,
+        has_member: false,
+        is_group: false,
         cards: 0,
         lines: 0,
     }
 }
 
+// Whether one of two holds.
 fn either(a: bool, b: bool) -> bool
     ensures { λ r. ⌜ r ≡ (a || b) ⌝ }
 {
@@ -49,64 +65,60 @@ fn either(a: bool, b: bool) -> bool
     b
 }
 
-// The flag of a property that stands once in a card, or 0.
-fn once_bit(row: usize) -> u32
-    ensures { λ r. ⌜ r ≡ onceBit row ⌝ }
+// The flag of the k-th property that a card has at most once, counted from 1; 0 for none.
+fn flag_of(k: usize) -> u32
+    requires { ⌜ k ≤ limit.flags ⌝ }
+    ensures { λ r. ⌜ r ≡ flagOf k ⌝ }
 {
-    match row {
-        4 => 1,
-        7 => 2,
-        10 => 4,
-        11 => 8,
-        12 => 16,
-        28 => 32,
-        29 => 64,
-        31 => 128,
-        _ => 0,
+    if k == 0 {
+        return 0;
     }
+    1 << (k - 1)
 }
 
-// Whether a line of the row, a property that stands once in a card, is among those seen.
-pub fn is_again(seen: u32, row: usize) -> bool
-    ensures { λ r. ⌜ r ≡ isSeen (onceBit row) seen ⌝ }
+// Whether a line of the k-th property that a card has at most once is among those seen.
+pub fn is_again(seen: u32, k: usize) -> bool
+    requires { ⌜ k ≤ limit.flags ⌝ }
+    ensures { λ r. ⌜ r ≡ isSeen (flagOf k) seen ⌝ }
 {
-    let b = once_bit(row);
-    if b == 0 {
+    let flag = flag_of(k);
+    if flag == 0 {
         return false;
     }
-    seen / b % 2 == 1
+    seen / flag % 2 == 1
 }
 
 // Whether the line is a KIND line with the value group.
 fn says_group(row: usize, group: bool) -> bool
-    ensures { λ r. ⌜ r ≡ (eqb row 4 && group) ⌝ }
+    ensures { λ r. ⌜ r ≡ (eqb row property.kind && group) ⌝ }
 {
-    if row != 4 {
+    if row != property::KIND {
         return false;
     }
     group
 }
 
+// The phase after a line of the row.
 fn phase_after(row: usize) -> u32
     ensures { λ r. ⌜ r ≡ phaseAfter row ⌝ }
 {
-    if row == 1 {
-        return 1;
+    if row == property::BEGIN {
+        return BEFORE_VERSION;
     }
-    2
+    INSIDE
 }
 
 // The end of a card: 11, 12, or the state before the next card.
 pub fn close(c: Card, at: usize) -> Step
-    requires { ⌜ (c .cards ≤ c .lines) × (c .lines < 65536) ⌝ }
+    requires { ⌜ Counted c ⌝ }
     ensures { λ r. ⌜ r ≡ closed c at ⌝ }
 {
-    if !c.named {
-        return Step::Refused(11, at);
+    if !c.has_fn {
+        return Step::Refused(refusal::NO_FN, at);
     }
-    if c.member {
-        if !c.group {
-            return Step::Refused(12, at);
+    if c.has_member {
+        if !c.is_group {
+            return Step::Refused(refusal::MEMBER, at);
         }
     }
     let mut next = fresh();
@@ -115,19 +127,21 @@ pub fn close(c: Card, at: usize) -> Step
     Step::Next(next)
 }
 
-// The state after a line of the row, not END, that may stand here. `group` says whether its value is group.
-pub fn note(c: Card, row: usize, group: bool) -> Card
-    requires { ⌜ c .lines < 65536 ⌝ }
-    requires { ⌜ isSeen (onceBit row) (c .seen) ≡ false ⌝ }
+// The state after a line of the row, not END, that may stand here. `once` is the row's number among those that a card has at most once, and
+// `group` says whether the value is group.
+pub fn note(c: Card, row: usize, once: usize, group: bool) -> Card
+    requires { ⌜ c .lines < limit.octets ⌝ }
+    requires { ⌜ (once ≡ onceAt row) × (once ≤ limit.flags) ⌝ }
+    requires { ⌜ isSeen (onceFlag row) (c .seen) ≡ false ⌝ }
     ensures { λ r. ⌜ ((at : ℕ) → Step.Next r ≡ noted c at row group) ⌝ }
 {
     let grouped = says_group(row, group);
     Card {
         phase: phase_after(row),
-        seen: c.seen | once_bit(row),
-        named: either(c.named, row == 6),
-        member: either(c.member, row == 24),
-        group: either(c.group, grouped),
+        seen: c.seen | flag_of(once),
+        has_fn: either(c.has_fn, row == property::FN),
+        has_member: either(c.has_member, row == property::MEMBER),
+        is_group: either(c.is_group, grouped),
         cards: c.cards,
         lines: c.lines + 1,
     }

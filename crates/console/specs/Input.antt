@@ -4,8 +4,8 @@ use mathlib.Core.Bool.{Bool, true, false}
 use mathlib.Core.List.{List}
 use lib.Dec.{ltb}
 use Rattle.octets.specs.Pick.{pick}
-use Rattle.parts.specs.Parts.{part}
-use Rattle.words.specs.Words.{nextOf}
+use Rattle.octets.specs.Slices.{part}
+use Rattle.console_words.specs.Words.{nextOf}
 use Rattle.console.specs.declared.input.Input.{Input}
 use Rattle.console.specs.declared.input.Line.{Line}
 

@@ -62,7 +62,7 @@ impl Input {
 pub fn line_of(buffer: &[u8], i: Input) -> Line
     ensures { λ r. ⌜ r ≡ lineOf (now (buffer .entry)) i ⌝ }
 {
-    let end = words::next(parts::part(buffer, 0, i.to), 10, i.from);
+    let end = console_words::next(octets::slices::part(buffer, 0, i.to), b'\n', i.from);
     if end < i.to {
         return Line {
             from: i.from,

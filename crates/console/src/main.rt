@@ -2,35 +2,42 @@
 mod dispatch;
 mod input;
 
+use console_desk::Console;
 use input::Input;
 use input::Line;
 use libc::STDIN_FILENO;
 use libc::STDOUT_FILENO;
-use uploads::Console;
+use numbers::limit;
 
-// The most octets of an answer: all of the pool that 40 slots have, two digits an octet, and LF.
-const ANSWER: usize = 1310721;
+// The most octets of an answer: all of the pool, two digits an octet, and LF.
+const ANSWER: usize = 2 * limit::POOL + 1;
+
+// The octets of input that are read ahead.
+const INPUT: usize = 262144;
+
+// The octets of output that wait until they are sent on.
+const OUTPUT: usize = 2097152;
 
 // Sends on what waits, and answers that nothing waits any more.
-fn sent(out: &[u8], at: usize) -> usize {
-    io::write_all(STDOUT_FILENO, parts::part(out, 0, at));
+fn send(out: &[u8], at: usize) -> usize {
+    io::write_all(STDOUT_FILENO, octets::slices::part(out, 0, at));
     0
 }
 
-// With room for an answer; what waits is sent on where there is less.
-fn with_room(c: Console, out: &[u8]) -> Console {
+// Makes room for an answer: what waits is sent on where there is less.
+fn make_room(c: Console, out: &[u8]) -> Console {
     let at = c.at;
     if at > out.len() {
         return c.with_output(0);
     }
     if out.len() - at < ANSWER {
-        return c.with_output(sent(out, at));
+        return c.with_output(send(out, at));
     }
     c
 }
 
-// The answer to a line, or to one that is too long, added to the output; where there is no line the output is sent on.
-fn answered(
+// Answers a line, or one that is too long; where there is no line the output is sent on.
+fn answer(
     c: Console,
     line: Line,
     long: bool,
@@ -39,18 +46,18 @@ fn answered(
     out: &mut [u8],
 ) -> Console {
     if !line.found {
-        return c.with_output(sent(out, c.at));
+        return c.with_output(send(out, c.at));
     }
-    let ready = with_room(c, out);
+    let ready = make_room(c, out);
     if long {
-        return ready.refused(out);
+        return ready.answer_bad(out);
     }
-    let text = words::without_cr(parts::part(buffer, line.from, line.to));
-    dispatch::answer(ready, text, pool, out)
+    let text = console_words::without_cr(octets::slices::part(buffer, line.from, line.to));
+    dispatch::answer_line(ready, text, pool, out)
 }
 
 // Moves the octets from `from` up to `to` to the front, and answers how many they are.
-fn moved_down(buffer: &mut [u8], from: usize, to: usize) -> usize {
+fn move_down(buffer: &mut [u8], from: usize, to: usize) -> usize {
     let mut n: usize = 0;
     let mut i = from;
     while i < to {
@@ -75,10 +82,10 @@ fn read_from(buffer: &mut [u8], from: usize) -> usize {
     from + n
 }
 
-// With more of the input after what was not taken yet; where that fills the buffer, the line is too long and is dropped.
-fn refilled(buffer: &mut [u8], i: Input) -> Input {
-    let kept = moved_down(buffer, i.from, i.to);
-    if kept >= buffer.len() {
+// Reads more of the input after what was not taken yet; where that fills the buffer, the line is too long and is dropped.
+fn refill(buffer: &mut [u8], i: Input) -> Input {
+    let withPool = move_down(buffer, i.from, i.to);
+    if withPool >= buffer.len() {
         let end = read_from(buffer, 0);
         return Input {
             from: 0,
@@ -87,44 +94,44 @@ fn refilled(buffer: &mut [u8], i: Input) -> Input {
             ended: end == 0,
         };
     }
-    let to = read_from(buffer, kept);
+    let to = read_from(buffer, withPool);
     Input {
         from: 0,
         to: to,
         long: i.long,
-        ended: to == kept,
+        ended: to == withPool,
     }
 }
 
-// After a line, or with more of the input where there was none.
-fn after(buffer: &mut [u8], i: Input, line: Line) -> Input {
+// Goes past a line, or reads more of the input where there was none.
+fn advance(buffer: &mut [u8], i: Input, line: Line) -> Input {
     if line.found {
         return i.past(line.next);
     }
-    refilled(buffer, i)
+    refill(buffer, i)
 }
 
-// Line after line; the count of turns only shows that this ends.
+// Answers line after line; the count of turns only shows that this ends.
 fn serve(buffer: &mut [u8], pool: &mut [u8], out: &mut [u8]) {
     let mut i = Input::new();
     let mut c = Console::new();
     let mut turns = u64::MAX;
     while turns > 0 {
         let line = input::line_of(buffer, i);
-        c = answered(c, line, i.long, buffer, pool, out);
+        c = answer(c, line, i.long, buffer, pool, out);
         if line.last {
-            sent(out, c.at);
+            send(out, c.at);
             return;
         }
-        i = after(buffer, i, line);
+        i = advance(buffer, i, line);
         turns -= 1;
     }
 }
 
-// Lends each buffer once; the pool is that of 40 slots.
+// Lends each buffer once; the pool is that of a desk with all its slots.
 fn main() {
-    let mut buffer = [0u8; 262144];
-    let mut pool = [0u8; 655360];
-    let mut out = [0u8; 2097152];
+    let mut buffer = [0u8; INPUT];
+    let mut pool = [0u8; limit::POOL];
+    let mut out = [0u8; OUTPUT];
     serve(&mut buffer, &mut pool, &mut out);
 }

@@ -12,13 +12,13 @@ use Rattle.reader.specs.declared.Verdict.{Verdict}
 use Rattle.reader.specs.declared.Verdict.the-variants.{Accepted, Refused}
 use Rattle.reader.proofs.ReadLaws.{read-refused, numbers-counted, read-13, read-14}
 use Rattle.folder.specs.Outcome.{foldBy, foldOutcome}
-use Rattle.grammar.specs.Inputs.{InputOf}
-use Rattle.grammar.specs.Refusals.{RefusedBy}
-use Rattle.grammar.proofs.Accepted.{lines-law, accepted-law}
-use Rattle.grammar.proofs.RecordLaws.{copy-law}
-use Rattle.grammar.proofs.Refused.{refused-law}
-use Rattle.demands.specs.Demand1.{Exactly, Filling, copied, folded, ReadBy, unread, copy-room, record-room, FoldBy, not-read, fold-over, fold-room}
-use Rattle.demands.proofs.Refusing.{clash, Telling, itself, first}
+use Rattle.reader_grammar.specs.Inputs.{InputOf}
+use Rattle.reader_grammar.specs.Refusals.{RefusedBy}
+use Rattle.reader_grammar.proofs.Accepted.{lines-law, accepted-law}
+use Rattle.reader_grammar.proofs.RecordLaws.{copy-law}
+use Rattle.reader_grammar.proofs.Refused.{refused-law}
+use Rattle.demands.specs.Demand1.{copied, folded, ReadBy, unread, copy-room, record-room, FoldBy, not-read, fold-over, fold-room}
+use Rattle.demands.proofs.Refusing.{ByCase as Exactly, FillingByCase as Filling, clash, Telling, itself, first}
 use Rattle.demands.proofs.Texts.{written-tells, bounded-told, over-so, short-so, within-so}
 
 refusal-number : (m q n p : ℕ) → Refused m q ≡ Refused n p → m ≡ n
@@ -35,7 +35,7 @@ accepted-no k m n p e = clash cc
 
 module _ (i : List ℕ) where
   pub judge-exactly : Exactly (λ (v : Verdict). v) (judgeOf i) Refused (RefusedBy i)
-  judge-exactly = record { told = λ n p e. refused-law i n p .0 e; unchanged = λ n p b. refused-law i n p .1 b }
+  judge-exactly = record { only = λ n p e. refused-law i n p .0 e; unchanged = λ n p b. refused-law i n p .1 b }
 
   -- ---- read
 
@@ -71,7 +71,7 @@ module _ (i : List ℕ) where
         sym (read-14 i copy records k m (length (copied h)) (accepted-law i k m .1 h) (ap length (sym (copy-law i k m h))) c l)
 
     pub read-exactly : Exactly (λ (t : Taken). t .answer) (readOutcome i copy records) (λ n p. took (Refused n p) copy records) (ReadBy i copy records)
-    read-exactly = record { told = read-told; unchanged = read-so }
+    read-exactly = record { only = read-told; unchanged = read-so }
 
   -- ---- fold
 
@@ -99,4 +99,4 @@ module _ (i : List ℕ) where
     fold-so n p (fold-room {k} {n = m} h s l) = fold-form k m h ∙ within-so (folded h) out s ∙ short-so (folded h) out l
 
     pub fold-exactly : Filling (foldOutcome i out) out (FoldBy i out)
-    fold-exactly = record { told = fold-told; unchanged = fold-so }
+    fold-exactly = record { only = fold-told; unchanged = fold-so }

@@ -9,31 +9,31 @@ use lib.Dec.{ltb, eqb}
 use lib.ListN.{length}
 use borrow.Author.Tests.{ltb-true, ltb-false, lt-ltb, eqb-true, eqb-false, eq-eqb, ne-eqb}
 use Rattle.octets.specs.Pick.{pick}
+use Rattle.reader.specs.Outcome.{judgeOf}
 use Rattle.reader.specs.declared.Verdict.{Verdict}
 use Rattle.reader.specs.declared.Verdict.the-variants.{Refused as Unread}
-use Rattle.tickets.specs.Search.{firstAt}
-use Rattle.slots.specs.Sound.{stateAt, bounds}
-use Rattle.slots.specs.Slots.{isFree, openAt, freeAt, inPlace}
+use Rattle.desk_entries.specs.Search.{firstAt}
+use Rattle.desk_slots.specs.Sound.{stateAt, bounds}
+use Rattle.desk_slots.specs.Slots.{openAt, freeAt, atPosition}
 use Rattle.desk.specs.Steps.{Sound, sound, Turned, refuse, refused, freshDesk, newStep, slotOf, openIn, openStep, addIn, addStep, releaseIn, releaseStep, octetsIn, showStep, heldIn, heldStep, judgeIn, judgeStep}
-use Rattle.tickets.specs.declared.Place.{Place}
-use Rattle.tickets.specs.declared.Place.the-variants.{At, Nowhere, Barred}
-use Rattle.sessions.specs.declared.Session.{Session}
-use Rattle.sessions.specs.declared.State.{State}
-use Rattle.sessions.specs.declared.State.the-variants.{Free, Open}
-use Rattle.slots.specs.declared.Slot.{Slot}
-use Rattle.slots.specs.declared.Slot.the-variants.{Held, No}
+use Rattle.desk_entries.specs.declared.tickets.Position.{Position}
+use Rattle.desk_entries.specs.declared.tickets.Position.the-variants.{At, Nowhere, Barred}
+use Rattle.desk_entries.specs.declared.Session.{Session}
+use Rattle.desk_entries.specs.declared.State.the-variants.{Free, Open}
+use Rattle.desk_slots.specs.declared.Slot.{Slot}
+use Rattle.desk_slots.specs.declared.Slot.the-variants.{Held, No}
 use Rattle.desk.specs.declared.Desk.{Desk}
 use Rattle.desk.specs.declared.Turn.{Turn}
 use Rattle.desk.specs.declared.Answer.{Answer}
 use Rattle.desk.specs.declared.Answer.the-variants.{Done, Refused}
-use Rattle.tickets.proofs.Searches.{firstAt-is, firstAt-not, unbarred}
-use Rattle.slots.proofs.SoundLaws.{bounds-are, in-bounds}
-use Rattle.slots.proofs.SlotLaws.{slot-inside}
+use Rattle.desk_entries.proofs.Searches.{firstAt-is, firstAt-not, unbarred}
+use Rattle.desk_slots.proofs.SoundLaws.{bounds-are, in-bounds}
+use Rattle.desk_slots.proofs.SlotLaws.{free-is, session-at, slot-inside}
 use Rattle.desk.proofs.DeskLaws.{sound-is, is-sound, granted}
-use Rattle.apart.specs.Demand.{OpenOn}
-use Rattle.grammar.proofs.Refused.{refused-law}
-use Rattle.demands.specs.Demand1.{Exactly, Turning, Ready, unsound, other-size, TicketBy, unready, closed, Holds, NewBy, range, OpenBy, no-desk, used-up, full, AddBy, no-upload, too-much, JudgeBy, nothing, octets}
-use Rattle.demands.proofs.Refusing.{clash, not-true, Telling, itself, first, last}
+use Rattle.desk_laws.specs.Demand.{OpenOn}
+use Rattle.reader_grammar.proofs.Refused.{refused-law}
+use Rattle.demands.specs.Demand1.{Ready, unsound, other-size, TicketBy, unready, closed, Holds, NewBy, range, OpenBy, no-desk, used-up, full, AddBy, no-upload, too-much, JudgeBy, nothing, octets}
+use Rattle.demands.proofs.Refusing.{ByCase as Exactly, TurningByCase as Turning, clash, not-true, Telling, itself, first, last}
 use Rattle.demands.proofs.Cards.{verdict-tells}
 
 refusal-number : (m q n p : ℕ) → Refused m q ≡ Refused n p → m ≡ n
@@ -73,7 +73,7 @@ new-so slots n q (range h) = rw (not-true (bounds slots 1) (λ b. outside slots 
     outside slots (inr z) b = omega arith
 
 pub new-exactly : (slots : ℕ) → Exactly (λ (r : Turn). r .answer) (newStep slots) (λ n q. refuse (freshDesk 0) n q) (NewBy slots)
-new-exactly slots = record { told = new-told slots; unchanged = new-so slots }
+new-exactly slots = record { only = new-told slots; unchanged = new-so slots }
 
 module _ (d : Desk) (p : List ℕ) where
   pub turn-tells : Telling (λ (r : Turned). r .answer) (λ n q. refused d p q n)
@@ -104,7 +104,7 @@ module _ (d : Desk) (p : List ℕ) where
             let z : freeAt (d .entries) i ≡ true = rw f in
             false≢true (sym (firstAt-not (freeAt (d .entries)) (d .slots) 0 x i (omega arith) (omega arith)) ∙ z)
 
-        place : Ready d p → (d .next ≡ 4294967295 → ⊥) → (x : Place) → firstAt (freeAt (d .entries)) 0 (d .slots) ≡ x → openIn d p m x .answer ≡ Refused n q → OpenBy d p n q
+        place : Ready d p → (d .next ≡ 4294967295 → ⊥) → (x : Position) → firstAt (freeAt (d .entries)) 0 (d .slots) ≡ x → openIn d p m x .answer ≡ Refused n q → OpenBy d p n q
         place r l Nowhere x e = itself turn-tells (OpenBy d p) 20 0 n q e (full r l (taken x))
         place r l (Barred k) x e = unbarred (freeAt (d .entries)) (d .slots) 0 k x
         place r l (At i) x e = done-no (d .next) n q e
@@ -118,29 +118,21 @@ module _ (d : Desk) (p : List ℕ) where
         rw (is-sound d (r .sound), eq-eqb (length p) (d .slots * 16384) (r .size), ne-eqb (d .next) 4294967295 l)
         (go (firstAt (freeAt (d .entries)) 0 (d .slots)) refl)
       where
-        so-free : (x : State) → isFree x ≡ true → x ≡ Free
-        so-free Free e = refl
-        so-free (Open s) e = absurd (false≢true e)
-
-        go : (x : Place) → firstAt (freeAt (d .entries)) 0 (d .slots) ≡ x → openIn d p m x ≡ refused d p 0 20
+        go : (x : Position) → firstAt (freeAt (d .entries)) 0 (d .slots) ≡ x → openIn d p m x ≡ refused d p 0 20
         go Nowhere q = refl
         go (Barred k) q = unbarred (freeAt (d .entries)) (d .slots) 0 k q
         go (At i) q =
             let w = firstAt-is (freeAt (d .entries)) (d .slots) 0 i q in
-            absurd (f i (omega arith) (so-free (stateAt (d .entries) i) (w .0)))
+            absurd (f i (omega arith) (free-is (stateAt (d .entries) i) (w .0)))
 
     pub open-exactly : Turning (openStep d p m) d p (OpenBy d p)
-    open-exactly = record { told = open-told; unchanged = open-so }
+    open-exactly = record { only = open-told; unchanged = open-so }
 
   module _ (t : ℕ) where
-    session : (i : ℕ) (x : State) → stateAt (d .entries) i ≡ x → openAt (d .entries) t i ≡ true → (s : Session) × ((x ≡ Open s) × (s .ticket ≡ t))
-    session i Free q e = let z : false ≡ true = rw q at e in absurd (false≢true z)
-    session i (Open s) q e = (s, (refl, eqb-true (s .ticket) t (rw q at e)))
-
     -- ---- 25, 24, 22
 
     slot-told : (n : ℕ) → slotOf d (length p) t ≡ No n → TicketBy d p t n 0
-    unfolding Rattle.slots.specs.Slots.slotOf
+    unfolding Rattle.desk_slots.specs.Slots.slotOf
     slot-told n e = go (sound d) refl (eqb (length p) (d .slots * 16384)) refl e
       where
         same : (m : ℕ) → No m ≡ No n → TicketBy d p t m 0 → TicketBy d p t n 0
@@ -152,34 +144,34 @@ module _ (d : Desk) (p : List ℕ) where
             let z : openAt (d .entries) t (o .0) ≡ true = rw (o .1 .1 .1) (eq-eqb (o .1 .0 .ticket) t (o .1 .1 .2)) in
             false≢true (sym (firstAt-not (openAt (d .entries) t) 40 0 q (o .0) (omega arith) (omega (arith, o .1 .1 .0))) ∙ z)
 
-        found : Ready d p → (x : Place) → firstAt (openAt (d .entries) t) 0 40 ≡ x → inPlace (d .entries) x ≡ No n → TicketBy d p t n 0
+        found : Ready d p → (x : Position) → firstAt (openAt (d .entries) t) 0 40 ≡ x → atPosition (d .entries) x ≡ No n → TicketBy d p t n 0
         found r Nowhere q e = same 22 e (closed r (none q (r .sound)))
         found r (Barred k) q e = unbarred (openAt (d .entries) t) 40 0 k q
         found r (At i) q e =
-            let s = session i (stateAt (d .entries) i) refl (firstAt-is (openAt (d .entries) t) 40 0 i q .0) in
+            let s = session-at (d .entries) t i (firstAt-is (openAt (d .entries) t) 40 0 i q .0) in
             let z : Held i (s .0) ≡ No n = rw (s .1 .0) at e in
             clash cc
 
         go : (a : Bool) → sound d ≡ a → (b : Bool) → eqb (length p) (d .slots * 16384) ≡ b
-            → pick a (pick b (inPlace (d .entries) (firstAt (openAt (d .entries) t) 0 40)) (No 24)) (No 25) ≡ No n → TicketBy d p t n 0
+            → pick a (pick b (atPosition (d .entries) (firstAt (openAt (d .entries) t) 0 40)) (No 24)) (No 25) ≡ No n → TicketBy d p t n 0
         go false a b q e = same 25 e (unready (unsound (unsound-so a)))
         go true a false q e = same 24 e (unready (other-size (sound-is d a) (eqb-false (length p) (d .slots * 16384) q)))
         go true a true q e = found (ready a q) (firstAt (openAt (d .entries) t) 0 40) refl e
 
     slot-so : (n q : ℕ) → TicketBy d p t n q → (slotOf d (length p) t ≡ No n) × (q ≡ 0)
-    unfolding Rattle.slots.specs.Slots.slotOf
+    unfolding Rattle.desk_slots.specs.Slots.slotOf
     slot-so n q (unready (unsound h)) = (rw (not-true (sound d) (λ e. h (sound-is d e))), refl)
     slot-so n q (unready (other-size s h)) = (rw (is-sound d s, ne-eqb (length p) (d .slots * 16384) h), refl)
     slot-so n q (closed r h) =
         (rw (is-sound d (r .sound), eq-eqb (length p) (d .slots * 16384) (r .size)) (go (firstAt (openAt (d .entries) t) 0 40) refl), refl)
       where
-        go : (x : Place) → firstAt (openAt (d .entries) t) 0 40 ≡ x → inPlace (d .entries) x ≡ No 22
+        go : (x : Position) → firstAt (openAt (d .entries) t) 0 40 ≡ x → atPosition (d .entries) x ≡ No 22
         go Nowhere q = refl
         go (Barred k) q = unbarred (openAt (d .entries) t) 40 0 k q
         go (At i) q =
             let w = firstAt-is (openAt (d .entries) t) 40 0 i q in
-            let s = session i (stateAt (d .entries) i) refl (w .0) in
-            absurd (h (i, (s .0, (slot-inside (d .entries) (d .slots) (d .next) (r .sound) i (omega arith) (s .0) (s .1 .0) (ltb i (d .slots)) refl, s .1 .0, s .1 .1))))
+            let s = session-at (d .entries) t i (w .0) in
+            absurd (h (i, (s .0, (slot-inside (d .entries) (d .slots) (d .next) (r .sound) i (omega arith) (s .0) (s .1 .0), s .1 .0, s .1 .1))))
 
     -- a session with the ticket is what is found
     pub held-by : (i : ℕ) (s : Session) → slotOf d (length p) t ≡ Held i s → Holds d p t i s
@@ -222,7 +214,7 @@ module _ (d : Desk) (p : List ℕ) where
     release-so n q b = let w = slot-so n q b in rw (w .0, w .1)
 
     pub release-exactly : Turning (releaseStep d p t) d p (TicketBy d p t)
-    release-exactly = record { told = release-told; unchanged = release-so }
+    release-exactly = record { only = release-told; unchanged = release-so }
 
     held-told : (n q : ℕ) → heldStep d p t ≡ Refused n q → TicketBy d p t n q
     unfolding heldStep
@@ -237,7 +229,7 @@ module _ (d : Desk) (p : List ℕ) where
     held-refused n q b = let w = slot-so n q b in rw (w .0, w .1)
 
     pub held-exactly : Exactly (λ (a : Answer). a) (heldStep d p t) Refused (TicketBy d p t)
-    held-exactly = record { told = held-told; unchanged = held-refused }
+    held-exactly = record { only = held-told; unchanged = held-refused }
 
     pub shows-none : (n q : ℕ) → TicketBy d p t n q → showStep d p t .octets ≡ []
     unfolding showStep
@@ -246,6 +238,14 @@ module _ (d : Desk) (p : List ℕ) where
     pub shows : (i : ℕ) (s : Session) → Holds d p t i s → showStep d p t .octets ≡ octetsIn p i s
     unfolding showStep
     shows i s h = rw (held-so i s h)
+
+    pub counted : (i : ℕ) (s : Session) → Holds d p t i s → heldStep d p t ≡ Done (s .held)
+    unfolding heldStep
+    counted i s h = rw (held-so i s h)
+
+    pub judged : (i : ℕ) (s : Session) → Holds d p t i s → judgeStep d p t ≡ judgeOf (octetsIn p i s)
+    unfolding judgeStep
+    judged i s h = rw (held-so i s h)
 
     -- ---- judge
 
@@ -263,7 +263,7 @@ module _ (d : Desk) (p : List ℕ) where
     judge-so n q (octets {i} {s = s} h b) = rw (held-so i s h) (refused-law (octetsIn p i s) n q .1 b)
 
     pub judge-held-exactly : Exactly (λ (v : Verdict). v) (judgeStep d p t) Unread (JudgeBy d p t)
-    judge-held-exactly = record { told = judge-told; unchanged = judge-so }
+    judge-held-exactly = record { only = judge-told; unchanged = judge-so }
 
     -- ---- add
 
@@ -284,4 +284,4 @@ module _ (d : Desk) (p : List ℕ) where
       add-so n q (too-much {i} {s} h l) = rw (held-so i s h, lt-ltb 16384 (s .held + length chunk) l)
 
       pub add-exactly : Turning (addStep d p t chunk) d p (AddBy d p t chunk)
-      add-exactly = record { told = add-told; unchanged = add-so }
+      add-exactly = record { only = add-told; unchanged = add-so }

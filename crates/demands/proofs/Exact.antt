@@ -1,45 +1,50 @@
 -- Demand 2, whole. Assumes nothing.
 use Prim.Native.Nat.{ℕ, _*_, _≤_}
-use mathlib.Core.Path.{_≡_, refl, sym, ap, _∙_}
+use mathlib.Core.Path.{_≡_, refl, sym, ap, subst, _∙_}
 use mathlib.Core.Bool.{Bool, true, false}
 use mathlib.Core.List.{List, _∷_}
 use mathlib.Core.Logic.{_↔_}
 use native.Mathlib.Omega.{arith}
 use lib.Dec.{ltb}
-use lib.ListN.{length, drop, length-append}
+use lib.ListN.{length, take, drop, length-append}
 use lib.Seq.{take-at, drop-at}
 use borrow.Author.Tests.{ltb-true, ltb-false, le-ltb}
 use Rattle.octets.specs.Pick.{pick}
-use Rattle.characters.specs.Characters.{allowed, firstBad}
+use Rattle.utf8.specs.Characters.{allowed, firstBad}
 use Rattle.octets.specs.Room.{Filled, filled, refuse, overlay, fill, fillBounded}
 use Rattle.octets.specs.declared.rooms.Written.the-variants.{Wrote}
-use Rattle.octet_laws.proofs.Utf8.{allowed-only}
-use Rattle.escaping.specs.Escaped.{escaped}
-use Rattle.unescaping.specs.Unescaped.{firstFault, unescaped}
+use Rattle.utf8_laws.proofs.Utf8.{allowed-only}
+use Rattle.text_escaping.specs.Escaped.{escaped}
+use Rattle.text_unescaping.specs.Unescaped.{firstFault, unescaped}
 use Rattle.text.specs.Outcomes.{checked, faultless, escapeOutcome, unescapeOutcome}
 use Rattle.text_laws.specs.Stands.{Stands, none, itself, escape}
 use Rattle.text_laws.proofs.StandsLaws.{stands-exactly}
 use Rattle.text_laws.proofs.BackLaws.{round-trip}
-use Rattle.lines.specs.Grammar.{Line, render}
+use Rattle.line_parser.specs.Grammar.{Line, render}
 use Rattle.reader.specs.Outcome.{judgeOf, copyOf, recordsOf, Taken, took, readOutcome}
 use Rattle.reader.specs.declared.Verdict.{Verdict}
 use Rattle.reader.specs.declared.Verdict.the-variants.{Accepted, Refused}
 use Rattle.reader.proofs.AcceptLaws.{lines-few, lines-counted}
 use Rattle.reader.proofs.ReadLaws.{read-refused, numbers-counted, read-written, read-13, read-14}
-use Rattle.cuts.specs.Pieces.{pieces, first, later, Clean}
+use Rattle.folder_line.specs.Pieces.{pieces, Clean}
 use Rattle.folder.specs.Outcome.{foldOutcome}
-use Rattle.fold_laws.specs.Cuttings.{Cutting}
-use Rattle.fold_laws.proofs.CutLaws.{cutting}
-use Rattle.fold_laws.proofs.Greedy.{only as no-other}
-use Rattle.fold_laws.proofs.WrittenLaws.{wrote as written, wrote-accepted, fold-written}
-use Rattle.fold_laws.proofs.Again.{read-again}
+use Rattle.folder_laws.specs.Cuttings.{Cutting}
+use Rattle.folder_laws.proofs.CuttingLaws.{cutting-law}
+use Rattle.line_folds.specs.Logical.{logicalLines}
+use Rattle.line_laws.specs.Lined.{Lined}
+use Rattle.line_laws.proofs.LinedLaws.{lined-only}
+use Rattle.folder_laws.specs.Written.{Folds}
+use Rattle.folder_laws.proofs.WrittenLaws.{wrote as written, wrote-accepted, fold-written}
+use Rattle.folder_laws.proofs.Again.{read-again}
 use Rattle.firmware.specs.Word.{wordOutcome}
-use Rattle.grammar.specs.Cards.{Readable, card, Cards, none as no-cards, more}
-use Rattle.grammar.specs.Inputs.{InputOf}
-use Rattle.grammar.proofs.Accepted.{accepted-law, one-reading}
-use Rattle.grammar.proofs.RecordLaws.{copy-law, records-law}
+use Rattle.reader_grammar.specs.Cards.{Readable, card, Cards, none as no-cards, more}
+use Rattle.reader_grammar.specs.Inputs.{InputOf}
+use Rattle.reader_grammar.proofs.Accepted.{accepted-law, one-reading}
+use Rattle.reader_grammar.proofs.RecordLaws.{copy-law, records-law}
 use Rattle.demands.specs.Demand1.{folded, Fair}
-use Rattle.demands.specs.Demand2.{Roomy, ReadAs, wrote, Demand2}
+use Rattle.desk_ledger.specs.Answers.{counts, told, verdict, wrote as written-as}
+use Rattle.desk_ledger.proofs.AnswerLaws.{verdict-counts, wrote-told}
+use Rattle.demands.specs.Demand2.{Roomy, ReadAs, Writes, Demand2}
 use Rattle.demands.proofs.Texts.{wrote-no, checked-fair, within-so, fault-le}
 use Rattle.demands.proofs.Cards.{accepted-no, fold-form}
 
@@ -89,6 +94,10 @@ module _ (i copy records : List ℕ) (k n : ℕ) where
 
 -- ---- fold
 
+-- xs stand at the start of the room, which is as it was past them
+abbrev wrote : List ℕ → List ℕ → Filled
+wrote xs room = filled (Wrote (length xs)) (overlay xs room)
+
 fill-so : (xs out : List ℕ) → length xs ≤ length out → fill xs out ≡ wrote xs out
 unfolding fill
 fill-so xs out h = rw (le-ltb (length out) (length xs) h)
@@ -101,14 +110,7 @@ unfolding Clean
 line-clean x r = allowed-only false (render x) .1 (r .clean .characters, r .clean .octets)
 
 greedy : (x : Line) → Readable x → (p : List ℕ) (ps : List (List ℕ)) → Cutting (render x) p ps ↔ (p ∷ ps ≡ pieces (render x))
-unfolding pieces
-greedy x r p ps = (no-other (render x) p ps, λ e. so e)
-  where
-    so : p ∷ ps ≡ first (render x) 75 ∷ later (render x) 75 → Cutting (render x) p ps
-    so e =
-        let a : p ≡ first (render x) 75 = cc in
-        let b : ps ≡ later (render x) 75 = cc in
-        rw (a, b) (cutting (render x) (line-clean x r))
+greedy x r p ps = cutting-law (render x) p ps (line-clean x r)
 
 -- ---- text
 
@@ -159,23 +161,40 @@ unescape-low t out after n e =
     let l : length (unescaped t) ≡ n = cc in
     omega (arith, ltb-false 16384 (length t) a, stands-low (stands-exactly t (unescaped t) .1 (z, refl)))))))
 
+-- the lines that an input is split into are those that the folder's outcome names
+physical : (i out after : List ℕ) (n : ℕ) → foldOutcome i out ≡ filled (Wrote n) after → (rs ls : List (List ℕ)) → Lined i rs ls → Folds ls (take n after)
+unfolding logicalLines
+physical i out after n e rs ls h = subst (λ (xs : List (List ℕ)). Folds xs (take n after)) (sym (lined-only h .1)) (fold-written i out after n (sym e))
+
+-- ---- answers in document 01's numbers
+
+accepts : (i : List ℕ) (k n : ℕ) → (verdict (judgeOf i) ≡ counts k n) ↔ InputOf i k n
+accepts i k n = (λ e. accepted-law i k n .0 (verdict-counts (judgeOf i) k n e), λ h. ap verdict (accepted-law i k n .1 h))
+
+-- an outcome that tells a count is one that wrote as many octets
+filled-so : (f : Filled) (n : ℕ) → written-as (f .answer) ≡ told n → f ≡ filled (Wrote n) (f .room)
+filled-so f n e = let r : filled (f .answer) (f .room) ≡ filled (Wrote n) (f .room) = rw (wrote-told (f .answer) n e) in r
+
+writes : {f : Filled} {xs room : List ℕ} → f ≡ wrote xs room → Writes f xs room
+writes {f} {xs} {room} e = record { count = ap (λ (f : Filled). written-as (f .answer)) e; holds = ap (λ (f : Filled). f .room) e }
+
 -- ---- the whole
 
 pub demand2 : Demand2
 demand2 =
     record {
-      accepts = accepted-law;
+      accepts = accepts;
       one-reading = one-reading;
       reads = reads;
-      only = only;
-      folds = λ i out k n h s l. (fold-form i out k n h ∙ bounded-so (folded h) out s l);
+      only = λ i copy records k n e. only i copy records k n (verdict-counts (readOutcome i copy records .answer) k n e);
+      folds = λ i out k n h s l. writes (fold-form i out k n h ∙ bounded-so (folded h) out s l);
       greedy = greedy;
-      physical = λ i out after n e. fold-written i out after n (sym e);
-      read-again = λ i out after n e. read-again i out after n (sym e);
-      escapes = escapes;
-      unescapes = unescapes;
-      back = λ t out after room n e r. round-trip t out after room n e r;
+      physical = λ i out n e. physical i out (foldOutcome i out .room) n (filled-so (foldOutcome i out) n e);
+      read-again = λ i out n e. read-again i out (foldOutcome i out .room) n (sym (filled-so (foldOutcome i out) n e));
+      escapes = λ t out f s h. writes (escapes t out f s h);
+      unescapes = λ t u out f s h. writes (unescapes t u out f s h);
+      back = λ t out room n e r. writes (round-trip t out (escapeOutcome t out .room) room n (filled-so (escapeOutcome t out) n e) r);
       c-judge = λ i k n h. (rw (accepted-law i k n .1 h), cards-low i k n h);
-      c-fold = λ i out after n e. (ap wordOutcome e, fold-low i out after n e);
-      c-unescape = λ t out after n e. (ap wordOutcome e, unescape-low t out after n e);
+      c-fold = λ i out n e. let f = filled-so (foldOutcome i out) n e in (ap wordOutcome f, fold-low i out (foldOutcome i out .room) n f);
+      c-unescape = λ t out n e. let f = filled-so (unescapeOutcome t out) n e in (ap wordOutcome f, unescape-low t out (unescapeOutcome t out .room) n f);
     }

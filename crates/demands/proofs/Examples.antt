@@ -1,13 +1,123 @@
--- The marked examples of document 01, proved as one statement over their table: by computing a test of it. Assumes nothing.
+-- The marked worked examples, proved as one statement over their table: by computing a test of it. Assumes nothing.
 use mathlib.Core.Path.{_≡_, refl}
 use mathlib.Core.Bool.{true}
-use Rattle.lines.specs.Grammar.{Each}
-use Rattle.demands.specs.Cases.{Holds, cases}
-use Rattle.demands.proofs.Tested.{allHold, tested}
+use Rattle.octets.specs.Ascii as ascii
+use Rattle.octets.specs.Cases as letters
+use Rattle.octets.specs.Classes as classes
+use Rattle.octets.specs.Room as room
+use Rattle.octets.specs.Scan as scans
+use Rattle.utf8.specs.Characters as characters
+use Rattle.text_marks.specs.Marks as marks
+use Rattle.text_unescaping.specs.Unescaped as unescaped
+use Rattle.text.specs.Outcomes as texts
+use Rattle.line_breaks.specs.Lone as lone
+use Rattle.line_folds.specs.Folds as folds
+use Rattle.line_folds.specs.Logical as logical
+use Rattle.line_parser.specs.Grammar as grammar
+use Rattle.line_parser.specs.Grammar.{Each}
+use Rattle.line_parser.specs.Parse as parse
+use Rattle.line_parser.specs.Rule as rule
+use Rattle.line_parameters.specs.First as parameters
+use Rattle.value_kinds.specs.Kinds as kinds
+use Rattle.value_kinds.specs.Octets as sets
+use Rattle.value_kinds.specs.Shapes as shapes
+use Rattle.property_table.specs.Rows as table
+use Rattle.card_line.specs.Parts as content
+use Rattle.card_state.specs.State as card
+use Rattle.card_judge.specs.Judge as judge
+use Rattle.reader_walk.specs.Walk as walk
+use Rattle.reader_records.specs.Records as records
+use Rattle.reader.specs.Outcome as reader
+use Rattle.folder_line.specs.Pieces as pieces
+use Rattle.folder.specs.Outcome as folder
+use Rattle.desk_pool.specs.Pools as pool
+use Rattle.desk_entries.specs.Search as searches
+use Rattle.desk_slots.specs.Sound as sound
+use Rattle.desk_slots.specs.Slots as slots
+use Rattle.desk.specs.Steps as desk
+use Rattle.desk_ledger.specs.Ledger as ledger
+use Rattle.demands.specs.Examples.{Holds, marked, cardM, foldedM, recordsM}
+use Rattle.demands.proofs.Tested.{sameNumbers, sameAnswers, allHold, tested}
 
-all-hold : allHold cases ≡ true
-unfolding Rattle.octets.specs.Cases.lower Rattle.octets.specs.Cases.same Rattle.characters.specs.Characters.lengthBy Rattle.characters.specs.Characters.second Rattle.characters.specs.Characters.tail Rattle.characters.specs.Characters.rest Rattle.characters.specs.Characters.charLength Rattle.characters.specs.Characters.allowed Rattle.characters.specs.Characters.unit Rattle.characters.specs.Characters.firstBad Rattle.octets.specs.Classes.letter Rattle.octets.specs.Classes.digit Rattle.octets.specs.Classes.hyphen Rattle.octets.specs.Classes.valued Rattle.octets.specs.Classes.quoted Rattle.octets.specs.Classes.bare Rattle.octets.specs.Classes.named Rattle.octets.specs.Classes.run Rattle.octets.specs.Room.fill Rattle.octets.specs.Room.fillBounded Rattle.octets.specs.Scan.scan Rattle.octets.specs.Scan.gather Rattle.looks.specs.Marks.special Rattle.unescaping.specs.Unescaped.code Rattle.unescaping.specs.Unescaped.meant Rattle.unescaping.specs.Unescaped.escapeAt Rattle.unescaping.specs.Unescaped.textStep Rattle.unescaping.specs.Unescaped.firstFault Rattle.unescaping.specs.Unescaped.passed Rattle.unescaping.specs.Unescaped.standing Rattle.unescaping.specs.Unescaped.unescaped Rattle.text.specs.Outcomes.checked Rattle.text.specs.Outcomes.faultless Rattle.text.specs.Outcomes.unescapeOutcome Rattle.parameters.specs.First.firstNamed Rattle.parameters.specs.First.valueOctets Rattle.folds.specs.Folds.foldAt Rattle.folds.specs.Folds.lineStep Rattle.folds.specs.Folds.lineLength Rattle.folds.specs.Folds.passed Rattle.folds.specs.Folds.kept Rattle.folds.specs.Folds.unfolded Rattle.lines.specs.Grammar.groupText Rattle.lines.specs.Grammar.nameEnd Rattle.folds.specs.Logical.linesBy Rattle.folds.specs.Logical.rawLines Rattle.lines.specs.Parse.many Rattle.lines.specs.Rule.word Rattle.lines.specs.Rule.closing Rattle.lines.specs.Rule.value Rattle.lines.specs.Rule.ends Rattle.lines.specs.Rule.moreValues Rattle.lines.specs.Rule.values Rattle.lines.specs.Rule.param Rattle.lines.specs.Rule.head Rattle.lines.specs.Rule.isColon Rattle.lines.specs.Rule.params Rattle.lines.specs.Rule.parseLine Rattle.octets.specs.Ascii.octets Rattle.kinds.specs.Kinds.text Rattle.kinds.specs.Kinds.texts Rattle.kinds.specs.Kinds.uri Rattle.kinds.specs.Kinds.component Rattle.kinds.specs.Kinds.parts Rattle.kinds.specs.Kinds.components Rattle.kinds.specs.Kinds.gender Rattle.kinds.specs.Kinds.pidmap Rattle.kinds.specs.Kinds.shapeOf Rattle.kinds.specs.Kinds.vcard Rattle.kinds.specs.Kinds.version Rattle.kinds.specs.Kinds.lineShape Rattle.kinds.specs.Kinds.valueScan Rattle.kinds.specs.Octets.holds Rattle.properties.specs.Rows.rows Rattle.properties.specs.Rows.search Rattle.properties.specs.Rows.rowOf Rattle.properties.specs.Rows.rowAt Rattle.properties.specs.Rows.kindAt Rattle.properties.specs.Rows.takesValue Rattle.properties.specs.Rows.kindNamed Rattle.properties.specs.Rows.lineKind Rattle.properties.specs.Rows.isGroup Rattle.kinds.specs.Shapes.mayEnd Rattle.kinds.specs.Shapes.lost Rattle.kinds.specs.Shapes.chain Rattle.kinds.specs.Shapes.isNever Rattle.kinds.specs.Shapes.fork Rattle.kinds.specs.Shapes.after Rattle.kinds.specs.Shapes.faultFrom Rattle.cards.specs.Judge.framing Rattle.cards.specs.Judge.laden Rattle.cards.specs.Judge.entered Rattle.cards.specs.Judge.judgeParts Rattle.cards.specs.Judge.judgeLine Rattle.content.specs.Parts.valueParam Rattle.content.specs.Parts.rowOfLine Rattle.content.specs.Parts.kindOfLine Rattle.content.specs.Parts.toldOf Rattle.card_state.specs.State.inOrder Rattle.card_state.specs.State.onceBit Rattle.card_state.specs.State.isSeen Rattle.card_state.specs.State.phaseAfter Rattle.card_state.specs.State.noted Rattle.card_state.specs.State.closed Rattle.ends.specs.Lone.loneStep Rattle.ends.specs.Lone.firstLone Rattle.ends.specs.Lone.endsCrLf Rattle.walks.specs.Walk.judgeLines Rattle.reader.specs.Outcome.verdictOf Rattle.reader.specs.Outcome.judgeOf Rattle.folds.specs.Logical.logicalLines Rattle.reader.specs.Outcome.ended Rattle.reader.specs.Outcome.copyOf Rattle.records.specs.Records.recordBy Rattle.records.specs.Records.recordOf Rattle.records.specs.Records.recordsFrom Rattle.reader.specs.Outcome.recordsOf Rattle.reader.specs.Outcome.writeOutcome Rattle.reader.specs.Outcome.outcomeBy Rattle.reader.specs.Outcome.readOutcome Rattle.folder.specs.Outcome.foldBy Rattle.folder.specs.Outcome.foldOutcome Rattle.cuts.specs.Pieces.over Rattle.cuts.specs.Pieces.first Rattle.cuts.specs.Pieces.later Rattle.cuts.specs.Pieces.pieces Rattle.cuts.specs.Pieces.joined Rattle.cuts.specs.Pieces.folded Rattle.cuts.specs.Pieces.foldedLines Rattle.demands.specs.Cases.cardM Rattle.demands.specs.Cases.foldedM Rattle.demands.specs.Cases.recordsM Rattle.tickets.specs.Search.firstAt Rattle.tickets.specs.Search.allAt Rattle.tickets.specs.Search.among Rattle.slots.specs.Sound.bounds Rattle.slots.specs.Sound.goodAt Rattle.slots.specs.Sound.sound Rattle.desk.specs.Steps.newStep Rattle.desk.specs.Steps.openStep Rattle.pools.specs.Pools.patch Rattle.pools.specs.Pools.zeros Rattle.slots.specs.Slots.slotOf Rattle.desk.specs.Steps.releaseStep Rattle.apart.specs.Ledger.lookup Rattle.apart.specs.Ledger.change Rattle.apart.specs.Ledger.run Rattle.apart.specs.Ledger.after Rattle.demands.proofs.Tested.sameNumbers Rattle.demands.proofs.Tested.sameAnswers Rattle.demands.proofs.Tested.allHold
+-- ---- what the examples compute by: to unfold a name of this part is to unfold what its own line names
+
+by-octets : Unit {0}
+unfolding ascii.octets letters.lower letters.same classes.letter classes.digit classes.hyphen classes.valued classes.quoted classes.bare classes.named classes.run
+by-octets = tt
+
+by-scans : Unit {0}
+unfolding scans.scan scans.gather room.fill room.fillBounded
+by-scans = tt
+
+by-characters : Unit {0}
+unfolding characters.lengthBy characters.second characters.tail characters.rest characters.charLength characters.allowed characters.unit characters.firstBad
+by-characters = tt
+
+by-text : Unit {0}
+unfolding marks.special texts.checked texts.faultless texts.unescapeOutcome
+by-text = tt
+
+by-escapes : Unit {0}
+unfolding unescaped.code unescaped.meant unescaped.escapeAt unescaped.textStep unescaped.firstFault unescaped.passed unescaped.standing unescaped.unescaped
+by-escapes = tt
+
+by-folds : Unit {0}
+unfolding folds.foldAt folds.lineStep folds.lineLength folds.passed folds.kept folds.unfolded logical.linesBy logical.rawLines logical.logicalLines
+by-folds = tt
+
+by-lines : Unit {0}
+unfolding lone.loneStep lone.firstLone lone.endsCrLf grammar.groupText grammar.nameEnd parse.many parameters.firstNamed parameters.valueOctets
+by-lines = tt
+
+by-rule : Unit {0}
+unfolding rule.word rule.closing rule.value rule.ends rule.moreValues rule.values rule.param rule.head rule.isColon rule.params rule.parseLine
+by-rule = tt
+
+by-kinds : Unit {0}
+unfolding kinds.text kinds.texts kinds.uri kinds.component kinds.parts kinds.components kinds.gender kinds.pidmap kinds.shapeOf kinds.vcard kinds.version
+by-kinds = tt
+
+by-shapes : Unit {0}
+unfolding kinds.lineShape kinds.valueScan sets.holds shapes.nullable shapes.dead shapes.chain shapes.isNever shapes.fork shapes.derivative shapes.faultFrom
+by-shapes = tt
+
+by-table : Unit {0}
+unfolding table.rows table.search table.rowOf table.rowAt table.kindAt table.takesValue table.kindNamed table.lineKind table.framing table.isGroup table.marks table.onceAt table.single
+by-table = tt
+
+by-cards : Unit {0}
+unfolding content.paramValue content.rowOfLine content.kindOfLine content.linePartsOf card.inOrder card.flagOf card.onceFlag card.isSeen card.phaseAfter card.noted card.closed
+by-cards = tt
+
+by-judge : Unit {0}
+unfolding judge.laden judge.entered judge.judgeParts judge.judgeLine walk.judgeLines records.recordBy records.recordOf records.recordsFrom
+by-judge = tt
+
+by-reader : Unit {0}
+unfolding reader.verdictOf reader.judgeOf reader.ended reader.copyOf reader.recordsOf reader.writeOutcome reader.outcomeBy reader.readOutcome
+by-reader = tt
+
+by-folder : Unit {0}
+unfolding pieces.over pieces.first pieces.later pieces.pieces pieces.joined pieces.folded pieces.foldedLines folder.foldBy folder.foldOutcome
+by-folder = tt
+
+by-desk : Unit {0}
+unfolding pool.patch pool.zeros searches.firstAt searches.allAt searches.among sound.bounds sound.goodAt sound.sound slots.slotOf
+by-desk = tt
+
+by-calls : Unit {0}
+unfolding desk.newStep desk.openStep desk.releaseStep ledger.lookup ledger.change ledger.run ledger.after
+by-calls = tt
+
+by-examples : Unit {0}
+unfolding cardM foldedM recordsM sameNumbers sameAnswers allHold
+by-examples = tt
+
+-- ---- the test
+
+all-hold : allHold marked ≡ true
+unfolding by-octets by-scans by-characters by-text by-escapes by-folds by-lines by-rule by-kinds by-shapes by-table by-cards by-judge by-reader by-folder by-desk by-calls by-examples
 all-hold = refl
 
-pub examples : Each Holds cases
-examples = tested cases all-hold
+pub examples : Each Holds marked
+examples = tested marked all-hold

@@ -1,9 +1,13 @@
--- How a choice between a refusal and what is left over is taken apart. Assumes nothing.
+-- A choice between a refusal and what is left, by cases. Assumes nothing.
 use Prim.Native.Nat.{ℕ}
 use mathlib.Core.Path.{_≡_, refl}
 use mathlib.Core.Bool.{Bool, true, false}
 use native.Mathlib.Omega.{arith}
+use mathlib.Core.List.{List}
 use Rattle.octets.specs.Pick.{pick}
+use Rattle.octets.specs.Room.{Filled, refuse}
+use Rattle.desk.specs.Steps.{Turned, refused}
+use Rattle.desk.specs.declared.Desk.{Desk}
 
 pub clash : {A : Type 0} → _≡_ {A = ℕ} 0 1 → A
 clash e = absurd (omega arith)
@@ -11,6 +15,17 @@ clash e = absurd (omega arith)
 pub not-true : (b : Bool) → (b ≡ true → ⊥) → b ≡ false
 not-true true n = absurd (n refl)
 not-true false n = refl
+
+-- `Exactly` by an enum's own cases: the whole outcome, lent memory too, is that of the refusal
+pub record ByCase {A B : Type 0} (answer : A → B) (outcome : A) (refusal : ℕ → ℕ → A) (By : ℕ → ℕ → Type 0) : Type 0 where
+  pub only : (n p : ℕ) → answer outcome ≡ answer (refusal n p) → By n p
+  pub unchanged : (n p : ℕ) → By n p → outcome ≡ refusal n p
+
+abbrev pub FillingByCase : Filled → List ℕ → (ℕ → ℕ → Type 0) → Type 0
+FillingByCase outcome room By = ByCase (λ (f : Filled). f .answer) outcome (λ n p. refuse n p room) By
+
+abbrev pub TurningByCase : Turned → Desk → List ℕ → (ℕ → ℕ → Type 0) → Type 0
+TurningByCase outcome d pool By = ByCase (λ (r : Turned). r .answer) outcome (λ n p. refused d pool p n) By
 
 -- of outcomes with an answer, refusals are told apart by number and place
 pub record Telling {A B : Type 0} (answer : A → B) (refusal : ℕ → ℕ → A) : Type 0 where

@@ -1,31 +1,28 @@
--- A test of each case that can be computed, and the law that what it passes holds. Assumes nothing.
+-- A test of each example that can be computed, and the law that what it passes holds. Assumes nothing.
 use Prim.Native.Nat.{ℕ, _*_}
-use mathlib.Core.Path.{_≡_, refl, _∙_}
+use mathlib.Core.Path.{_≡_, refl, ap, _∙_}
 use mathlib.Core.Bool.{Bool, true, false, _&&_}
 use mathlib.Core.List.{List, [], _∷_, map}
 use native.Mathlib.Omega.{arith}
 use lib.Dec.{eqb, leb}
 use lib.ListN.{replicate, length-replicate}
 use borrow.Author.Tests.{eqb-true, leb-true}
-use Rattle.lines.specs.Grammar.{Each}
-use Rattle.octets.specs.Room.{Filled, filled}
-use Rattle.octets.specs.declared.rooms.Written.{Written}
-use Rattle.octets.specs.declared.rooms.Written.the-variants.{Wrote, Refused as Unwritten}
+use Rattle.line_parser.specs.Grammar.{Each}
+use Rattle.octets.specs.Room.{Filled}
 use Rattle.text.specs.Outcomes.{unescapeOutcome}
-use Rattle.reader.specs.Outcome.{Taken, took, readOutcome}
-use Rattle.reader.specs.declared.Verdict.{Verdict}
-use Rattle.reader.specs.declared.Verdict.the-variants.{Accepted, Refused}
+use Rattle.reader.specs.Outcome.{Taken, readOutcome}
 use Rattle.folder.specs.Outcome.{foldOutcome}
-use Rattle.slots.specs.Sound.{stateAt, bounds}
+use Rattle.desk_slots.specs.Sound.{stateAt, bounds}
 use Rattle.desk.specs.Steps.{newStep}
-use Rattle.sessions.specs.declared.Session.{Session}
-use Rattle.sessions.specs.declared.State.{State}
-use Rattle.sessions.specs.declared.State.the-variants.{Free, Open}
-use Rattle.apart.specs.Ledger.{Call, Reply, refused, told, counts, part, ledgerStep, freshLedger, run}
-use Rattle.apart.specs.Demand.{Proper, world}
-use Rattle.apart.proofs.Claim.{demand3}
-use Rattle.apart.proofs.Blind.{same-desk}
-use Rattle.demands.specs.Cases.{Case, reads, folds, unescapes, turns, Turns, Holds}
+use Rattle.desk_entries.specs.declared.Session.{Session}
+use Rattle.desk_entries.specs.declared.State.{State}
+use Rattle.desk_entries.specs.declared.State.the-variants.{Free, Open}
+use Rattle.desk_ledger.specs.Answers.{Reply, refused, told, counts, part, verdict, wrote}
+use Rattle.desk_ledger.specs.Ledger.{Call, ledgerStep, freshLedger, run}
+use Rattle.desk_ledger.specs.Desks.{Proper, world}
+use Rattle.desk_laws.proofs.Demand.{demand3}
+use Rattle.desk_laws.proofs.PoolNoninterference.{same-desk}
+use Rattle.demands.specs.Examples.{Example, reads, folds, unescapes, turns, Turns, Fills, Reads, Holds}
 
 -- ---- the tests
 
@@ -35,35 +32,35 @@ sameNumbers [] (y ∷ ys) = false
 sameNumbers (x ∷ xs) [] = false
 sameNumbers (x ∷ xs) (y ∷ ys) = eqb x y && sameNumbers xs ys
 
-abbrev sameVerdict : Verdict → Verdict → Bool
-sameVerdict (Accepted k n) (Accepted l m) = eqb k l && eqb n m
-sameVerdict (Accepted k n) (Refused l m) = false
-sameVerdict (Refused k n) (Accepted l m) = false
-sameVerdict (Refused k n) (Refused l m) = eqb k l && eqb n m
+abbrev sameReply : Reply → Reply → Bool
+sameReply (refused k p) (refused l q) = eqb k l && eqb p q
+sameReply (refused k p) (told m) = false
+sameReply (refused k p) (counts l m) = false
+sameReply (refused k p) (part v) = false
+sameReply (told n) (refused l q) = false
+sameReply (told n) (told m) = eqb n m
+sameReply (told n) (counts l m) = false
+sameReply (told n) (part v) = false
+sameReply (counts k n) (refused l q) = false
+sameReply (counts k n) (told m) = false
+sameReply (counts k n) (counts l m) = eqb k l && eqb n m
+sameReply (counts k n) (part v) = false
+sameReply (part o) (refused l q) = false
+sameReply (part o) (told m) = false
+sameReply (part o) (counts l m) = false
+sameReply (part o) (part v) = sameNumbers o v
 
-abbrev sameTaken : Taken → Taken → Bool
-sameTaken s t = sameVerdict (s .answer) (t .answer) && (sameNumbers (s .copy) (t .copy) && sameNumbers (s .records) (t .records))
+abbrev sameTaken : Taken → Reply → List ℕ → List ℕ → Bool
+sameTaken t a copy records = sameReply (verdict (t .answer)) a && (sameNumbers (t .copy) copy && sameNumbers (t .records) records)
 
-abbrev sameWritten : Written → Written → Bool
-sameWritten (Wrote n) (Wrote m) = eqb n m
-sameWritten (Wrote n) (Unwritten l m) = false
-sameWritten (Unwritten k n) (Wrote m) = false
-sameWritten (Unwritten k n) (Unwritten l m) = eqb k l && eqb n m
-
-abbrev sameFilled : Filled → Filled → Bool
-sameFilled f g = sameWritten (f .answer) (g .answer) && sameNumbers (f .room) (g .room)
-
-abbrev tells : Reply → ℕ → Bool
-tells (refused k p) n = false
-tells (told m) n = eqb m n
-tells (counts k l) n = false
-tells (part o) n = false
+abbrev sameFilled : Filled → Reply → List ℕ → Bool
+sameFilled f a room = sameReply (wrote (f .answer)) a && sameNumbers (f .room) room
 
 unfoldable pub sameAnswers : List Reply → List ℕ → Bool
 sameAnswers [] [] = true
 sameAnswers [] (n ∷ ns) = false
 sameAnswers (r ∷ rs) [] = false
-sameAnswers (r ∷ rs) (n ∷ ns) = tells r n && sameAnswers rs ns
+sameAnswers (r ∷ rs) (n ∷ ns) = sameReply r (told n) && sameAnswers rs ns
 
 abbrev sameSession : State → Session → Bool
 sameSession Free s = false
@@ -78,13 +75,13 @@ abbrev sameTurns : ℕ → List Call → List ℕ → ℕ → Session → Bool
 sameTurns n cs ns i s =
     (leb 1 n && leb n 40) && (sameAnswers (run ledgerStep (freshLedger n) cs) ns && sameSession (stateAt (world n (zeros n) cs .desk .entries) i) s)
 
-abbrev holds : Case → Bool
-holds (reads i c r t) = sameTaken (readOutcome i c r) t
-holds (folds i o f) = sameFilled (foldOutcome i o) f
-holds (unescapes t o f) = sameFilled (unescapeOutcome t o) f
+abbrev holds : Example → Bool
+holds (reads i c r a c′ r′) = sameTaken (readOutcome i c r) a c′ r′
+holds (folds i o a o′) = sameFilled (foldOutcome i o) a o′
+holds (unescapes t o a o′) = sameFilled (unescapeOutcome t o) a o′
 holds (turns n cs ns i s) = sameTurns n cs ns i s
 
-unfoldable pub allHold : List Case → Bool
+unfoldable pub allHold : List Example → Bool
 allHold [] = true
 allHold (c ∷ cs) = holds c && allHold cs
 
@@ -109,38 +106,38 @@ same-numbers (x ∷ xs) (y ∷ ys) e =
 same-pair : (k n l m : ℕ) → eqb k l && eqb n m ≡ true → (k ≡ l) × (n ≡ m)
 same-pair k n l m e = let b = both (eqb k l) (eqb n m) e in (eqb-true k l (b .0), eqb-true n m (b .1))
 
-same-verdict : (v w : Verdict) → sameVerdict v w ≡ true → v ≡ w
-same-verdict (Accepted k n) (Accepted l m) e = let b = same-pair k n l m e in rw (b .0, b .1)
-same-verdict (Accepted k n) (Refused l m) e = no e
-same-verdict (Refused k n) (Accepted l m) e = no e
-same-verdict (Refused k n) (Refused l m) e = let b = same-pair k n l m e in rw (b .0, b .1)
+same-reply : (r s : Reply) → sameReply r s ≡ true → r ≡ s
+same-reply (refused k p) (refused l q) e = let b = same-pair k p l q e in rw (b .0, b .1)
+same-reply (refused k p) (told m) e = no e
+same-reply (refused k p) (counts l m) e = no e
+same-reply (refused k p) (part v) e = no e
+same-reply (told n) (refused l q) e = no e
+same-reply (told n) (told m) e = rw (eqb-true n m e)
+same-reply (told n) (counts l m) e = no e
+same-reply (told n) (part v) e = no e
+same-reply (counts k n) (refused l q) e = no e
+same-reply (counts k n) (told m) e = no e
+same-reply (counts k n) (counts l m) e = let b = same-pair k n l m e in rw (b .0, b .1)
+same-reply (counts k n) (part v) e = no e
+same-reply (part o) (refused l q) e = no e
+same-reply (part o) (told m) e = no e
+same-reply (part o) (counts l m) e = no e
+same-reply (part o) (part v) e = ap part (same-numbers o v e)
 
-same-taken : (s t : Taken) → sameTaken s t ≡ true → s ≡ t
-same-taken s t e =
-    let b = both (sameVerdict (s .answer) (t .answer)) _ e in
-    let c = both (sameNumbers (s .copy) (t .copy)) (sameNumbers (s .records) (t .records)) (b .1) in
-    let r : took (s .answer) (s .copy) (s .records) ≡ took (t .answer) (t .copy) (t .records) =
-    rw (same-verdict (s .answer) (t .answer) (b .0), same-numbers (s .copy) (t .copy) (c .0), same-numbers (s .records) (t .records) (c .1)) in
-    r
+same-taken : (t : Taken) (a : Reply) (c r : List ℕ) → sameTaken t a c r ≡ true → Reads t a c r
+same-taken t a c r e =
+    let b = both (sameReply (verdict (t .answer)) a) _ e in
+    let d = both (sameNumbers (t .copy) c) (sameNumbers (t .records) r) (b .1) in
+    record {
+      answer = same-reply (verdict (t .answer)) a (b .0);
+      copy = same-numbers (t .copy) c (d .0);
+      records = same-numbers (t .records) r (d .1);
+    }
 
-same-written : (v w : Written) → sameWritten v w ≡ true → v ≡ w
-same-written (Wrote n) (Wrote m) e = rw (eqb-true n m e)
-same-written (Wrote n) (Unwritten l m) e = no e
-same-written (Unwritten k n) (Wrote m) e = no e
-same-written (Unwritten k n) (Unwritten l m) e = let b = same-pair k n l m e in rw (b .0, b .1)
-
-same-filled : (f g : Filled) → sameFilled f g ≡ true → f ≡ g
-same-filled f g e =
-    let b = both (sameWritten (f .answer) (g .answer)) _ e in
-    let r : filled (f .answer) (f .room) ≡ filled (g .answer) (g .room) =
-    rw (same-written (f .answer) (g .answer) (b .0), same-numbers (f .room) (g .room) (b .1)) in
-    r
-
-told-so : (r : Reply) (n : ℕ) → tells r n ≡ true → r ≡ told n
-told-so (refused k p) n e = no e
-told-so (told m) n e = rw (eqb-true m n e)
-told-so (counts k l) n e = no e
-told-so (part o) n e = no e
+same-filled : (f : Filled) (a : Reply) (room : List ℕ) → sameFilled f a room ≡ true → Fills f a room
+same-filled f a room e =
+    let b = both (sameReply (wrote (f .answer)) a) _ e in
+    record { answer = same-reply (wrote (f .answer)) a (b .0); room = same-numbers (f .room) room (b .1) }
 
 same-answers : (rs : List Reply) (ns : List ℕ) → sameAnswers rs ns ≡ true → rs ≡ map told ns
 unfolding sameAnswers
@@ -148,8 +145,8 @@ same-answers [] [] e = refl
 same-answers [] (n ∷ ns) e = no e
 same-answers (r ∷ rs) [] e = no e
 same-answers (r ∷ rs) (n ∷ ns) e =
-    let b = both (tells r n) (sameAnswers rs ns) e in
-    rw (told-so r n (b .0), same-answers rs ns (b .1))
+    let b = both (sameReply r (told n)) (sameAnswers rs ns) e in
+    rw (same-reply r (told n) (b .0), same-answers rs ns (b .1))
 
 same-session : (a : State) (s : Session) → sameSession a s ≡ true → a ≡ Open s
 same-session Free s e = no e
@@ -173,13 +170,13 @@ same-turns n cs ns i s e =
       slot = λ p f. rw (same-desk n p (zeros n) f z cs) (same-session _ s (b .1));
     }
 
-pub tested : (cs : List Case) → allHold cs ≡ true → Each Holds cs
+pub tested : (cs : List Example) → allHold cs ≡ true → Each Holds cs
 unfolding allHold Each
 tested [] e = tt
 tested (c ∷ cs) e = let b = both (holds c) (allHold cs) e in (one c (b .0), tested cs (b .1))
   where
-    one : (c : Case) → holds c ≡ true → Holds c
-    one (reads i c r t) e = same-taken (readOutcome i c r) t e
-    one (folds i o f) e = same-filled (foldOutcome i o) f e
-    one (unescapes t o f) e = same-filled (unescapeOutcome t o) f e
+    one : (c : Example) → holds c ≡ true → Holds c
+    one (reads i c r a c′ r′) e = same-taken (readOutcome i c r) a c′ r′ e
+    one (folds i o a o′) e = same-filled (foldOutcome i o) a o′ e
+    one (unescapes t o a o′) e = same-filled (unescapeOutcome t o) a o′ e
     one (turns n cs ns i s) e = same-turns n cs ns i s e

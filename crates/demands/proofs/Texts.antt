@@ -8,19 +8,19 @@ use lib.Dec.{ltb}
 use lib.ListN.{length, take, drop, take-append-drop}
 use lib.Seq.{length-take-le}
 use borrow.Author.Tests.{ltb-true, ltb-false, lt-ltb, le-ltb}
-use Rattle.characters.specs.Characters.{allowed, firstBad}
+use Rattle.utf8.specs.Characters.{allowed, firstBad}
 use Rattle.octets.specs.Room.{Filled, refuse, fill, fillBounded}
 use Rattle.octets.specs.declared.rooms.Written.the-variants.{Wrote, Refused}
-use Rattle.characters.proofs.Chars.{bad-le}
+use Rattle.utf8.proofs.Chars.{bad-le}
 use Rattle.octets.proofs.Scans.{scan-le}
-use Rattle.octet_laws.proofs.Utf8.{bad-place, bad-nowhere}
-use Rattle.escaping.specs.Escaped.{escaped}
-use Rattle.unescaping.specs.Unescaped.{textStep, firstFault, unescaped}
+use Rattle.utf8_laws.proofs.Utf8.{bad-place, bad-nowhere}
+use Rattle.text_escaping.specs.Escaped.{escaped}
+use Rattle.text_unescaping.specs.Unescaped.{textStep, firstFault, unescaped}
 use Rattle.text.specs.Outcomes.{checked, faultless, escapeOutcome, unescapeOutcome}
 use Rattle.text_laws.specs.Stands.{Stands, Faulty}
 use Rattle.text_laws.proofs.StandsLaws.{stands-exactly, fault-found, fault-first}
-use Rattle.demands.specs.Demand1.{Filling, BadAt, Fair, Unfair, long, octet, EscapeBy, no-text, escape-over, escape-room, UnescapeBy, no-kind-1, fault, text-room}
-use Rattle.demands.proofs.Refusing.{clash, Telling, first}
+use Rattle.demands.specs.Demand1.{BadAt, Fair, Unfair, long, octet, EscapeBy, no-text, escape-over, escape-room, UnescapeBy, not-text, fault, text-room}
+use Rattle.demands.proofs.Refusing.{FillingByCase as Filling, clash, Telling, first}
 
 -- refusals of an entry that writes octets
 pub written-tells : (out : List ℕ) → Telling (λ (f : Filled). f .answer) (λ n p. refuse n p out)
@@ -114,7 +114,7 @@ module _ (t out : List ℕ) where
   escape-so n p (escape-room f h k) = checked-fair true t out _ f ∙ within-so (escaped t) out h ∙ short-so (escaped t) out k
 
   pub escape-exactly : Filling (escapeOutcome t out) out (EscapeBy t out)
-  escape-exactly = record { told = escape-told; unchanged = escape-so }
+  escape-exactly = record { only = escape-told; unchanged = escape-so }
 
   -- ---- unescape
 
@@ -130,7 +130,7 @@ module _ (t out : List ℕ) where
   unescape-told : (n p : ℕ) → unescapeOutcome t out .answer ≡ Refused n p → UnescapeBy t out n p
   unfolding unescapeOutcome faultless
   unescape-told n p e =
-      checked-told false t out (UnescapeBy t out) _ n p e (λ m q u. no-kind-1 u) (λ f g.
+      checked-told false t out (UnescapeBy t out) _ n p e (λ m q u. not-text u) (λ f g.
       first (written-tells out) (UnescapeBy t out) (ltb (firstFault t) (length t)) 30 (firstFault t) n p _ g
       (λ a. let h = ltb-true (firstFault t) (length t) a in let w = fault-found t h in fault f h (w .0 .1) (w .1))
       (λ a k.
@@ -139,7 +139,7 @@ module _ (t out : List ℕ) where
 
   unescape-so : (n p : ℕ) → UnescapeBy t out n p → unescapeOutcome t out ≡ refuse n p out
   unfolding unescapeOutcome faultless
-  unescape-so n p (no-kind-1 u) = checked-unfair false t out _ n p u
+  unescape-so n p (not-text u) = checked-unfair false t out _ n p u
   unescape-so n p (fault {u = u} f h s b) = checked-fair false t out _ f ∙ rw (fault-is p u h s b, lt-ltb p (length t) h)
   unescape-so n p (text-room {u = u} f s h) =
       let w = stands-exactly t u .0 s in
@@ -147,4 +147,4 @@ module _ (t out : List ℕ) where
       ∙ rw (le-ltb (firstFault t) (length t) (omega (arith, w .0)), w .1) (short-so u out h)
 
   pub unescape-exactly : Filling (unescapeOutcome t out) out (UnescapeBy t out)
-  unescape-exactly = record { told = unescape-told; unchanged = unescape-so }
+  unescape-exactly = record { only = unescape-told; unchanged = unescape-so }

@@ -1,19 +1,29 @@
 -- Demand 1, whole. Assumes nothing.
 use Prim.Native.Nat.{ℕ}
-use mathlib.Core.Path.{_≡_}
+use mathlib.Core.Path.{_≡_, ap}
 use mathlib.Core.List.{List}
 use native.Mathlib.Omega.{arith}
 use Rattle.octets.specs.Room.{Filled, refuse}
-use Rattle.reader.specs.Outcome.{judgeOf}
+use Rattle.reader.specs.Outcome.{judgeOf, Taken, took}
+use Rattle.reader.specs.declared.Verdict.{Verdict}
+use Rattle.reader.specs.declared.Verdict.the-variants.{Refused as Unread}
+use Rattle.desk.specs.Steps.{Turned, refuse as refuseNew, freshDesk}
+use Rattle.desk.specs.declared.Answer.{Answer}
+use Rattle.desk.specs.declared.Answer.the-variants.{Refused}
+use Rattle.desk.specs.declared.Desk.{Desk}
+use Rattle.desk.specs.declared.Turn.{Turn}
+use Rattle.desk_ledger.specs.Answers.{verdict, wrote, said}
+use Rattle.desk_ledger.proofs.AnswerLaws.{verdict-refused, wrote-refused, said-refused}
 use Rattle.firmware.specs.Word.{verdictWord, Low, wordOutcome}
 use Rattle.firmware.proofs.Places.{place-low}
 use Rattle.firmware.proofs.Lows.{low-unescape, low-fold}
-use Rattle.grammar.specs.Refusals.{RefusedBy}
-use Rattle.grammar.proofs.Refused.{refused-law}
-use Rattle.demands.specs.Demand1.{Halves, Demand1}
+use Rattle.reader_grammar.specs.Refusals.{RefusedBy}
+use Rattle.reader_grammar.proofs.Refused.{refused-law}
+use Rattle.demands.specs.Demand1.{Exactly, Answering, Reading, Filling, Turning, Halves, Demand1}
+use Rattle.demands.proofs.Refusing.{ByCase, FillingByCase, TurningByCase}
 use Rattle.demands.proofs.Texts.{escape-exactly, unescape-exactly}
 use Rattle.demands.proofs.Cards.{judge-exactly, read-exactly, fold-exactly}
-use Rattle.demands.proofs.Desks.{new-exactly, open-exactly, add-exactly, release-exactly, held-exactly, judge-held-exactly, shows-none, shows}
+use Rattle.demands.proofs.Desks.{new-exactly, open-exactly, add-exactly, release-exactly, held-exactly, judge-held-exactly, shows-none, shows, counted, judged}
 
 judge-word : (i : List ℕ) (n p : ℕ) → RefusedBy i n p → Halves (verdictWord (judgeOf i)) n p
 judge-word i n p b =
@@ -24,22 +34,67 @@ judge-word i n p b =
 refusal-word : (f : Filled) (out : List ℕ) (n p : ℕ) → f ≡ refuse n p out → Low (f .answer) → Halves (wordOutcome f .answer) n p × (wordOutcome f .room ≡ out)
 refusal-word f out n p e l = (record { word = rw e; low = rw e at l }, rw e)
 
+-- ---- answers in document 01's numbers
+
+module _ {By : ℕ → ℕ → Type 0} where
+  verdict-exactly : {v : Verdict} → ByCase (λ (v : Verdict). v) v Unread By → Answering (verdict v) By
+  verdict-exactly {v} e =
+      record { only = λ n p f. e .only n p (verdict-refused v n p f); answers = λ n p b. ap verdict (e .unchanged n p b); unchanged = λ n p b. tt }
+
+  answer-exactly : {a : Answer} → ByCase (λ (a : Answer). a) a Refused By → Answering (said a) By
+  answer-exactly {a} e =
+      record { only = λ n p f. e .only n p (said-refused a n p f); answers = λ n p b. ap said (e .unchanged n p b); unchanged = λ n p b. tt }
+
+  reading-exactly : {t : Taken} {copy records : List ℕ} → ByCase (λ (t : Taken). t .answer) t (λ n p. took (Unread n p) copy records) By → Reading t copy records By
+  reading-exactly {t} {copy} {records} e =
+      record {
+        only = λ n p f. e .only n p (verdict-refused (t .answer) n p f);
+        answers = λ n p b. ap (λ (t : Taken). verdict (t .answer)) (e .unchanged n p b);
+        unchanged = λ n p b. (ap (λ (t : Taken). t .copy) (e .unchanged n p b), ap (λ (t : Taken). t .records) (e .unchanged n p b));
+      }
+
+  filling-exactly : {f : Filled} {room : List ℕ} → FillingByCase f room By → Filling f room By
+  filling-exactly {f} {room} e =
+      record {
+        only = λ n p g. e .only n p (wrote-refused (f .answer) n p g);
+        answers = λ n p b. ap (λ (f : Filled). wrote (f .answer)) (e .unchanged n p b);
+        unchanged = λ n p b. ap (λ (f : Filled). f .room) (e .unchanged n p b);
+      }
+
+  turning-exactly : {r : Turned} {d : Desk} {pool : List ℕ} → TurningByCase r d pool By → Turning r d pool By
+  turning-exactly {r} {d} {pool} e =
+      record {
+        only = λ n p f. e .only n p (said-refused (r .answer) n p f);
+        answers = λ n p b. ap (λ (r : Turned). said (r .answer)) (e .unchanged n p b);
+        unchanged = λ n p b. (ap (λ (r : Turned). r .desk) (e .unchanged n p b), ap (λ (r : Turned). r .pool) (e .unchanged n p b));
+      }
+
+  starting-exactly : {r : Turn} → ByCase (λ (r : Turn). r .answer) r (λ n p. refuseNew (freshDesk 0) n p) By → Exactly (said (r .answer)) (r .desk ≡ freshDesk 0) By
+  starting-exactly {r} e =
+      record {
+        only = λ n p f. e .only n p (said-refused (r .answer) n p f);
+        answers = λ n p b. ap (λ (r : Turn). said (r .answer)) (e .unchanged n p b);
+        unchanged = λ n p b. ap (λ (r : Turn). r .desk) (e .unchanged n p b);
+      }
+
 pub demand1 : Demand1
 demand1 =
     record {
-      judges = judge-exactly;
-      reads = read-exactly;
-      folds = fold-exactly;
-      escapes = escape-exactly;
-      unescapes = unescape-exactly;
-      starts = new-exactly;
-      opens = open-exactly;
-      adds = add-exactly;
-      releases = release-exactly;
-      counts = held-exactly;
-      judges-held = judge-held-exactly;
+      judges = λ i. verdict-exactly (judge-exactly i);
+      reads = λ i copy records. reading-exactly (read-exactly i copy records);
+      folds = λ i out. filling-exactly (fold-exactly i out);
+      escapes = λ t out. filling-exactly (escape-exactly t out);
+      unescapes = λ t out. filling-exactly (unescape-exactly t out);
+      starts = λ slots. starting-exactly (new-exactly slots);
+      opens = λ d pool m. turning-exactly (open-exactly d pool m);
+      adds = λ d pool t chunk. turning-exactly (add-exactly d pool t chunk);
+      releases = λ d pool t. turning-exactly (release-exactly d pool t);
+      counts = λ d pool t. answer-exactly (held-exactly d pool t);
+      judges-held = λ d pool t. verdict-exactly (judge-held-exactly d pool t);
       shows-none = shows-none;
       shows = shows;
+      counted = λ d pool t i s h. ap said (counted d pool t i s h);
+      judged = λ d pool t i s h. ap verdict (judged d pool t i s h);
       c-judge = judge-word;
       c-fold = λ i out n p b. refusal-word _ out n p (fold-exactly i out .unchanged n p b) (low-fold i out);
       c-unescape = λ t out n p b. refusal-word _ out n p (unescape-exactly t out .unchanged n p b) (low-unescape t out);

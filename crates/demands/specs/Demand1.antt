@@ -6,35 +6,34 @@ use mathlib.Core.Bool.{Bool, true, false}
 use mathlib.Core.List.{List, [], map}
 use mathlib.Core.Logic.{_⊎_}
 use lib.ListN.{length, take, drop}
-use Rattle.characters.specs.Characters.{allowed}
-use Rattle.octets.specs.Room.{Filled, refuse}
-use Rattle.octet_laws.specs.Texts.{Text, Stops}
-use Rattle.escaping.specs.Escaped.{escaped}
+use Rattle.numbers.specs.Limits as limit
+use Rattle.numbers.specs.Refusals as refusal
+use Rattle.utf8.specs.Characters.{allowed}
+use Rattle.octets.specs.Room.{Filled}
+use Rattle.utf8_laws.specs.Texts.{Text, Stops}
+use Rattle.text_escaping.specs.Escaped.{escaped}
 use Rattle.text.specs.Outcomes.{escapeOutcome, unescapeOutcome}
 use Rattle.text_laws.specs.Stands.{Stands, Faulty}
-use Rattle.lines.specs.Grammar.{render}
-use Rattle.reader.specs.Outcome.{judgeOf, ended, Taken, took, readOutcome}
-use Rattle.reader.specs.declared.Verdict.{Verdict}
-use Rattle.reader.specs.declared.Verdict.the-variants.{Refused as Unread}
-use Rattle.cuts.specs.Pieces.{foldedLines}
+use Rattle.line_parser.specs.Grammar.{render}
+use Rattle.reader.specs.Outcome.{judgeOf, ended, Taken, readOutcome}
+use Rattle.folder_line.specs.Pieces.{foldedLines}
 use Rattle.folder.specs.Outcome.{foldOutcome}
-use Rattle.slots.specs.Sound.{stateAt}
-use Rattle.desk.specs.Steps.{Sound, Turned, refuse as refuseNew, refused, freshDesk, newStep, openStep, addStep, releaseStep, octetsIn, showStep, heldStep, judgeStep}
-use Rattle.sessions.specs.declared.Session.{Session}
-use Rattle.sessions.specs.declared.State.the-variants.{Free, Open}
+use Rattle.desk_slots.specs.Sound.{stateAt}
+use Rattle.desk.specs.Steps.{Sound, Turned, freshDesk, newStep, openStep, addStep, releaseStep, octetsIn, showStep, heldStep, judgeStep}
+use Rattle.desk_entries.specs.declared.Session.{Session}
+use Rattle.desk_entries.specs.declared.State.the-variants.{Free, Open}
 use Rattle.desk.specs.declared.Desk.{Desk}
-use Rattle.desk.specs.declared.Turn.{Turn}
-use Rattle.desk.specs.declared.Answer.{Answer}
-use Rattle.desk.specs.declared.Answer.the-variants.{Refused}
 use Rattle.firmware.specs.Word.{verdictWord, wordOutcome}
-use Rattle.apart.specs.Demand.{OpenOn}
-use Rattle.grammar.specs.Inputs.{InputOf}
-use Rattle.grammar.specs.Refusals.{RefusedBy}
+use Rattle.desk_ledger.specs.Answers.{Reply, refused, told, verdict, wrote, said}
+use Rattle.desk_laws.specs.Demand.{OpenOn}
+use Rattle.reader_grammar.specs.Inputs.{InputOf}
+use Rattle.reader_grammar.specs.Refusals.{RefusedBy}
 
--- an outcome answers a refusal only where `By` has its number and place; and there the whole outcome, lent memory too, is that refusal's
-pub record Exactly {A B : Type 0} (answer : A → B) (outcome : A) (refusal : ℕ → ℕ → A) (By : ℕ → ℕ → Type 0) : Type 0 where
-  pub told : (n p : ℕ) → answer outcome ≡ answer (refusal n p) → By n p
-  pub unchanged : (n p : ℕ) → By n p → outcome ≡ refusal n p
+-- a refusal is answered only where `By` has its number and place; there it is answered, and what is left is `Left`
+pub record Exactly (answer : Reply) (Left : Type 0) (By : ℕ → ℕ → Type 0) : Type 0 where
+  pub only : (n p : ℕ) → answer ≡ refused n p → By n p
+  pub answers : (n p : ℕ) → By n p → answer ≡ refused n p
+  pub unchanged : (n p : ℕ) → By n p → Left
 
 -- ---- reader and folder
 
@@ -48,14 +47,15 @@ folded h = foldedLines (map render (h .lines))
 -- 1 to 12, then 13, 14
 pub data ReadBy (i copy records : List ℕ) : ℕ → ℕ → Type 0 where
   unread : {n p : ℕ} → RefusedBy i n p → ReadBy i copy records n p
-  copy-room : {k n : ℕ} (h : InputOf i k n) → length copy < length (copied h) → ReadBy i copy records 13 (length (copied h))
-  record-room : {k n : ℕ} (h : InputOf i k n) → length (copied h) ≤ length copy → length records < n * 8 → ReadBy i copy records 14 (n * 8)
+  copy-room : {k n : ℕ} (h : InputOf i k n) → length copy < length (copied h) → ReadBy i copy records refusal.copyRoom (length (copied h))
+  record-room : {k n : ℕ} (h : InputOf i k n) → length (copied h) ≤ length copy → length records < n * limit.recordLength
+      → ReadBy i copy records refusal.recordRoom (n * limit.recordLength)
 
 -- 1 to 12, then 16, 15
 pub data FoldBy (i out : List ℕ) : ℕ → ℕ → Type 0 where
   not-read : {n p : ℕ} → RefusedBy i n p → FoldBy i out n p
-  fold-over : {k n : ℕ} (h : InputOf i k n) → 16384 < length (folded h) → FoldBy i out 16 16384
-  fold-room : {k n : ℕ} (h : InputOf i k n) → length (folded h) ≤ 16384 → length out < length (folded h) → FoldBy i out 15 (length (folded h))
+  fold-over : {k n : ℕ} (h : InputOf i k n) → limit.octets < length (folded h) → FoldBy i out refusal.formTooLong limit.octets
+  fold-room : {k n : ℕ} (h : InputOf i k n) → length (folded h) ≤ limit.octets → length out < length (folded h) → FoldBy i out refusal.room (length (folded h))
 
 -- ---- text
 
@@ -67,42 +67,42 @@ pub record BadAt (lf : Bool) (t : List ℕ) (p : ℕ) : Type 0 where
 
 -- neither 1 nor 31
 pub record Fair (lf : Bool) (t : List ℕ) : Type 0 where
-  pub short : length t ≤ 16384
+  pub short : length t ≤ limit.octets
   pub clean : Text (allowed lf) t
 
 -- 1, 31
 pub data Unfair (lf : Bool) (t : List ℕ) : ℕ → ℕ → Type 0 where
-  long : 16384 < length t → Unfair lf t 1 16384
-  octet : {p : ℕ} → length t ≤ 16384 → BadAt lf t p → Unfair lf t 31 p
+  long : limit.octets < length t → Unfair lf t refusal.tooLong limit.octets
+  octet : {p : ℕ} → length t ≤ limit.octets → BadAt lf t p → Unfair lf t refusal.textOctet p
 
 -- 1, 31, 16, 15
 pub data EscapeBy (t out : List ℕ) : ℕ → ℕ → Type 0 where
   no-text : {n p : ℕ} → Unfair true t n p → EscapeBy t out n p
-  escape-over : Fair true t → 16384 < length (escaped t) → EscapeBy t out 16 16384
-  escape-room : Fair true t → length (escaped t) ≤ 16384 → length out < length (escaped t) → EscapeBy t out 15 (length (escaped t))
+  escape-over : Fair true t → limit.octets < length (escaped t) → EscapeBy t out refusal.formTooLong limit.octets
+  escape-room : Fair true t → length (escaped t) ≤ limit.octets → length out < length (escaped t) → EscapeBy t out refusal.room (length (escaped t))
 
 -- 1, 31, 30, 15; u is what the text stands for
 pub data UnescapeBy (t out : List ℕ) : ℕ → ℕ → Type 0 where
-  no-kind-1 : {n p : ℕ} → Unfair false t n p → UnescapeBy t out n p
-  fault : {p : ℕ} {u : List ℕ} → Fair false t → p < length t → Stands (take p t) u → Faulty (drop p t) → UnescapeBy t out 30 p
-  text-room : {u : List ℕ} → Fair false t → Stands t u → length out < length u → UnescapeBy t out 15 (length u)
+  not-text : {n p : ℕ} → Unfair false t n p → UnescapeBy t out n p
+  fault : {p : ℕ} {u : List ℕ} → Fair false t → p < length t → Stands (take p t) u → Faulty (drop p t) → UnescapeBy t out refusal.escape p
+  text-room : {u : List ℕ} → Fair false t → Stands t u → length out < length u → UnescapeBy t out refusal.room (length u)
 
 -- ---- desk
 
 -- neither 25 nor 24
 pub record Ready (d : Desk) (p : List ℕ) : Type 0 where
   pub sound : Sound d
-  pub size : length p ≡ d .slots * 16384
+  pub size : length p ≡ d .slots * limit.octets
 
 -- 25, 24
 pub data Unready (d : Desk) (p : List ℕ) : ℕ → ℕ → Type 0 where
-  unsound : (Sound d → ⊥) → Unready d p 25 0
-  other-size : Sound d → (length p ≡ d .slots * 16384 → ⊥) → Unready d p 24 0
+  unsound : (Sound d → ⊥) → Unready d p refusal.unsound 0
+  other-size : Sound d → (length p ≡ d .slots * limit.octets → ⊥) → Unready d p refusal.poolLength 0
 
 -- 25, 24, 22
 pub data TicketBy (d : Desk) (p : List ℕ) (t : ℕ) : ℕ → ℕ → Type 0 where
   unready : {n q : ℕ} → Unready d p n q → TicketBy d p t n q
-  closed : Ready d p → (OpenOn d t → ⊥) → TicketBy d p t 22 0
+  closed : Ready d p → (OpenOn d t → ⊥) → TicketBy d p t refusal.notOpen 0
 
 -- the session s in slot i has the ticket t
 pub record Holds (d : Desk) (p : List ℕ) (t i : ℕ) (s : Session) : Type 0 where
@@ -113,18 +113,18 @@ pub record Holds (d : Desk) (p : List ℕ) (t i : ℕ) (s : Session) : Type 0 wh
 
 -- 26
 pub data NewBy (slots : ℕ) : ℕ → ℕ → Type 0 where
-  range : (slots ≡ 0) ⊎ (40 < slots) → NewBy slots 26 0
+  range : (slots ≡ 0) ⊎ (limit.slots < slots) → NewBy slots refusal.slotCount 0
 
 -- 25, 24, 21, 20
 pub data OpenBy (d : Desk) (p : List ℕ) : ℕ → ℕ → Type 0 where
   no-desk : {n q : ℕ} → Unready d p n q → OpenBy d p n q
-  used-up : Ready d p → d .next ≡ 4294967295 → OpenBy d p 21 0
-  full : Ready d p → (d .next ≡ 4294967295 → ⊥) → ((i : ℕ) → i < d .slots → stateAt (d .entries) i ≡ Free → ⊥) → OpenBy d p 20 0
+  used-up : Ready d p → d .next ≡ limit.tickets → OpenBy d p refusal.ticketsUsedUp 0
+  full : Ready d p → (d .next ≡ limit.tickets → ⊥) → ((i : ℕ) → i < d .slots → stateAt (d .entries) i ≡ Free → ⊥) → OpenBy d p refusal.noFreeSlot 0
 
 -- 25, 24, 22, 23
 pub data AddBy (d : Desk) (p : List ℕ) (t : ℕ) (chunk : List ℕ) : ℕ → ℕ → Type 0 where
   no-upload : {n q : ℕ} → TicketBy d p t n q → AddBy d p t chunk n q
-  too-much : {i : ℕ} {s : Session} → Holds d p t i s → 16384 < s .held + length chunk → AddBy d p t chunk 23 (s .held)
+  too-much : {i : ℕ} {s : Session} → Holds d p t i s → limit.octets < s .held + length chunk → AddBy d p t chunk refusal.slotFull (s .held)
 
 -- 25, 24, 22, then 1 to 12 of the octets held
 pub data JudgeBy (d : Desk) (p : List ℕ) (t : ℕ) : ℕ → ℕ → Type 0 where
@@ -133,36 +133,46 @@ pub data JudgeBy (d : Desk) (p : List ℕ) (t : ℕ) : ℕ → ℕ → Type 0 wh
 
 -- ---- the whole
 
--- outcomes that are answers alone, and those that have lent memory or a desk beside the answer
+-- outcomes that are answers alone, and those that have lent memory or a desk beside the answer, which a refusal leaves as they were
+abbrev pub Answering : Reply → (ℕ → ℕ → Type 0) → Type 0
+Answering answer By = Exactly answer (Unit {0}) By
+
+abbrev pub Reading : Taken → List ℕ → List ℕ → (ℕ → ℕ → Type 0) → Type 0
+Reading outcome copy records By = Exactly (verdict (outcome .answer)) ((outcome .copy ≡ copy) × (outcome .records ≡ records)) By
+
 abbrev pub Filling : Filled → List ℕ → (ℕ → ℕ → Type 0) → Type 0
-Filling outcome room By = Exactly (λ (f : Filled). f .answer) outcome (λ n p. refuse n p room) By
+Filling outcome room By = Exactly (wrote (outcome .answer)) (outcome .room ≡ room) By
 
 abbrev pub Turning : Turned → Desk → List ℕ → (ℕ → ℕ → Type 0) → Type 0
-Turning outcome d pool By = Exactly (λ (r : Turned). r .answer) outcome (λ n p. refused d pool p n) By
+Turning outcome d pool By = Exactly (said (outcome .answer)) ((outcome .desk ≡ d) × (outcome .pool ≡ pool)) By
 
 -- a word whose halves are a refusal's number and place
 pub record Halves (r n p : ℕ) : Type 0 where
-  pub word : r ≡ n * 4294967296 + p
-  pub low : p < 4294967296
+  pub word : r ≡ n * limit.word + p
+  pub low : p < limit.word
 
 pub record Demand1 : Type 0 where
-  pub judges : (i : List ℕ) → Exactly (λ (v : Verdict). v) (judgeOf i) Unread (RefusedBy i)
-  pub reads : (i copy records : List ℕ) → Exactly (λ (t : Taken). t .answer) (readOutcome i copy records) (λ n p. took (Unread n p) copy records) (ReadBy i copy records)
+  pub judges : (i : List ℕ) → Answering (verdict (judgeOf i)) (RefusedBy i)
+  pub reads : (i copy records : List ℕ) → Reading (readOutcome i copy records) copy records (ReadBy i copy records)
   pub folds : (i out : List ℕ) → Filling (foldOutcome i out) out (FoldBy i out)
   pub escapes : (t out : List ℕ) → Filling (escapeOutcome t out) out (EscapeBy t out)
   pub unescapes : (t out : List ℕ) → Filling (unescapeOutcome t out) out (UnescapeBy t out)
   -- a refused desk has 0 slots
-  pub starts : (slots : ℕ) → Exactly (λ (r : Turn). r .answer) (newStep slots) (λ n p. refuseNew (freshDesk 0) n p) (NewBy slots)
+  pub starts : (slots : ℕ) → Exactly (said (newStep slots .answer)) (newStep slots .desk ≡ freshDesk 0) (NewBy slots)
   pub opens : (d : Desk) (pool : List ℕ) (m : ℕ) → Turning (openStep d pool m) d pool (OpenBy d pool)
   pub adds : (d : Desk) (pool : List ℕ) (t : ℕ) (chunk : List ℕ) → Turning (addStep d pool t chunk) d pool (AddBy d pool t chunk)
   pub releases : (d : Desk) (pool : List ℕ) (t : ℕ) → Turning (releaseStep d pool t) d pool (TicketBy d pool t)
-  pub counts : (d : Desk) (pool : List ℕ) (t : ℕ) → Exactly (λ (a : Answer). a) (heldStep d pool t) Refused (TicketBy d pool t)
-  pub judges-held : (d : Desk) (pool : List ℕ) (t : ℕ) → Exactly (λ (v : Verdict). v) (judgeStep d pool t) Unread (JudgeBy d pool t)
+  pub counts : (d : Desk) (pool : List ℕ) (t : ℕ) → Answering (said (heldStep d pool t)) (TicketBy d pool t)
+  pub judges-held : (d : Desk) (pool : List ℕ) (t : ℕ) → Answering (verdict (judgeStep d pool t)) (JudgeBy d pool t)
   -- show answers a part alone: the session's octets, and an empty one on a refusal
   pub shows-none : (d : Desk) (pool : List ℕ) (t n p : ℕ) → TicketBy d pool t n p → showStep d pool t .octets ≡ []
   pub shows : (d : Desk) (pool : List ℕ) (t i : ℕ) (s : Session) → Holds d pool t i s → showStep d pool t .octets ≡ octetsIn pool i s
+  -- the octets held are counted, and judged as the reader judges them
+  pub counted : (d : Desk) (pool : List ℕ) (t i : ℕ) (s : Session) → Holds d pool t i s → said (heldStep d pool t) ≡ told (s .held)
+  pub judged : (d : Desk) (pool : List ℕ) (t i : ℕ) (s : Session) → Holds d pool t i s → verdict (judgeStep d pool t) ≡ verdict (judgeOf (octetsIn pool i s))
   -- the routines for C answer a refusal as one word, and leave the room as it was
   pub c-judge : (i : List ℕ) (n p : ℕ) → RefusedBy i n p → Halves (verdictWord (judgeOf i)) n p
-  pub c-fold : (i out : List ℕ) (n p : ℕ) → FoldBy i out n p → Halves (wordOutcome (foldOutcome i out) .answer) n p × (wordOutcome (foldOutcome i out) .room ≡ out)
+  pub c-fold : (i out : List ℕ) (n p : ℕ) → FoldBy i out n p
+      → Halves (wordOutcome (foldOutcome i out) .answer) n p × (wordOutcome (foldOutcome i out) .room ≡ out)
   pub c-unescape : (t out : List ℕ) (n p : ℕ) → UnescapeBy t out n p
       → Halves (wordOutcome (unescapeOutcome t out) .answer) n p × (wordOutcome (unescapeOutcome t out) .room ≡ out)

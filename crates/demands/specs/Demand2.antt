@@ -6,64 +6,70 @@ use mathlib.Core.Bool.{true, false}
 use mathlib.Core.List.{List, _∷_}
 use mathlib.Core.Logic.{_↔_}
 use lib.ListN.{length, take, drop}
-use Rattle.octets.specs.Room.{Filled, filled, overlay}
-use Rattle.octets.specs.declared.rooms.Written.the-variants.{Wrote}
-use Rattle.escaping.specs.Escaped.{escaped}
+use Rattle.numbers.specs.Limits as limit
+use Rattle.octets.specs.Room.{Filled, overlay}
+use Rattle.text_escaping.specs.Escaped.{escaped}
 use Rattle.text.specs.Outcomes.{escapeOutcome, unescapeOutcome}
 use Rattle.text_laws.specs.Stands.{Stands}
-use Rattle.lines.specs.Grammar.{Line, render}
+use Rattle.line_parser.specs.Grammar.{Line, render}
 use Rattle.reader.specs.Outcome.{judgeOf, Taken, readOutcome}
-use Rattle.folds.specs.Logical.{logicalLines}
-use Rattle.reader.specs.declared.Verdict.the-variants.{Accepted}
-use Rattle.cuts.specs.Pieces.{pieces}
+use Rattle.line_laws.specs.Lined.{Lined}
+use Rattle.folder_line.specs.Pieces.{pieces}
 use Rattle.folder.specs.Outcome.{foldOutcome}
-use Rattle.fold_laws.specs.Cuttings.{Cutting}
-use Rattle.fold_laws.specs.Written.{Folds}
+use Rattle.folder_laws.specs.Cuttings.{Cutting}
+use Rattle.folder_laws.specs.Written.{Folds}
+use Rattle.desk_ledger.specs.Answers.{counts as accepted, told, verdict, wrote}
 use Rattle.firmware.specs.Word.{verdictWord, worded, wordOutcome}
-use Rattle.grammar.specs.Cards.{Readable}
-use Rattle.grammar.specs.Inputs.{InputOf}
-use Rattle.grammar.specs.Records.{Records}
+use Rattle.reader_grammar.specs.Cards.{Readable}
+use Rattle.reader_grammar.specs.Inputs.{InputOf}
+use Rattle.reader_grammar.specs.Records.{Records}
 use Rattle.demands.specs.Demand1.{copied, folded, Fair}
 
 -- both rooms hold what reading the input writes
 pub record Roomy {i : List ℕ} {k n : ℕ} (h : InputOf i k n) (copy records : List ℕ) : Type 0 where
   pub octets : length (copied h) ≤ length copy
-  pub numbers : n * 8 ≤ length records
+  pub numbers : n * limit.recordLength ≤ length records
 
 -- the counts; the copy, and the room past it as it was; the records, which tell of the lines in the copy, and the room past them as it was
 pub record ReadAs {i : List ℕ} {k n : ℕ} (h : InputOf i k n) (copy records : List ℕ) (t : Taken) : Type 0 where
-  pub counts : t .answer ≡ Accepted k n
+  pub counts : verdict (t .answer) ≡ accepted k n
   pub copies : t .copy ≡ overlay (copied h) copy
-  pub tells : Records (t .copy) 0 (h .lines) (take (n * 8) (t .records))
-  pub past : drop (n * 8) (t .records) ≡ drop (n * 8) records
+  pub tells : Records (t .copy) 0 (h .lines) (take (n * limit.recordLength) (t .records))
+  pub past : drop (n * limit.recordLength) (t .records) ≡ drop (n * limit.recordLength) records
 
--- xs stand at the start of the room, which is as it was past them
-abbrev pub wrote : List ℕ → List ℕ → Filled
-wrote xs room = filled (Wrote (length xs)) (overlay xs room)
+-- xs stand at the start of the room, which is as it was past them, and the answer is their count
+pub record Writes (f : Filled) (xs room : List ℕ) : Type 0 where
+  pub count : wrote (f .answer) ≡ told (length xs)
+  pub holds : f .room ≡ overlay xs room
 
 pub record Demand2 : Type 0 where
-  -- the reader accepts exactly the cards that document 01 draws
-  pub accepts : (i : List ℕ) (k n : ℕ) → (judgeOf i ≡ Accepted k n) ↔ InputOf i k n
+  -- the reader accepts exactly the cards that REFERENCE draws
+  pub accepts : (i : List ℕ) (k n : ℕ) → (verdict (judgeOf i) ≡ accepted k n) ↔ InputOf i k n
   -- which have one reading
   pub one-reading : (i : List ℕ) (k m n p : ℕ) (h : InputOf i k n) (g : InputOf i m p) → h .lines ≡ g .lines
   -- given room, with counts, copy and records; and without room it accepts nothing
   pub reads : (i copy records : List ℕ) (k n : ℕ) (h : InputOf i k n) → Roomy h copy records → ReadAs h copy records (readOutcome i copy records)
-  pub only : (i copy records : List ℕ) (k n : ℕ) → readOutcome i copy records .answer ≡ Accepted k n → (h : InputOf i k n) × Roomy h copy records
+  pub only : (i copy records : List ℕ) (k n : ℕ) → verdict (readOutcome i copy records .answer) ≡ accepted k n → (h : InputOf i k n) × Roomy h copy records
   -- the folder writes the folded form, which is made of each line's greedy cutting
-  pub folds : (i out : List ℕ) (k n : ℕ) (h : InputOf i k n) → length (folded h) ≤ 16384 → length (folded h) ≤ length out → foldOutcome i out ≡ wrote (folded h) out
+  pub folds : (i out : List ℕ) (k n : ℕ) (h : InputOf i k n) → length (folded h) ≤ limit.octets → length (folded h) ≤ length out
+      → Writes (foldOutcome i out) (folded h) out
   pub greedy : (x : Line) → Readable x → (p : List ℕ) (ps : List (List ℕ)) → Cutting (render x) p ps ↔ (p ∷ ps ≡ pieces (render x))
   -- what it wrote has physical lines of at most 75 octets, with no character split,
-  pub physical : (i out after : List ℕ) (n : ℕ) → foldOutcome i out ≡ filled (Wrote n) after → Folds (logicalLines i) (take n after)
+  pub physical : (i out : List ℕ) (n : ℕ) → wrote (foldOutcome i out .answer) ≡ told n
+      → (rs ls : List (List ℕ)) → Lined i rs ls → Folds ls (take n (foldOutcome i out .room))
   -- and read again gives the same answer, copy and records
-  pub read-again : (i out after : List ℕ) (n : ℕ) → foldOutcome i out ≡ filled (Wrote n) after
-      → (copy records : List ℕ) → readOutcome (take n after) copy records ≡ readOutcome i copy records
+  pub read-again : (i out : List ℕ) (n : ℕ) → wrote (foldOutcome i out .answer) ≡ told n
+      → (copy records : List ℕ) → readOutcome (take n (foldOutcome i out .room)) copy records ≡ readOutcome i copy records
   -- escape writes the escaped form of a text; unescape writes what a text stands for
-  pub escapes : (t out : List ℕ) → Fair true t → length (escaped t) ≤ 16384 → length (escaped t) ≤ length out → escapeOutcome t out ≡ wrote (escaped t) out
-  pub unescapes : (t u out : List ℕ) → Fair false t → Stands t u → length u ≤ length out → unescapeOutcome t out ≡ wrote u out
+  pub escapes : (t out : List ℕ) → Fair true t → length (escaped t) ≤ limit.octets → length (escaped t) ≤ length out
+      → Writes (escapeOutcome t out) (escaped t) out
+  pub unescapes : (t u out : List ℕ) → Fair false t → Stands t u → length u ≤ length out → Writes (unescapeOutcome t out) u out
   -- text escaped, then unescaped, comes back the same
-  pub back : (t out after room : List ℕ) (n : ℕ) → escapeOutcome t out ≡ filled (Wrote n) after → length t ≤ length room
-      → unescapeOutcome (take n after) room ≡ wrote t room
+  pub back : (t out room : List ℕ) (n : ℕ) → wrote (escapeOutcome t out .answer) ≡ told n → length t ≤ length room
+      → Writes (unescapeOutcome (take n (escapeOutcome t out .room)) room) t room
   -- the routines for C answer the count alone, which is no refusal's word, and leave the room as the entry does
-  pub c-judge : (i : List ℕ) (k n : ℕ) → InputOf i k n → (verdictWord (judgeOf i) ≡ k) × (k ≤ 16384)
-  pub c-fold : (i out after : List ℕ) (n : ℕ) → foldOutcome i out ≡ filled (Wrote n) after → (wordOutcome (foldOutcome i out) ≡ worded n after) × (n ≤ 16384)
-  pub c-unescape : (t out after : List ℕ) (n : ℕ) → unescapeOutcome t out ≡ filled (Wrote n) after → (wordOutcome (unescapeOutcome t out) ≡ worded n after) × (n ≤ 16384)
+  pub c-judge : (i : List ℕ) (k n : ℕ) → InputOf i k n → (verdictWord (judgeOf i) ≡ k) × (k ≤ limit.octets)
+  pub c-fold : (i out : List ℕ) (n : ℕ) → wrote (foldOutcome i out .answer) ≡ told n
+      → (wordOutcome (foldOutcome i out) ≡ worded n (foldOutcome i out .room)) × (n ≤ limit.octets)
+  pub c-unescape : (t out : List ℕ) (n : ℕ) → wrote (unescapeOutcome t out .answer) ≡ told n
+      → (wordOutcome (unescapeOutcome t out) ≡ worded n (unescapeOutcome t out .room)) × (n ≤ limit.octets)

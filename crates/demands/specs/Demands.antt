@@ -1,12 +1,17 @@
--- The three demands and the marked examples, side by side. Assumes nothing.
-use Rattle.lines.specs.Grammar.{Each}
-use Rattle.apart.specs.Demand.{Demand3}
-use Rattle.demands.specs.Cases.{Holds, cases}
+-- The three demands, what a granted call does, the claim of demand 3 of a program that makes the calls, and the marked examples, side by
+-- side. Assumes nothing.
+use Rattle.line_parser.specs.Grammar.{Each}
+use Rattle.desk_laws.specs.Demand.{Demand3}
+use Rattle.desk_laws.specs.Granted.{Granted}
+use Rattle.replay_laws.specs.Replays.{Replays}
+use Rattle.demands.specs.Examples.{Holds, marked}
 use Rattle.demands.specs.Demand1.{Demand1}
 use Rattle.demands.specs.Demand2.{Demand2}
 
 pub record Demands : Type 0 where
   pub total : Demand1
   pub exact : Demand2
-  pub apart : Demand3
-  pub examples : Each Holds cases
+  pub separate : Demand3
+  pub granted : Granted
+  pub replays : Replays
+  pub examples : Each Holds marked

@@ -1,5 +1,5 @@
 -- What the demands say, and the marked examples. Assumes nothing.
-pub mod Cases
+pub mod Examples
 pub mod Demand1
 pub mod Demand2
 pub mod Demands

@@ -1,4 +1,4 @@
--- What a look along the tickets leads to: an opening, and an add or a release in the slot of a ticket. Assumes nothing.
+-- What an opening does by the position found, and an add or a release by the slot of a ticket. Assumes nothing.
 use Prim.Native.Nat.{ℕ, _+_, _*_, _<_, _≤_}
 use mathlib.Core.Path.{_≡_, refl, sym, ap, _∙_}
 use mathlib.Core.Bool.{Bool, true, false}
@@ -7,18 +7,18 @@ use lib.Dec.{eqb}
 use lib.ListN.{length}
 use borrow.Author.Tests.{lt-ltb, le-ltb}
 use Rattle.octets.specs.Pick.{pick}
-use Rattle.tickets.specs.Search.{firstAt}
-use Rattle.slots.specs.Slots.{freeAt, lookOf}
-use Rattle.tickets.proofs.Searches.{unbarred}
-use Rattle.slots.proofs.SoundLaws.{sound-is as soundness, is-sound as tested}
-use Rattle.slots.proofs.SlotLaws.{Granted as GrantedIn, granted as grantedIn, free-look}
-use Rattle.tickets.specs.declared.Place.{Place}
-use Rattle.tickets.specs.declared.Place.the-variants.{At, Nowhere, Barred}
-use Rattle.sessions.specs.declared.Session.{Session}
-use Rattle.sessions.specs.declared.State.the-variants.{Free, Open}
-use Rattle.slots.specs.declared.Slot.{Slot}
-use Rattle.slots.specs.declared.Slot.the-variants.{Held, No}
-use Rattle.pools.specs.Pools.{patch, zeros}
+use Rattle.desk_entries.specs.Search.{firstAt}
+use Rattle.desk_slots.specs.Slots.{freeAt, positionOf}
+use Rattle.desk_entries.proofs.Searches.{unbarred}
+use Rattle.desk_slots.proofs.SoundLaws.{sound-is as soundness, is-sound as tested}
+use Rattle.desk_slots.proofs.SlotLaws.{Granted as GrantedIn, granted as grantedIn, free-position}
+use Rattle.desk_entries.specs.declared.tickets.Position.{Position}
+use Rattle.desk_entries.specs.declared.tickets.Position.the-variants.{At, Nowhere, Barred}
+use Rattle.desk_entries.specs.declared.Session.{Session}
+use Rattle.desk_entries.specs.declared.State.the-variants.{Free, Open}
+use Rattle.desk_slots.specs.declared.Slot.{Slot}
+use Rattle.desk_slots.specs.declared.Slot.the-variants.{Held, No}
+use Rattle.desk_pool.specs.Pools.{patch, zeros}
 use Rattle.desk.specs.Steps.{Sound, sound, slotOf, Turned, turned, refuse, refused, grant, openIn, openStep, grown, addIn, addStep, releaseIn, releaseStep}
 use Rattle.desk.specs.declared.Desk.{Desk}
 use Rattle.desk.specs.declared.Turn.{Turn}
@@ -39,18 +39,18 @@ granted d size t i s e = grantedIn (d .entries) (d .slots) (d .next) size t i s 
 
 -- ---- an opening
 
--- what an opening does after a look for 0
-abbrev openAfter : Desk → List ℕ → ℕ → Place → Turned
+-- what an opening does after a search for 0
+abbrev pub openAfter : Desk → List ℕ → ℕ → Position → Turned
 openAfter d p m (Barred n) = refused d p 0 n
 openAfter d p m Nowhere = pick (eqb (d .next) 4294967295) (refused d p 0 21) (openIn d p m Nowhere)
 openAfter d p m (At i) = pick (eqb (d .next) 4294967295) (refused d p 0 21) (openIn d p m (At i))
 
-pub open-look : (d : Desk) (p : List ℕ) (m : ℕ) (x : Place) → lookOf (d .entries) (d .slots) (d .next) (length p) 0 ≡ x → openAfter d p m x ≡ openStep d p m
+pub open-position : (d : Desk) (p : List ℕ) (m : ℕ) (x : Position) → positionOf (d .entries) (d .slots) (d .next) (length p) 0 ≡ x → openAfter d p m x ≡ openStep d p m
 unfolding openStep
-open-look d p m x e =
-    ap (openAfter d p m) (sym e ∙ free-look (d .entries) (d .slots) (d .next) (length p)) ∙ go (sound d) (eqb (length p) (d .slots * 16384))
+open-position d p m x e =
+    ap (openAfter d p m) (sym e ∙ free-position (d .entries) (d .slots) (d .next) (length p)) ∙ go (sound d) (eqb (length p) (d .slots * 16384))
   where
-    place : (r : Place) → firstAt (freeAt (d .entries)) 0 (d .slots) ≡ r
+    place : (r : Position) → firstAt (freeAt (d .entries)) 0 (d .slots) ≡ r
         → openAfter d p m r ≡ pick (eqb (d .next) 4294967295) (refused d p 0 21) (openIn d p m r)
     place (At i) q = refl
     place Nowhere q = refl
@@ -64,10 +64,6 @@ open-look d p m x e =
     go false b = refl
 
 -- ---- calls that name a ticket
-
--- the slot that a call was told
-pub told : (d : Desk) (size t i : ℕ) (s : Session) (x : Slot) → x ≡ slotOf d size t → x ≡ Held i s → Granted d size t i s
-told d size t i s x e f = granted d size t i s (sym e ∙ f)
 
 module _ (d : Desk) (p : List ℕ) (t : ℕ) (x : Slot) (e : x ≡ slotOf d (length p) t) where
   pub add-barred : (q : List ℕ) (n : ℕ) → x ≡ No n → (r : Turn) → r ≡ refuse d n 0 → turned r p ≡ addStep d p t q

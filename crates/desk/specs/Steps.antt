@@ -4,21 +4,23 @@ use mathlib.Core.Bool.{Bool}
 use mathlib.Core.List.{List, []}
 use lib.Dec.{ltb, eqb}
 use lib.ListN.{length, set, replicate}
+use Rattle.numbers.specs.Limits as limit
+use Rattle.numbers.specs.Refusals as refusal
 use Rattle.octets.specs.Pick.{pick}
 use Rattle.reader.specs.Outcome.{judgeOf}
 use Rattle.reader.specs.declared.Verdict.{Verdict}
 use Rattle.reader.specs.declared.Verdict.the-variants.{Refused as Unread}
-use Rattle.tickets.specs.Search.{firstAt}
-use Rattle.slots.specs.Sound.{none, bounds, Sound as SoundEntries, sound as soundEntries}
-use Rattle.slots.specs.Slots.{guarded as guardedEntries, freeAt, slotOf as slotIn}
-use Rattle.tickets.specs.declared.Place.{Place}
-use Rattle.tickets.specs.declared.Place.the-variants.{At, Nowhere, Barred}
-use Rattle.sessions.specs.declared.Session.{Session}
-use Rattle.sessions.specs.declared.State.{State}
-use Rattle.sessions.specs.declared.State.the-variants.{Free, Open}
-use Rattle.slots.specs.declared.Slot.{Slot}
-use Rattle.slots.specs.declared.Slot.the-variants.{Held, No}
-use Rattle.pools.specs.Pools.{patch, zeros, Part, partOf}
+use Rattle.desk_entries.specs.Search.{firstAt}
+use Rattle.desk_slots.specs.Sound.{none, bounds, Sound as SoundEntries, sound as soundEntries}
+use Rattle.desk_slots.specs.Slots.{guarded as guardedEntries, freeAt, slotOf as slotIn}
+use Rattle.desk_entries.specs.declared.tickets.Position.{Position}
+use Rattle.desk_entries.specs.declared.tickets.Position.the-variants.{At, Nowhere, Barred}
+use Rattle.desk_entries.specs.declared.Session.{Session}
+use Rattle.desk_entries.specs.declared.State.{State}
+use Rattle.desk_entries.specs.declared.State.the-variants.{Free, Open}
+use Rattle.desk_slots.specs.declared.Slot.{Slot}
+use Rattle.desk_slots.specs.declared.Slot.the-variants.{Held, No}
+use Rattle.desk_pool.specs.Pools.{patch, zeros, Part, partOf}
 use Rattle.desk.specs.declared.Desk.{Desk}
 use Rattle.desk.specs.declared.Answer.{Answer}
 use Rattle.desk.specs.declared.Answer.the-variants.{Done, Refused}
@@ -61,10 +63,10 @@ refused d p at n = turned (refuse d n at) p
 -- ---- a new desk
 
 abbrev pub freshDesk : ℕ → Desk
-freshDesk n = record { entries = replicate 40 none; slots = n; next = 1 }
+freshDesk n = record { entries = replicate limit.slots none; slots = n; next = 1 }
 
 unfoldable pub newStep : ℕ → Turn
-newStep n = pick (bounds n 1) (record { answer = Done 0; desk = freshDesk n }) (refuse (freshDesk 0) 26 0)
+newStep n = pick (bounds n 1) (record { answer = Done 0; desk = freshDesk n }) (refuse (freshDesk 0) refusal.slotCount 0)
 
 -- ---- open
 
@@ -79,15 +81,16 @@ abbrev pub opened : Desk → ℕ → ℕ → Desk
 opened d m i =
     record { entries = set (d .entries) i (record { state = Open (record { ticket = d .next; tram = m; held = 0 }) }); slots = d .slots; next = d .next + 1 }
 
-abbrev pub openIn : Desk → List ℕ → ℕ → Place → Turned
-openIn d p m Nowhere = refused d p 0 20
+abbrev pub openIn : Desk → List ℕ → ℕ → Position → Turned
+openIn d p m Nowhere = refused d p 0 refusal.noFreeSlot
 openIn d p m (At i) = record { answer = Done (d .next); desk = opened d m i; pool = p }
 openIn d p m (Barred n) = refused d p 0 n
 
 -- 25, 24, 21, 20; else the next ticket in the lowest free slot
 unfoldable pub openStep : Desk → List ℕ → ℕ → Turned
 openStep d p m =
-    guarded d (length p) (refused d p 0) (pick (eqb (d .next) 4294967295) (refused d p 0 21) (openIn d p m (firstAt (freeAt (d .entries)) 0 (d .slots))))
+    guarded d (length p) (refused d p 0)
+    (pick (eqb (d .next) limit.tickets) (refused d p 0 refusal.ticketsUsedUp) (openIn d p m (firstAt (freeAt (d .entries)) 0 (d .slots))))
 
 -- ---- add
 
@@ -97,8 +100,8 @@ grown s n = record { ticket = s .ticket; tram = s .tram; held = s .held + n }
 abbrev pub addIn : Desk → List ℕ → List ℕ → Slot → Turned
 addIn d p q (No n) = refused d p 0 n
 addIn d p q (Held i s) =
-    pick (ltb 16384 (s .held + length q)) (refused d p (s .held) 23)
-    (record { answer = Done (s .held + length q); desk = withState d i (Open (grown s (length q))); pool = patch p (i * 16384 + s .held) q })
+    pick (ltb limit.octets (s .held + length q)) (refused d p (s .held) refusal.slotFull)
+    (record { answer = Done (s .held + length q); desk = withState d i (Open (grown s (length q))); pool = patch p (i * limit.octets + s .held) q })
 
 unfoldable pub addStep : Desk → List ℕ → ℕ → List ℕ → Turned
 addStep d p t q = addIn d p q (slotOf d (length p) t)
@@ -107,7 +110,7 @@ addStep d p t q = addIn d p q (slotOf d (length p) t)
 
 abbrev pub releaseIn : Desk → List ℕ → Slot → Turned
 releaseIn d p (No n) = refused d p 0 n
-releaseIn d p (Held i s) = record { answer = Done 0; desk = withState d i Free; pool = patch p (i * 16384) zeros }
+releaseIn d p (Held i s) = record { answer = Done 0; desk = withState d i Free; pool = patch p (i * limit.octets) zeros }
 
 unfoldable pub releaseStep : Desk → List ℕ → ℕ → Turned
 releaseStep d p t = releaseIn d p (slotOf d (length p) t)

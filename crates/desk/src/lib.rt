@@ -1,22 +1,22 @@
 // The upload desk: 1 to 40 slots of 16,384 octets in a lent pool, and a session in each open one.
-use pools::SLOT_SIZE;
+use desk_entries::Entry;
+use desk_entries::Session;
+use desk_entries::State;
+use desk_entries::tickets::Position;
+use desk_slots::Slot;
+use numbers::limit;
+use numbers::refusal;
 use reader::Verdict;
-use sessions::Entry;
-use sessions::Session;
-use sessions::State;
-use slots::SLOTS;
-use slots::Slot;
-use tickets::Place;
 ghost use mathlib.Core.Path.{_≡_};
 ghost use Prim.Native.Nat.{_<_};
-ghost use Rattle.pools.specs.Pools.{Lies};
+ghost use Rattle.numbers.specs.Limits as limit;
+ghost use Rattle.desk_pool.specs.Pools.{Lies};
+ghost use Rattle.desk_slots.specs.Slots.{Within};
 ghost use Rattle.desk.specs.Steps.{refuse, grant, slotOf, turned, newStep, openStep, addStep, releaseStep, heldStep, judgeStep, showStep};
 
-// The next ticket once all are used up.
-pub const USED_UP: u32 = 4294967295;
-
+// A desk: the entries of its slots, its slot count and its next ticket.
 pub struct Desk {
-    pub entries: [Entry; SLOTS],
+    pub entries: [Entry; limit::SLOTS],
     pub slots: usize,
     pub next: u32,
 }
@@ -27,19 +27,21 @@ pub enum Answer {
     Refused(u32, usize),
 }
 
+// An answer and the next desk.
 pub struct Turn {
     pub answer: Answer,
     pub desk: Desk,
 }
 
 impl Desk {
+    // Makes a desk of that many free slots whose first ticket is 1, or refuses with 26.
     pub fn new(slots: usize) -> Turn
         ensures { λ r. ⌜ r ≡ newStep slots ⌝ }
     {
-        let es = [Entry { state: State::Free }; SLOTS];
-        if !slots::in_bounds(slots, 1) {
+        let es = [Entry { state: State::Free }; limit::SLOTS];
+        if !desk_slots::in_bounds(slots, 1) {
             return Turn {
-                answer: Answer::Refused(26, 0),
+                answer: Answer::Refused(refusal::SLOT_COUNT, 0),
                 desk: Desk {
                     entries: es,
                     slots: 0,
@@ -57,8 +59,8 @@ impl Desk {
         }
     }
 
-    // The desk as it is, with a refusal.
-    fn refused(self, number: u32, at: usize) -> Turn
+    // Answers a refusal and leaves the desk as it is.
+    fn refuse(self, number: u32, at: usize) -> Turn
         ensures { λ r. ⌜ r ≡ refuse self number at ⌝ }
     {
         Turn {
@@ -67,9 +69,9 @@ impl Desk {
         }
     }
 
-    // The desk with entry i in a new state.
-    fn granted(mut self, i: usize, state: State, answer: usize) -> Turn
-        requires { ⌜ i < 40 ⌝ }
+    // Answers a number and sets entry i to a new state.
+    fn grant(mut self, i: usize, state: State, answer: usize) -> Turn
+        requires { ⌜ i < limit.slots ⌝ }
         ensures { λ r. ⌜ r ≡ grant self i state answer ⌝ }
     {
         self.entries[i] = Entry { state: state };
@@ -79,31 +81,33 @@ impl Desk {
         }
     }
 
-    // 25, 24, 22, or the slot of a ticket.
+    // Finds the slot of a ticket in a pool of that size, or refuses with 25, 24 or 22.
     fn at_ticket(self, size: usize, t: u32) -> Slot
-        ensures { λ r. ⌜ r ≡ slotOf self size t ⌝ }
+        ensures slot { λ r. ⌜ r ≡ slotOf self size t ⌝ }
+        ensures within { λ r. ⌜ Within size r ⌝ }
     {
         let es = self.entries;
-        slots::at_ticket(es, self.slots, self.next, size, t)
+        desk_slots::at_ticket(es, self.slots, self.next, size, t)
     }
 
+    // Opens an upload for a tram in the lowest free slot and answers its ticket, or refuses with 25, 24, 21 or 20.
     pub fn open(mut self, pool: &[u8], tram: u32) -> Turn
         ensures { λ r. ⌜ turned r (now (pool .entry)) ≡ openStep self (now (pool .entry)) tram ⌝ }
     {
         let t = self.next;
         let es = self.entries;
-        let p = slots::look(es, self.slots, t, pool.len(), 0);
+        let p = desk_slots::find_slot(es, self.slots, t, pool.len(), 0);
         match p {
-            Place::Barred(r) => self.refused(r, 0),
-            Place::Nowhere => {
-                if t == USED_UP {
-                    return self.refused(21, 0);
+            Position::Barred(r) => self.refuse(r, 0),
+            Position::Nowhere => {
+                if t == limit::TICKETS {
+                    return self.refuse(refusal::TICKETS_USED_UP, 0);
                 }
-                self.refused(20, 0)
+                self.refuse(refusal::NO_FREE_SLOT, 0)
             }
-            Place::At(i) => {
-                if t == USED_UP {
-                    return self.refused(21, 0);
+            Position::At(i) => {
+                if t == limit::TICKETS {
+                    return self.refuse(refusal::TICKETS_USED_UP, 0);
                 }
                 let s = State::Open(Session {
                     ticket: t,
@@ -111,48 +115,50 @@ impl Desk {
                     held: 0,
                 });
                 self.next = t + 1;
-                self.granted(i, s, t as usize)
+                self.grant(i, s, t as usize)
             }
         }
     }
 
+    // Adds a chunk to an upload and answers the octets held then, or refuses with 25, 24, 22 or 23.
     pub fn add(self, pool: &mut [u8], t: u32, chunk: &[u8]) -> Turn
         ensures { λ r. ⌜ turned r (now (pool .exit)) ≡ addStep self (now (pool .entry)) t (now (chunk .entry)) ⌝ }
     {
         let slot = self.at_ticket(pool.len(), t);
         match slot {
-            Slot::No(r) => self.refused(r, 0),
+            Slot::No(r) => self.refuse(r, 0),
             Slot::Held(i, o) => {
                 let h = o.held as usize;
-                if chunk.len() > SLOT_SIZE - h {
-                    return self.refused(23, h);
+                if chunk.len() > limit::OCTETS - h {
+                    return self.refuse(refusal::SLOT_FULL, h);
                 }
-                pools::put(pool, i, h, chunk);
+                desk_pool::put(pool, i, h, chunk);
                 let m = h + chunk.len();
                 let s = State::Open(Session {
                     ticket: o.ticket,
                     tram: o.tram,
                     held: m as u32,
                 });
-                self.granted(i, s, m)
+                self.grant(i, s, m)
             }
         }
     }
 
+    // Ends an upload, zeroes its slot and answers 0, or refuses with 25, 24 or 22.
     pub fn release(self, pool: &mut [u8], t: u32) -> Turn
         ensures { λ r. ⌜ turned r (now (pool .exit)) ≡ releaseStep self (now (pool .entry)) t ⌝ }
     {
         let slot = self.at_ticket(pool.len(), t);
         match slot {
-            Slot::No(r) => self.refused(r, 0),
+            Slot::No(r) => self.refuse(r, 0),
             Slot::Held(i, o) => {
-                pools::clear(pool, i);
-                self.granted(i, State::Free, 0)
+                desk_pool::clear(pool, i);
+                self.grant(i, State::Free, 0)
             }
         }
     }
 
-    // The part of the pool itself that holds the session's octets; an empty one on a refusal.
+    // Hands out the part of the pool itself that holds an upload's octets, an empty one where `held` refuses.
     pub fn show(self, pool: &[u8], t: u32) -> &[u8]
         ensures { λ r. ⌜ Lies (pool .entry) r (showStep self (now (pool .entry)) t) ⌝ }
     {
@@ -161,12 +167,12 @@ impl Desk {
             Slot::No(r) => &pool[0..0],
             Slot::Held(i, o) => {
                 let held = o.held as usize;
-                pools::part(pool, i, held)
+                desk_pool::part(pool, i, held)
             }
         }
     }
 
-    // How many octets the session holds.
+    // Answers how many octets an upload holds, or refuses with 25, 24 or 22.
     pub fn held(self, pool: &[u8], t: u32) -> Answer
         ensures { λ r. ⌜ r ≡ heldStep self (now (pool .entry)) t ⌝ }
     {
@@ -177,7 +183,7 @@ impl Desk {
         }
     }
 
-    // The reader's answer for the session's octets.
+    // Answers what the reader answers for an upload's octets, or refuses with 25, 24 or 22.
     pub fn judge(self, pool: &[u8], t: u32) -> Verdict
         ensures { λ r. ⌜ r ≡ judgeStep self (now (pool .entry)) t ⌝ }
     {
@@ -186,7 +192,7 @@ impl Desk {
             Slot::No(r) => Verdict::Refused(r, 0),
             Slot::Held(i, o) => {
                 let held = o.held as usize;
-                reader::judge(pools::part(pool, i, held))
+                reader::judge(desk_pool::part(pool, i, held))
             }
         }
     }

@@ -10,15 +10,15 @@ use borrow.Author.Tests.{ltb-true, ltb-false}
 use Rattle.octets.specs.Pick.{pick}
 use Rattle.octets.specs.Scan.{gather}
 use Rattle.octets.specs.Room.{Filled, filled, overlay, refuse, fill, fillBounded}
-use Rattle.characters.specs.Characters.{allowed, firstBad}
+use Rattle.utf8.specs.Characters.{allowed, firstBad}
 use Rattle.octets.specs.declared.rooms.Written.{Written}
 use Rattle.octets.specs.declared.rooms.Written.the-variants.{Wrote}
-use Rattle.unescaping.specs.Unescaped.{firstFault, passed, standing, unescaped}
+use Rattle.text_unescaping.specs.Unescaped.{firstFault, passed, standing, unescaped}
 use Rattle.text.specs.Outcomes.{checked, faultless, unescapeOutcome}
-use Rattle.cuts.specs.Pieces.{foldedLines}
+use Rattle.folder_line.specs.Pieces.{foldedLines}
 use Rattle.folder.specs.Outcome.{foldBy, foldOutcome}
 use Rattle.reader.specs.Outcome.{judgeOf}
-use Rattle.folds.specs.Logical.{logicalLines}
+use Rattle.line_folds.specs.Logical.{logicalLines}
 use Rattle.reader.specs.declared.Verdict.{Verdict}
 use Rattle.reader.specs.declared.Verdict.the-variants.{Accepted, Refused as Rejected}
 use Rattle.firmware.specs.Word.{writtenWord, Low, worded, wordOutcome}

@@ -8,23 +8,23 @@ use lib.Dec.{eqb, ltb}
 use lib.ListN.{length, drop, length-take, length-drop}
 use borrow.Author.Tests.{ltb-true, ltb-false}
 use Rattle.octets.specs.Pick.{pick}
-use Rattle.characters.specs.Characters.{allowed, firstBad}
-use Rattle.lines.specs.Parse.{Parse, got, bad}
-use Rattle.lines.specs.Grammar.{Line}
-use Rattle.lines.specs.Rule.{parseLine}
-use Rattle.folds.specs.Folds.{lineLength, unfolded}
-use Rattle.folds.specs.Logical.{linesBy, rawLines}
-use Rattle.kinds.specs.Kinds.{valueScan}
-use Rattle.kinds.specs.declared.Fault.{Fault}
-use Rattle.kinds.specs.declared.Fault.the-variants.{Fits, Breaks}
-use Rattle.card_state.specs.State.{freshCard, inOrder, onceBit, isSeen, noted, closed}
-use Rattle.content.specs.Parts.{rowOfLine, kindOfLine}
-use Rattle.cards.specs.Judge.{laden, entered, fitting, judgeParts, judgeParsed, judgeLine}
+use Rattle.utf8.specs.Characters.{allowed, firstBad}
+use Rattle.line_parser.specs.Parse.{Parse, got, bad}
+use Rattle.line_parser.specs.Grammar.{Line}
+use Rattle.line_parser.specs.Rule.{parseLine}
+use Rattle.line_folds.specs.Folds.{lineLength, unfolded}
+use Rattle.line_folds.specs.Logical.{linesBy, rawLines}
+use Rattle.value_kinds.specs.Kinds.{valueScan}
+use Rattle.value_kinds.specs.declared.Fault.{Fault}
+use Rattle.value_kinds.specs.declared.Fault.the-variants.{Fits, Breaks}
+use Rattle.card_state.specs.State.{freshCard, inOrder, onceFlag, isSeen, noted, closed}
+use Rattle.card_line.specs.Parts.{rowOfLine, kindOfLine}
+use Rattle.card_judge.specs.Judge.{laden, entered, fitting, judgeParts, judgeParsed, judgeLine}
 use Rattle.card_state.specs.declared.Card.{Card}
 use Rattle.card_state.specs.declared.Step.{Step}
 use Rattle.card_state.specs.declared.Step.the-variants.{Next, Refused as Halted}
-use Rattle.ends.specs.Lone.{firstLone, endsCrLf}
-use Rattle.walks.specs.Walk.{onward, judgeLines}
+use Rattle.line_breaks.specs.Lone.{firstLone, endsCrLf}
+use Rattle.reader_walk.specs.Walk.{onward, judgeLines}
 use Rattle.reader.specs.Outcome.{verdictOf, judgeOf}
 use Rattle.reader.specs.declared.Verdict.{Verdict}
 use Rattle.reader.specs.declared.Verdict.the-variants.{Accepted, Refused}
@@ -46,8 +46,8 @@ at-entered : (c : Card) (p row : ℕ) (v : List ℕ) → At p (entered c p row v
 unfolding entered closed noted
 at-entered c p row v =
     at-pick p (eqb row 2) _ _
-    (at-pick p (c .named) _ _ (at-pick p (c .member && not (c .group)) _ _ refl tt) refl)
-    (at-pick p (isSeen (onceBit row) (c .seen)) _ _ refl tt)
+    (at-pick p (c .«has_fn») _ _ (at-pick p (c .«has_member» && not (c .«is_group»)) _ _ refl tt) refl)
+    (at-pick p (isSeen (onceFlag row) (c .seen)) _ _ refl tt)
 
 at-parsed : (c : Card) (p : ℕ) (m : Parse Line) → At p (judgeParsed c p m)
 unfolding judgeParts

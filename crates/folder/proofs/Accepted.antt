@@ -3,19 +3,19 @@ use mathlib.Core.Path.{_≡_}
 use mathlib.Core.List.{List, [], _∷_, map}
 use Prim.Native.Nat.{ℕ, _+_, _≤_}
 use lib.ListN.{length}
-use Rattle.folds.specs.Folds.{unfolded}
-use Rattle.folds.specs.Logical.{rawLines, logicalLines}
+use Rattle.line_folds.specs.Folds.{unfolded}
+use Rattle.line_folds.specs.Logical.{rawLines, logicalLines}
 use Rattle.card_state.specs.State.{freshCard}
-use Rattle.cards.specs.Judge.{judgeLine}
+use Rattle.card_judge.specs.Judge.{judgeLine}
 use Rattle.card_state.specs.declared.Card.{Card}
 use Rattle.card_state.specs.declared.Step.the-variants.{Next}
-use Rattle.cards.proofs.CardLaws.{line-clean}
-use Rattle.walks.specs.Walk.{judgeLines}
+use Rattle.card_judge.proofs.CardLaws.{line-clean}
+use Rattle.reader_walk.specs.Walk.{judgeLines}
 use Rattle.reader.specs.Outcome.{judgeOf}
 use Rattle.reader.specs.declared.Verdict.the-variants.{Accepted}
-use Rattle.walks.proofs.WalkLaws.{onward-next}
+use Rattle.reader_walk.proofs.WalkLaws.{onward-next}
 use Rattle.reader.proofs.AcceptLaws.{accepting}
-use Rattle.cuts.specs.Pieces.{Clean, All}
+use Rattle.folder_line.specs.Pieces.{Clean, All}
 
 module _ (P : List ℕ → Type 0) (each : (c c′ : Card) (p : ℕ) (l : List ℕ) → judgeLine c p l ≡ Next c′ → P l) where
   all-judged : (ls : List (List ℕ)) (p : ℕ) (c c′ : Card) → judgeLines ls p c ≡ Next c′ → All P (map unfolded ls)

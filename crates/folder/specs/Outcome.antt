@@ -1,13 +1,13 @@
--- What folding an input answers, and what the room holds then, by document 01: 1 to 12 as the reader does, then 16, 15, and else the
+-- What folding an input answers, and what the room holds then, by REFERENCE, Folding: 1 to 12 as the reader does, then 16, 15, and else the
 -- octets written. Assumes nothing.
 use Prim.Native.Nat.{ℕ}
 use mathlib.Core.List.{List}
 use Rattle.octets.specs.Room.{Filled, refuse, fillBounded}
 use Rattle.reader.specs.Outcome.{judgeOf}
-use Rattle.folds.specs.Logical.{logicalLines}
+use Rattle.line_folds.specs.Logical.{logicalLines}
 use Rattle.reader.specs.declared.Verdict.{Verdict}
 use Rattle.reader.specs.declared.Verdict.the-variants.{Accepted, Refused}
-use Rattle.cuts.specs.Pieces.{foldedLines}
+use Rattle.folder_line.specs.Pieces.{foldedLines}
 
 -- by the reader's verdict on the input i
 unfoldable pub foldBy : Verdict → List ℕ → List ℕ → Filled

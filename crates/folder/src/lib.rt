@@ -2,6 +2,9 @@
 ghost use mathlib.Core.Path.{_≡_};
 ghost use Rattle.octets.specs.Room.{filled};
 ghost use Rattle.folder.specs.Outcome.{foldOutcome};
+
+pub mod text;
+
 use octets::rooms::Written;
 use reader::Verdict;
 
@@ -11,7 +14,7 @@ pub fn fold(input: &[u8], out: &mut [u8]) -> Written
 {
     let v = reader::judge(input);
     match v {
-        Verdict::Accepted(cards, lines) => folding::fold_text(input, out),
+        Verdict::Accepted(cards, lines) => text::fold_text(input, out),
         Verdict::Refused(n, p) => Written::Refused(n, p),
     }
 }

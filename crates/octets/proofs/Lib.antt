@@ -1,6 +1,8 @@
 -- The laws that the proofs of `octets` and of the crates above it cite. Assumes nothing.
 pub mod Bools
+pub mod BitLaws
 pub mod Upto
+pub mod TableLaws
 pub mod Runs
 pub mod Masks
 pub mod Marks

@@ -6,6 +6,7 @@ use Prim.Native.Nat.{ℕ, zero, suc, _+_, _<_}
 use native.Mathlib.Omega.{arith}
 use lib.ListN.{getD, take}
 use native.Mathlib.Nat.{add-zero, zero-add, add-suc, suc-add, le-of-suc-le-suc, not-suc-le-zero}
+use Rattle.octets.proofs.Bools.{clash}
 
 unfoldable pub upto : {A : Type 0} → (ℕ → A) → ℕ → ℕ → List A
 upto f i zero = []
@@ -31,7 +32,7 @@ along g (x ∷ xs) = g x ∷ along g xs
 -- a table whose first n entries, by g, are what f gives in turn: one walk over the table
 module _ {A : Type 0} (g f : ℕ → A) where
   none-left : (a : A) (l : List A) → [] ≡ a ∷ l → ⊥
-  none-left a l e = let z : _≡_ {A = ℕ} 0 1 = cc in omega arith
+  none-left a l e = clash cc
 
   entry-from : (t : List ℕ) (n i : ℕ) → take n (along g t) ≡ upto f i n → (k : ℕ) → k < n → g (getD t k 0) ≡ f (i + k)
   unfolding along upto

@@ -1,4 +1,4 @@
--- The classes of an octet, by document 01's line rule and RFC 6350, section 3.3, and the longest run of octets of a class.
+-- The classes of an octet, by REFERENCE, The line rule and RFC 6350, section 3.3, and the longest run of octets of a class.
 -- Assumes nothing.
 use Prim.Native.Nat.{ℕ, suc, _+_, _<_}
 use mathlib.Core.Path.{_≡_}
@@ -7,30 +7,33 @@ use mathlib.Core.List.{List, [], _∷_}
 use lib.Dec.{leb, eqb}
 use lib.Bits.{bitAnd}
 use lib.ListN.{getD}
+use Rattle.octets.specs.Ascii as ascii
 
 abbrev pub within : ℕ → ℕ → ℕ → Bool
 within lo hi b = leb lo b && leb b hi
 
+-- A to Z and a to z
 unfoldable pub letter : ℕ → Bool
 letter b = within 65 90 b || within 97 122 b
 
+-- 0 to 9
 unfoldable pub digit : ℕ → Bool
 digit b = within 48 57 b
 
 unfoldable pub hyphen : ℕ → Bool
-hyphen b = eqb b 45
+hyphen b = eqb b ascii.hyphen
 
 -- an octet of a property value (VALUE-CHAR): tab, 20-7E, and 80 and above
 unfoldable pub valued : ℕ → Bool
-valued b = eqb b 9 || (within 32 126 b || leb 128 b)
+valued b = eqb b ascii.tab || (within 0x20 0x7E b || leb 0x80 b)
 
 -- an octet between quote marks: any of a value but the quote mark
 unfoldable pub quoted : ℕ → Bool
-quoted b = valued b && not (eqb b 34)
+quoted b = valued b && not (eqb b ascii.quote)
 
 -- an octet of a bare value: none of the quote mark, `,`, `:` and `;`
 unfoldable pub bare : ℕ → Bool
-bare b = quoted b && not (eqb b 44 || (eqb b 58 || eqb b 59))
+bare b = quoted b && not (eqb b ascii.comma || (eqb b ascii.colon || eqb b ascii.semicolon))
 
 -- an octet of a group, a name or a parameter name
 unfoldable pub named : ℕ → Bool
@@ -42,6 +45,19 @@ bit false n = 0
 
 abbrev pub mask : Bool → Bool → Bool → Bool → Bool → Bool → ℕ
 mask l d h b q v = bit l 1 + (bit d 2 + (bit h 4 + (bit b 8 + (bit q 16 + bit v 32))))
+
+-- the masks of an octet of a name, of a bare value, between quote marks, and of a property value
+abbrev pub nameMask : ℕ
+nameMask = 7
+
+abbrev pub bareMask : ℕ
+bareMask = 8
+
+abbrev pub quotedMask : ℕ
+quotedMask = 16
+
+abbrev pub valueMask : ℕ
+valueMask = 32
 
 -- the class mask of an octet
 unfoldable pub classOf : ℕ → ℕ

@@ -6,3 +6,5 @@ pub mod Room
 pub mod Classes
 pub mod Cases
 pub mod Counts
+pub mod Slices
+pub mod Tables

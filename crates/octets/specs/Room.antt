@@ -1,8 +1,10 @@
--- Lent room: what it holds when a list was written to its start, and document 01's refusals 15 and 16. Assumes nothing.
+-- Lent room: what it holds when a list was written to its start, and refusals 15 and 16 of REFERENCE, Refusals. Assumes nothing.
 use Prim.Native.Nat.{ℕ}
 use mathlib.Core.List.{List, _++_}
 use lib.Dec.{ltb}
 use lib.ListN.{length, drop}
+use Rattle.numbers.specs.Limits as limit
+use Rattle.numbers.specs.Refusals as refusal
 use Rattle.octets.specs.Pick.{pick}
 use Rattle.octets.specs.declared.rooms.Written.{Written}
 use Rattle.octets.specs.declared.rooms.Written.the-variants.{Wrote, Refused}
@@ -25,8 +27,8 @@ refuse n p room = filled (Refused n p) room
 
 -- 15 where the room is too small for the octets, else they are written to its start
 unfoldable pub fill : List ℕ → List ℕ → Filled
-fill xs room = pick (ltb (length room) (length xs)) (refuse 15 (length xs) room) (filled (Wrote (length xs)) (overlay xs room))
+fill xs room = pick (ltb (length room) (length xs)) (refuse refusal.room (length xs) room) (filled (Wrote (length xs)) (overlay xs room))
 
 -- 16 where there are over 16,384 octets, before 15
 unfoldable pub fillBounded : List ℕ → List ℕ → Filled
-fillBounded xs room = pick (ltb 16384 (length xs)) (refuse 16 16384 room) (fill xs room)
+fillBounded xs room = pick (ltb limit.octets (length xs)) (refuse refusal.formTooLong limit.octets room) (fill xs room)

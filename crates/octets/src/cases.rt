@@ -3,13 +3,13 @@ ghost use mathlib.Core.Path.{_≡_};
 ghost use Rattle.octets.specs.Cases.{lower, same};
 
 // A capital as its small letter, any other octet as it is.
-pub fn small(b: u8) -> u8
+pub fn lower(b: u8) -> u8
     ensures { λ r. ⌜ r ≡ lower b ⌝ }
 {
-    if b < 65 {
+    if b < b'A' {
         return b;
     }
-    if 90 < b {
+    if b'Z' < b {
         return b;
     }
     b + 32
@@ -24,7 +24,7 @@ pub fn same_name(a: &[u8], b: &[u8]) -> bool
     }
     let mut i = 0;
     while i < a.len() {
-        if small(a[i]) != small(b[i]) {
+        if lower(a[i]) != lower(b[i]) {
             return false;
         }
         i += 1;

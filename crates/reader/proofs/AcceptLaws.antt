@@ -9,15 +9,15 @@ use lib.ListN.{length, drop}
 use borrow.Author.Tests.{ltb-false, eqb-true, eqb-false}
 use Rattle.octets.specs.Pick.{pick}
 use Rattle.octets.proofs.Scans.{scan-le}
-use Rattle.folds.specs.Folds.{lineLength}
-use Rattle.folds.specs.Logical.{linesBy, rawLines}
+use Rattle.line_folds.specs.Folds.{lineLength}
+use Rattle.line_folds.specs.Logical.{linesBy, rawLines}
 use Rattle.card_state.specs.State.{freshCard}
 use Rattle.card_state.specs.declared.Card.{Card}
 use Rattle.card_state.specs.declared.Step.{Step}
 use Rattle.card_state.specs.declared.Step.the-variants.{Next, Refused as Halted}
-use Rattle.ends.specs.Lone.{loneStep, firstLone, endsCrLf}
-use Rattle.walks.specs.Walk.{judgeLines}
-use Rattle.walks.proofs.WalkLaws.{counted}
+use Rattle.line_breaks.specs.Lone.{loneStep, firstLone, endsCrLf}
+use Rattle.reader_walk.specs.Walk.{judgeLines}
+use Rattle.reader_walk.proofs.WalkLaws.{counted}
 use Rattle.reader.specs.Outcome.{verdictOf, judgeOf}
 use Rattle.reader.specs.declared.Verdict.the-variants.{Accepted, Refused}
 

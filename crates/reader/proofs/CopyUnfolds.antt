@@ -9,10 +9,10 @@ use lib.Dec.{eqb}
 use lib.ListN.{length, getD, take, drop, length-append}
 use borrow.Author.Tests.{ne-eqb, eqb-true, eqb-false, le-ltb}
 use Rattle.octets.specs.Scan.{scan, gather}
-use Rattle.folds.specs.Folds.{foldAt, lineStep, lineLength, passed, kept, unfolded}
-use Rattle.folds.specs.Logical.{rawLines, logicalLines}
-use Rattle.ends.specs.Lone.{loneStep, firstLone, endsCrLf}
-use Rattle.folds.proofs.LineLaws.{lines-step, lines-end}
+use Rattle.line_folds.specs.Folds.{foldAt, lineStep, lineLength, passed, kept, unfolded}
+use Rattle.line_folds.specs.Logical.{rawLines, logicalLines}
+use Rattle.line_breaks.specs.Lone.{loneStep, firstLone, endsCrLf}
+use Rattle.line_folds.proofs.LineLaws.{lines-step, lines-end}
 use Rattle.reader.specs.Outcome.{ended, copyOf}
 
 clash : {A : Type 0} → true ≡ false → A

@@ -11,21 +11,21 @@ use lib.Dec.{eqb}
 use lib.ListN.{length, getD, drop, length-append}
 use lib.Seq.{take-append-seam, drop-append-add}
 use borrow.Author.Tests.{ne-eqb}
-use Rattle.characters.specs.Characters.{allowed, firstBad}
-use Rattle.characters.proofs.Chains.{NoEnd, none, more, no-end, good-chars}
-use Rattle.folds.specs.Folds.{lineLength, unfolded}
-use Rattle.folds.specs.Logical.{rawLines, logicalLines}
-use Rattle.folds.proofs.LineLaws.{lines-end}
-use Rattle.lines.specs.Grammar.{Each}
+use Rattle.utf8.specs.Characters.{allowed, firstBad}
+use Rattle.utf8.proofs.Chains.{NoEnd, none, more, no-end, good-chars}
+use Rattle.line_folds.specs.Folds.{lineLength, unfolded}
+use Rattle.line_folds.specs.Logical.{rawLines, logicalLines}
+use Rattle.line_folds.proofs.LineLaws.{lines-end}
+use Rattle.line_parser.specs.Grammar.{Each}
 use Rattle.card_state.specs.State.{freshCard}
-use Rattle.cards.specs.Judge.{judgeLine}
+use Rattle.card_judge.specs.Judge.{judgeLine}
 use Rattle.card_state.specs.declared.Card.{Card}
 use Rattle.card_state.specs.declared.Step.the-variants.{Next}
-use Rattle.cards.proofs.CardLaws.{line-clean}
-use Rattle.walks.specs.Walk.{judgeLines}
+use Rattle.card_judge.proofs.CardLaws.{line-clean}
+use Rattle.reader_walk.specs.Walk.{judgeLines}
 use Rattle.reader.specs.Outcome.{judgeOf, ended, copyOf}
 use Rattle.reader.specs.declared.Verdict.the-variants.{Accepted}
-use Rattle.walks.proofs.WalkLaws.{onward-next}
+use Rattle.reader_walk.proofs.WalkLaws.{onward-next}
 use Rattle.reader.proofs.AcceptLaws.{accepting}
 use Rattle.reader.proofs.CopyUnfolds.{line-octet, raw, line-stop}
 

@@ -6,16 +6,16 @@ use native.Mathlib.Omega.{arith}
 use lib.ListN.{length, length-map}
 use borrow.Author.Tests.{lt-ltb, le-ltb}
 use Rattle.octets.specs.Room.{overlay}
-use Rattle.folds.specs.Folds.{unfolded}
-use Rattle.folds.specs.Logical.{rawLines, logicalLines}
-use Rattle.records.specs.Records.{recordsFrom}
+use Rattle.line_folds.specs.Folds.{unfolded}
+use Rattle.line_folds.specs.Logical.{rawLines, logicalLines}
+use Rattle.reader_records.specs.Records.{recordsFrom}
 use Rattle.reader.specs.Outcome.{judgeOf, copyOf, recordsOf, took, writeOutcome, outcomeBy, readOutcome}
 use Rattle.reader.specs.declared.Verdict.{Verdict}
 use Rattle.reader.specs.declared.Verdict.the-variants.{Accepted, Refused}
 use Rattle.reader.proofs.AcceptLaws.{accepting, lines-counted}
 use Rattle.reader.proofs.CopyUnfolds.{copy-unfolds}
 use Rattle.reader.proofs.LinesAgain.{copy-lines}
-use Rattle.records.proofs.RecordLaws.{records-length}
+use Rattle.reader_records.proofs.RecordLaws.{records-length}
 
 module _ (i : List ℕ) (k n : ℕ) (e : judgeOf i ≡ Accepted k n) where
   -- the copy is the input without its folds, and its lines are the logical lines

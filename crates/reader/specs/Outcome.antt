@@ -1,32 +1,34 @@
--- What the reader answers and writes, by document 01: the numbers 1 to 14, the copy and the records. Assumes nothing.
+-- What the reader answers and writes, by REFERENCE, What the unit reads and writes: the numbers 1 to 14, the copy and the records. Assumes nothing.
 use Prim.Native.Nat.{ℕ, _+_}
 use mathlib.Core.List.{List, [], _∷_, _++_}
 use lib.Dec.{eqb, ltb}
 use lib.ListN.{length}
+use Rattle.numbers.specs.Limits as limit
+use Rattle.numbers.specs.Refusals as refusal
 use Rattle.octets.specs.Pick.{pick}
 use Rattle.octets.specs.Room.{overlay}
-use Rattle.folds.specs.Logical.{rawLines, logicalLines}
-use Rattle.walks.specs.Walk.{judgeLines}
-use Rattle.records.specs.Records.{recordsFrom}
-use Rattle.card_state.specs.State.{freshCard}
+use Rattle.line_folds.specs.Logical.{rawLines, logicalLines}
+use Rattle.reader_walk.specs.Walk.{judgeLines}
+use Rattle.reader_records.specs.Records.{recordsFrom}
+use Rattle.card_state.specs.State.{beforeBegin, freshCard}
 use Rattle.card_state.specs.declared.Step.{Step}
 use Rattle.card_state.specs.declared.Step.the-variants.{Next, Refused as Halted}
-use Rattle.ends.specs.Lone.{firstLone, endsCrLf}
+use Rattle.line_breaks.specs.Lone.{firstLone, endsCrLf}
 use Rattle.reader.specs.declared.Verdict.{Verdict}
 use Rattle.reader.specs.declared.Verdict.the-variants.{Accepted, Refused}
 
 -- after the last line of an input of n octets: 9 inside a card, else the counts of cards and lines
 unfoldable pub verdictOf : ℕ → Step → Verdict
-verdictOf n (Next c) = pick (eqb (c .phase) 0) (Accepted (c .cards) (c .lines)) (Refused 9 n)
+verdictOf n (Next c) = pick (eqb (c .phase) beforeBegin) (Accepted (c .cards) (c .lines)) (Refused refusal.order n)
 verdictOf n (Halted k p) = Refused k p
 
 -- 1, 2, 3, 4 over the whole input, then line by line 5 to 12
 unfoldable pub judgeOf : List ℕ → Verdict
 judgeOf i =
-    pick (ltb 16384 (length i)) (Refused 1 16384)
-    (pick (eqb (length i) 0) (Refused 2 0)
-    (pick (ltb (firstLone i) (length i)) (Refused 3 (firstLone i))
-    (pick (endsCrLf i) (verdictOf (length i) (judgeLines (rawLines i) 0 freshCard)) (Refused 4 (length i)))))
+    pick (ltb limit.octets (length i)) (Refused refusal.tooLong limit.octets)
+    (pick (eqb (length i) 0) (Refused refusal.empty 0)
+    (pick (ltb (firstLone i) (length i)) (Refused refusal.loneCrOrLf (firstLone i))
+    (pick (endsCrLf i) (verdictOf (length i) (judgeLines (rawLines i) 0 freshCard)) (Refused refusal.noEnd (length i)))))
 
 -- the lines in order, each ended by CR LF
 unfoldable pub ended : List (List ℕ) → List ℕ
@@ -51,8 +53,8 @@ took a copy records = record { answer = a; copy = copy; records = records }
 -- an accepted input: 13, then 14, else the copy and the records are written to the start of their rooms
 unfoldable pub writeOutcome : Verdict → List ℕ → List ℕ → List ℕ → List ℕ → Taken
 writeOutcome a xs rs copy records =
-    pick (ltb (length copy) (length xs)) (took (Refused 13 (length xs)) copy records)
-    (pick (ltb (length records) (length rs)) (took (Refused 14 (length rs)) copy records)
+    pick (ltb (length copy) (length xs)) (took (Refused refusal.copyRoom (length xs)) copy records)
+    (pick (ltb (length records) (length rs)) (took (Refused refusal.recordRoom (length rs)) copy records)
     (took a (overlay xs copy) (overlay rs records)))
 
 -- nothing is written on a refusal

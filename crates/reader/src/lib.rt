@@ -2,6 +2,8 @@
 ghost use mathlib.Core.Path.{_≡_};
 ghost use Rattle.reader.specs.Outcome.{verdictOf, judgeOf, took, readOutcome};
 use card_state::Step;
+use numbers::limit;
+use numbers::refusal;
 
 // The counts of cards and lines, or a refusal's number and place.
 pub enum Verdict {
@@ -10,15 +12,15 @@ pub enum Verdict {
 }
 
 // What the last line leaves, at the end of an input of n octets: 9 inside a card.
-fn concluded(n: usize, last: Step) -> Verdict
+fn conclude(n: usize, last: Step) -> Verdict
     ensures { λ r. ⌜ r ≡ verdictOf n last ⌝ }
 {
     match last {
         Step::Next(c) => {
-            if c.phase == 0 {
+            if c.phase == card_state::BEFORE_BEGIN {
                 return Verdict::Accepted(c.cards, c.lines);
             }
-            Verdict::Refused(9, n)
+            Verdict::Refused(refusal::ORDER, n)
         }
         Step::Refused(k, p) => Verdict::Refused(k, p),
     }
@@ -28,25 +30,25 @@ fn concluded(n: usize, last: Step) -> Verdict
 pub fn judge(input: &[u8]) -> Verdict
     ensures { λ r. ⌜ r ≡ judgeOf (now (input .entry)) ⌝ }
 {
-    if 16384 < input.len() {
-        return Verdict::Refused(1, 16384);
+    if limit::OCTETS < input.len() {
+        return Verdict::Refused(refusal::TOO_LONG, limit::OCTETS);
     }
     if input.len() == 0 {
-        return Verdict::Refused(2, 0);
+        return Verdict::Refused(refusal::EMPTY, 0);
     }
-    let lone = ends::first_lone(input);
+    let lone = line_breaks::first_lone(input);
     if lone < input.len() {
-        return Verdict::Refused(3, lone);
+        return Verdict::Refused(refusal::LONE_CR_OR_LF, lone);
     }
-    let ended = ends::ends_cr_lf(input);
+    let ended = line_breaks::ends_cr_lf(input);
     if !ended {
-        return Verdict::Refused(4, input.len());
+        return Verdict::Refused(refusal::NO_END, input.len());
     }
     let t = octets::classes::table();
-    let rows = properties::table();
-    let steps = values::scanner::table();
-    let last = walks::walk(&t, &rows, &steps, input);
-    concluded(input.len(), last)
+    let rows = property_table::table();
+    let steps = value_automaton::scanner::table();
+    let last = reader_walk::walk(&t, &rows, &steps, input);
+    conclude(input.len(), last)
 }
 
 // The verdict on an input, 1 to 14 or the counts; where it is accepted, its copy and its records are written to the start of their
@@ -58,16 +60,16 @@ pub fn read(input: &[u8], copy: &mut [u8], records: &mut [u32]) -> Verdict
     let Verdict::Accepted(cards, lines) = v else {
         return v;
     };
-    let octets = unfolding::unfolded_length(input);
+    let octets = line_unfolding::unfolded_length(input);
     if copy.len() < octets {
-        return Verdict::Refused(13, octets);
+        return Verdict::Refused(refusal::COPY_ROOM, octets);
     }
-    let numbers = lines * 8;
+    let numbers = lines * limit::RECORD_LENGTH;
     if records.len() < numbers {
-        return Verdict::Refused(14, numbers);
+        return Verdict::Refused(refusal::RECORD_ROOM, numbers);
     }
     let t = octets::classes::table();
-    let rows = properties::table();
-    records::write_lines(&t, &rows, input, copy, records);
+    let rows = property_table::table();
+    reader_records::write_lines(&t, &rows, input, copy, records);
     Verdict::Accepted(cards, lines)
 }

@@ -8,24 +8,24 @@ use lib.Dec.{eqb}
 use lib.ListN.{length}
 use borrow.Author.Tests.{le-ltb}
 use Rattle.octets.specs.Pick.{pick}
-use Rattle.characters.specs.Characters.{allowed, firstBad}
-use Rattle.properties.specs.Rows.{isGroup}
-use Rattle.card_state.specs.State.{onceBit, isSeen, noted, closed}
-use Rattle.content.specs.Parts.{rowOfLine}
-use Rattle.cards.specs.Judge.{entered, judgeParts, judgeLine}
+use Rattle.utf8.specs.Characters.{allowed, firstBad}
+use Rattle.property_table.specs.Rows.{isGroup}
+use Rattle.card_state.specs.State.{onceFlag, isSeen, noted, closed}
+use Rattle.card_line.specs.Parts.{rowOfLine}
+use Rattle.card_judge.specs.Judge.{entered, judgeParts, judgeLine}
 use Rattle.card_state.specs.declared.Card.{Card}
 use Rattle.card_state.specs.declared.Step.the-variants.{Next}
-use Rattle.cards.proofs.CardLaws.{unless, only, passed}
+use Rattle.card_judge.proofs.CardLaws.{unless, only, passed}
 
 module _ (c c′ : Card) (p q : ℕ) where
   closed-anywhere : closed c p ≡ Next c′ → closed c q ≡ Next c′
   unfolding closed
   closed-anywhere e =
-      only 11 p (c .named) _ e (λ t r. unless 12 p (c .member && not (c .group)) _ r (λ u s. simp (t, u) s))
+      only 11 p (c .«has_fn») _ e (λ t r. unless 12 p (c .«has_member» && not (c .«is_group»)) _ r (λ u s. simp (t, u) s))
 
   noted-anywhere : (row : ℕ) (group : Bool) → noted c p row group ≡ Next c′ → noted c q row group ≡ Next c′
   unfolding noted
-  noted-anywhere row group e = unless 10 p (isSeen (onceBit row) (c .seen)) _ e (λ t r. simp t r)
+  noted-anywhere row group e = unless 10 p (isSeen (onceFlag row) (c .seen)) _ e (λ t r. simp t r)
 
   entered-anywhere : (row : ℕ) (v : List ℕ) → entered c p row v ≡ Next c′ → entered c q row v ≡ Next c′
   unfolding entered

@@ -8,13 +8,13 @@ use native.Mathlib.Omega.{arith}
 use lib.ListN.{length, length-append}
 use borrow.Author.Tests.{ne-eqb}
 use Rattle.octets.specs.Scan.{scan, gather}
-use Rattle.characters.proofs.Chains.{NoEnd, none, more}
-use Rattle.folds.specs.Folds.{lineLength, unfolded}
-use Rattle.ends.specs.Lone.{loneStep, firstLone, endsCrLf}
-use Rattle.folds.proofs.FoldLaws.{unfold-shorter}
-use Rattle.lines.specs.Grammar.{Each}
+use Rattle.utf8.proofs.Chains.{NoEnd, none, more}
+use Rattle.line_folds.specs.Folds.{lineLength, unfolded}
+use Rattle.line_breaks.specs.Lone.{loneStep, firstLone, endsCrLf}
+use Rattle.line_folds.proofs.FoldLaws.{unfold-shorter}
+use Rattle.line_parser.specs.Grammar.{Each}
 use Rattle.reader.specs.Outcome.{judgeOf, ended, copyOf, recordsOf}
-use Rattle.folds.specs.Logical.{logicalLines}
+use Rattle.line_folds.specs.Logical.{logicalLines}
 use Rattle.reader.specs.declared.Verdict.the-variants.{Accepted}
 use Rattle.reader.proofs.AcceptLaws.{accepting}
 use Rattle.reader.proofs.CopyUnfolds.{ends-append, kept-octet, raw, copy-unfolds}

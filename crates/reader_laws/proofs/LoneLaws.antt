@@ -10,7 +10,7 @@ use lib.ListN.{length, getD}
 use borrow.Author.Tests.{eqb-true, eqb-false}
 use Rattle.octets.specs.Scan.{scan}
 use Rattle.octets.proofs.Scans.{scan-le}
-use Rattle.ends.specs.Lone.{loneStep, firstLone}
+use Rattle.line_breaks.specs.Lone.{loneStep, firstLone}
 use Rattle.reader_laws.specs.Lone.{Alone, cr, lf, before, Lone}
 
 -- the k-th octet of l, where o stands before it

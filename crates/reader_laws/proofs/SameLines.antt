@@ -7,18 +7,18 @@ use Prim.Native.Nat.{ℕ, _+_, _≤_}
 use native.Mathlib.Omega.{arith}
 use lib.ListN.{length}
 use borrow.Author.Tests.{ne-eqb, eq-eqb, le-ltb}
-use Rattle.folds.specs.Folds.{unfolded}
-use Rattle.folds.specs.Logical.{rawLines, logicalLines}
+use Rattle.line_folds.specs.Folds.{unfolded}
+use Rattle.line_folds.specs.Logical.{rawLines, logicalLines}
 use Rattle.card_state.specs.State.{freshCard}
-use Rattle.cards.specs.Judge.{judgeLine}
+use Rattle.card_judge.specs.Judge.{judgeLine}
 use Rattle.card_state.specs.declared.Card.{Card}
 use Rattle.card_state.specs.declared.Step.{Step}
 use Rattle.card_state.specs.declared.Step.the-variants.{Next}
-use Rattle.ends.specs.Lone.{firstLone, endsCrLf}
-use Rattle.walks.specs.Walk.{onward, judgeLines}
+use Rattle.line_breaks.specs.Lone.{firstLone, endsCrLf}
+use Rattle.reader_walk.specs.Walk.{onward, judgeLines}
 use Rattle.reader.specs.Outcome.{verdictOf, judgeOf, copyOf, recordsOf}
 use Rattle.reader.specs.declared.Verdict.the-variants.{Accepted}
-use Rattle.walks.proofs.WalkLaws.{onward-next}
+use Rattle.reader_walk.proofs.WalkLaws.{onward-next}
 use Rattle.reader.proofs.AcceptLaws.{Accepting, accepting}
 use Rattle.reader_laws.proofs.Anywhere.{any-place}
 

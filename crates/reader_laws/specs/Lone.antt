@@ -1,4 +1,4 @@
--- Refusal 3 of document 01 in plain words: CR without LF after it, or LF without CR before it. Assumes nothing.
+-- Refusal 3 of REFERENCE, Refusals in plain words: CR without LF after it, or LF without CR before it. Assumes nothing.
 use Prim.Native.Nat.{ℕ, zero, suc}
 use mathlib.Core.Path.{_≡_}
 use mathlib.Core.List.{List}

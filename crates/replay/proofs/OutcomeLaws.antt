@@ -8,26 +8,22 @@ use lib.Dec.{leb, eqb}
 use lib.ListN.{length}
 use borrow.Author.Tests.{eqb-true, leb-true, eq-eqb, ne-eqb}
 use Rattle.octets.specs.Pick.{pick}
-use Rattle.octets.specs.Room.{overlay}
 use Rattle.octets.specs.Scan.{scan}
-use Rattle.slots.specs.Sound.{bounds}
+use Rattle.desk_slots.specs.Sound.{bounds}
 use Rattle.desk.specs.Steps.{refuse, freshDesk, newStep}
 use Rattle.desk.specs.declared.Desk.{Desk}
 use Rattle.desk.specs.declared.Answer.the-variants.{Done, Refused as No}
 use Rattle.desk.specs.declared.Turn.{Turn}
-use Rattle.slots.proofs.SoundLaws.{bounds-are}
-use Rattle.apart.specs.Ledger.{Reply, ledgerStep, freshLedger, run, after}
-use Rattle.apart.specs.Desks.{World, deskStep}
-use Rattle.apart.specs.Demand.{Proper, world}
-use Rattle.apart.proofs.Claim.{demand3}
-use Rattle.scripts.specs.Scripts.{width, callsIn, Decoded, calls, broken, decode}
-use Rattle.scripts.specs.Counts.{shown, counted}
-use Rattle.logs.specs.Logs.{written, Put, roomFor}
-use Rattle.runs.specs.Stepped.{worldOf}
+use Rattle.desk_ledger.specs.Ledger.{run, after}
+use Rattle.desk_ledger.specs.Desks.{World, deskStep}
+use Rattle.replay_script.specs.Scripts.{width, callsIn, Decoded, calls, broken, decode}
+use Rattle.replay_script.specs.Counts.{shown, counted}
+use Rattle.replay_log.specs.Logs.{written, Put, roomFor}
+use Rattle.replay_call.specs.Stepped.{worldOf}
 use Rattle.replay.specs.Outcome.{replayed, played, replayOutcome}
-use Rattle.scripts.specs.declared.Counted.the-variants.{Calls, Broken}
+use Rattle.replay_script.specs.declared.Counted.the-variants.{Calls, Broken}
 use Rattle.replay.specs.declared.Replayed.the-variants.{Ran, Refused}
-use Rattle.logs.proofs.LogLaws.{room-is}
+use Rattle.replay_log.proofs.LogLaws.{room-is}
 use Rattle.replay.proofs.RunLaws.{room-enough}
 
 -- ---- what was counted
@@ -75,18 +71,10 @@ module _ (n : ℕ) (s p l : List ℕ) where
         let f = leb-true (roomFor (callsIn s 0)) (length l) (sym room-test ∙ e) in
         omega (arith, room-enough (callsIn s 0) w)
 
-    pub played-ran : bounds n 1 ≡ true → (desk : Desk) → desk ≡ newStep n .desk → length p ≡ n * 16384 → leb (9 * k + 16380 * m) (length l) ≡ true
+    pub played-ran : (desk : Desk) → desk ≡ newStep n .desk → length p ≡ n * 16384 → leb (9 * k + 16380 * m) (length l) ≡ true
         → (r : ℕ) (p′ l′ : List ℕ) → p′ ≡ after deskStep (worldOf desk p) (callsIn s 0) .pool → Put (written (run deskStep (worldOf desk p) (callsIn s 0))) l l′ r
         → replayed (Ran k r) p′ l′ ≡ played n p l (decode s)
-    played-ran b desk f h e r p′ l′ q t =
-        let g = bounds-are n 1 b in
-        let proper : Proper n p = record { some = g .0; most = g .1; sized = h } in
-        let a : run deskStep (worldOf desk p) (callsIn s 0) ≡ run ledgerStep (freshLedger n) (callsIn s 0)
-        = ap (λ (y : Desk). run deskStep (worldOf y p) (callsIn s 0)) f ∙ demand3 .answered n p proper (callsIn s 0) in
-        let v : p′ ≡ world n p (callsIn s 0) .pool = q ∙ ap (λ (y : Desk). after deskStep (worldOf y p) (callsIn s 0) .pool) f in
-        let x : r ≡ length (written (run ledgerStep (freshLedger n) (callsIn s 0))) = t .wrote ∙ ap (λ (y : List Reply). length (written y)) a in
-        let y : l′ ≡ overlay (written (run ledgerStep (freshLedger n) (callsIn s 0))) l = t .log ∙ ap (λ (z : List Reply). overlay (written z) l) a in
-        rw (d .is, eq-eqb (length p) (n * 16384) h, sym room-test ∙ e, v, x, y, d .calls)
+    played-ran desk f h e r p′ l′ q t = rw (d .is, eq-eqb (length p) (n * 16384) h, sym room-test ∙ e, q, t .wrote, t .log, d .calls, f)
 
 -- ---- the slot count
 

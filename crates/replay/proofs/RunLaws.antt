@@ -9,20 +9,20 @@ use borrow.Rule.Slice.PartMut.{putMid}
 use Rattle.octets.specs.Scan.{scan}
 use Rattle.octets.proofs.Scans.{scan-stop, scan-step}
 use Rattle.octets.proofs.Writes.{Written, start, room, put, finish}
-use Rattle.slots.specs.declared.Slot.{Slot}
-use Rattle.slots.specs.declared.Slot.the-variants.{Held, No}
-use Rattle.pools.specs.Pools.{patch}
-use Rattle.pools.proofs.Patches.{put-copied}
+use Rattle.desk_slots.specs.declared.Slot.{Slot}
+use Rattle.desk_slots.specs.declared.Slot.the-variants.{Held, No}
+use Rattle.desk_pool.specs.Pools.{patch}
+use Rattle.desk_pool.proofs.Patches.{put-copied}
 use Rattle.desk.specs.Steps.{slotOf, openStep, addStep, releaseStep, showIn, showStep, heldStep, judgeStep}
 use Rattle.desk.proofs.DeskLaws.{granted}
 use Rattle.desk.specs.declared.Desk.{Desk}
-use Rattle.apart.specs.Ledger.{adds, judges, shows, asks, releases, Call, opens, on, run, after}
-use Rattle.apart.specs.Desks.{World, deskStep}
-use Rattle.scripts.specs.Scripts.{width, callOf, callsIn}
-use Rattle.scripts.proofs.ScriptLaws.{whole, calls-step, calls-end}
-use Rattle.logs.specs.Logs.{entry, written, Put, callRoom, roomFor}
-use Rattle.logs.proofs.LogLaws.{part-length, said-room, verdict-room}
-use Rattle.runs.specs.Stepped.{worldOf, Stepped}
+use Rattle.desk_ledger.specs.Ledger.{adds, judges, shows, asks, releases, Call, opens, on, run, after}
+use Rattle.desk_ledger.specs.Desks.{World, deskStep}
+use Rattle.replay_script.specs.Scripts.{width, callOf, callsIn}
+use Rattle.replay_script.proofs.ScriptLaws.{whole, calls-step, calls-end}
+use Rattle.replay_log.specs.Logs.{entry, written, Put, callRoom, roomFor}
+use Rattle.replay_log.proofs.LogLaws.{part-length, said-room, verdict-room}
+use Rattle.replay_call.specs.Stepped.{worldOf, Stepped}
 
 -- ---- the loop: what is left to run from `at` on, with d and the pool p as they are now, and the log as far as `to`
 

@@ -11,11 +11,11 @@ use lib.Seq.{take-append-seam, drop-append-seam}
 use borrow.Author.Tests.{le-leb, eq-eqb}
 use Rattle.octets.specs.Scan.{scan}
 use Rattle.octets.proofs.Scans.{scan-step}
-use Rattle.apart.specs.Ledger.{adds, judges, shows, asks, releases, Call, opens, on}
-use Rattle.scripts.specs.Words.{half, word, halfOctets, wordOctets}
-use Rattle.scripts.specs.Scripts.{asked, width, callOf, callsIn, decode}
-use Rattle.scripts.proofs.WordLaws.{half-value, word-value}
-use Rattle.scripts.proofs.ScriptLaws.{first}
+use Rattle.desk_ledger.specs.Ledger.{adds, judges, shows, asks, releases, Call, opens, on}
+use Rattle.replay_script.specs.Numerals.{twoAt, fourAt, twoOctets, fourOctets}
+use Rattle.replay_script.specs.Scripts.{needed, width, callOf, callsIn, decode}
+use Rattle.replay_script.proofs.NumeralLaws.{two-value, four-value}
+use Rattle.replay_script.proofs.ScriptLaws.{first}
 use Rattle.replay_laws.specs.Encoding.{encodeCall, encode, Octets, CallFits, Fit, Scripted}
 
 -- what stands at the start of a script
@@ -31,19 +31,19 @@ seven : (k n : ℕ) → k ≤ n → leb (7 + k) (suc (suc (suc (suc (suc (suc (s
 seven k n h = le-leb (7 + k) (suc (suc (suc (suc (suc (suc (suc n))))))) (omega arith)
 
 starts : (c : Call) (r : List ℕ) → CallFits c → Starts c r
-unfolding width asked callOf half word halfOctets wordOctets
-starts (opens m) r h = record { wide = rw (five (length r)); some = omega arith; call = ap opens (word-value m h) }
+unfolding width needed callOf twoAt fourAt twoOctets fourOctets
+starts (opens m) r h = record { wide = rw (five (length r)); some = omega arith; call = ap opens (four-value m h) }
 starts (on t (adds q)) r h =
-    let e : length q / 256 % 256 * 256 + length q % 256 ≡ length q = half-value (length q) (omega arith) in
+    let e : length q / 256 % 256 * 256 + length q % 256 ≡ length q = two-value (length q) (omega arith) in
     record {
       wide = rw (e, seven (length q) (length (q ++ r)) (rw length-append (omega arith))) (omega arith);
       some = omega arith;
-      call = rw (e, word-value t (h .0), take-append-seam q r);
+      call = rw (e, four-value t (h .0), take-append-seam q r);
     }
-starts (on t judges) r h = record { wide = rw (five (length r)); some = omega arith; call = ap (λ (n : ℕ). on n judges) (word-value t (h .0)) }
-starts (on t shows) r h = record { wide = rw (five (length r)); some = omega arith; call = ap (λ (n : ℕ). on n shows) (word-value t (h .0)) }
-starts (on t asks) r h = record { wide = rw (five (length r)); some = omega arith; call = ap (λ (n : ℕ). on n asks) (word-value t (h .0)) }
-starts (on t releases) r h = record { wide = rw (five (length r)); some = omega arith; call = ap (λ (n : ℕ). on n releases) (word-value t (h .0)) }
+starts (on t judges) r h = record { wide = rw (five (length r)); some = omega arith; call = ap (λ (n : ℕ). on n judges) (four-value t (h .0)) }
+starts (on t shows) r h = record { wide = rw (five (length r)); some = omega arith; call = ap (λ (n : ℕ). on n shows) (four-value t (h .0)) }
+starts (on t asks) r h = record { wide = rw (five (length r)); some = omega arith; call = ap (λ (n : ℕ). on n asks) (four-value t (h .0)) }
+starts (on t releases) r h = record { wide = rw (five (length r)); some = omega arith; call = ap (λ (n : ℕ). on n releases) (four-value t (h .0)) }
 
 scans : (cs : List Call) → Fit cs → scan width (encode cs) 0 ≡ length (encode cs)
 unfolding encode Fit scan
@@ -71,7 +71,7 @@ octets-append [] ys h k = k
 octets-append (x ∷ xs) ys h k = (h .0, octets-append xs ys (h .1) k)
 
 call-octets : (c : Call) → CallFits c → Octets (encodeCall c)
-unfolding Octets halfOctets wordOctets
+unfolding Octets twoOctets fourOctets
 call-octets (opens m) h = (omega arith, (omega arith, (omega arith, (omega arith, (omega arith, tt)))))
 call-octets (on t (adds q)) h = (omega arith, (omega arith, (omega arith, (omega arith, (omega arith, (omega arith, (omega arith, h .1 .1)))))))
 call-octets (on t judges) h = (omega arith, (omega arith, (omega arith, (omega arith, (omega arith, tt)))))

@@ -8,7 +8,7 @@ use lib.Dec.{ltb, eqb}
 use lib.ListN.{length, length-append}
 use borrow.Author.Tests.{ltb-false, eqb-false}
 use Rattle.octets.specs.Pick.{pick}
-use Rattle.apart.specs.Ledger.{Deed, adds, judges, shows, asks, releases, Call, opens, on, refused, told, Found, absent, present, answer, leaves, Row, Ledger, lookup, renew, change, Out, opening, ledgerStep, freshLedger, run}
+use Rattle.desk_ledger.specs.Ledger.{Deed, adds, judges, shows, asks, releases, Call, opens, on, refused, told, Found, absent, present, answer, leaves, Row, Ledger, lookup, renew, change, Out, opening, ledgerStep, freshLedger, run}
 use Rattle.replay_laws.specs.Tells.{Small, AllSmall}
 use Rattle.replay_laws.proofs.VerdictLaws.{verdict-small}
 

@@ -10,13 +10,15 @@ use lib.Seq.{take-append-seam}
 use Rattle.octets.specs.Pick.{pick}
 use Rattle.octets.specs.Room.{overlay}
 use Rattle.octets.specs.Scan.{scan}
-use Rattle.slots.specs.Sound.{bounds}
-use Rattle.apart.specs.Demand.{world}
-use Rattle.scripts.specs.Scripts.{width, callsIn, calls, broken, decode}
-use Rattle.logs.specs.Logs.{written, roomFor}
-use Rattle.replay.specs.Outcome.{Replay, replayed, ledgerLog, played, replayOutcome}
+use Rattle.desk_slots.specs.Sound.{bounds}
+use Rattle.desk_ledger.specs.Desks.{world}
+use Rattle.replay_script.specs.Scripts.{width, callsIn, calls, broken, decode}
+use Rattle.replay_log.specs.Logs.{written, roomFor}
+use Rattle.replay.specs.Outcome.{Replay, replayed, replayOutcome}
 use Rattle.replay.specs.declared.Replayed.the-variants.{Ran, Refused}
+use Rattle.replay_laws.specs.Refinement.{ledgerLog, ledgerPlayed, ledgerOutcome}
 use Rattle.replay_laws.specs.Tells.{answersTo, Tells}
+use Rattle.replay_laws.proofs.Refinement.{replay-refines}
 use Rattle.replay_laws.proofs.UnwrittenLaws.{unwritten}
 use Rattle.replay_laws.proofs.SmallLaws.{answers-small}
 
@@ -39,27 +41,27 @@ module _ (n : ℕ) (s p l : List ℕ) where
   fits k w true false e = clash cc
   fits k w false b e = clash cc
 
-  reads : (k w : ℕ) (a : Bool) → played n p l (pick a (calls (callsIn s 0)) (broken (scan width s 0))) .answer ≡ Ran k w
-      → Wrote (played n p l (pick a (calls (callsIn s 0)) (broken (scan width s 0)))) w
+  reads : (k w : ℕ) (a : Bool) → ledgerPlayed n p l (pick a (calls (callsIn s 0)) (broken (scan width s 0))) .answer ≡ Ran k w
+      → Wrote (ledgerPlayed n p l (pick a (calls (callsIn s 0)) (broken (scan width s 0)))) w
   reads k w true e = fits k w (eqb (length p) (n * 16384)) (leb (roomFor (callsIn s 0)) (length l)) e
   reads k w false e = clash cc
 
-  starts : (k w : ℕ) (a : Bool) → pick a (played n p l (decode s)) (replayed (Refused 26 0) p l) .answer ≡ Ran k w
-      → Wrote (pick a (played n p l (decode s)) (replayed (Refused 26 0) p l)) w
+  starts : (k w : ℕ) (a : Bool) → pick a (ledgerPlayed n p l (decode s)) (replayed (Refused 26 0) p l) .answer ≡ Ran k w
+      → Wrote (pick a (ledgerPlayed n p l (decode s)) (replayed (Refused 26 0) p l)) w
   unfolding decode
   starts k w true e = reads k w (eqb (scan width s 0) (length s)) e
   starts k w false e = clash cc
 
   -- what a replay that ran wrote
   wrote : (k w : ℕ) → replayOutcome n s p l .answer ≡ Ran k w → Wrote (replayOutcome n s p l) w
-  unfolding replayOutcome
-  wrote k w e = starts k w (bounds n 1) e
+  unfolding ledgerOutcome
+  wrote k w e = rw (replay-refines n s p l) (starts k w (bounds n 1) (rw (replay-refines n s p l) at e))
 
 pub tells : Tells
 tells =
     record {
       small = answers-small;
       wrote = λ n s p l k w e. wrote n s p l k w e;
-      apart = λ n s p l k w e n′ s′ p′ l′ k′ w′ e′ f. unwritten (answersTo n s) (answersTo n′ s′) (answers-small n (callsIn s 0)) (answers-small n′ (callsIn s′ 0))
+      injective = λ n s p l k w e n′ s′ p′ l′ k′ w′ e′ f. unwritten (answersTo n s) (answersTo n′ s′) (answers-small n (callsIn s 0)) (answers-small n′ (callsIn s′ 0))
           (sym (wrote n s p l k w e) ∙ f ∙ wrote n′ s′ p′ l′ k′ w′ e′);
     }

@@ -1,20 +1,20 @@
--- A log tells the answers apart: two lists of answers whose numbers have 32 bits and whose logs are equal are equal. Assumes nothing.
+-- A log is injective: two lists of answers whose numbers have 32 bits and whose logs are equal are equal. Assumes nothing.
 use Prim.Native.Nat.{ℕ, _/_, _%_, _<_, _≤_}
 use mathlib.Core.Path.{_≡_, refl, sym, ap, _∙_}
 use mathlib.Core.List.{List, [], _∷_, _++_}
 use native.Mathlib.Omega.{arith}
 use lib.ListN.{length, getD, take, drop, length-append}
 use lib.Seq.{take-append-seam, drop-append-seam}
-use Rattle.apart.specs.Ledger.{Reply, refused, told, counts, part}
-use Rattle.scripts.specs.Words.{halfOctets, wordOctets}
-use Rattle.logs.specs.Logs.{entry, written}
+use Rattle.desk_ledger.specs.Ledger.{Reply, refused, told, counts, part}
+use Rattle.replay_script.specs.Numerals.{twoOctets, fourOctets}
+use Rattle.replay_log.specs.Logs.{entry, written}
 use Rattle.replay_laws.specs.Tells.{Small, AllSmall}
-use Rattle.scripts.proofs.WordLaws.{word-value}
-use Rattle.logs.proofs.LogLaws.{told-length, refused-length, counts-length, part-length}
+use Rattle.replay_script.proofs.NumeralLaws.{four-value}
+use Rattle.replay_log.proofs.LogLaws.{told-length, refused-length, counts-length, part-length}
 
-word-same : (n m : ℕ) → n < 4294967296 → m < 4294967296 → n / 65536 / 256 % 256 ≡ m / 65536 / 256 % 256 → n / 65536 % 256 ≡ m / 65536 % 256
+four-same : (n m : ℕ) → n < 4294967296 → m < 4294967296 → n / 65536 / 256 % 256 ≡ m / 65536 / 256 % 256 → n / 65536 % 256 ≡ m / 65536 % 256
     → n / 256 % 256 ≡ m / 256 % 256 → n % 256 ≡ m % 256 → n ≡ m
-word-same n m h k a b c d = sym (word-value n h) ∙ rw (a, b, c, d) (word-value m k)
+four-same n m h k a b c d = sym (four-value n h) ∙ rw (a, b, c, d) (four-value m k)
 
 -- octet k of two equal logs
 at : (k : ℕ) {x y : List ℕ} → x ≡ y → getD x k 0 ≡ getD y k 0
@@ -22,18 +22,18 @@ at k e = ap (λ (l : List ℕ). getD l k 0) e
 
 -- the first answer, and what follows it
 entry-same : (r r′ : Reply) (x y : List ℕ) → Small r → Small r′ → entry r ++ x ≡ entry r′ ++ y → (r ≡ r′) × (x ≡ y)
-unfolding entry halfOctets wordOctets
+unfolding entry twoOctets fourOctets
 entry-same (refused n p) (refused m q) x y h k e =
-    let a : n ≡ m = word-same n m (h .0) (k .0) (at 1 e) (at 2 e) (at 3 e) (at 4 e) in
-    let b : p ≡ q = word-same p q (h .1) (k .1) (at 5 e) (at 6 e) (at 7 e) (at 8 e) in
+    let a : n ≡ m = four-same n m (h .0) (k .0) (at 1 e) (at 2 e) (at 3 e) (at 4 e) in
+    let b : p ≡ q = four-same p q (h .1) (k .1) (at 5 e) (at 6 e) (at 7 e) (at 8 e) in
     (rw (a, b), ap (drop 9) e)
-entry-same (told n) (told m) x y h k e = (ap told (word-same n m h k (at 1 e) (at 2 e) (at 3 e) (at 4 e)), ap (drop 5) e)
+entry-same (told n) (told m) x y h k e = (ap told (four-same n m h k (at 1 e) (at 2 e) (at 3 e) (at 4 e)), ap (drop 5) e)
 entry-same (counts n p) (counts m q) x y h k e =
-    let a : n ≡ m = word-same n m (h .0) (k .0) (at 1 e) (at 2 e) (at 3 e) (at 4 e) in
-    let b : p ≡ q = word-same p q (h .1) (k .1) (at 5 e) (at 6 e) (at 7 e) (at 8 e) in
+    let a : n ≡ m = four-same n m (h .0) (k .0) (at 1 e) (at 2 e) (at 3 e) (at 4 e) in
+    let b : p ≡ q = four-same p q (h .1) (k .1) (at 5 e) (at 6 e) (at 7 e) (at 8 e) in
     (rw (a, b), ap (drop 9) e)
 entry-same (part o) (part v) x y h k e =
-    let a : length o ≡ length v = word-same (length o) (length v) h k (at 1 e) (at 2 e) (at 3 e) (at 4 e) in
+    let a : length o ≡ length v = four-same (length o) (length v) h k (at 1 e) (at 2 e) (at 3 e) (at 4 e) in
     let r : o ++ x ≡ v ++ y = ap (drop 5) e in (
       ap part (sym (take-append-seam o x) ∙ ap (take (length o)) r ∙ ap (λ (n : ℕ). take n (v ++ y)) a ∙ take-append-seam v y),
       sym (drop-append-seam o x) ∙ ap (drop (length o)) r ∙ ap (λ (n : ℕ). drop n (v ++ y)) a ∙ drop-append-seam v y,

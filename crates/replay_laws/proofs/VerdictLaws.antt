@@ -4,24 +4,24 @@ use mathlib.Core.Path.{_≡_, refl, ap}
 use mathlib.Core.List.{List, [], _∷_}
 use native.Mathlib.Omega.{arith}
 use lib.ListN.{length}
-use Rattle.lines.specs.Grammar.{Line}
-use Rattle.folds.specs.Folds.{unfolded}
-use Rattle.folds.specs.Logical.{rawLines}
+use Rattle.line_parser.specs.Grammar.{Line}
+use Rattle.line_folds.specs.Folds.{unfolded}
+use Rattle.line_folds.specs.Logical.{rawLines}
 use Rattle.card_state.specs.State.{freshCard}
-use Rattle.cards.specs.Judge.{judgeLine}
-use Rattle.cards.proofs.CardLaws.{one-more}
+use Rattle.card_judge.specs.Judge.{judgeLine}
+use Rattle.card_judge.proofs.CardLaws.{one-more}
 use Rattle.card_state.specs.declared.Card.{Card}
 use Rattle.card_state.specs.declared.Step.the-variants.{Next}
-use Rattle.walks.specs.Walk.{judgeLines}
+use Rattle.reader_walk.specs.Walk.{judgeLines}
 use Rattle.reader.specs.Outcome.{judgeOf}
-use Rattle.walks.proofs.WalkLaws.{onward-next}
+use Rattle.reader_walk.proofs.WalkLaws.{onward-next}
 use Rattle.reader.proofs.AcceptLaws.{lines-few, accepting, lines-counted}
 use Rattle.reader.specs.declared.Verdict.{Verdict}
 use Rattle.reader.specs.declared.Verdict.the-variants.{Accepted, Refused}
 use Rattle.firmware.proofs.Places.{place-low}
-use Rattle.grammar.specs.Refusals.{LineRefused, octet, rule, order, laden, value, second, nameless, no-group, RefusedBy, long, empty, lone, unended, line, unfinished}
-use Rattle.grammar.proofs.Refused.{refused-law}
-use Rattle.apart.specs.Ledger.{verdict}
+use Rattle.reader_grammar.specs.Refusals.{LineRefused, octet, rule, order, laden, value, second, nameless, no-group, RefusedBy, long, empty, lone, unended, line, unfinished}
+use Rattle.reader_grammar.proofs.Refused.{refused-law}
+use Rattle.desk_ledger.specs.Ledger.{verdict}
 use Rattle.replay_laws.specs.Tells.{Small}
 
 -- a line that is judged closes at most one card
@@ -47,10 +47,10 @@ line-number ys l n (no-group x h k m g f) = omega arith
 number : (i : List ℕ) (n p : ℕ) → RefusedBy i n p → n ≤ 12
 number i n p (long h) = omega arith
 number i n p (empty h) = omega arith
-number i n p (lone h k m) = omega arith
+number i n p (lone h k m f) = omega arith
 number i n p (unended h k m g) = omega arith
-number i n p (line ds l es m k zs ys f q s r) = line-number ys (unfolded l) m r
-number i n p (unfinished k zs ys f s h) = omega arith
+number i n p (line ds es ls ms r l m k zs ys f q c s h) = line-number ys l m h
+number i n p (unfinished rs ls k zs ys f e s h) = omega arith
 
 pub verdict-small : (i : List ℕ) → Small (verdict (judgeOf i))
 verdict-small i = go (judgeOf i) refl

@@ -3,19 +3,21 @@ use Prim.Native.Nat.{ℕ, _<_, _≤_}
 use mathlib.Core.Path.{_≡_}
 use mathlib.Core.List.{List, [], _∷_, _++_}
 use lib.ListN.{length}
-use Rattle.apart.specs.Ledger.{Deed, adds, judges, shows, asks, releases, Call, opens, on}
-use Rattle.scripts.specs.Words.{halfOctets, wordOctets}
-use Rattle.scripts.specs.Scripts.{calls, decode}
+use Rattle.numbers.specs.Limits as limit
+use Rattle.desk_ledger.specs.Ledger.{Deed, adds, judges, shows, asks, releases, Call, opens, on}
+use Rattle.replay_script.specs.Names as call
+use Rattle.replay_script.specs.Numerals.{twoOctets, fourOctets}
+use Rattle.replay_script.specs.Scripts.{calls, decode}
 
 abbrev pub encodeDeed : ℕ → Deed → List ℕ
-encodeDeed t (adds q) = 2 ∷ wordOctets t ++ halfOctets (length q) ++ q
-encodeDeed t judges = 3 ∷ wordOctets t
-encodeDeed t shows = 4 ∷ wordOctets t
-encodeDeed t asks = 5 ∷ wordOctets t
-encodeDeed t releases = 6 ∷ wordOctets t
+encodeDeed t (adds q) = call.adds ∷ fourOctets t ++ twoOctets (length q) ++ q
+encodeDeed t judges = call.judges ∷ fourOctets t
+encodeDeed t shows = call.shows ∷ fourOctets t
+encodeDeed t asks = call.asks ∷ fourOctets t
+encodeDeed t releases = call.releases ∷ fourOctets t
 
 abbrev pub encodeCall : Call → List ℕ
-encodeCall (opens m) = 1 ∷ wordOctets m
+encodeCall (opens m) = call.opens ∷ fourOctets m
 encodeCall (on t x) = encodeDeed t x
 
 unfoldable pub encode : List Call → List ℕ
@@ -36,8 +38,8 @@ DeedFits asks = Unit {0}
 DeedFits releases = Unit {0}
 
 abbrev pub CallFits : Call → Type 0
-CallFits (opens m) = m < 4294967296
-CallFits (on t x) = (t < 4294967296) × DeedFits x
+CallFits (opens m) = m < limit.word
+CallFits (on t x) = (t < limit.word) × DeedFits x
 
 unfoldable pub Fit : List Call → Type 0
 Fit [] = Unit {0}

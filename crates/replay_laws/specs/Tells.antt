@@ -4,18 +4,19 @@ use Prim.Native.Nat.{ℕ, _<_}
 use mathlib.Core.Path.{_≡_}
 use mathlib.Core.List.{List, [], _∷_}
 use lib.ListN.{length, take}
-use Rattle.apart.specs.Ledger.{Call, Reply, refused, told, counts, part, ledgerStep, freshLedger, run}
-use Rattle.scripts.specs.Scripts.{callsIn}
-use Rattle.logs.specs.Logs.{written}
+use Rattle.numbers.specs.Limits as limit
+use Rattle.desk_ledger.specs.Ledger.{Call, Reply, refused, told, counts, part, ledgerStep, freshLedger, run}
+use Rattle.replay_script.specs.Scripts.{callsIn}
+use Rattle.replay_log.specs.Logs.{written}
 use Rattle.replay.specs.Outcome.{replayOutcome}
 use Rattle.replay.specs.declared.Replayed.the-variants.{Ran}
 
 -- each number of an answer has 32 bits
 abbrev pub Small : Reply → Type 0
-Small (refused n p) = (n < 4294967296) × (p < 4294967296)
-Small (told n) = n < 4294967296
-Small (counts k n) = (k < 4294967296) × (n < 4294967296)
-Small (part o) = length o < 4294967296
+Small (refused n p) = (n < limit.word) × (p < limit.word)
+Small (told n) = n < limit.word
+Small (counts k n) = (k < limit.word) × (n < limit.word)
+Small (part o) = length o < limit.word
 
 unfoldable pub AllSmall : List Reply → Type 0
 AllSmall [] = Unit {0}
@@ -29,6 +30,6 @@ answersTo n s = run ledgerStep (freshLedger n) (callsIn s 0)
 pub record Tells : Type 0 where
   pub small : (n : ℕ) (cs : List Call) → AllSmall (run ledgerStep (freshLedger n) cs)
   pub wrote : (n : ℕ) (s p l : List ℕ) (k w : ℕ) → replayOutcome n s p l .answer ≡ Ran k w → take w (replayOutcome n s p l .log) ≡ written (answersTo n s)
-  pub apart : (n : ℕ) (s p l : List ℕ) (k w : ℕ) → replayOutcome n s p l .answer ≡ Ran k w
+  pub injective : (n : ℕ) (s p l : List ℕ) (k w : ℕ) → replayOutcome n s p l .answer ≡ Ran k w
       → (n′ : ℕ) (s′ p′ l′ : List ℕ) (k′ w′ : ℕ) → replayOutcome n′ s′ p′ l′ .answer ≡ Ran k′ w′
       → take w (replayOutcome n s p l .log) ≡ take w′ (replayOutcome n′ s′ p′ l′ .log) → answersTo n s ≡ answersTo n′ s′

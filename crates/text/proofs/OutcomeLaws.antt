@@ -1,7 +1,7 @@
 -- Refusals 1, 31 and 30 before the outcome that is left, by what was found. Assumes nothing.
-use mathlib.Core.Path.{_≡_, refl, sym}
+use mathlib.Core.Path.{_≡_, refl, sym, _∙_}
 use mathlib.Core.Bool.{Bool, true, false}
-use mathlib.Core.List.{List}
+use mathlib.Core.List.{List, []}
 use Prim.Native.Nat.{ℕ, _<_, _≤_}
 use native.Mathlib.Omega.{arith}
 use lib.ListN.{length}
@@ -9,17 +9,20 @@ use lib.Dec.{ltb}
 use borrow.Author.Tests.{lt-ltb, le-ltb, ltb-false}
 use Rattle.octets.specs.Room.{Filled, refuse, fill, fillBounded}
 use Rattle.octets.specs.Pick.{pick}
-use Rattle.characters.specs.Characters.{allowed, firstBad}
-use Rattle.escaping.specs.Escaped.{escaped}
-use Rattle.unescaping.specs.Unescaped.{firstFault, unescaped}
+use Rattle.octets.proofs.Bools.{clash}
+use Rattle.utf8.specs.Characters.{allowed, firstBad}
+use Rattle.text_escaping.specs.Escaped.{escaped}
+use Rattle.text_unescaping.specs.Unescaped.{firstFault, unescaped}
 use Rattle.octets.specs.Counts.{any}
-use Rattle.looks.specs.Looks.{held, seen}
+use Rattle.text_marks.specs.Seen.{held, seen}
+use Rattle.text.specs.declared.Screened.{Screened}
 use Rattle.text.specs.declared.Screened.the-variants.{Saw, Refused}
 use Rattle.text.specs.Screened.{screened}
 use Rattle.text.specs.Outcomes.{checked, faultless}
 use Rattle.octets.proofs.RoomLaws.{within-bound}
-use Rattle.escaping.proofs.LengthLaws.{same-unmarked}
-use Rattle.unescaping.proofs.BareLaws.{bare}
+use Rattle.text_marks.proofs.SeenLaws.{seen-low}
+use Rattle.text_escaping.proofs.LengthLaws.{same-unmarked}
+use Rattle.text_unescaping.proofs.BareLaws.{bare}
 
 -- by what screening answers: its refusal, or the outcome that is left
 module _ (lf : Bool) (x y : ℕ) (t room : List ℕ) (left : Filled) where
@@ -39,8 +42,8 @@ module _ (lf : Bool) (x y : ℕ) (t room : List ℕ) (left : Filled) where
     where
       by : (a b : Bool) → ltb 16384 (length t) ≡ a → pick a (Refused 1 16384) (pick b (Refused 31 (firstBad (allowed lf) t)) (Saw (seen x y t))) ≡ Saw l
           → (l ≡ seen x y t) × ((length t ≤ 16384) × (left ≡ pick a (refuse 1 16384 room) (pick b (refuse 31 (firstBad (allowed lf) t) room) left)))
-      by true b h e = let z : _≡_ {A = ℕ} 0 1 = cc in absurd (omega arith)
-      by false true h e = let z : _≡_ {A = ℕ} 0 1 = cc in absurd (omega arith)
+      by true b h e = clash cc
+      by false true h e = clash cc
       by false false h e = (cc, (ltb-false 16384 (length t) h, refl))
 
 module _ (t room : List ℕ) (left : Filled) (f : ℕ) (e : f ≡ firstFault t) where
@@ -52,12 +55,47 @@ module _ (t room : List ℕ) (left : Filled) (f : ℕ) (e : f ≡ firstFault t) 
   unfolding faultless
   no-fault l = simp (sym e, le-ltb f (length t) l)
 
--- a text with nothing to escape, and one with nothing to unescape
-module _ (t room : List ℕ) where
-  pub escape-same : length t ≤ 16384 → any (held 59 10) t ≡ false → fill t room ≡ fillBounded (escaped t) room
-  escape-same h e = let q = same-unmarked t e in rw q (within-bound t room (length t) refl h)
+-- escape or unescape: whether LF is allowed, which octets are held besides backslash and comma, and the outcome after refusals 1 and 31,
+-- which for a text with no octet that is held is the text itself
+pub record Change : Type 0 where
+  pub lf : Bool
+  pub x : ℕ
+  pub y : ℕ
+  pub left : List ℕ → List ℕ → Filled
+  pub same : (t room : List ℕ) → length t ≤ 16384 → any (held x y) t ≡ false → fill t room ≡ left t room
 
-  pub unescape-same : any (held 44 44) t ≡ false → fill t room ≡ faultless t room (fill (unescaped t) room)
-  unescape-same e =
-      let q = bare t e in
-      rw (q .1) (no-fault t room (fill t room) (length t) (sym (q .0)) (omega arith))
+abbrev pub outcome : Change → List ℕ → List ℕ → Filled
+outcome k t room = checked (allowed (k .lf)) t room (k .left t room)
+
+-- the outcome, by what screening answered
+module _ (k : Change) (t room : List ℕ) {s : Screened} (e : s ≡ screened (k .lf) (k .x) (k .y) t) where
+  pub refused-outcome : {n p : ℕ} → s ≡ Refused n p → refuse n p room ≡ outcome k t room
+  refused-outcome g = refused-by (k .lf) (k .x) (k .y) t room (k .left t room) _ _ (sym e ∙ g)
+
+  module _ {l : ℕ} (g : s ≡ Saw l) where
+    saw : (l ≡ seen (k .x) (k .y) t) × ((length t ≤ 16384) × (k .left t room ≡ outcome k t room))
+    saw = left-by (k .lf) (k .x) (k .y) t room (k .left t room) l (sym e ∙ g)
+
+    pub left-outcome : {r : Filled} → r ≡ k .left t room → r ≡ outcome k t room
+    left-outcome h = h ∙ saw .1 .1
+
+    pub same-outcome : {r : Filled} → l < 2 → r ≡ fill t room → r ≡ outcome k t room
+    same-outcome low h = h ∙ k .same t room (saw .1 .0) (seen-low t l (k .x) (k .y) (saw .0) low) ∙ saw .1 .1
+
+-- a text that screening does not refuse is short
+pub short-text : (k : Change) (t : List ℕ) {s : Screened} {l : ℕ} → s ≡ screened (k .lf) (k .x) (k .y) t → s ≡ Saw l → length t ≤ 16384
+short-text k t e g = left-by (k .lf) (k .x) (k .y) t [] (k .left t []) _ (sym e ∙ g) .1 .0
+
+pub escape-same : (t room : List ℕ) → length t ≤ 16384 → any (held 59 10) t ≡ false → fill t room ≡ fillBounded (escaped t) room
+escape-same t room h e = let q = same-unmarked t e in rw q (within-bound t room (length t) refl h)
+
+abbrev pub escaping : Change
+escaping = record { lf = true; x = 59; y = 10; left = λ t room. fillBounded (escaped t) room; same = escape-same }
+
+pub unescape-same : (t room : List ℕ) → length t ≤ 16384 → any (held 44 44) t ≡ false → fill t room ≡ faultless t room (fill (unescaped t) room)
+unescape-same t room h e =
+    let q = bare t e in
+    rw (q .1) (no-fault t room (fill t room) (length t) (sym (q .0)) (omega arith))
+
+abbrev pub unescaping : Change
+unescaping = record { lf = false; x = 44; y = 44; left = λ t room. faultless t room (fill (unescaped t) room); same = unescape-same }

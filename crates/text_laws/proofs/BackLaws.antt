@@ -11,11 +11,12 @@ use borrow.Author.Tests.{eqb-true, ltb-false, le-ltb}
 use Rattle.octets.specs.Pick.{pick}
 use Rattle.octets.specs.Room.{Filled, filled, refuse, overlay, fill, fillBounded}
 use Rattle.octets.specs.declared.rooms.Written.the-variants.{Wrote, Refused}
-use Rattle.characters.specs.Characters.{allowed, firstBad}
-use Rattle.characters.proofs.Chars.{bad-le}
-use Rattle.looks.specs.Marks.{special, marked}
-use Rattle.escaping.specs.Escaped.{letter, inEscape, escaped}
-use Rattle.unescaping.specs.Unescaped.{firstFault, unescaped}
+use Rattle.octets.proofs.Bools.{clash}
+use Rattle.utf8.specs.Characters.{allowed, firstBad}
+use Rattle.utf8.proofs.Chars.{bad-le}
+use Rattle.text_marks.specs.Marks.{special, marked}
+use Rattle.text_escaping.specs.Escaped.{letter, inEscape, escaped}
+use Rattle.text_unescaping.specs.Unescaped.{firstFault, unescaped}
 use Rattle.text.specs.Outcomes.{checked, faultless, escapeOutcome, unescapeOutcome}
 use Rattle.text_laws.specs.Stands.{Escape, backslash, comma, semicolon, small-n, Stands, none, itself, escape}
 use Rattle.text.proofs.OutcomeLaws.{no-fault}
@@ -60,7 +61,7 @@ record Taken (t room : List ℕ) (m : ℕ) (after : List ℕ) : Type 0 where
   wrote : after ≡ overlay (escaped t) room
 
 apart : {A : Type 0} (n p m : ℕ) → Refused n p ≡ Wrote m → A
-apart n p m e = let z : _≡_ {A = ℕ} 0 1 = cc in absurd (omega arith)
+apart n p m e = clash cc
 
 same-count : (n m : ℕ) → Wrote n ≡ Wrote m → m ≡ n
 same-count n m e = cc

@@ -10,11 +10,11 @@ use lib.ListN.{length, getD}
 use borrow.Author.Tests.{ltb-true, ltb-false, eqb-true, ne-eqb, le-leb}
 use Rattle.octets.specs.Pick.{pick}
 use Rattle.octets.specs.Classes.{valued}
-use Rattle.characters.specs.Characters.{charLength, allowed, firstBad}
-use Rattle.characters.proofs.Chars.{ascii}
-use Rattle.characters.proofs.Chains.{Chars, end, start, inner, char-same, tail-range, chars-fit, chars-tail, good-chars, chars-good}
-use Rattle.looks.specs.Marks.{special, marked}
-use Rattle.escaping.specs.Escaped.{letter, inEscape, escaped}
+use Rattle.utf8.specs.Characters.{charLength, allowed, firstBad}
+use Rattle.utf8.proofs.Chars.{ascii}
+use Rattle.utf8.proofs.Chains.{Chars, end, start, inner, char-same, tail-range, chars-fit, chars-tail, good-chars, chars-good}
+use Rattle.text_marks.specs.Marks.{special, marked}
+use Rattle.text_escaping.specs.Escaped.{letter, inEscape, escaped}
 
 -- an octet that is no ASCII is written as it is
 high-stays : (x : ℕ) → 0x80 ≤ x → inEscape x ≡ x ∷ []

@@ -11,10 +11,10 @@ use lib.ListN.{length, take, drop}
 use lib.Seq.{take-length}
 use borrow.Author.Tests.{eqb-true, eqb-false, ne-eqb}
 use Rattle.octets.specs.Scan.{scan, gather}
-use Rattle.looks.specs.Marks.{special}
-use Rattle.unescaping.specs.Unescaped.{code, meant, escapeAt, textStep, firstFault, passed, standing, unescaped}
+use Rattle.text_marks.specs.Marks.{special}
+use Rattle.text_unescaping.specs.Unescaped.{code, meant, escapeAt, textStep, firstFault, passed, standing, unescaped}
 use Rattle.text_laws.specs.Stands.{Escape, backslash, comma, semicolon, small-n, capital-n, Stands, none, itself, escape, Faulty, bare-comma, last-backslash, bare-backslash}
-use Rattle.unescaping.proofs.UnescapeLaws.{first-octet}
+use Rattle.text_unescaping.proofs.UnescapeLaws.{first-octet}
 
 -- an octet is the code of an escape where `code` says so
 escape-code : {y x : ℕ} → Escape y x → (code y ≡ true) × (meant y ≡ x)

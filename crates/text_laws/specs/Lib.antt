@@ -1,2 +1,2 @@
--- Text with escapes, as document 01 draws it. Assumes nothing.
+-- Text with escapes, as REFERENCE, Escaping draws it. Assumes nothing.
 pub mod Stands

@@ -1,1 +1,1 @@
-// No code: the laws of escaping and unescaping beyond what their proofs cite.
+// Text by its five escapes: no code, only laws that tie escaping and unescaping to them and to each other.

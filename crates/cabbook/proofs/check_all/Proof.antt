@@ -12,11 +12,11 @@ Inv-loop count status₀ i₀ status i = status ≤ 2
 abbrev μ-loop : tie.MeasureT-loop
 μ-loop count status₀ i₀ status i = count - i
 
-slice-aggregate-wrong : tie.Need-slice-aggregate-wrong Inv-loop μ-loop
-slice-aggregate-wrong c = search needs
+slice-aggregate-print-usage : tie.Need-slice-aggregate-print-usage Inv-loop μ-loop
+slice-aggregate-print-usage c = search needs
 
-wrong-requires : tie.Need-wrong-requires Inv-loop μ-loop
-wrong-requires c κs = search needs
+print-usage-requires : tie.Need-print-usage-requires Inv-loop μ-loop
+print-usage-requires c κs = search needs
 
 returns : tie.Need-returns Inv-loop μ-loop
 returns c = search needs
@@ -24,8 +24,8 @@ returns c = search needs
 loop-holds : tie.Need-loop-holds Inv-loop μ-loop
 loop-holds c = search needs
 
-file-requires : tie.Need-file-requires Inv-loop μ-loop
-file-requires c κs = search needs
+apply-to-argument-requires : tie.Need-apply-to-argument-requires Inv-loop μ-loop
+apply-to-argument-requires c κs = search needs
 
 add-i : tie.Need-add-i Inv-loop μ-loop
 add-i c = search needs
@@ -45,11 +45,11 @@ check-all-spec =
     (tie.spec
     Inv-loop
     μ-loop
-    slice-aggregate-wrong
-    wrong-requires
+    slice-aggregate-print-usage
+    print-usage-requires
     returns
     loop-holds
-    file-requires
+    apply-to-argument-requires
     add-i
     loop-less
     loop-again

@@ -10,13 +10,13 @@ use Rattle.card_state.proofs.close.Tie as tie
 
 returns : tie.Need-returns
 unfolding closed
-returns c = simp (not-true (c .before .before .args .c .named) (c .if1 .taken))
+returns c = simp (not-true (c .before .before .args .c .«has_fn») (c .if1 .taken))
 
 returns-2 : tie.Need-returns-2
 unfolding closed
 returns-2 c =
     let k = c .before .before .before .before .before .args .c in
-    simp (not-false (k .named) (c .before .before .before .if1 .left), c .before .before .if2 .taken, not-true (k .group) (c .if3 .taken))
+    simp (not-false (k .«has_fn») (c .before .before .before .if1 .left), c .before .before .if2 .taken, not-true (k .«is_group») (c .if3 .taken))
 
 fresh-requires : tie.Need-fresh-requires
 fresh-requires c κs = search needs
@@ -28,11 +28,11 @@ add-next-2 : tie.Need-add-next-2
 add-next-2 c = search needs
 
 -- no MEMBER, or a group
-kept : (c : tie.Joined2) → (c .before .before .before .args .c .member && not (c .before .before .before .args .c .group)) ≡ false
+kept : (c : tie.Joined2) → (c .before .before .before .args .c .«has_member» && not (c .before .before .before .args .c .«is_group»)) ≡ false
 kept c =
     let k = c .before .before .before .args .c in
     ⊎-elim
-    (λ w. simp (not-false (k .group) (w .2 .left), and-false))
+    (λ w. simp (not-false (k .«is_group») (w .2 .left), and-false))
     (λ w. simp (w .left))
     (c .if2 .came)
 
@@ -40,7 +40,7 @@ returns-3 : tie.Need-returns-3
 unfolding closed
 returns-3 c =
     simp (
-      not-false (c .before .before .before .before .before .before .args .c .named) (c .before .before .before .before .if1 .left),
+      not-false (c .before .before .before .before .before .before .args .c .«has_fn») (c .before .before .before .before .if1 .left),
       kept (c .before .before .before),
       c .before .before .fresh .ensures,
     )

@@ -24,11 +24,11 @@ loop-holds c = (refl, refl, refl)
 line-of-requires : tie.Need-line-of-requires Inv-loop μ-loop
 line-of-requires c κs = tt
 
-answered-requires : tie.Need-answered-requires Inv-loop μ-loop
-answered-requires c κs = tt
+answer-requires : tie.Need-answer-requires Inv-loop μ-loop
+answer-requires c κs = tt
 
-sent-requires : tie.Need-sent-requires Inv-loop μ-loop
-sent-requires c κs = tt
+send-requires : tie.Need-send-requires Inv-loop μ-loop
+send-requires c κs = tt
 
 same-length : tie.Need-same-length Inv-loop μ-loop
 same-length c = omega arith
@@ -42,8 +42,8 @@ same-length-3 c = omega arith
 returns : tie.Need-returns Inv-loop μ-loop
 returns c = tt
 
-after-requires : tie.Need-after-requires Inv-loop μ-loop
-after-requires c κs = tt
+advance-requires : tie.Need-advance-requires Inv-loop μ-loop
+advance-requires c κs = tt
 
 sub-turns : tie.Need-sub-turns Inv-loop μ-loop
 sub-turns c = omega arith
@@ -76,13 +76,13 @@ serve-spec =
     new-requires-2
     loop-holds
     line-of-requires
-    answered-requires
-    sent-requires
+    answer-requires
+    send-requires
     same-length
     same-length-2
     same-length-3
     returns
-    after-requires
+    advance-requires
     sub-turns
     loop-less
     loop-again

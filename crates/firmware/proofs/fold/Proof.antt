@@ -7,15 +7,15 @@ use Rattle.firmware.proofs.fold.Tie as tie
 fold-requires : tie.Need-fold-requires
 fold-requires c κs = search needs
 
-written-requires : tie.Need-written-requires
-written-requires c κs =
+pack-written-requires : tie.Need-pack-written-requires
+pack-written-requires c κs =
     low-of (c .before .before .fold .ensures) (low-fold _ _)
 
 same-length : tie.Need-same-length
 same-length c = search needs
 
 returns : tie.Need-returns
-returns c = said (c .written .ensures) (c .before .before .before .fold .ensures)
+returns c = said (c .pack-written .ensures) (c .before .before .before .fold .ensures)
 
 pub fold-spec : {M : Type 1} → statement M
-fold-spec = tie.close (tie.spec fold-requires written-requires same-length returns)
+fold-spec = tie.close (tie.spec fold-requires pack-written-requires same-length returns)

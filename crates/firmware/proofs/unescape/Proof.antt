@@ -7,15 +7,15 @@ use Rattle.firmware.proofs.unescape.Tie as tie
 unescape-requires : tie.Need-unescape-requires
 unescape-requires c κs = search needs
 
-written-requires : tie.Need-written-requires
-written-requires c κs =
+pack-written-requires : tie.Need-pack-written-requires
+pack-written-requires c κs =
     low-of (c .before .before .unescape .ensures) (low-unescape _ _)
 
 same-length : tie.Need-same-length
 same-length c = search needs
 
 returns : tie.Need-returns
-returns c = said (c .written .ensures) (c .before .before .before .unescape .ensures)
+returns c = said (c .pack-written .ensures) (c .before .before .before .unescape .ensures)
 
 pub unescape-spec : {M : Type 1} → statement M
-unescape-spec = tie.close (tie.spec unescape-requires written-requires same-length returns)
+unescape-spec = tie.close (tie.spec unescape-requires pack-written-requires same-length returns)

@@ -46,8 +46,8 @@ table-requires-3 c κs = search needs
 walk-requires : tie.Need-walk-requires
 walk-requires c κs = search needs
 
-concluded-requires : tie.Need-concluded-requires
-concluded-requires c κs = search needs
+conclude-requires : tie.Need-conclude-requires
+conclude-requires c κs = search needs
 
 returns-5 : tie.Need-returns-5
 unfolding judgeOf
@@ -55,7 +55,7 @@ returns-5 c =
     let c8 = c .before .before .before .before .before .before .before .before in
     let c13 = c8 .before .before .before .before .before in
     let e = c8 .before .before .before .first-lone .ensures in
-    c .concluded .ensures ∙ ap (verdictOf _) (c .before .walk .ensures) ∙ sym (simp (le-ltb _ _ (c13 .if1 .left), ne-eqb _ _ (c8 .before .before .before .before .if2 .left), le-ltb _ _ (rw e at (c8 .before .before .if3 .left)), sym (c8 .before .ends-cr-lf .ensures) ∙ not-false _ (c8 .if4 .left)))
+    c .conclude .ensures ∙ ap (verdictOf _) (c .before .walk .ensures) ∙ sym (simp (le-ltb _ _ (c13 .if1 .left), ne-eqb _ _ (c8 .before .before .before .before .if2 .left), le-ltb _ _ (rw e at (c8 .before .before .if3 .left)), sym (c8 .before .ends-cr-lf .ensures) ∙ not-false _ (c8 .if4 .left)))
 
 pub judge-spec : {M : Type 1} → statement M
 judge-spec =
@@ -71,5 +71,5 @@ judge-spec =
     table-requires-2
     table-requires-3
     walk-requires
-    concluded-requires
+    conclude-requires
     returns-5)

@@ -5,7 +5,7 @@ use Prim.Native.Nat.{ℕ}
 use native.Mathlib.Omega.{arith}
 use lib.ListN.{length}
 use Rattle.octets.specs.Room.{overlay}
-use Rattle.folds.specs.Folds.{unfolded}
+use Rattle.line_folds.specs.Folds.{unfolded}
 use Rattle.reader.specs.Outcome.{judgeOf, copyOf}
 use Rattle.reader.specs.declared.Verdict.the-variants.{Accepted}
 use Rattle.reader.proofs.AcceptLaws.{accepting, lines-counted, lines-few}

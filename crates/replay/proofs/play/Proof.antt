@@ -6,7 +6,7 @@ use native.Mathlib.Omega.{arith}
 use lib.Dec.{leb}
 use lib.ListN.{length}
 use borrow.Author.Tests.{not-true, not-false}
-use Rattle.slots.proofs.SoundLaws.{bounds-are}
+use Rattle.desk_slots.proofs.SoundLaws.{bounds-are}
 use Rattle.replay.proofs.OutcomeLaws.{Decodes, decodes, log-fits, played-broken, played-pool, played-short, played-ran}
 use borrow.Author.Needs.{needs}
 use Rattle.replay.proofs.play.Statement.{statement}
@@ -56,7 +56,7 @@ returns-4 : tie.Need-returns-4
 returns-4 c =
     let c7 = c .before .before .before .before .before .before .before in
     let c17 = c7 .before .before .before .before .before .before .before .before .before .before in
-    let a = c17 .args in let r = c .before .before .before .before .run-all in played-ran (a .slots) (a .script .now) (a .pool .now) (a .log .now) _ _ (found (c7 .before .before .before .before)) (c17 .pre .0) (a .desk) (c17 .pre .1) (c7 .before .before .if1 .left) (roomy (c7)) (r .result) _ _ (r .ensures .0) (r .ensures .1)
+    let a = c17 .args in let r = c .before .before .before .before .run-all in played-ran (a .slots) (a .script .now) (a .pool .now) (a .log .now) _ _ (found (c7 .before .before .before .before)) (a .desk) (c17 .pre .1) (c7 .before .before .if1 .left) (roomy (c7)) (r .result) _ _ (r .ensures .0) (r .ensures .1)
 
 pub play-spec : {M : Type 1} → statement M
 play-spec =

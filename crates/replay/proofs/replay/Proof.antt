@@ -1,7 +1,7 @@
 -- `replay::replay` meets its contract. Assumes nothing.
 use mathlib.Core.Path.{_≡_, sym, ap, _∙_}
 use mathlib.Core.Bool.{true}
-use Rattle.slots.specs.Sound.{bounds}
+use Rattle.desk_slots.specs.Sound.{bounds}
 use Rattle.desk.specs.declared.Turn.{Turn}
 use Rattle.replay.proofs.OutcomeLaws.{fresh-bounds, outcome-refused, outcome-played}
 use borrow.Author.Needs.{needs}

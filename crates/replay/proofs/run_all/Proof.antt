@@ -4,11 +4,11 @@ use mathlib.Core.Path.{_≡_, ap, _∙_}
 use native.Mathlib.Omega.{arith}
 use lib.ListN.{length, drop, length-take, length-drop}
 use borrow.Rule.Slice.PartMut.{putMid}
-use Rattle.apart.specs.Desks.{deskStep}
-use Rattle.scripts.specs.Scripts.{width, callOf}
-use Rattle.logs.specs.Logs.{entry}
-use Rattle.runs.specs.Stepped.{worldOf}
-use Rattle.scripts.proofs.ScriptLaws.{tail-is}
+use Rattle.desk_ledger.specs.Desks.{deskStep}
+use Rattle.replay_script.specs.Scripts.{width, callOf}
+use Rattle.replay_log.specs.Logs.{entry}
+use Rattle.replay_call.specs.Stepped.{worldOf}
+use Rattle.replay_script.proofs.ScriptLaws.{tail-is}
 use Rattle.replay.proofs.RunLaws.{Running, run-start, next-some, next-room, next, run-end}
 use Rattle.replay.proofs.run_all.Statement.{statement}
 use Rattle.replay.proofs.run_all.Tie as tie

@@ -1,5 +1,5 @@
 -- `text::bad_octet` meets its contract. Assumes nothing.
-use Rattle.looks.proofs.LookLaws.{good-plain}
+use Rattle.text_marks.proofs.SeenLaws.{good-plain}
 use borrow.Author.Needs.{needs}
 use Rattle.text.proofs.bad_octet.Statement.{statement}
 use Rattle.text.proofs.bad_octet.Tie as tie

@@ -1,11 +1,6 @@
 -- `text::escape` meets its contract. Assumes nothing.
-use mathlib.Core.Path.{sym, _∙_}
-use mathlib.Core.Bool.{true}
-use Rattle.octets.specs.Room.{fillBounded}
-use Rattle.escaping.specs.Escaped.{escaped}
-use Rattle.looks.proofs.LookLaws.{seen-low}
 use Rattle.text.specs.Outcomes.{escapeOutcome}
-use Rattle.text.proofs.OutcomeLaws.{refused-by, left-by, escape-same}
+use Rattle.text.proofs.OutcomeLaws.{refused-outcome, short-text, left-outcome, same-outcome, escaping}
 use borrow.Author.Needs.{needs}
 use Rattle.text.proofs.escape.Statement.{statement}
 use Rattle.text.proofs.escape.Tie as tie
@@ -27,30 +22,15 @@ same-length c = search needs
 
 returns : tie.Need-returns
 unfolding escapeOutcome
-returns c =
-    let m = c .before .before .before .before .before .before in
-    let a = m .before .before .before .before .before .args in
-    let t = a .text .now in
-    let o = a .out .now in
-    let q = left-by true 59 10 t o (fillBounded (escaped t) o) _ (sym (m .before .before .screen .ensures) ∙ m .s2 .given .1) in
-    c .before .before .put .ensures
-    ∙ escape-same t o (q .1 .0) (seen-low t _ 59 10 (q .0) (c .before .before .before .before .if1 .taken))
-    ∙ q .1 .1
+returns c = same-outcome escaping _ _ (c .before .before .before .before .before .before .before .before .screen .ensures)
+    (c .before .before .before .before .before .before .s2 .given .1) (c .before .before .before .before .if1 .taken) (c .before .before .put .ensures)
 
 escape-each-requires : tie.Need-escape-each-requires
-escape-each-requires c κs =
-    let m = c .before .before .before in
-    let a = m .before .before .before .before .before .args in
-    left-by true 59 10 (a .text .now) (a .out .now) (fillBounded (escaped (a .text .now)) (a .out .now)) _ (sym (m .before .before .screen .ensures) ∙ m .s2 .given .1) .1 .0
+escape-each-requires c κs = let m = c .before .before .before in short-text escaping _ (m .before .before .screen .ensures) (m .s2 .given .1)
 
 returns-2 : tie.Need-returns-2
 unfolding escapeOutcome
-returns-2 c =
-    let m = c .before in
-    let a = m .before .before .before .before .before .args in
-    let t = a .text .now in
-    let o = a .out .now in
-    refused-by true 59 10 t o (fillBounded (escaped t) o) _ _ (sym (m .before .before .screen .ensures) ∙ m .s .given .1)
+returns-2 c = let m = c .before in refused-outcome escaping _ _ (m .before .before .screen .ensures) (m .s .given .1)
 
 same-length-2 : tie.Need-same-length-2
 same-length-2 c = search needs
@@ -59,10 +39,7 @@ returns-3 : tie.Need-returns-3
 unfolding escapeOutcome
 returns-3 c =
     let m = c .before .before .before .before .before .before in
-    let a = m .before .before .before .before .before .args in
-    let t = a .text .now in
-    let o = a .out .now in
-    c .before .before .escape-each .ensures ∙ left-by true 59 10 t o (fillBounded (escaped t) o) _ (sym (m .before .before .screen .ensures) ∙ m .s2 .given .1) .1 .1
+    left-outcome escaping _ _ (m .before .before .screen .ensures) (m .s2 .given .1) (c .before .before .escape-each .ensures)
 
 pub escape-spec : {M : Type 1} → statement M
 escape-spec =

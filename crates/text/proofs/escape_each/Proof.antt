@@ -5,10 +5,10 @@ use Prim.Native.Nat.{ℕ, _+_}
 use native.Mathlib.Omega.{arith}
 use lib.ListN.{length, drop}
 use Rattle.octets.proofs.RoomLaws.{fill-short, fill-fits, over-bound, within-bound}
-use Rattle.looks.specs.Marks.{marked}
-use Rattle.escaping.specs.Escaped.{escaped}
+use Rattle.text_marks.specs.Marks.{marked}
+use Rattle.text_escaping.specs.Escaped.{escaped}
 use Rattle.octets.specs.Counts.{count}
-use Rattle.escaping.proofs.LengthLaws.{escaped-length}
+use Rattle.text_escaping.proofs.LengthLaws.{escaped-length}
 use borrow.Author.Needs.{needs}
 use Rattle.text.proofs.escape_each.Statement.{statement}
 use Rattle.text.proofs.escape_each.Tie as tie

@@ -3,7 +3,7 @@ use mathlib.Core.Path.{sym}
 use lib.ListN.{length}
 use borrow.Author.Needs.{needs}
 use borrow.Author.Tests.{lt-ltb, le-ltb}
-use Rattle.looks.proofs.LookLaws.{seen-plain}
+use Rattle.text_marks.proofs.SeenLaws.{seen-plain}
 use Rattle.text.specs.Screened.{screened}
 use Rattle.text.proofs.screen.Statement.{statement}
 use Rattle.text.proofs.screen.Tie as tie
@@ -12,13 +12,13 @@ returns : tie.Need-returns
 unfolding screened
 returns c = simp (lt-ltb 16384 (length (c .before .before .args .text .now)) (c .if1 .taken))
 
-look-requires : tie.Need-look-requires
-look-requires c κs = search needs
+see-requires : tie.Need-see-requires
+see-requires c κs = search needs
 
 bad-octet-requires : tie.Need-bad-octet-requires
 bad-octet-requires c κs =
     let a = c .before .before .before .args in
-    seen-plain (a .text .now) (c .look .result) (a .x) (a .y) (c .look .ensures)
+    seen-plain (a .text .now) (c .see .result) (a .x) (a .y) (c .see .ensures)
 
 returns-2 : tie.Need-returns-2
 unfolding screened
@@ -36,8 +36,8 @@ returns-3 c =
       le-ltb 16384 n (c .before .before .before .if1 .left),
       sym (b .ensures),
       le-ltb (b .result) n (c .if2 .left),
-      sym (c .before .before .look .ensures),
+      sym (c .before .before .see .ensures),
     )
 
 pub screen-spec : {M : Type 1} → statement M
-screen-spec = tie.close (tie.spec returns look-requires bad-octet-requires returns-2 returns-3)
+screen-spec = tie.close (tie.spec returns see-requires bad-octet-requires returns-2 returns-3)

@@ -1,11 +1,6 @@
 -- `text::unescape` meets its contract. Assumes nothing.
-use mathlib.Core.Path.{sym, _∙_}
-use mathlib.Core.Bool.{false}
-use Rattle.octets.specs.Room.{fill}
-use Rattle.unescaping.specs.Unescaped.{unescaped}
-use Rattle.looks.proofs.LookLaws.{seen-low}
-use Rattle.text.specs.Outcomes.{faultless, unescapeOutcome}
-use Rattle.text.proofs.OutcomeLaws.{refused-by, left-by, unescape-same}
+use Rattle.text.specs.Outcomes.{unescapeOutcome}
+use Rattle.text.proofs.OutcomeLaws.{refused-outcome, short-text, left-outcome, same-outcome, unescaping}
 use borrow.Author.Needs.{needs}
 use Rattle.text.proofs.unescape.Statement.{statement}
 use Rattle.text.proofs.unescape.Tie as tie
@@ -27,30 +22,15 @@ same-length c = search needs
 
 returns : tie.Need-returns
 unfolding unescapeOutcome
-returns c =
-    let m = c .before .before .before .before .before .before in
-    let a = m .before .before .before .before .before .args in
-    let t = a .text .now in
-    let o = a .out .now in
-    let q = left-by false 44 44 t o (faultless t o (fill (unescaped t) o)) _ (sym (m .before .before .screen .ensures) ∙ m .s2 .given .1) in
-    c .before .before .put .ensures
-    ∙ unescape-same t o (seen-low t _ 44 44 (q .0) (c .before .before .before .before .if1 .taken))
-    ∙ q .1 .1
+returns c = same-outcome unescaping _ _ (c .before .before .before .before .before .before .before .before .screen .ensures)
+    (c .before .before .before .before .before .before .s2 .given .1) (c .before .before .before .before .if1 .taken) (c .before .before .put .ensures)
 
 unescape-each-requires : tie.Need-unescape-each-requires
-unescape-each-requires c κs =
-    let m = c .before .before .before in
-    let a = m .before .before .before .before .before .args in
-    left-by false 44 44 (a .text .now) (a .out .now) (faultless (a .text .now) (a .out .now) (fill (unescaped (a .text .now)) (a .out .now))) _ (sym (m .before .before .screen .ensures) ∙ m .s2 .given .1) .1 .0
+unescape-each-requires c κs = let m = c .before .before .before in short-text unescaping _ (m .before .before .screen .ensures) (m .s2 .given .1)
 
 returns-2 : tie.Need-returns-2
 unfolding unescapeOutcome
-returns-2 c =
-    let m = c .before in
-    let a = m .before .before .before .before .before .args in
-    let t = a .text .now in
-    let o = a .out .now in
-    refused-by false 44 44 t o (faultless t o (fill (unescaped t) o)) _ _ (sym (m .before .before .screen .ensures) ∙ m .s .given .1)
+returns-2 c = let m = c .before in refused-outcome unescaping _ _ (m .before .before .screen .ensures) (m .s .given .1)
 
 same-length-2 : tie.Need-same-length-2
 same-length-2 c = search needs
@@ -59,10 +39,7 @@ returns-3 : tie.Need-returns-3
 unfolding unescapeOutcome
 returns-3 c =
     let m = c .before .before .before .before .before .before in
-    let a = m .before .before .before .before .before .args in
-    let t = a .text .now in
-    let o = a .out .now in
-    c .before .before .unescape-each .ensures ∙ left-by false 44 44 t o (faultless t o (fill (unescaped t) o)) _ (sym (m .before .before .screen .ensures) ∙ m .s2 .given .1) .1 .1
+    left-outcome unescaping _ _ (m .before .before .screen .ensures) (m .s2 .given .1) (c .before .before .unescape-each .ensures)
 
 pub unescape-spec : {M : Type 1} → statement M
 unescape-spec =

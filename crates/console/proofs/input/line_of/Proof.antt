@@ -4,7 +4,7 @@ use mathlib.Core.List.{List}
 use Prim.Native.Nat.{ℕ}
 use borrow.Author.Needs.{needs}
 use borrow.Author.Tests.{lt-ltb, le-ltb}
-use Rattle.words.specs.Words.{nextOf}
+use Rattle.console_words.specs.Words.{nextOf}
 use Rattle.console.specs.Input.{lineTo, lineOf}
 use Rattle.console.proofs.input.line_of.Statement.{statement}
 use Rattle.console.proofs.input.line_of.Tie as tie

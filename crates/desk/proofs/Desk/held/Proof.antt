@@ -20,12 +20,12 @@ cast-t10 c = search needs
 returns : tie.Need-returns
 unfolding heldStep
 returns c =
-    ap heldIn (sym (c .before .slot .given .1) ∙ c .before .before .before .at-ticket .ensures)
+    ap heldIn (sym (c .before .slot .given .1) ∙ c .before .before .before .at-ticket .ensures .0)
 
 returns-2 : tie.Need-returns-2
 unfolding heldStep
 returns-2 c =
-    ap heldIn (sym (c .before .before .slot2 .given .1) ∙ c .before .before .before .before .at-ticket .ensures)
+    ap heldIn (sym (c .before .before .slot2 .given .1) ∙ c .before .before .before .before .at-ticket .ensures .0)
 
 pub held-spec : {M : Type 1} → statement M
 held-spec =

@@ -2,11 +2,9 @@
 use denote.Ref.{now}
 use mathlib.Core.Path.{sym, ap, _∙_}
 use native.Mathlib.Omega.{arith}
-use lib.ListN.{length}
 use borrow.Author.Needs.{needs}
 use Rattle.reader.specs.Outcome.{judgeOf}
 use Rattle.desk.specs.Steps.{judgeIn, judgeStep}
-use Rattle.desk.proofs.DeskLaws.{told}
 use Rattle.desk.proofs.Desk.judge.Statement.{statement}
 use Rattle.desk.proofs.Desk.judge.Tie as tie
 
@@ -23,11 +21,7 @@ cast-held : tie.Need-cast-held
 cast-held c = search needs
 
 part-requires : tie.Need-part-requires
-part-requires c κs =
-    let c2 = c .before .before in
-    let c4 = c2 .before .before in
-    let a = c4 .before .before .args in
-    let g = told (a .self) (length (now (a .pool))) (a .t) (c2 .slot2 .given .0 .0) (c2 .slot2 .given .0 .1 .0) _ (c4 .at-ticket .ensures) (c2 .slot2 .given .1) in omega arith
+part-requires c κs = let g = rw (c .before .before .slot2 .given .1) at (c .before .before .before .before .at-ticket .ensures .1) in omega arith
 
 judge-requires : tie.Need-judge-requires
 judge-requires c κs = search needs
@@ -35,12 +29,12 @@ judge-requires c κs = search needs
 returns : tie.Need-returns
 unfolding judgeStep
 returns c =
-    ap (judgeIn (now (c .before .before .before .before .before .args .pool))) (sym (c .before .slot .given .1) ∙ c .before .before .before .at-ticket .ensures)
+    ap (judgeIn (now (c .before .before .before .before .before .args .pool))) (sym (c .before .slot .given .1) ∙ c .before .before .before .at-ticket .ensures .0)
 
 returns-2 : tie.Need-returns-2
 unfolding judgeStep
 returns-2 c =
-    c .judge .ensures ∙ ap judgeOf (c .before .part .ensures .octets) ∙ ap (judgeIn (now (c .before .before .before .before .before .before .before .before .args .pool))) (sym (c .before .before .before .before .slot2 .given .1) ∙ c .before .before .before .before .before .before .at-ticket .ensures)
+    c .judge .ensures ∙ ap judgeOf (c .before .part .ensures .octets) ∙ ap (judgeIn (now (c .before .before .before .before .before .before .before .before .args .pool))) (sym (c .before .before .before .before .slot2 .given .1) ∙ c .before .before .before .before .before .before .at-ticket .ensures .0)
 
 pub judge-spec : {M : Type 1} → statement M
 judge-spec =

@@ -1,11 +1,8 @@
 -- `desk::Desk::show` meets its contract. Assumes nothing.
-use denote.Ref.{now}
 use mathlib.Core.Path.{refl, sym, _∙_}
 use native.Mathlib.Omega.{arith}
-use lib.ListN.{length}
 use borrow.Author.Needs.{needs}
 use Rattle.desk.specs.Steps.{showStep}
-use Rattle.desk.proofs.DeskLaws.{told}
 use Rattle.desk.proofs.Desk.show.Statement.{statement}
 use Rattle.desk.proofs.Desk.show.Tie as tie
 
@@ -31,22 +28,18 @@ cast-held : tie.Need-cast-held
 cast-held c = search needs
 
 part-requires : tie.Need-part-requires
-part-requires c κs =
-    let c2 = c .before .before in
-    let c4 = c2 .before .before in
-    let a = c4 .before .before .args in
-    let g = told (a .self) (length (now (a .pool))) (a .t) (c2 .slot2 .given .0 .0) (c2 .slot2 .given .0 .1 .0) _ (c4 .at-ticket .ensures) (c2 .slot2 .given .1) in omega arith
+part-requires c κs = let g = rw (c .before .before .slot2 .given .1) at (c .before .before .before .before .at-ticket .ensures .1) in omega arith
 
 returns : tie.Need-returns
 unfolding showStep
 returns c =
-    let e = sym (c .before .before .before .before .at-ticket .ensures) ∙ c .before .before .slot .given .1 in
+    let e = sym (c .before .before .before .before .at-ticket .ensures .0) ∙ c .before .before .slot .given .1 in
     record { block = refl; offset = simp e (omega arith); octets = simp e }
 
 returns-2 : tie.Need-returns-2
 unfolding showStep
 returns-2 c =
-    rw (sym (c .before .before .before .before .before .at-ticket .ensures) ∙ c .before .before .before .slot2 .given .1) (c .part .ensures)
+    rw (sym (c .before .before .before .before .before .at-ticket .ensures .0) ∙ c .before .before .before .slot2 .given .1) (c .part .ensures)
 
 pub show-spec : {M : Type 1} → statement M
 show-spec =

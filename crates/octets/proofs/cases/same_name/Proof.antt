@@ -25,17 +25,17 @@ loop-holds : tie.Need-loop-holds Inv-loop μ-loop
 loop-holds c =
     (c .if1 .left, omega arith, refl)
 
-shared-slice-read-small : tie.Need-shared-slice-read-small Inv-loop μ-loop
-shared-slice-read-small c = search needs
+shared-slice-read-lower : tie.Need-shared-slice-read-lower Inv-loop μ-loop
+shared-slice-read-lower c = search needs
 
-small-requires : tie.Need-small-requires Inv-loop μ-loop
-small-requires c κs = search needs
+lower-requires : tie.Need-lower-requires Inv-loop μ-loop
+lower-requires c κs = search needs
 
-shared-slice-read-small-2 : tie.Need-shared-slice-read-small-2 Inv-loop μ-loop
-shared-slice-read-small-2 c = search needs
+shared-slice-read-lower-2 : tie.Need-shared-slice-read-lower-2 Inv-loop μ-loop
+shared-slice-read-lower-2 c = search needs
 
-small-requires-2 : tie.Need-small-requires-2 Inv-loop μ-loop
-small-requires-2 c κs = search needs
+lower-requires-2 : tie.Need-lower-requires-2 Inv-loop μ-loop
+lower-requires-2 c κs = search needs
 
 returns-2 : tie.Need-returns-2 Inv-loop μ-loop
 returns-2 c =
@@ -44,7 +44,7 @@ returns-2 c =
     let l = c .before .before .before .before .before .before .loop in
     let g : l .i < length a = omega arith in
     let h : l .i < length b = omega arith in
-    sym (l .inv .2 ∙ same-differ a b (l .i) g h (λ e. c .if2 .taken (c .before .before .before .small .ensures ∙ e ∙ sym (c .before .small2 .ensures))))
+    sym (l .inv .2 ∙ same-differ a b (l .i) g h (λ e. c .if2 .taken (c .before .before .before .lower .ensures ∙ e ∙ sym (c .before .lower2 .ensures))))
 
 add-i : tie.Need-add-i Inv-loop μ-loop
 add-i c = search needs
@@ -59,7 +59,7 @@ loop-again c =
     let l = c .before .before .before .before .before .before .loop in
     let g : l .i < length a = omega arith in
     let h : l .i < length b = omega arith in
-    (l .inv .0, omega arith, l .inv .2 ∙ same-next a b (l .i) g h (sym (c .before .before .before .small .ensures) ∙ c .if2 .left ∙ c .before .small2 .ensures))
+    (l .inv .0, omega arith, l .inv .2 ∙ same-next a b (l .i) g h (sym (c .before .before .before .lower .ensures) ∙ c .if2 .left ∙ c .before .lower2 .ensures))
 
 returns-3 : tie.Need-returns-3 Inv-loop μ-loop
 returns-3 c =
@@ -76,10 +76,10 @@ same-name-spec =
     μ-loop
     returns
     loop-holds
-    shared-slice-read-small
-    small-requires
-    shared-slice-read-small-2
-    small-requires-2
+    shared-slice-read-lower
+    lower-requires
+    shared-slice-read-lower-2
+    lower-requires-2
     returns-2
     add-i
     loop-less

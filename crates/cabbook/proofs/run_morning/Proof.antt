@@ -1,0 +1,53 @@
+-- `cabbook::run_morning` meets its contract. Assumes nothing.
+use borrow.Author.Needs.{needs}
+use Rattle.cabbook.proofs.run_morning.Statement.{statement}
+use Rattle.cabbook.proofs.run_morning.Tie as tie
+
+play-requires : tie.Need-play-requires
+play-requires c κs = search needs
+
+enum-told : tie.Need-enum-told
+enum-told c = search needs
+
+slice-aggregate-print-usage : tie.Need-slice-aggregate-print-usage
+slice-aggregate-print-usage c = search needs
+
+print-usage-requires : tie.Need-print-usage-requires
+print-usage-requires c κs = search needs
+
+enum-told-2 : tie.Need-enum-told-2
+enum-told-2 c = search needs
+
+slice-aggregate-print-usage-2 : tie.Need-slice-aggregate-print-usage-2
+slice-aggregate-print-usage-2 c = search needs
+
+print-usage-requires-2 : tie.Need-print-usage-requires-2
+print-usage-requires-2 c κs = search needs
+
+enum-known-p : tie.Need-enum-known-p
+enum-known-p c = search needs
+
+returns : tie.Need-returns
+returns c = search needs
+
+returns-2 : tie.Need-returns-2
+returns-2 c = search needs
+
+returns-3 : tie.Need-returns-3
+returns-3 c = rw (c .before .p .given .1) at (c .before .before .before .play .ensures)
+
+pub run-morning-spec : {M : Type 1} → statement M
+run-morning-spec =
+    tie.close
+    (tie.spec
+    play-requires
+    enum-told
+    slice-aggregate-print-usage
+    print-usage-requires
+    enum-told-2
+    slice-aggregate-print-usage-2
+    print-usage-requires-2
+    enum-known-p
+    returns
+    returns-2
+    returns-3)

@@ -1,0 +1,3 @@
+-- The definitions that the contracts of `cabbook_columns` cite. Assumes nothing.
+pub mod Visible
+pub mod Columns

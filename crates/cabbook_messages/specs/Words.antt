@@ -1,0 +1,59 @@
+-- The words of a refusal, by REFERENCE, Refusals. tools/messages makes the table of src/words.rt from the list here. Assumes nothing.
+use Prim.Native.Nat.{ℕ}
+use Prim.Native.String.{String}
+use mathlib.Core.List.{List, [], _∷_, _++_}
+use lib.Dec.{eqb}
+use lib.ListN.{length}
+use Rattle.numbers.specs.Refusals as refusal
+use Rattle.octets.specs.Pick.{pick}
+use Rattle.octets.specs.Ascii.{octets}
+
+-- a refusal and its words
+pub record Message : Type 0 where
+  pub number : ℕ
+  pub text : String
+
+abbrev pub message : ℕ → String → Message
+message n s = record { number = n; text = s }
+
+unfoldable pub messages : List Message
+messages =
+    message refusal.tooLong "input over 16,384 octets" ∷
+    message refusal.empty "input of 0 octets" ∷
+    message refusal.loneCrOrLf "CR without LF after it, or LF without CR before it" ∷
+    message refusal.noEnd "last two octets aren't CR LF" ∷
+    message refusal.badOctet "a control character, or not UTF-8" ∷
+    message refusal.lineRule "line breaks the line rule" ∷
+    message refusal.value "value breaks its kind" ∷
+    message refusal.laden "group or parameter on BEGIN, VERSION or END" ∷
+    message refusal.order "line out of order, or input ends inside a card" ∷
+    message refusal.second "second line of a property that a card has once" ∷
+    message refusal.noFn "no FN in the card" ∷
+    message refusal.member "MEMBER without a KIND line that says group" ∷
+    message refusal.copyRoom "copy room too small" ∷
+    message refusal.recordRoom "record room too small" ∷
+    message refusal.room "output room too small" ∷
+    message refusal.formTooLong "folded or escaped form over 16,384 octets" ∷
+    message refusal.noFreeSlot "no free slot" ∷
+    message refusal.ticketsUsedUp "tickets used up" ∷
+    message refusal.notOpen "ticket not open" ∷
+    message refusal.slotFull "chunk would take the session over 16,384 octets" ∷
+    message refusal.poolLength "pool length isn't slots times 16,384" ∷
+    message refusal.unsound "desk value not sound" ∷
+    message refusal.slotCount "new desk of 0 or over 40 slots" ∷
+    message refusal.escape "bare comma, or backslash without \\ , ; n or N after it" ∷
+    message refusal.textOctet "octet not allowed, or bad UTF-8" ∷
+    []
+
+-- the words of a number among messages; none where no message has it
+unfoldable pub wordsIn : List Message → ℕ → List ℕ
+wordsIn [] n = []
+wordsIn (m ∷ ms) n = pick (eqb n (m .number)) (octets (m .text)) (wordsIn ms n)
+
+unfoldable pub wordsOf : ℕ → List ℕ
+wordsOf n = wordsIn messages n
+
+-- messages as octets: of each its number, the length of its words, and the words
+unfoldable pub tableOf : List Message → List ℕ
+tableOf [] = []
+tableOf (m ∷ ms) = m .number ∷ length (octets (m .text)) ∷ (octets (m .text) ++ tableOf ms)

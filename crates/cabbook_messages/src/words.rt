@@ -1,0 +1,70 @@
+// The words of a refusal, searched in a table: of each message its number, the length of its words, and the words.
+ghost use mathlib.Core.Path.{_≡_};
+ghost use Rattle.program_output.specs.Pages.{page, added};
+ghost use Rattle.cabbook_messages.specs.Words.{messages, wordsOf, tableOf};
+use octets::indices::wide;
+
+// The octets before a message's words: its number and their length.
+const HEAD: usize = 2;
+
+// tools/messages makes the table from here on.
+const SIZE: usize = 804;
+
+const MESSAGES: [u8; SIZE] = *b"\
+    \x01\x18input over 16,384 octets\
+    \x02\x11input of 0 octets\
+    \x03\x32CR without LF after it, or LF without CR before it\
+    \x04\x1clast two octets aren't CR LF\
+    \x05\x21a control character, or not UTF-8\
+    \x06\x19line breaks the line rule\
+    \x07\x15value breaks its kind\
+    \x08\x2bgroup or parameter on BEGIN, VERSION or END\
+    \x09\x2eline out of order, or input ends inside a card\
+    \x0a\x2esecond line of a property that a card has once\
+    \x0b\x11no FN in the card\
+    \x0c\x2aMEMBER without a KIND line that says group\
+    \x0d\x13copy room too small\
+    \x0e\x15record room too small\
+    \x0f\x15output room too small\
+    \x10\x29folded or escaped form over 16,384 octets\
+    \x14\x0cno free slot\
+    \x15\x0ftickets used up\
+    \x16\x0fticket not open\
+    \x17\x2fchunk would take the session over 16,384 octets\
+    \x18\x24pool length isn't slots times 16,384\
+    \x19\x14desk value not sound\
+    \x1a\x1enew desk of 0 or over 40 slots\
+    \x1e\x36bare comma, or backslash without \\ , ; n or N after it\
+    \x1f\x1foctet not allowed, or bad UTF-8";
+
+// The table as a value.
+fn table() -> [u8; SIZE]
+    ensures { λ r. ⌜ r ≡ tableOf messages ⌝ }
+{
+    MESSAGES
+}
+
+// The words of a refusal in the table; none where there is no such refusal.
+fn words_of(t: &[u8], number: u32) -> &[u8]
+    requires { ⌜ now t ≡ tableOf messages ⌝ }
+    ensures { λ r. ⌜ now r ≡ wordsOf number ⌝ }
+{
+    let mut from: usize = 0;
+    while from < t.len() {
+        let start = from + HEAD;
+        let end = start + wide(t[from + 1]);
+        if wide(t[from]) == number as usize {
+            return &t[start..end];
+        }
+        from = end;
+    }
+    &t[..0]
+}
+
+// Adds the words of a refusal; none where there is no such refusal.
+pub fn put_words(room: &mut [u8], at: usize, number: u32) -> usize
+    ensures { λ r. ⌜ page r (now (room .exit)) ≡ added (wordsOf number) (page at (now (room .entry))) ⌝ }
+{
+    let t = table();
+    program_output::put_all(room, at, words_of(&t, number))
+}

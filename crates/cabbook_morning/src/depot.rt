@@ -1,0 +1,119 @@
+// The depot in the morning: the desk, the uploads at it, and what is counted.
+ghost use mathlib.Core.Path.{_≡_};
+ghost use Prim.Native.Nat.{_<_};
+ghost use lib.ListN.{getD};
+ghost use Rattle.desk.specs.Steps.{releaseStep};
+ghost use Rattle.numbers.specs.Limits as limit;
+ghost use Rattle.cabbook_morning.specs.Depot.{oneMore, asTicket, noUpload, begun, releasedAt};
+use desk::Desk;
+use numbers::limit;
+use reader::Verdict;
+
+// An upload: the argument that names its file, 0 where there is no upload, the file's descriptor, and the ticket.
+pub struct Upload {
+    pub file: usize,
+    pub fd: i32,
+    pub ticket: u32,
+}
+
+// The desk and the uploads at it, the next argument and how many there are, how many uploads run, the chunks' size, the width of the column of names, and what was counted.
+pub struct Morning {
+    pub desk: Desk,
+    pub uploads: [Upload; limit::SLOTS],
+    pub next: usize,
+    pub count: usize,
+    pub running: usize,
+    pub chunk: usize,
+    pub width: usize,
+    pub accepted: usize,
+    pub refused: usize,
+    pub unread: usize,
+    pub differing: usize,
+}
+
+// One more, or the same where there is no larger number.
+pub(crate) fn more(n: usize) -> usize
+    ensures { λ r. ⌜ r ≡ oneMore n ⌝ }
+{
+    if n == usize::MAX {
+        return n;
+    }
+    n + 1
+}
+
+// A number as a ticket, 0 where it has more than 32 bits.
+pub(crate) fn ticket_of(n: usize) -> u32
+    ensures { λ r. ⌜ r ≡ asTicket n ⌝ }
+{
+    if n > limit::LARGEST {
+        return 0;
+    }
+    n as u32
+}
+
+// No upload.
+fn no_upload() -> Upload
+    ensures { λ r. ⌜ r ≡ noUpload ⌝ }
+{
+    Upload {
+        file: 0,
+        fd: 0,
+        ticket: 0,
+    }
+}
+
+// Before the first upload.
+pub(crate) fn begin(next: usize, count: usize, chunk: usize, width: usize) -> Morning
+    ensures { λ r. ⌜ r ≡ begun next count chunk width ⌝ }
+{
+    let t = Desk::new(limit::SLOTS);
+    let d = t.desk;
+    let none = no_upload();
+    let uploads = [none; limit::SLOTS];
+    Morning {
+        desk: d,
+        uploads: uploads,
+        next: next,
+        count: count,
+        running: 0,
+        chunk: chunk,
+        width: width,
+        accepted: 0,
+        refused: 0,
+        unread: 0,
+        differing: 0,
+    }
+}
+
+// Releases upload k and closes its file.
+pub(crate) fn release(mut m: Morning, k: usize, pool: &mut [u8]) -> Morning
+    requires { ⌜ k < limit.slots ⌝ }
+    ensures { λ r. ⌜ r ≡ releasedAt k (releaseStep (m .desk) (now (pool .entry)) (getD (m .uploads) k noUpload .ticket) .desk) m ⌝ }
+    ensures { λ r. ⌜ now (pool .exit) ≡ releaseStep (m .desk) (now (pool .entry)) (getD (m .uploads) k noUpload .ticket) .pool ⌝ }
+{
+    let upload = m.uploads[k];
+    let d = m.desk;
+    let t = d.release(pool, upload.ticket);
+    let next = t.desk;
+    m.desk = next;
+    libc::close(upload.fd);
+    m.uploads[k] = no_upload();
+    m.running = cabbook_positions::before(m.running);
+    m
+}
+
+// Counts a verdict.
+pub(crate) fn count_verdict(mut m: Morning, v: Verdict, same: bool) -> Morning {
+    if !same {
+        m.differing = more(m.differing);
+    }
+    match v {
+        Verdict::Accepted(_, _) => {
+            m.accepted = more(m.accepted);
+        }
+        Verdict::Refused(_, _) => {
+            m.refused = more(m.refused);
+        }
+    }
+    m
+}

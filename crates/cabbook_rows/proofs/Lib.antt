@@ -1,0 +1,2 @@
+-- The laws that the proofs of `cabbook_rows` cite. Assumes nothing.
+pub mod PartLaws

@@ -1,0 +1,58 @@
+// The row of a file: what it holds, or why it is refused.
+ghost use mathlib.Core.Path.{_≡_};
+ghost use Rattle.program_output.specs.Pages.{page, added};
+ghost use Rattle.cabbook_rows.specs.Rows.{named, acceptedRow, lineOf, reason, refusedRow};
+use cabbook_messages::sentences;
+
+// Adds the start of a file's row, its name.
+fn put_name(room: &mut [u8], at: usize, path: &[u8]) -> usize
+    ensures { λ r. ⌜ page r (now (room .exit)) ≡ added (named (now (path .entry))) (page at (now (room .entry))) ⌝ }
+{
+    let path_end = cabbook_columns::visible::put_visible(room, at, path);
+    program_output::put_all(room, path_end, b": ")
+}
+
+// Adds the row of a file with so many cards and lines.
+pub fn put_accepted(room: &mut [u8], at: usize, path: &[u8], cards: usize, lines: usize) -> usize
+    ensures { λ r. ⌜ page r (now (room .exit)) ≡ added (acceptedRow (now (path .entry)) cards lines) (page at (now (room .entry))) ⌝ }
+{
+    let name_end = put_name(room, at, path);
+    let cards_end = sentences::put_count(room, name_end, cards, b" card");
+    let comma_end = program_output::put_all(room, cards_end, b", ");
+    let lines_end = sentences::put_count(room, comma_end, lines, b" line");
+    program_output::put_all(room, lines_end, b"\n")
+}
+
+// The number of the line in which a place lies; of the last line where the place is past the end.
+fn line_of(s: &[u8], place: usize) -> usize
+    ensures { λ r. ⌜ r ≡ lineOf (now (s .entry)) place ⌝ }
+{
+    let end = octets::slices::least(place, s.len());
+    cabbook_positions::line_number(octets::slices::part(s, 0, end))
+}
+
+// Adds the line in which a refusal's place lies, and the refusal's words.
+fn put_reason(room: &mut [u8], at: usize, s: &[u8], number: u32, place: usize) -> usize
+    ensures { λ r. ⌜ page r (now (room .exit)) ≡ added (reason (now (s .entry)) number place) (page at (now (room .entry))) ⌝ }
+{
+    let start = program_output::put_all(room, at, b", line ");
+    let number_end = sentences::put_amount(room, start, line_of(s, place), b": ");
+    let words_end = cabbook_messages::words::put_words(room, number_end, number);
+    program_output::put_all(room, words_end, b"\n")
+}
+
+// Adds the row of a file with these octets that is refused.
+pub fn put_refused(
+    room: &mut [u8],
+    at: usize,
+    path: &[u8],
+    s: &[u8],
+    number: u32,
+    place: usize,
+) -> usize
+    ensures { λ r. ⌜ page r (now (room .exit)) ≡ added (refusedRow (now (path .entry)) (now (s .entry)) number place) (page at (now (room .entry))) ⌝ }
+{
+    let name_end = put_name(room, at, path);
+    let refusal_end = sentences::put_refusal(room, name_end, number, place);
+    put_reason(room, refusal_end, s, number, place)
+}

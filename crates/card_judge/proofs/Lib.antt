@@ -1,0 +1,3 @@
+-- The laws that the proofs of `card_judge` cite. Assumes nothing.
+pub mod JudgeLaws
+pub mod CardLaws

@@ -1,0 +1,216 @@
+-- The numbers that the line rule answers, and what the parts of the line say of them. Assumes nothing.
+use mathlib.Core.Path.{_≡_, refl, sym, ap, _∙_, subst}
+use mathlib.Core.Bool.{Bool, true, false}
+use mathlib.Core.Option.{Option, none, some}
+use mathlib.Core.List.{List, [], _∷_}
+use Prim.Native.Nat.{ℕ, zero, suc, _+_, _-_, _<_, _≤_}
+use native.Mathlib.Omega.{arith}
+use lib.ListN.{length, take, drop}
+use borrow.Author.Tests.{ne-eqb}
+use Rattle.line_parser.specs.Parse.{Parse, got, bad}
+use Rattle.line_parser.specs.Grammar.{Value, Line, nameEnd}
+use Rattle.line_parser.specs.Rule.{parseLine}
+use Rattle.line_parser.specs.Places.{outcome}
+use Rattle.line_parameters.specs.First.{firstNamed, findFirst}
+use Rattle.line_parameters.specs.declared.First.{First}
+use Rattle.line_parameters.specs.declared.First.the-variants.{Between, Nothing}
+use Rattle.line_parser.specs.declared.rule.Part.{Part as Answer}
+use Rattle.line_parser.specs.declared.rule.Part.the-variants.{Upto, Named, Listed, Parsed, Fault}
+use Rattle.line_parser.proofs.rule.Part.{the-type}
+use denote.Enum.Declared.{tagOf}
+use types.Run.{OneOf, miss}
+use Rattle.line_parser.proofs.Inside.{InLine, in-line}
+use Rattle.line_parameters.specs.Placed.{Placed}
+use Rattle.line_parameters.specs.Found.{Found}
+use Rattle.line_parameters.proofs.Law.{line-law}
+use Rattle.line_parameters.proofs.PlacesLaw.{places-law}
+use Rattle.line_parameters.proofs.FirstLaw.{first-law}
+use Rattle.octets.specs.Pick.{pick}
+use Rattle.octets.specs.Cases.{same}
+use Rattle.octets.specs.Ascii.{octets}
+use Rattle.property_table.specs.Rows.{Row, rows, search, rowOf, kindAt, takesValue, kindNamed, lineKind, valueName}
+use Rattle.property_table.proofs.RowLaws.{kind-low}
+use Rattle.card_line.specs.Parts.{octetsOf, paramValue, rowOfLine, kindOfLine, faultOf, Accepted, firstValue, valueBy, linePartsBy, linePartsOf}
+use Rattle.card_line.specs.declared.Parts.{Parts}
+use Rattle.card_line.specs.declared.LineParts.the-variants.{Line as line, Fault as fault}
+
+-- a line that was read with these numbers
+pub record Known (l : List ℕ) (g n c v : ℕ) : Type 0 where
+  pub parts : Line
+  pub parsed : parseLine l ≡ got parts v
+  pub placed : Placed l parts g n c v
+  pub inside : InLine l g n c v
+
+pub known : (l : List ℕ) (g n c v : ℕ) → Parsed g n c v ≡ outcome (parseLine l) → Known l g n c v
+known l g n c v e =
+    let p = places-law l g n c v .0 (sym e) in
+    record {
+      parts = p .0;
+      parsed = line-law l (p .0) v .1 (p .1, p .2, p .3 .value-start);
+      placed = p .3;
+      inside = in-line l g n c v (sym e);
+    }
+
+pub accepted : (l : List ℕ) (g n c v : ℕ) → Known l g n c v → Accepted l n
+accepted l g n c v k = record { parts = k .parts; start = v; parsed = k .parsed; ends = k .placed .name-end }
+
+-- a row that doesn't look at VALUE
+pub no-value : (row : ℕ) (o : Option (List ℕ)) → takesValue row ≡ false → kindAt row ≡ lineKind row o
+unfolding lineKind
+no-value row none e = refl
+no-value row (some v) e = simp e
+
+pub value-none : (row : ℕ) (o : Option (List ℕ)) → o ≡ none → kindAt row ≡ lineKind row o
+unfolding lineKind
+value-none row o e = rw e
+
+pub value-some : (row : ℕ) (o : Option (List ℕ)) (v : List ℕ) → o ≡ some v → takesValue row ≡ true → kindNamed v ≡ lineKind row o
+unfolding lineKind
+value-some row o v e t = rw (e, t)
+
+-- what was found says whether such a parameter stands there
+none-by : (l : List ℕ) (o : Option Value) (r : First) → Found l o r → r ≡ Nothing → octetsOf o ≡ none
+none-by l none r f e = refl
+none-by l (some v) r f e = let a = f .answer in let z : _≡_ {A = ℕ} 0 1 = cc in absurd (omega arith)
+
+pub record Part (l : List ℕ) (a e : ℕ) (o : Option (List ℕ)) : Type 0 where
+  pub order : a ≤ e
+  pub inside : e ≤ length l
+  pub octets : o ≡ some (take (e - a) (drop a l))
+
+some-by : (l : List ℕ) (o : Option Value) (r : First) (a e : ℕ) → Found l o r → r ≡ Between a e → Part l a e (octetsOf o)
+some-by l none r a e f q = let z : _≡_ {A = ℕ} 0 1 = cc in absurd (omega arith)
+some-by l (some v) r a e f q =
+    let w = f .answer in
+    let ea : f .start ≡ a = cc in
+    let ee : f .end ≡ e = cc in
+    record {
+      order = rw (← ea, ← ee) (f .order);
+      inside = rw (← ee) (f .inside);
+      octets = ap some (sym (f .octets) ∙ ap (λ (i : ℕ). take (f .end - i) (drop i l)) ea ∙ ap (λ (i : ℕ). take (i - a) (drop a l)) ee);
+    }
+
+module _ (l : List ℕ) (end : ℕ) (a : Accepted l end) (name : List ℕ) where
+  abbrev asked : First
+  asked = findFirst name end (suc (length (drop end l))) (drop end l)
+
+  found : Found l (firstNamed name (a .parts .params)) asked
+  found =
+      let w = line-law l (a .parts) (a .start) .0 (a .parsed) in
+      rw (a .ends, w .1) (first-law name (a .parts) (w .0))
+
+  value-is : firstValue name l ≡ octetsOf (firstNamed name (a .parts .params))
+  unfolding firstValue paramValue
+  value-is = ap (valueBy name) (a .parsed)
+
+  pub value-missing : asked ≡ Nothing → firstValue name l ≡ none
+  value-missing e = value-is ∙ none-by l (firstNamed name (a .parts .params)) asked found e
+
+  pub value-there : (i j : ℕ) → asked ≡ Between i j → Part l i j (firstValue name l)
+  value-there i j e = rw value-is (some-by l (firstNamed name (a .parts .params)) asked i j found e)
+
+-- the parts of a line
+pub parts-by : (l : List ℕ) (g n c v : ℕ) (k : Known l g n c v) (row kind : ℕ) → row ≡ rowOfLine (k .parts)
+    → kind ≡ lineKind row (firstValue valueName l)
+    → line (record { row = row; «group_length» = g; «name_end» = n; «param_count» = c; «value_start» = v; kind = kind }) ≡ linePartsOf l
+unfolding linePartsOf kindOfLine firstValue
+parts-by l g n c v k row kind er ek =
+    let t = ap linePartsBy (k .parsed) in
+    let w : kind ≡ lineKind (rowOfLine (k .parts)) (paramValue valueName (k .parts)) = ek ∙ ap (lineKind row) (ap (valueBy valueName) (k .parsed)) ∙ ap (λ (r : ℕ). lineKind r (paramValue valueName (k .parts))) er in
+    rw t (cc (er, w, k .placed .group-length, k .placed .name-end, k .placed .count))
+
+-- an answer that is no fault
+pub no-fault : (p : Answer) → OneOf (0 ∷ 1 ∷ 2 ∷ 3 ∷ []) (tagOf the-type p) → 0 ≡ faultOf p
+no-fault (Upto e) k = refl
+no-fault (Named g n) k = refl
+no-fault (Listed c e) k = refl
+no-fault (Parsed g n c v) k = refl
+no-fault (Fault e) k = absurd (miss (0 ∷ 1 ∷ 2 ∷ 3 ∷ []) 4 tt k)
+
+-- an answer that is no line is the fault that is answered
+pub parts-fault : (l : List ℕ) (p : Answer) (e : ℕ) → p ≡ outcome (parseLine l) → OneOf (0 ∷ 1 ∷ 2 ∷ 4 ∷ []) (tagOf the-type p) → e ≡ faultOf p
+    → fault e ≡ linePartsOf l
+unfolding linePartsOf
+parts-fault l p e h k q = by (parseLine l) h
+  where
+    by : (m : Parse Line) → p ≡ outcome m → fault e ≡ linePartsBy m
+    by (bad x) h = ap fault (q ∙ ap faultOf h)
+    by (got x n) h = absurd (miss (0 ∷ 1 ∷ 2 ∷ 4 ∷ []) 3 tt (subst (λ (t : Answer). OneOf (0 ∷ 1 ∷ 2 ∷ 4 ∷ []) (tagOf the-type t)) h k))
+
+pub group-low : (l : List ℕ) (g n c v : ℕ) → InLine l g n c v → length l ≤ 16384 → g ≤ 16384
+group-low l zero n c v i h = omega arith
+group-low l (suc g) n c v i h =
+    let k : suc g + 1 < n = rw (ne-eqb (suc g) 0 (λ e. omega arith)) at (i .name) in
+    omega (arith, i .params, i .value)
+
+-- a row's number is below 39, and a kind's below 9
+found-low : (v : List ℕ) (i : ℕ) (rs : List Row) → 0 < i → search v i rs < i + length rs
+unfolding search
+found-low v i [] h = omega arith
+found-low v i (r ∷ rs) h = by (same v (r .name)) (found-low v (suc i) rs (omega arith))
+  where
+    by : (t : Bool) → search v (suc i) rs < suc i + length rs → pick t i (search v (suc i) rs) < i + suc (length rs)
+    by true f = omega arith
+    by false f = omega arith
+
+pub row-low : (v : List ℕ) → rowOf v < 39
+unfolding rowOf rows
+row-low v = found-low v 1 rows (omega arith)
+
+named-low : (a b : Bool) → pick a 1 (pick b 3 0) < 9
+named-low true b = omega arith
+named-low false true = omega arith
+named-low false false = omega arith
+
+line-kind-low : (n : ℕ) (o : Option (List ℕ)) → n < 39 → lineKind n o < 9
+unfolding lineKind kindNamed
+line-kind-low n none h = kind-low n h
+line-kind-low n (some v) h = by (takesValue n)
+  where
+    by : (t : Bool) → pick t (kindNamed v) (kindAt n) < 9
+    by true = named-low (same v (octets "text")) (same v (octets "uri"))
+    by false = kind-low n h
+
+pub row-of-line : (y : Line) → rowOfLine y < 39
+unfolding rowOfLine
+row-of-line y = row-low (y .name)
+
+pub kind-of-line : (y : Line) → kindOfLine y < 9
+unfolding kindOfLine rowOfLine
+kind-of-line y = line-kind-low (rowOf (y .name)) (paramValue valueName y) (row-low (y .name))
+
+-- what is known of a line by its parts
+pub record Read (l : List ℕ) (x : Parts) : Type 0 where
+  pub parts : Line
+  pub parsed : parseLine l ≡ got parts (x .«value_start»)
+  pub row : x .row ≡ rowOfLine parts
+  pub group : x .«group_length» ≡ length (parts .group)
+  pub params : x .«param_count» ≡ length (parts .params)
+  pub kind : x .kind ≡ kindOfLine parts
+  pub listed : x .row < 39
+  pub low : x .kind < 9
+  pub inside : x .«value_start» ≤ length l
+  pub value : drop (x .«value_start») l ≡ parts .value
+
+pub read : (l : List ℕ) (x : Parts) → line x ≡ linePartsOf l → Read l x
+unfolding linePartsOf
+read l x h = by (parseLine l) refl h
+  where
+    by : (m : Parse Line) → parseLine l ≡ m → line x ≡ linePartsBy m → Read l x
+    by (bad e) p q = let z : _≡_ {A = ℕ} 0 1 = cc in absurd (omega arith)
+    by (got y k) p q =
+        let w = known l (length (y .group)) (nameEnd y) (length (y .params)) k (sym (ap outcome p)) in
+        let e : x ≡ record { row = rowOfLine y; «group_length» = length (y .group); «name_end» = nameEnd y; «param_count» = length (y .params); «value_start» = k; kind = kindOfLine y } = cc in
+        let same-parts : w .parts ≡ y = cc (w .parsed, p) in
+        rw e record {
+          parts = y;
+          parsed = p;
+          row = refl;
+          group = refl;
+          params = refl;
+          kind = refl;
+          listed = row-of-line y;
+          low = kind-of-line y;
+          inside = w .inside .value;
+          value = w .placed .value ∙ ap (λ (z : Line). z .value) same-parts;
+        }

@@ -1,0 +1,106 @@
+// The parts of a line: its property's row, where its group, name and value stand, and the kind of its value.
+ghost use mathlib.Core.Path.{_≡_};
+ghost use Prim.Native.Nat.{_≤_, _<_};
+ghost use lib.ListN.{length};
+ghost use Rattle.numbers.specs.Limits as limit;
+ghost use Rattle.numbers.specs.Properties as property;
+ghost use Rattle.octets.specs.Classes.{Classes};
+ghost use Rattle.property_table.specs.Rows.{Lists, lineKind, valueName};
+ghost use Rattle.line_parser.specs.Places.{nameStart};
+ghost use Rattle.card_line.specs.Parts.{faultOf, Accepted, firstValue, linePartsOf};
+use line_parameters::First;
+use line_parser::rule::Part;
+use octets::classes::ClassTable;
+use property_table::rows::PropertyTable;
+
+// The parts of a line that keeps the line rule.
+pub struct Parts {
+    // The property's number, 0 for a name that is not listed.
+    pub row: usize,
+    // How long the group is, 0 for none.
+    pub group_length: usize,
+    // Where the name ends in the line.
+    pub name_end: usize,
+    // How many parameters there are.
+    pub param_count: usize,
+    // Where the value starts in the line.
+    pub value_start: usize,
+    // The kind of the value.
+    pub kind: usize,
+}
+
+// The parts of a line, or the fault by which it breaks the line rule.
+pub enum LineParts {
+    Line(Parts),
+    Fault(u32),
+}
+
+// Where the name starts: past the group and its dot.
+pub fn name_start(group_length: usize) -> usize
+    requires { ⌜ «group_length» ≤ limit.octets ⌝ }
+    ensures { λ r. ⌜ r ≡ nameStart «group_length» ⌝ }
+{
+    if group_length == 0 {
+        return 0;
+    }
+    group_length + 1
+}
+
+// The fault that a part of the parser hands up.
+fn fault_of(p: Part) -> u32
+    ensures { λ r. ⌜ r ≡ faultOf p ⌝ }
+{
+    let Part::Fault(e) = p else {
+        return 0;
+    };
+    e
+}
+
+// The kind of the value of a line of the row whose name ends at `name_end`.
+fn kind_at(t: &ClassTable, rows: &PropertyTable, s: &[u8], row: usize, name_end: usize) -> usize
+    requires { ⌜ Classes (now t) ⌝ }
+    requires { ⌜ Lists (now rows) ⌝ }
+    requires { ⌜ row < property.count ⌝ }
+    requires { ⌜ Accepted (now s) «name_end» ⌝ }
+    ensures { λ r. ⌜ r ≡ lineKind row (firstValue valueName (now (s .entry))) ⌝ }
+{
+    let kind = property_table::kind_of(rows, row);
+    if !property_table::takes_value(rows, row) {
+        return kind;
+    }
+    let f = line_parameters::param_first(t, s, name_end, b"VALUE");
+    let First::Between { start, end } = f else {
+        return kind;
+    };
+    property_table::kind_named(&s[start..end])
+}
+
+// The parts of a line, or the fault by which it breaks the line rule.
+pub fn parts_of(t: &ClassTable, rows: &PropertyTable, s: &[u8]) -> LineParts
+    requires { ⌜ Classes (now t) ⌝ }
+    requires { ⌜ Lists (now rows) ⌝ }
+    requires { ⌜ length (now s) ≤ limit.octets ⌝ }
+    ensures { λ r. ⌜ r ≡ linePartsOf (now (s .entry)) ⌝ }
+{
+    let p = line_parser::rule::read_line(t, s);
+    let Part::Parsed {
+        group_length,
+        name_end,
+        param_count,
+        value_start,
+    } = p
+    else {
+        return LineParts::Fault(fault_of(p));
+    };
+    let start = name_start(group_length);
+    let row = property_table::find_row(rows, &s[start..name_end]);
+    let kind = kind_at(t, rows, s, row, name_end);
+    LineParts::Line(Parts {
+        row,
+        group_length,
+        name_end,
+        param_count,
+        value_start,
+        kind,
+    })
+}

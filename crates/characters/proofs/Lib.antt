@@ -1,3 +1,0 @@
--- The laws that the proofs of `characters` and of the crates above it cite. Assumes nothing.
-pub mod Chars
-pub mod Chains

@@ -1,3 +1,0 @@
--- The definitions that the contracts of `columns` cite. Assumes nothing.
-pub mod Seen
-pub mod Columns

@@ -1,0 +1,2 @@
+-- The laws that the proofs of `console_answers` cite. Assumes nothing.
+pub mod Words

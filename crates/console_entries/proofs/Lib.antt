@@ -1,0 +1,3 @@
+-- The laws that the proofs of `console_entries` cite. Assumes nothing.
+pub mod Kept
+pub mod RoomLaws

@@ -1,0 +1,89 @@
+-- What the console answers to a request of reader, folder or text. Assumes nothing.
+use Prim.Native.Nat.{ℕ, _+_, _-_, _*_, min}
+use mathlib.Core.List.{List, [], _++_}
+use lib.Dec.{ltb, eqb}
+use lib.ListN.{length, getD, drop}
+use Rattle.numbers.specs.Limits as limit
+use Rattle.numbers.specs.Fields as field
+use Rattle.octets.specs.Pick.{pick}
+use Rattle.octets.specs.Room.{Filled}
+use Rattle.octets.specs.declared.rooms.Written.{Written}
+use Rattle.octets.specs.declared.rooms.Written.the-variants.{Wrote, Refused as Unwritten}
+use Rattle.octets.specs.Slices.{part}
+use Rattle.reader.specs.Outcome.{judgeOf, Taken, readOutcome}
+use Rattle.reader.specs.declared.Verdict.{Verdict}
+use Rattle.reader.specs.declared.Verdict.the-variants.{Accepted, Refused}
+use Rattle.folder.specs.Outcome.{foldOutcome}
+use Rattle.text.specs.Outcomes.{escapeOutcome, unescapeOutcome}
+use Rattle.console_answers.specs.Texts.{lineEnd, badLine, verdictText, writtenText, octetsWord, joined, spaced, roomEnd}
+use Rattle.console_entries.specs.Rooms.{octetFill, mostRoom, octetRoom, numberRoom, all, bothKept}
+use Rattle.console_entries.specs.declared.entries.Writer.{Writer}
+use Rattle.console_entries.specs.declared.entries.Writer.the-variants.{Fold, Escape, Unescape}
+
+-- more room than that is no request
+abbrev pub within : ℕ → List ℕ → List ℕ
+within r t = pick (ltb mostRoom r) badLine t
+
+-- ---- judge
+
+unfoldable pub judgeAnswer : List ℕ → List ℕ
+judgeAnswer i = verdictText (judgeOf i) ++ lineEnd
+
+-- ---- read
+
+abbrev pub linesOf : Verdict → ℕ
+linesOf (Accepted k n) = n
+linesOf (Refused n p) = 0
+
+-- eight for each line, of at most so many
+abbrev pub numbersOf : ℕ → ℕ → ℕ
+numbersOf lines most = min (lines * limit.recordLength) most
+
+-- CR LF
+abbrev pub lineEndLength : ℕ
+lineEndLength = 2
+
+-- the last record says where the last line of the copy starts and how long it is; CR LF ends it
+unfoldable pub copyLength : List ℕ → ℕ
+copyLength ns = pick (ltb (length ns) limit.recordLength) 0 (getD ns (length ns - limit.recordLength + field.start) 0 + getD ns (length ns - limit.recordLength + field.length) 0 + lineEndLength)
+
+-- the octets and the numbers written, if there are any
+unfoldable pub takenText : List ℕ → List ℕ → List ℕ
+takenText copy records = pick (eqb (length records) 0) [] (spaced (octetsWord copy) ++ spaced (joined records))
+
+-- of the rooms, so many octets and so many numbers were written, and the rest is looked at
+abbrev pub splitText : List ℕ → List ℕ → ℕ → ℕ → List ℕ
+splitText copy records n k = takenText (part copy 0 n) (part records 0 k) ++ roomEnd (bothKept (drop n copy) (drop k records))
+
+abbrev pub roomsBy : List ℕ → List ℕ → ℕ → List ℕ
+roomsBy copy records k = splitText copy records (copyLength (part records 0 k)) k
+
+unfoldable pub roomsText : ℕ → List ℕ → List ℕ → List ℕ
+roomsText lines copy records = roomsBy copy records (numbersOf lines (length records))
+
+abbrev pub takenAnswer : Taken → List ℕ
+takenAnswer t = verdictText (t .answer) ++ roomsText (linesOf (t .answer)) (t .copy) (t .records)
+
+unfoldable pub readText : List ℕ → List ℕ → List ℕ → List ℕ
+readText i copy records = takenAnswer (readOutcome i copy records)
+
+unfoldable pub readAnswer : ℕ → ℕ → List ℕ → List ℕ
+readAnswer r k i = within r (within k (readText i (octetRoom r) (numberRoom k)))
+
+-- ---- fold, escape, unescape
+
+abbrev pub outcomeOf : Writer → List ℕ → List ℕ → Filled
+outcomeOf Fold i room = foldOutcome i room
+outcomeOf Escape i room = escapeOutcome i room
+outcomeOf Unescape i room = unescapeOutcome i room
+
+abbrev pub count : Written → ℕ
+count (Wrote n) = n
+count (Unwritten n p) = 0
+
+-- what the entry wrote, and the rest of the room looked at
+unfoldable pub writeText : Filled → List ℕ
+writeText f = writtenText (f .answer) (f .room) ++ roomEnd (all octetFill (drop (count (f .answer)) (f .room)))
+
+unfoldable pub writeAnswer : Writer → ℕ → List ℕ → List ℕ
+writeAnswer e r i = within r (writeText (outcomeOf e i (octetRoom r)))

@@ -1,0 +1,175 @@
+// The calls of reader, folder and text.
+ghost use mathlib.Core.Path.{_≡_};
+ghost use Prim.Native.Nat.{_+_, _≤_};
+ghost use Rattle.octets.specs.Room.{filled};
+ghost use Rattle.program_output.specs.Pages.{page, added};
+ghost use Rattle.console_entries.specs.Rooms.{mostRoom, octetRoom, numberRoom};
+ghost use Rattle.console_entries.specs.Entries.{lineEndLength, linesOf, count, numbersOf, copyLength, takenText, roomsText, readText, outcomeOf, writeText, judgeAnswer, readAnswer, writeAnswer};
+use crate::rooms;
+use numbers::field;
+use numbers::limit;
+use octets::rooms::Written;
+use reader::Verdict;
+
+// The most octets or numbers of room that a request may ask for.
+const ROOM: usize = 70000;
+
+// How many octets end a line: CR LF.
+const LINE_END: usize = 2;
+
+// The entries that write octets to room.
+pub enum Writer {
+    Fold,
+    Escape,
+    Unescape,
+}
+
+// Adds the answer to `judge OCTETS`.
+pub fn put_judge_answer(input: &[u8], out: &mut [u8], at: usize) -> usize
+    ensures { λ r. ⌜ page r (now (out .exit)) ≡ added (judgeAnswer (now (input .entry))) (page at (now (out .entry))) ⌝ }
+{
+    let end = console_answers::put_verdict(out, at, reader::judge(input));
+    console_answers::put_end(out, end)
+}
+
+// How many lines the reader accepted; 0 on a refusal.
+fn lines_of(v: Verdict) -> usize
+    ensures { λ r. ⌜ r ≡ linesOf v ⌝ }
+{
+    match v {
+        Verdict::Accepted(_, lines) => lines,
+        Verdict::Refused(_, _) => 0,
+    }
+}
+
+// How many numbers so many records have, of at most so many.
+fn numbers_of(lines: usize, most: usize) -> usize
+    ensures { λ r. ⌜ r ≡ numbersOf lines most ⌝ }
+{
+    if lines > most / limit::RECORD_LENGTH {
+        return most;
+    }
+    lines * limit::RECORD_LENGTH
+}
+
+// Where a line that starts and is so long ends, CR LF and all.
+fn past_line(start: u32, length: u32) -> usize
+    ensures { λ r. ⌜ r ≡ start + length + lineEndLength ⌝ }
+{
+    start as usize + length as usize + LINE_END
+}
+
+// How long the copy is: the last record says where its last line ends.
+fn copy_length(records: &[u32]) -> usize
+    ensures { λ r. ⌜ r ≡ copyLength (now (records .entry)) ⌝ }
+{
+    let n = records.len();
+    if n < limit::RECORD_LENGTH {
+        return 0;
+    }
+    let last = n - limit::RECORD_LENGTH;
+    past_line(records[last + field::START], records[last + field::LENGTH])
+}
+
+// Adds the octets and numbers that the reader wrote, if it wrote any.
+fn put_taken(copy: &[u8], records: &[u32], out: &mut [u8], at: usize) -> usize
+    ensures { λ r. ⌜ page r (now (out .exit)) ≡ added (takenText (now (copy .entry)) (now (records .entry))) (page at (now (out .entry))) ⌝ }
+{
+    if records.len() == 0 {
+        return at;
+    }
+    let end = console_answers::put_spaced_octets(out, at, copy);
+    console_answers::put_spaced_numbers(out, end, records)
+}
+
+// Adds what the reader left in its rooms, after the verdict.
+fn put_rooms(lines: usize, copy: &[u8], records: &[u32], out: &mut [u8], at: usize) -> usize
+    ensures { λ r. ⌜ page r (now (out .exit)) ≡ added (roomsText lines (now (copy .entry)) (now (records .entry))) (page at (now (out .entry))) ⌝ }
+{
+    let k = numbers_of(lines, records.len());
+    let taken = octets::slices::numbers(records, k);
+    let n = copy_length(taken);
+    let end = put_taken(octets::slices::part(copy, 0, n), taken, out, at);
+    console_answers::put_room_end(out, end, rooms::both_kept(copy, n, records, k))
+}
+
+// Adds the reader's answer with these rooms.
+fn put_read(input: &[u8], copy: &mut [u8], records: &mut [u32], out: &mut [u8], at: usize) -> usize
+    ensures { λ r. ⌜ page r (now (out .exit)) ≡ added (readText (now (input .entry)) (now (copy .entry)) (now (records .entry))) (page at (now (out .entry))) ⌝ }
+{
+    let v = reader::read(input, copy, records);
+    let end = console_answers::put_verdict(out, at, v);
+    put_rooms(lines_of(v), copy, records, out, end)
+}
+
+// Adds the reader's answer with fresh rooms of r octets and k numbers.
+fn put_read_fresh(r: usize, k: usize, input: &[u8], out: &mut [u8], at: usize) -> usize
+    requires { ⌜ (r ≤ mostRoom) × (k ≤ mostRoom) ⌝ }
+    ensures { λ q. ⌜ page q (now (out .exit)) ≡ added (readText (now (input .entry)) (octetRoom r) (numberRoom k)) (page at (now (out .entry))) ⌝ }
+{
+    let mut room = [rooms::OCTET_FILL; ROOM];
+    let mut records = [rooms::NUMBER_FILL; ROOM];
+    put_read(input, &mut room[0..r], &mut records[0..k], out, at)
+}
+
+// Adds the answer to `read COPYROOM RECORDROOM OCTETS`.
+pub fn put_read_answer(r: usize, k: usize, input: &[u8], out: &mut [u8], at: usize) -> usize
+    ensures { λ q. ⌜ page q (now (out .exit)) ≡ added (readAnswer r k (now (input .entry))) (page at (now (out .entry))) ⌝ }
+{
+    if r > ROOM {
+        return console_answers::put_bad(out, at);
+    }
+    if k > ROOM {
+        return console_answers::put_bad(out, at);
+    }
+    put_read_fresh(r, k, input, out, at)
+}
+
+// Calls the entry, which writes to room.
+fn call(entry: Writer, input: &[u8], room: &mut [u8]) -> Written
+    ensures { λ r. ⌜ filled r (now (room .exit)) ≡ outcomeOf entry (now (input .entry)) (now (room .entry)) ⌝ }
+{
+    match entry {
+        Writer::Fold => folder::fold(input, room),
+        Writer::Escape => text::escape(input, room),
+        Writer::Unescape => text::unescape(input, room),
+    }
+}
+
+// How many octets an entry wrote; 0 on a refusal.
+fn count_of(w: Written) -> usize
+    ensures { λ r. ⌜ r ≡ count w ⌝ }
+{
+    match w {
+        Written::Wrote(count) => count,
+        Written::Refused(_, _) => 0,
+    }
+}
+
+// Adds the entry's answer with this room.
+fn put_write(entry: Writer, input: &[u8], room: &mut [u8], out: &mut [u8], at: usize) -> usize
+    ensures { λ r. ⌜ page r (now (out .exit)) ≡ added (writeText (outcomeOf entry (now (input .entry)) (now (room .entry)))) (page at (now (out .entry))) ⌝ }
+{
+    let w = call(entry, input, room);
+    let end = console_answers::put_written(out, at, w, room);
+    console_answers::put_room_end(out, end, rooms::is_kept(room, count_of(w)))
+}
+
+// Adds the entry's answer with a fresh room of r octets.
+fn put_write_fresh(entry: Writer, r: usize, input: &[u8], out: &mut [u8], at: usize) -> usize
+    requires { ⌜ r ≤ mostRoom ⌝ }
+    ensures { λ q. ⌜ page q (now (out .exit)) ≡ added (writeText (outcomeOf entry (now (input .entry)) (octetRoom r))) (page at (now (out .entry))) ⌝ }
+{
+    let mut room = [rooms::OCTET_FILL; ROOM];
+    put_write(entry, input, &mut room[0..r], out, at)
+}
+
+// Adds the answer to `fold ROOM OCTETS`, and to the others that write octets to room.
+pub fn put_write_answer(entry: Writer, r: usize, input: &[u8], out: &mut [u8], at: usize) -> usize
+    ensures { λ q. ⌜ page q (now (out .exit)) ≡ added (writeAnswer entry r (now (input .entry))) (page at (now (out .entry))) ⌝ }
+{
+    if r > ROOM {
+        return console_answers::put_bad(out, at);
+    }
+    put_write_fresh(entry, r, input, out, at)
+}

@@ -1,0 +1,102 @@
+-- `console_requests::names::name_at` meets its contract. Assumes nothing.
+use Rattle.console_requests.proofs.NameLaws.{no-row, passed}
+use native.Mathlib.Omega.{arith}
+use Rattle.console_requests.specs.Names.{rows, rowAt}
+use Rattle.console_requests.proofs.names.name_at.Statement.{statement}
+use Rattle.console_requests.proofs.names.name_at.Tie as tie
+
+returns : tie.Need-returns
+unfolding rowAt rows
+returns c =
+    rw (c .match .keys1)
+
+returns-2 : tie.Need-returns-2
+unfolding rowAt rows
+returns-2 c =
+    rw (c .match .keys2)
+
+returns-3 : tie.Need-returns-3
+unfolding rowAt rows
+returns-3 c =
+    rw (c .match .keys3)
+
+returns-4 : tie.Need-returns-4
+unfolding rowAt rows
+returns-4 c =
+    rw (c .match .keys4)
+
+returns-5 : tie.Need-returns-5
+unfolding rowAt rows
+returns-5 c =
+    rw (c .match .keys5)
+
+returns-6 : tie.Need-returns-6
+unfolding rowAt rows
+returns-6 c =
+    rw (c .match .keys6)
+
+returns-7 : tie.Need-returns-7
+unfolding rowAt rows
+returns-7 c =
+    rw (c .match .keys7)
+
+returns-8 : tie.Need-returns-8
+unfolding rowAt rows
+returns-8 c =
+    rw (c .match .keys8)
+
+returns-9 : tie.Need-returns-9
+unfolding rowAt rows
+returns-9 c =
+    rw (c .match .keys9)
+
+returns-10 : tie.Need-returns-10
+unfolding rowAt rows
+returns-10 c =
+    rw (c .match .keys10)
+
+returns-11 : tie.Need-returns-11
+unfolding rowAt rows
+returns-11 c =
+    rw (c .match .keys11)
+
+returns-12 : tie.Need-returns-12
+unfolding rowAt rows
+returns-12 c =
+    rw (c .match .keys12)
+
+returns-13 : tie.Need-returns-13
+unfolding rowAt rows
+returns-13 c =
+    rw (c .match .keys13)
+
+returns-14 : tie.Need-returns-14
+unfolding rowAt rows
+returns-14 c =
+    rw (c .match .keys14)
+
+returns-15 : tie.Need-returns-15
+returns-15 c =
+    let row = c .before .args .row in
+    let r = c .match .rest in
+    rw (no-row row (passed row 13 (passed row 12 (passed row 11 (passed row 10 (passed row 9 (passed row 8 (passed row 7 (passed row 6 (passed row 5 (passed row 4 (passed row 3 (passed row 2 (passed row 1 (passed row 0 (omega arith) (r .0 .0 .0 .0 .0 .0 .0 .0 .0 .0 .0 .0 .0 .1)) (r .0 .0 .0 .0 .0 .0 .0 .0 .0 .0 .0 .0 .1)) (r .0 .0 .0 .0 .0 .0 .0 .0 .0 .0 .0 .1)) (r .0 .0 .0 .0 .0 .0 .0 .0 .0 .0 .1)) (r .0 .0 .0 .0 .0 .0 .0 .0 .0 .1)) (r .0 .0 .0 .0 .0 .0 .0 .0 .1)) (r .0 .0 .0 .0 .0 .0 .0 .1)) (r .0 .0 .0 .0 .0 .0 .1)) (r .0 .0 .0 .0 .0 .1)) (r .0 .0 .0 .0 .1)) (r .0 .0 .0 .1)) (r .0 .0 .1)) (r .0 .1)) (r .1)))
+
+pub name-at-spec : {M : Type 1} → statement M
+name-at-spec =
+    tie.close
+    (tie.spec
+    returns
+    returns-2
+    returns-3
+    returns-4
+    returns-5
+    returns-6
+    returns-7
+    returns-8
+    returns-9
+    returns-10
+    returns-11
+    returns-12
+    returns-13
+    returns-14
+    returns-15)

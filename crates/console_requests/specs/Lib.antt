@@ -1,0 +1,3 @@
+-- The definitions that the contracts of `console_requests` cite. Assumes nothing.
+pub mod Names
+pub mod Requests

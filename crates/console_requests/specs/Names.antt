@@ -1,0 +1,76 @@
+-- The requests, as the console's table lists them: the name, how many numbers stand after it, and whether octets stand after those.
+-- Assumes nothing.
+use Prim.Native.Nat.{ℕ, _+_}
+use Prim.Native.String.{String}
+use mathlib.Core.Bool.{Bool, _&&_}
+use mathlib.Core.List.{List, [], _∷_, _++_}
+use lib.Dec.{eqb}
+use lib.ListN.{length, getD, take}
+use Rattle.octets.specs.Pick.{pick}
+use Rattle.octets.specs.Ascii.{octets}
+use Rattle.octets.specs.Tables.{TableOf}
+use Rattle.program_numbers.specs.Alike.{alike}
+use Rattle.console_requests.specs.declared.Name.{Name}
+use Rattle.console_requests.specs.declared.Name.the-variants.{Judge, Read, Fold, Escape, Unescape, Desk, Open, Add, Check, Show, Held, Release, Pool, Next, Bad}
+
+pub record Row : Type 0 where
+  pub name : Name
+  pub spelling : List ℕ
+  pub numbers : ℕ
+  pub octets : ℕ
+
+-- numbers alone, or octets as the last word
+abbrev pub alone : ℕ
+alone = 0
+
+abbrev pub withOctets : ℕ
+withOctets = 1
+
+abbrev pub row : Name → String → ℕ → ℕ → Row
+row n s k o = record { name = n; spelling = octets s; numbers = k; octets = o }
+
+unfoldable pub rows : List Row
+rows =
+    row Judge "judge" 0 withOctets ∷
+    row Read "read" 2 withOctets ∷
+    row Fold "fold" 1 withOctets ∷
+    row Escape "escape" 1 withOctets ∷
+    row Unescape "unescape" 1 withOctets ∷
+    row Desk "desk" 2 alone ∷
+    row Open "open" 1 alone ∷
+    row Add "add" 1 withOctets ∷
+    row Check "check" 1 alone ∷
+    row Show "show" 1 alone ∷
+    row Held "held" 1 alone ∷
+    row Release "release" 1 alone ∷
+    row Pool "pool" 2 alone ∷
+    row Next "next" 1 alone ∷
+    []
+
+-- no request: it has neither numbers nor octets
+abbrev pub noRow : Row
+noRow = row Bad "" 0 alone
+
+unfoldable pub rowAt : ℕ → Row
+rowAt n = getD rows n noRow
+
+-- a request of this name with so many words after it
+unfoldable pub fits : List ℕ → ℕ → Row → Bool
+fits w k r = eqb (r .numbers + r .octets) k && alike w (r .spelling)
+
+-- the first row that fits
+unfoldable pub search : List ℕ → ℕ → List Row → Row
+search w k [] = noRow
+search w k (r ∷ rs) = pick (fits w k r) r (search w k rs)
+
+-- the request that a first word names with so many words after it
+unfoldable pub rowOf : List ℕ → ℕ → Row
+rowOf w k = search w k rows
+
+-- the eleven entries that the table has for a row: its name, filled up to eight by points, the name's length, numbers, octets
+unfoldable pub entries : ℕ → List ℕ
+entries n = take 8 (rowAt n .spelling ++ octets "........") ++ length (rowAt n .spelling) ∷ rowAt n .numbers ∷ rowAt n .octets ∷ []
+
+-- a list is the table of requests, with a last row for none
+unfoldable pub Lists : List ℕ → Type 0
+Lists t = TableOf entries 15 t

@@ -1,0 +1,123 @@
+// The requests: one table of their names, and how many numbers and octets stand after each.
+ghost use mathlib.Core.Path.{_≡_};
+ghost use Prim.Native.Nat.{_<_, _≤_};
+ghost use Rattle.console_requests.specs.Names.{Lists, rowAt, fits, rowOf};
+use crate::Name;
+use octets::indices::wide;
+
+// The entries of a row.
+const ROW: usize = 11;
+
+// Where a row has its name's length.
+const LENGTH: usize = 8;
+
+// Where a row has how many numbers stand after the name.
+const NUMBERS: usize = 9;
+
+// Where a row has 1 if octets stand after the numbers.
+const OCTETS: usize = 10;
+
+// The entries of the table.
+const TABLE: usize = 165;
+
+// The row of no request, after those of the requests.
+const NO_REQUEST: usize = 14;
+
+// Eleven entries for each row, and a last row for no request: name, its length, how many numbers stand after it, 1 where octets do.
+const ROWS: [u8; TABLE] = *b"\
+    judge...\x05\x00\x01\
+    read....\x04\x02\x01\
+    fold....\x04\x01\x01\
+    escape..\x06\x01\x01\
+    unescape\x08\x01\x01\
+    desk....\x04\x02\x00\
+    open....\x04\x01\x00\
+    add.....\x03\x01\x01\
+    check...\x05\x01\x00\
+    show....\x04\x01\x00\
+    held....\x04\x01\x00\
+    release.\x07\x01\x00\
+    pool....\x04\x02\x00\
+    next....\x04\x01\x00\
+    ........\x00\x00\x00";
+
+// The table as a value, which its users are lent.
+pub fn table() -> [u8; TABLE]
+    ensures { λ r. ⌜ Lists r ⌝ }
+{
+    ROWS
+}
+
+// What stands after a name: how many numbers, and 1 where octets do, else 0.
+pub struct After {
+    pub numbers: usize,
+    pub octets: usize,
+}
+
+// What stands after a row's name.
+pub fn after_name(t: &[u8], row: usize) -> After
+    requires { ⌜ Lists (now t) ⌝ }
+    requires { ⌜ row < 15 ⌝ }
+    ensures { λ r. ⌜ (r .numbers ≡ rowAt row .numbers) × (r .octets ≡ rowAt row .octets) ⌝ }
+    ensures { λ r. ⌜ (r .numbers ≤ 2) × (r .octets ≤ 1) ⌝ }
+{
+    let base = row * ROW;
+    After {
+        numbers: wide(t[base + NUMBERS]),
+        octets: wide(t[base + OCTETS]),
+    }
+}
+
+// Whether a row has this name and so many words after it.
+fn is_row(t: &[u8], row: usize, word: &[u8], after: usize) -> bool
+    requires { ⌜ Lists (now t) ⌝ }
+    requires { ⌜ row < 15 ⌝ }
+    ensures { λ r. ⌜ r ≡ fits (now (word .entry)) after (rowAt row) ⌝ }
+{
+    let a = after_name(t, row);
+    if a.numbers + a.octets != after {
+        return false;
+    }
+    let base = row * ROW;
+    let end = base + wide(t[base + LENGTH]);
+    check::same(word, &t[base..end])
+}
+
+// The row of the request that has this name and so many words after it, or that of no request.
+pub fn row_of(t: &[u8], word: &[u8], after: usize) -> usize
+    requires { ⌜ Lists (now t) ⌝ }
+    ensures { λ r. ⌜ rowAt r ≡ rowOf (now (word .entry)) after ⌝ }
+    ensures { λ r. ⌜ r < 15 ⌝ }
+{
+    let mut row: usize = 0;
+    while row < NO_REQUEST {
+        if is_row(t, row, word, after) {
+            return row;
+        }
+        row += 1;
+    }
+    row
+}
+
+// The request of a row.
+pub fn name_at(row: usize) -> Name
+    ensures { λ r. ⌜ r ≡ rowAt row .name ⌝ }
+{
+    match row {
+        0 => Name::Judge,
+        1 => Name::Read,
+        2 => Name::Fold,
+        3 => Name::Escape,
+        4 => Name::Unescape,
+        5 => Name::Desk,
+        6 => Name::Open,
+        7 => Name::Add,
+        8 => Name::Check,
+        9 => Name::Show,
+        10 => Name::Held,
+        11 => Name::Release,
+        12 => Name::Pool,
+        13 => Name::Next,
+        _ => Name::Bad,
+    }
+}

@@ -1,0 +1,2 @@
+-- The definitions that the contracts of `console_words` cite. Assumes nothing.
+pub mod Words

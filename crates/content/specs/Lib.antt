@@ -1,2 +1,0 @@
--- The definitions that the contracts of `content` cite. Assumes nothing.
-pub mod Parts

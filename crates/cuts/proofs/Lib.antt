@@ -1,4 +1,0 @@
--- The laws that the proofs of `cuts` and of the crates above it cite. Assumes nothing.
-pub mod PieceLaws
-pub mod Turns
-pub mod Puts

@@ -1,0 +1,119 @@
+-- The examples of REFERENCE, Worked examples that are marked (*): inputs, and what the entries' outcome definitions give for each. Assumes nothing.
+use Prim.Native.Nat.{ℕ, _-_}
+use Prim.Native.String.{String}
+use mathlib.Core.Path.{_≡_}
+use mathlib.Core.List.{List, [], _∷_, _++_, map}
+use lib.ListN.{replicate}
+use Rattle.octets.specs.Room.{Filled}
+use Rattle.folder.specs.Outcome.{foldOutcome}
+use Rattle.text.specs.Outcomes.{unescapeOutcome}
+use Rattle.octets.specs.Ascii.{octets}
+use Rattle.reader.specs.Outcome.{Taken, readOutcome}
+use Rattle.desk_slots.specs.Sound.{stateAt}
+use Rattle.desk.specs.Steps.{newStep}
+use Rattle.desk_entries.specs.declared.Session.{Session}
+use Rattle.desk_entries.specs.declared.State.the-variants.{Open}
+use Rattle.desk_ledger.specs.Answers.{Reply, refused, told, counts, verdict, wrote, said}
+use Rattle.desk_ledger.specs.Ledger.{Call, opens, on, releases}
+use Rattle.desk_ledger.specs.Desks.{Proper, answers, world}
+
+-- CR LF
+abbrev end : List ℕ
+end = 13 ∷ 10 ∷ []
+
+-- a line with its end
+abbrev line : String → List ℕ
+line s = octets s ++ end
+
+-- card M, up to its END, with what stands between FN and END
+abbrev pub start : List ℕ
+start = line "BEGIN:VCARD" ++ line "VERSION:4.0"
+
+abbrev pub cardWith : List ℕ → List ℕ
+cardWith more = start ++ (line "FN:A" ++ (more ++ line "END:VCARD"))
+
+unfoldable pub cardM : List ℕ
+cardM = cardWith []
+
+-- the same with a fold after `FN:`
+unfoldable pub foldedM : List ℕ
+foldedM = start ++ (octets "FN:" ++ (end ++ 32 ∷ line "A") ++ line "END:VCARD")
+
+unfoldable pub recordsM : List ℕ
+recordsM =
+    1 ∷ 0 ∷ 11 ∷ 0 ∷ 5 ∷ 0 ∷ 6 ∷ 0 ∷
+    34 ∷ 13 ∷ 11 ∷ 0 ∷ 7 ∷ 0 ∷ 21 ∷ 0 ∷
+    6 ∷ 26 ∷ 4 ∷ 0 ∷ 2 ∷ 0 ∷ 29 ∷ 1 ∷
+    2 ∷ 32 ∷ 9 ∷ 0 ∷ 3 ∷ 0 ∷ 36 ∷ 0 ∷ []
+
+abbrev fullName : String
+fullName = "N:Public;John;Quinlan;Mr.;Esq."
+
+-- an example: what is read, folded or unescaped, the rooms, the answer, and what the rooms hold then; or the calls on a fresh desk, the
+-- number that answers each, and which session then stands in which slot
+pub data Example : Type 0 where
+  reads : (input copy records : List ℕ) → Reply → (copy′ records′ : List ℕ) → Example
+  folds : (input room : List ℕ) → Reply → (room′ : List ℕ) → Example
+  unescapes : (text room : List ℕ) → Reply → (room′ : List ℕ) → Example
+  turns : (slots : ℕ) (calls : List Call) (numbers : List ℕ) (slot : ℕ) (session : Session) → Example
+
+-- such a desk is granted; and with its proper pool, whatever this holds, the steps of the desk's contracts answer and end so
+pub record Turns (n : ℕ) (cs : List Call) (ns : List ℕ) (i : ℕ) (s : Session) : Type 0 where
+  pub granted : said (newStep n .answer) ≡ told 0
+  pub answered : (p : List ℕ) → Proper n p → answers n p cs ≡ map told ns
+  pub slot : (p : List ℕ) → Proper n p → stateAt (world n p cs .desk .entries) i ≡ Open s
+
+-- an outcome that answers a and leaves these octets, or numbers, in its rooms
+pub record Fills (f : Filled) (a : Reply) (o : List ℕ) : Type 0 where
+  pub answer : wrote (f .answer) ≡ a
+  pub room : f .room ≡ o
+
+pub record Reads (t : Taken) (a : Reply) (c r : List ℕ) : Type 0 where
+  pub answer : verdict (t .answer) ≡ a
+  pub copy : t .copy ≡ c
+  pub records : t .records ≡ r
+
+-- the outcome that the entry's contract names is the one expected
+abbrev pub Holds : Example → Type 0
+Holds (reads i c r a c′ r′) = Reads (readOutcome i c r) a c′ r′
+Holds (folds i o a o′) = Fills (foldOutcome i o) a o′
+Holds (unescapes t o a o′) = Fills (unescapeOutcome t o) a o′
+Holds (turns n cs ns i s) = Turns n cs ns i s
+
+-- refused: both rooms stay
+abbrev pub refuses : List ℕ → ℕ → ℕ → Example
+refuses i n p = reads i (replicate 64 0) (replicate 64 0) (refused n p) (replicate 64 0) (replicate 64 0)
+
+-- accepted with card M's counts, copy and records, the rest of the rooms as it was
+abbrev pub asM : List ℕ → Example
+asM i =
+    reads i (replicate 64 0) (replicate 64 0)
+    (counts 1 4) (cardM ++ replicate 21 0) (recordsM ++ replicate 32 0)
+
+-- a NOTE line of n octets, and what may stand after it, in card M
+abbrev note : ℕ → List ℕ → List ℕ
+note n more = cardWith (octets "NOTE:" ++ (replicate (n - 5) 97 ++ more))
+
+-- a card is folded into a room of 160 octets to another, of n octets
+abbrev pub folding : List ℕ → ℕ → List ℕ → Example
+folding i n o = folds i (replicate 160 0) (told n) (o ++ replicate (160 - n) 0)
+
+-- all of them
+abbrev pub marked : List Example
+marked =
+    asM cardM ∷
+    asM foldedM ∷
+    refuses (start ++ line "END:VCARD") 11 26 ∷
+    refuses (start ++ line "FN:A") 9 32 ∷
+    refuses (line "BEGIN:VCARD" ++ (line "VERSION:3.0" ++ (line "FN:A" ++ line "END:VCARD"))) 7 13 ∷
+    refuses (octets "BEGIN:VCARD" ++ (10 ∷ (line "VERSION:4.0" ++ (line "FN:A" ++ line "END:VCARD")))) 3 11 ∷
+    refuses (cardWith (line fullName ++ line fullName)) 10 64 ∷
+    refuses (cardWith (line "N:Doe;J")) 7 32 ∷
+    folding (note 75 end) 120 (note 75 end) ∷
+    folding (note 76 end) 124 (note 75 (end ++ 32 ∷ 97 ∷ end)) ∷
+    folding (note 74 (195 ∷ 169 ∷ end)) 124 (note 74 (end ++ 32 ∷ 195 ∷ 169 ∷ end)) ∷
+    unescapes (octets "a\\,b") (replicate 8 0) (told 3) (octets "a,b" ++ replicate 5 0) ∷
+    unescapes (octets "\\N") (replicate 8 0) (told 1) (10 ∷ replicate 7 0) ∷
+    unescapes (octets "a,b") (replicate 8 0) (refused 30 1) (replicate 8 0) ∷
+    turns 2 (opens 0 ∷ opens 0 ∷ on 1 releases ∷ opens 0 ∷ []) (1 ∷ 2 ∷ 0 ∷ 3 ∷ []) 0 (record { ticket = 3; tram = 0; held = 0 }) ∷
+    []

@@ -1,0 +1,25 @@
+-- `desk_entries::ticket_of` meets its contract. Assumes nothing.
+use borrow.Author.Needs.{needs}
+use Rattle.desk_entries.proofs.ticket_of.Statement.{statement}
+use Rattle.desk_entries.proofs.ticket_of.Tie as tie
+
+enum-told : tie.Need-enum-told
+enum-told c = search needs
+
+enum-known-s : tie.Need-enum-known-s
+enum-known-s c = search needs
+
+returns : tie.Need-returns
+returns c = search needs
+
+returns-2 : tie.Need-returns-2
+returns-2 c = simp (c .before .s .given .1)
+
+pub ticket-of-spec : {M : Type 1} → statement M
+ticket-of-spec =
+    tie.close
+    (tie.spec
+    enum-told
+    enum-known-s
+    returns
+    returns-2)

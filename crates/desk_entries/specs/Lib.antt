@@ -1,0 +1,3 @@
+-- The definitions that the contracts of `desk_entries` cite. Assumes nothing.
+pub mod Entries
+pub mod Search

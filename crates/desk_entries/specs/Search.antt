@@ -1,0 +1,35 @@
+-- The first position at which a test holds, a test at every position, and numbers side by side. Assumes nothing.
+use Prim.Native.Nat.{ℕ, zero, suc, _+_}
+use mathlib.Core.Bool.{Bool, true, false}
+use mathlib.Core.List.{List}
+use lib.Dec.{eqb}
+use lib.ListN.{getD}
+use Rattle.octets.specs.Pick.{pick}
+use Rattle.desk_entries.specs.declared.tickets.Position.{Position}
+use Rattle.desk_entries.specs.declared.tickets.Position.the-variants.{At, Nowhere, Barred}
+
+-- the first of the k positions from i on at which p holds
+unfoldable pub firstAt : (ℕ → Bool) → ℕ → ℕ → Position
+firstAt p i zero = Nowhere
+firstAt p i (suc k) = pick (p i) (At i) (firstAt p (i + 1) k)
+
+-- p holds at each of the k positions from i on
+unfoldable pub allAt : (ℕ → Bool) → ℕ → ℕ → Bool
+allAt p i zero = true
+allAt p i (suc k) = pick (p i) (allAt p (i + 1) k) false
+
+abbrev pub column : List ℕ → ℕ → ℕ
+column ts i = getD ts i 0
+
+-- f has t at a position
+abbrev pub sameAs : (ℕ → ℕ) → ℕ → ℕ → Bool
+sameAs f t i = eqb (f i) t
+
+abbrev pub isAt : Position → Bool
+isAt (At i) = true
+isAt Nowhere = false
+isAt (Barred n) = false
+
+-- t is not 0, and f has it at one of the first n positions
+unfoldable pub among : (ℕ → ℕ) → ℕ → ℕ → Bool
+among f t n = pick (eqb t 0) false (isAt (firstAt (sameAs f t) 0 n))

@@ -1,0 +1,44 @@
+// The tickets of a desk's entries side by side, 0 for a free one, and searches among them.
+use numbers::limit;
+ghost use mathlib.Core.Path.{_≡_};
+ghost use Prim.Native.Nat.{_≤_};
+ghost use Rattle.numbers.specs.Limits as limit;
+ghost use Rattle.desk_entries.specs.Search.{firstAt, column, sameAs, among};
+
+// Where a ticket stands among the entries, or the refusal that bars a call.
+pub enum Position {
+    At(usize),
+    Nowhere,
+    Barred(u32),
+}
+
+// Finds the first of n positions that has a ticket, where a free one has 0.
+pub fn find(tickets: &[u32; limit::SLOTS], t: u32, n: usize) -> Position
+    requires { ⌜ n ≤ limit.slots ⌝ }
+    ensures { λ r. ⌜ r ≡ firstAt (sameAs (column (now (tickets .entry))) t) 0 n ⌝ }
+{
+    let mut position: usize = 0;
+    while position < n {
+        if tickets[position] == t {
+            return Position::At(position);
+        }
+        position += 1;
+    }
+    Position::Nowhere
+}
+
+// Tells whether a ticket, which 0 is none of, stands at one of the first n positions.
+pub fn stands(tickets: &[u32; limit::SLOTS], t: u32, n: usize) -> bool
+    requires { ⌜ n ≤ limit.slots ⌝ }
+    ensures { λ r. ⌜ r ≡ among (column (now (tickets .entry))) t n ⌝ }
+{
+    if t == 0 {
+        return false;
+    }
+    let p = find(tickets, t, n);
+    match p {
+        Position::At(_) => true,
+        Position::Nowhere => false,
+        Position::Barred(_) => false,
+    }
+}

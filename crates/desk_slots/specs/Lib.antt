@@ -1,0 +1,3 @@
+-- The definitions that the contracts of `desk_slots` cite. Assumes nothing.
+pub mod Sound
+pub mod Slots

@@ -1,5 +1,0 @@
--- The laws that the proofs of `digits` and of the crates above it cite. Assumes nothing.
-pub mod ListLaws
-pub mod NumberLaws
-pub mod HexLaws
-pub mod ReadBack

@@ -1,3 +1,0 @@
-// What digits stand for: a number in decimal ones, and octets as pairs of hexadecimal ones.
-pub mod hex;
-pub mod numbers;

@@ -1,2 +1,0 @@
--- The definitions that the contracts of `escaping` cite. Assumes nothing.
-pub mod Escaped

@@ -1,0 +1,3 @@
+-- The definitions that the contracts of `firmware_bench` cite. Assumes nothing.
+pub mod Answers
+pub mod Calls

@@ -1,0 +1,71 @@
+// For the benchmark alone: escape, read and the desk's calls, for C to time; a refusal is answered by its number alone.
+use desk::Answer;
+use desk::Desk;
+use numbers::limit;
+use octets::rooms::Written;
+use reader::Verdict;
+ghost use mathlib.Core.Path.{_≡_};
+ghost use Rattle.reader.specs.Outcome.{readOutcome};
+ghost use Rattle.text.specs.Outcomes.{escapeOutcome};
+ghost use Rattle.firmware_bench.specs.Answers.{number, writtenNumber, verdictNumber, answerNumber};
+ghost use Rattle.firmware_bench.specs.Calls.{served};
+
+mod calls;
+
+// Packs a refusal's number above all counts.
+fn pack_refusal(n: u32) -> u64
+    ensures { λ r. ⌜ r ≡ number n ⌝ }
+{
+    (n as u64) * limit::WORD
+}
+
+// Escapes a text: the count of octets written, or the refusal; the room is as escaping leaves it.
+#[no_mangle]
+pub extern "C" fn timed_escape(text: &[u8], out: &mut [u8]) -> u64
+    ensures { λ r. ⌜ r ≡ writtenNumber (escapeOutcome (now (text .entry)) (now (out .entry)) .answer) ⌝ }
+    ensures { λ _. ⌜ now (out .exit) ≡ escapeOutcome (now (text .entry)) (now (out .entry)) .room ⌝ }
+{
+    let w = text::escape(text, out);
+    match w {
+        Written::Wrote(n) => n as u64,
+        Written::Refused(n, _) => pack_refusal(n),
+    }
+}
+
+// Reads an input: the count of cards, or the refusal; the rooms are as the reader leaves them.
+#[no_mangle]
+pub extern "C" fn timed_read(input: &[u8], copy: &mut [u8], records: &mut [u32]) -> u64
+    ensures { λ r. ⌜ r ≡ verdictNumber (readOutcome (now (input .entry)) (now (copy .entry)) (now (records .entry)) .answer) ⌝ }
+    ensures { λ _. ⌜ now (copy .exit) ≡ readOutcome (now (input .entry)) (now (copy .entry)) (now (records .entry)) .copy ⌝ }
+    ensures { λ _. ⌜ now (records .exit) ≡ readOutcome (now (input .entry)) (now (copy .entry)) (now (records .entry)) .records ⌝ }
+{
+    let v = reader::read(input, copy, records);
+    match v {
+        Verdict::Accepted(cards, _) => cards as u64,
+        Verdict::Refused(n, _) => pack_refusal(n),
+    }
+}
+
+// Makes n calls of a kind to a desk of 40 slots, after so many openings and additions of the chunk, and answers as the last of them does.
+#[no_mangle]
+pub extern "C" fn timed_desk(
+    pool: &mut [u8],
+    chunk: &[u8],
+    opens: u32,
+    adds: usize,
+    kind: u32,
+    n: usize,
+) -> u64
+    ensures { λ r. ⌜ r ≡ answerNumber (served (now (pool .entry)) (now (chunk .entry)) opens adds kind n .answer) ⌝ }
+    ensures { λ _. ⌜ now (pool .exit) ≡ served (now (pool .entry)) (now (chunk .entry)) opens adds kind n .pool ⌝ }
+{
+    let fresh = Desk::new(limit::SLOTS);
+    let opened = calls::run(fresh, pool, chunk, calls::OPEN, opens, opens as usize);
+    let ready = calls::run(opened, pool, chunk, calls::ADD, opens, adds);
+    let done = calls::run(ready, pool, chunk, kind, opens, n);
+    let a = done.answer;
+    match a {
+        Answer::Done(count) => count as u64,
+        Answer::Refused(number, _) => pack_refusal(number),
+    }
+}

@@ -1,9 +1,0 @@
--- The laws of folding. Assumes nothing.
-pub mod CutLaws
-pub mod Greedy
-pub mod CopyLaws
-pub mod BackLaws
-pub mod PhysicalLaws
-pub mod WrittenLaws
-pub mod Again
-pub mod Cases

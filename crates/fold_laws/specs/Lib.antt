@@ -1,5 +1,0 @@
--- The definitions that the laws of folding cite. Assumes nothing.
-pub mod Cuttings
-pub mod Physical
-pub mod Leads
-pub mod Written

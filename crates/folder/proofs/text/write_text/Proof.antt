@@ -1,0 +1,137 @@
+-- `crate::text::write_text` meets its contract. Assumes nothing.
+use borrow.Author.Needs.{needs}
+use mathlib.Core.Path.{_≡_, _∙_}
+use mathlib.Core.List.{List}
+use Prim.Native.Nat.{ℕ, _+_, _-_, _≤_}
+use native.Mathlib.Omega.{arith}
+use lib.ListN.{length, take, drop, length-take, length-drop, length-replicate}
+use Rattle.octets.proofs.Writes.{Written, start, room, finish}
+use Rattle.line_folds.specs.Folds.{unfolded}
+use Rattle.line_folds.specs.Logical.{logicalLines}
+use Rattle.line_folds.proofs.SpanLaws.{whole, part-length}
+use Rattle.folder_line.specs.Pieces.{folded, foldedLines, Clean, All}
+use Rattle.line_unfolding.proofs.PutLaws.{put-part}
+use Rattle.folder.proofs.TextLaws.{fold-turn, fold-length, clean-turn, none-left}
+use Rattle.folder.proofs.text.write_text.Statement.{statement}
+use Rattle.folder.proofs.text.write_text.Tie as tie
+
+abbrev Inv-loop : tie.InvT-loop
+Inv-loop s out₀ scratch₀ at₀ w₀ out scratch at w =
+    (length scratch ≡ 16384) × All Clean (logicalLines (drop at s)) × Written (foldedLines (logicalLines s)) (foldedLines (logicalLines (drop at s))) out₀ out w
+
+abbrev μ-loop : tie.MeasureT-loop
+μ-loop s out₀ scratch₀ at₀ w₀ out scratch at w = length s - at
+
+abbrev At : Type 0
+At = tie.After-struct-known Inv-loop μ-loop
+
+abbrev S : At → List ℕ
+S c = c .before .before .before .before .before .before .args .s .now
+
+abbrev P : At → ℕ
+P c = c .before .before .before .loop .at
+
+abbrev E : At → ℕ
+E c = c .before .line-at .result .end
+
+-- the line of this turn
+abbrev L : At → List ℕ
+L c = take (E c - P c) (drop (P c) (S c))
+
+module _ (c : At) where
+  clean : Clean (unfolded (L c)) × All Clean (logicalLines (drop (E c + 2) (S c)))
+  clean =
+      clean-turn (S c) (P c) (E c) (c .before .before .loop-test .taken) (c .before .line-at .ensures .1) (c .before .line-at .ensures .2) (c .before .before .before .loop .inv .1)
+
+  len : length (L c) ≡ E c - P c
+  len = part-length (S c) (P c) (E c) (c .before .before .loop-test .taken) (c .before .line-at .ensures .1) (c .before .line-at .ensures .2)
+
+  roomy : c .before .before .before .loop .w + length (folded (unfolded (L c))) ≤ length (c .before .before .before .loop .out)
+  roomy =
+      omega (arith, room (c .before .before .before .loop .inv .2) (c .before .before .before .before .before .before .pre .2), fold-length (S c) (P c) (E c) (c .before .before .loop-test .taken) (c .before .line-at .ensures .1) (c .before .line-at .ensures .2))
+
+loop-holds : tie.Need-loop-holds Inv-loop μ-loop
+loop-holds c = (simp length-replicate, c .before .before .pre .0, start _ _)
+
+line-at-requires : tie.Need-line-at-requires Inv-loop μ-loop
+line-at-requires c κs = omega arith
+
+sub-write-line : tie.Need-sub-write-line Inv-loop μ-loop
+sub-write-line c = omega arith
+
+part-write-line-start : tie.Need-part-write-line-start Inv-loop μ-loop
+part-write-line-start c = omega arith
+
+part-write-line-end : tie.Need-part-write-line-end Inv-loop μ-loop
+part-write-line-end c = omega arith
+
+slice-aggregate-write-line : tie.Need-slice-aggregate-write-line Inv-loop μ-loop
+slice-aggregate-write-line c = search needs
+
+sub-write-line-2 : tie.Need-sub-write-line-2 Inv-loop μ-loop
+sub-write-line-2 c = omega (arith, roomy (c .before .before))
+
+part-write-line-start-2 : tie.Need-part-write-line-start-2 Inv-loop μ-loop
+part-write-line-start-2 c = omega (arith, roomy (c .before .before))
+
+part-write-line-end-2 : tie.Need-part-write-line-end-2 Inv-loop μ-loop
+part-write-line-end-2 c = omega (arith, roomy (c .before .before))
+
+write-line-requires : tie.Need-write-line-requires Inv-loop μ-loop
+write-line-requires c κs =
+    let t = c .before .before .before in
+    let v = t .before .line-at in
+    ((clean t .0, omega (arith, len t, t .before .before .before .before .before .before .pre .1, t .before .before .before .loop .inv .0), simp (length-take, length-drop) (omega (arith, roomy t))), whole (S t) (P t) (v .result .cr) (E t) (v .ensures .0))
+
+add-w : tie.Need-add-w Inv-loop μ-loop
+add-w c = omega (arith, roomy (c .before .before .before .before .before .before .before), c .before .before .before .write-line .ensures .0)
+
+add-at : tie.Need-add-at Inv-loop μ-loop
+add-at c = omega arith
+
+loop-less : tie.Need-loop-less Inv-loop μ-loop
+loop-less c = omega arith
+
+loop-again : tie.Need-loop-again Inv-loop μ-loop
+loop-again c =
+    let t = c .before .before .before .before .before .before .before in
+    let v = t .before .line-at in
+    let r = c .before .before .before .write-line in (
+      omega (arith, r .kept, t .before .before .before .loop .inv .0),
+      clean t .1,
+      rw (r .ensures .0 .0) (put-part (t .before .before .before .loop .inv .2) (folded (unfolded (L t))) (foldedLines (logicalLines (drop (E t + 2) (S t)))) _
+          (fold-turn (S t) (P t) (E t) (t .before .before .loop-test .taken) (v .ensures .1) (v .ensures .2)) (roomy t) (r .ensures .0 .1)),
+    )
+
+same-length : tie.Need-same-length Inv-loop μ-loop
+same-length c = c .before .loop .inv .2 .same
+
+returns : tie.Need-returns Inv-loop μ-loop
+returns c =
+    let l = c .before in
+    let none = none-left (l .before .before .before .args .s .now) (l .loop .at) (c .loop-test .left) in
+    let f = finish (rw none at (l .loop .inv .2)) in
+    (f .0, f .1 ∙ rw (f .0))
+
+pub write-text-spec : {M : Type 1} → statement M
+write-text-spec =
+    tie.close
+    (tie.spec
+    Inv-loop
+    μ-loop
+    loop-holds
+    line-at-requires
+    sub-write-line
+    part-write-line-start
+    part-write-line-end
+    slice-aggregate-write-line
+    sub-write-line-2
+    part-write-line-start-2
+    part-write-line-end-2
+    write-line-requires
+    add-w
+    add-at
+    loop-less
+    loop-again
+    same-length
+    returns)

@@ -1,0 +1,93 @@
+// Folding the logical lines of a text: they are measured before they are written.
+ghost use mathlib.Core.Path.{_≡_};
+ghost use mathlib.Core.Bool.{false};
+ghost use Prim.Native.Nat.{_+_, _*_, _≤_};
+ghost use lib.ListN.{length};
+ghost use Rattle.numbers.specs.Limits as limit;
+ghost use Rattle.octets.specs.Pick.{pick};
+ghost use Rattle.octets.specs.Room.{filled, fillBounded, overlay};
+ghost use Rattle.line_folds.specs.Folds.{unfolded};
+ghost use Rattle.line_folds.specs.Logical.{logicalLines};
+ghost use Rattle.folder_line.specs.Pieces.{folded, foldedLines, Clean, All};
+use numbers::limit;
+use numbers::refusal;
+
+// How many octets the logical line s has when it is folded anew: as it is where it has no fold, else unfolded into the scratch.
+fn line_length(s: &[u8], folds: bool, scratch: &mut [u8]) -> usize
+    requires { ⌜ Clean (unfolded (now s)) × (length (now s) ≤ limit.octets) × (length (now s) ≤ length (now scratch)) ⌝ }
+    requires { ⌜ (folds ≡ false → unfolded (now s) ≡ now s) ⌝ }
+    ensures { λ r. ⌜ (r ≡ length (folded (unfolded (now (s .entry))))) × (r ≤ 4 * length (now (s .entry)) + 2) ⌝ }
+    ensures { λ _. ⌜ now (scratch .exit) ≡ pick folds (overlay (unfolded (now (s .entry))) (now (scratch .entry))) (now (scratch .entry)) ⌝ }
+{
+    if !folds {
+        return folder_line::cutting::measure(s);
+    }
+    let n = line_unfolding::unfold(s, scratch);
+    folder_line::cutting::measure(&scratch[..n])
+}
+
+// Writes the logical line s folded anew to the start of d, and answers how many octets that are.
+fn write_line(s: &[u8], folds: bool, scratch: &mut [u8], d: &mut [u8]) -> usize
+    requires { ⌜ Clean (unfolded (now s)) × (length (now s) ≤ length (now scratch)) × (length (folded (unfolded (now s))) ≤ length (now d)) ⌝ }
+    requires { ⌜ (folds ≡ false → unfolded (now s) ≡ now s) ⌝ }
+    ensures { λ r. ⌜ (r ≡ length (folded (unfolded (now (s .entry))))) × (now (d .exit) ≡ overlay (folded (unfolded (now (s .entry)))) (now (d .entry))) ⌝ }
+    ensures { λ _. ⌜ now (scratch .exit) ≡ pick folds (overlay (unfolded (now (s .entry))) (now (scratch .entry))) (now (scratch .entry)) ⌝ }
+{
+    if !folds {
+        return folder_line::folding::fold_line(s, d);
+    }
+    let n = line_unfolding::unfold(s, scratch);
+    folder_line::folding::fold_line(&scratch[..n], d)
+}
+
+// How many octets the logical lines of a text have when they are folded.
+pub fn text_length(s: &[u8]) -> usize
+    requires { ⌜ All Clean (logicalLines (now s)) × (length (now s) ≤ limit.octets) ⌝ }
+    ensures { λ r. ⌜ r ≡ length (foldedLines (logicalLines (now (s .entry)))) ⌝ }
+{
+    let mut scratch = [0u8; limit::OCTETS];
+    let mut at: usize = 0;
+    let mut n: usize = 0;
+    while at < s.len() {
+        let span = line_folds::spans::line_at(s, at);
+        let end = span.end;
+        let folds = span.cr != end;
+        n += line_length(&s[at..end], folds, &mut scratch);
+        at = end + 2;
+    }
+    n
+}
+
+// Writes them to the start of out, which has room for them, and answers how many octets that are.
+pub fn write_text(s: &[u8], out: &mut [u8]) -> usize
+    requires { ⌜ All Clean (logicalLines (now s)) × (length (now s) ≤ limit.octets) × (length (foldedLines (logicalLines (now s))) ≤ length (now out)) ⌝ }
+    ensures { λ r. ⌜ (r ≡ length (foldedLines (logicalLines (now (s .entry))))) × (now (out .exit) ≡ overlay (foldedLines (logicalLines (now (s .entry)))) (now (out .entry))) ⌝ }
+{
+    let mut scratch = [0u8; limit::OCTETS];
+    let mut at: usize = 0;
+    let mut w: usize = 0;
+    while at < s.len() {
+        let span = line_folds::spans::line_at(s, at);
+        let end = span.end;
+        let folds = span.cr != end;
+        w += write_line(&s[at..end], folds, &mut scratch, &mut out[w..]);
+        at = end + 2;
+    }
+    w
+}
+
+// Folds a text: 16 where the folded form is over 16,384 octets, 15 where out is too small for it, else the octets written.
+pub fn fold_text(s: &[u8], out: &mut [u8]) -> octets::rooms::Written
+    requires { ⌜ All Clean (logicalLines (now s)) × (length (now s) ≤ limit.octets) ⌝ }
+    ensures { λ r. ⌜ filled r (now (out .exit)) ≡ fillBounded (foldedLines (logicalLines (now (s .entry)))) (now (out .entry)) ⌝ }
+{
+    let n = text_length(s);
+    if limit::OCTETS < n {
+        return octets::rooms::Written::Refused(refusal::FORM_TOO_LONG, limit::OCTETS);
+    }
+    if out.len() < n {
+        return octets::rooms::Written::Refused(refusal::ROOM, n);
+    }
+    let w = write_text(s, out);
+    octets::rooms::Written::Wrote(w)
+}

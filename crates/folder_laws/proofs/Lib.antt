@@ -1,0 +1,11 @@
+-- The laws of folding. Assumes nothing.
+pub mod Cut
+pub mod CutLaws
+pub mod Greedy
+pub mod CuttingLaws
+pub mod CopyLaws
+pub mod BackLaws
+pub mod PhysicalLaws
+pub mod WrittenLaws
+pub mod Again
+pub mod Cases

@@ -1,4 +1,0 @@
--- The definitions that the contracts of `kinds` cite. Assumes nothing.
-pub mod Octets
-pub mod Shapes
-pub mod Kinds

@@ -1,0 +1,3 @@
+-- The definitions that the contracts of `line_folds` cite. Assumes nothing.
+pub mod Folds
+pub mod Logical

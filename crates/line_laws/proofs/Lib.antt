@@ -1,0 +1,5 @@
+-- Which lines are refused with which number, and examples of lines. Assumes nothing.
+pub mod FaultSound
+pub mod FaultComplete
+pub mod Examples
+pub mod LinedLaws

@@ -1,5 +1,0 @@
--- The laws that the proofs of `lines` cite. Assumes nothing.
-pub mod ParseLaws
-pub mod PartLaws
-pub mod Steps
-pub mod Inside

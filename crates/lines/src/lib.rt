@@ -1,2 +1,0 @@
-// Logical lines: the line rule.
-pub mod rule;

@@ -1,2 +1,0 @@
--- The definitions that the contracts of `logs` cite. Assumes nothing.
-pub mod Logs

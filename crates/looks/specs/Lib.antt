@@ -1,3 +1,0 @@
--- The definitions that the contracts of `looks` cite. Assumes nothing.
-pub mod Marks
-pub mod Looks

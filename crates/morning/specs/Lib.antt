@@ -1,4 +1,0 @@
--- The definitions that the contracts of `morning` cite. Assumes nothing.
-pub mod Ends
-pub mod Depot
-pub mod Options

@@ -1,9 +1,0 @@
--- The options of a morning. Assumes nothing.
-use Prim.Native.Nat.{_≤_}
-use mathlib.Core.Path.{_≡_}
-use mathlib.Core.Logic.{_⊎_}
-use Rattle.morning.specs.declared.options.Options.{Options}
-
--- chunks of 512 octets and the files from argument 2 on; or a size, 0 where it is not one, and the files from argument 4 on
-abbrev pub Chosen : Options → Type 0
-Chosen o = ((o .chunk ≡ 512) × (o .first ≡ 2)) ⊎ ((o .chunk ≤ 16384) × (o .first ≡ 4))

@@ -1,0 +1,2 @@
+-- The law of the numbers. Assumes nothing.
+pub mod Distinct

@@ -1,0 +1,127 @@
+-- Refusals: the number of each, in the order of the table in docs/REFERENCE.md. Assumes nothing.
+use Prim.Native.Nat.{ℕ}
+use mathlib.Core.List.{List, [], _∷_, _++_}
+
+-- an input or a text of over 16,384 octets; at 16,384
+abbrev pub tooLong : ℕ
+tooLong = 1
+
+-- an input of 0 octets; at 0
+abbrev pub empty : ℕ
+empty = 2
+
+-- a CR without LF after it, or an LF without CR before it; at the first such octet
+abbrev pub loneCrOrLf : ℕ
+loneCrOrLf = 3
+
+-- the last two octets of the input are not CR LF; at the input's length
+abbrev pub noEnd : ℕ
+noEnd = 4
+
+-- a logical line with an octet 00-08, 0A-1F or 7F, or with octets that are not UTF-8; at the line's start
+abbrev pub badOctet : ℕ
+badOctet = 5
+
+-- a line that breaks the line rule; at the line's start
+abbrev pub lineRule : ℕ
+lineRule = 6
+
+-- a value that breaks its kind; at the line's start
+abbrev pub value : ℕ
+value = 7
+
+-- a group or a parameter on BEGIN, VERSION or END; at the line's start
+abbrev pub laden : ℕ
+laden = 8
+
+-- a line out of order, at its start; or an input that ends inside a card, at its length
+abbrev pub order : ℕ
+order = 9
+
+-- a second line of a property that a card has at most once; at that line's start
+abbrev pub second : ℕ
+second = 10
+
+-- no FN in the card; at the END line's start
+abbrev pub noFn : ℕ
+noFn = 11
+
+-- MEMBER without a KIND line whose value is `group` in any case; at the END line's start
+abbrev pub member : ℕ
+member = 12
+
+-- copy room too small; the octets needed
+abbrev pub copyRoom : ℕ
+copyRoom = 13
+
+-- record room too small; the numbers needed
+abbrev pub recordRoom : ℕ
+recordRoom = 14
+
+-- output room too small; the octets needed
+abbrev pub room : ℕ
+room = 15
+
+-- a folded or escaped form of over 16,384 octets; at 16,384
+abbrev pub formTooLong : ℕ
+formTooLong = 16
+
+-- no slot is free; at 0
+abbrev pub noFreeSlot : ℕ
+noFreeSlot = 20
+
+-- all tickets have been given out; at 0
+abbrev pub ticketsUsedUp : ℕ
+ticketsUsedUp = 21
+
+-- the ticket is not open; at 0
+abbrev pub notOpen : ℕ
+notOpen = 22
+
+-- the chunk would take the session over 16,384 octets; the octets held
+abbrev pub slotFull : ℕ
+slotFull = 23
+
+-- the pool's length is not slots times 16,384; at 0
+abbrev pub poolLength : ℕ
+poolLength = 24
+
+-- the desk value is not sound; at 0
+abbrev pub unsound : ℕ
+unsound = 25
+
+-- a new desk of 0 or over 40 slots; at 0
+abbrev pub slotCount : ℕ
+slotCount = 26
+
+-- text with a bare comma, or a backslash of no escape; at that octet
+abbrev pub escape : ℕ
+escape = 30
+
+-- text with an octet that is not allowed, or with bad UTF-8; at its first octet
+abbrev pub textOctet : ℕ
+textOctet = 31
+
+-- ---- a replay's own: no reader, desk or C routine answers them
+
+-- a call of a script that is unknown or cut off; at its first octet
+abbrev pub replayCall : ℕ
+replayCall = 90
+
+-- the pool's length is not slots times 16,384; that length
+abbrev pub replayPool : ℕ
+replayPool = 91
+
+-- the log may lack room for the answers; its length
+abbrev pub replayLog : ℕ
+replayLog = 92
+
+-- ---- all of them
+
+abbrev pub refusals : List ℕ
+refusals =
+    tooLong ∷ empty ∷ loneCrOrLf ∷ noEnd ∷ badOctet ∷ lineRule ∷ value ∷ laden ∷ order ∷ second ∷ noFn ∷ member ∷ []
+    ++ copyRoom ∷ recordRoom ∷ room ∷ formTooLong ∷ []
+    ++ noFreeSlot ∷ ticketsUsedUp ∷ notOpen ∷ slotFull ∷ poolLength ∷ unsound ∷ slotCount ∷ []
+    ++ escape ∷ textOctet ∷ []
+    ++ replayCall ∷ replayPool ∷ replayLog ∷ []

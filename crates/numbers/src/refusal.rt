@@ -1,0 +1,87 @@
+// Refusals: the number of each, in the order of the table in docs/REFERENCE.md; a comment has the condition and the place.
+
+// An input or a text of over 16,384 octets; at 16,384.
+pub const TOO_LONG: u32 = 1;
+
+// An input of 0 octets; at 0.
+pub const EMPTY: u32 = 2;
+
+// A CR without LF after it, or an LF without CR before it; at the first such octet.
+pub const LONE_CR_OR_LF: u32 = 3;
+
+// The last two octets of the input are not CR LF; at the input's length.
+pub const NO_END: u32 = 4;
+
+// A logical line with an octet 00-08, 0A-1F or 7F, or with octets that are not UTF-8; at the line's start.
+pub const BAD_OCTET: u32 = 5;
+
+// A line that breaks the line rule; at the line's start.
+pub const LINE_RULE: u32 = 6;
+
+// A value that breaks its kind; at the line's start.
+pub const VALUE: u32 = 7;
+
+// A group or a parameter on BEGIN, VERSION or END; at the line's start.
+pub const LADEN: u32 = 8;
+
+// A line out of order, at its start; or an input that ends inside a card, at its length.
+pub const ORDER: u32 = 9;
+
+// A second line of a property that a card has at most once; at that line's start.
+pub const SECOND: u32 = 10;
+
+// No FN in the card; at the END line's start.
+pub const NO_FN: u32 = 11;
+
+// MEMBER without a KIND line whose value is `group` in any case; at the END line's start.
+pub const MEMBER: u32 = 12;
+
+// Copy room too small; the octets needed.
+pub const COPY_ROOM: u32 = 13;
+
+// Record room too small; the numbers needed.
+pub const RECORD_ROOM: u32 = 14;
+
+// Output room too small; the octets needed.
+pub const ROOM: u32 = 15;
+
+// A folded or escaped form of over 16,384 octets; at 16,384.
+pub const FORM_TOO_LONG: u32 = 16;
+
+// No slot is free; at 0.
+pub const NO_FREE_SLOT: u32 = 20;
+
+// All tickets have been given out; at 0.
+pub const TICKETS_USED_UP: u32 = 21;
+
+// The ticket is not open; at 0.
+pub const NOT_OPEN: u32 = 22;
+
+// The chunk would take the session over 16,384 octets; the octets held.
+pub const SLOT_FULL: u32 = 23;
+
+// The pool's length is not slots times 16,384; at 0.
+pub const POOL_LENGTH: u32 = 24;
+
+// The desk value is not sound; at 0.
+pub const UNSOUND: u32 = 25;
+
+// A new desk of 0 or over 40 slots; at 0.
+pub const SLOT_COUNT: u32 = 26;
+
+// Text with a bare comma, or a backslash of no escape; at that octet.
+pub const ESCAPE: u32 = 30;
+
+// Text with an octet that is not allowed, or with bad UTF-8; at its first octet.
+pub const TEXT_OCTET: u32 = 31;
+
+// A replay's own refusals: no reader, desk or C routine answers them.
+
+// A call of a script that is unknown or cut off; at its first octet.
+pub const REPLAY_CALL: u32 = 90;
+
+// The pool's length is not slots times 16,384; that length.
+pub const REPLAY_POOL: u32 = 91;
+
+// The log may lack room for the answers; its length.
+pub const REPLAY_LOG: u32 = 92;

@@ -1,3 +1,0 @@
--- The laws that the proofs of `pages` and of the crates above it cite. Assumes nothing.
-pub mod PageLaws
-pub mod Decimals

@@ -1,2 +1,0 @@
--- The definitions that the contracts of `parts` cite. Assumes nothing.
-pub mod Parts

@@ -1,3 +1,0 @@
--- The definitions that the contracts of `places` cite. Assumes nothing.
-pub mod Places
-pub mod Components

@@ -1,2 +1,0 @@
--- The definitions that the contracts of `pools` cite. Assumes nothing.
-pub mod Pools

@@ -1,0 +1,83 @@
+// Files: one is opened by its name, `-` for standard input, and its octets are read.
+ghost use lib.ListN.{length};
+ghost use Rattle.program_files.specs.Inputs.{within, descriptor};
+use libc::STDERR_FILENO;
+use libc::STDIN_FILENO;
+use octets::cases::same_name;
+
+// How many octets were read to the start of a room, or that this failed.
+pub enum Input {
+    Octets(usize),
+    Unread,
+}
+
+fn open(path: &[u8]) -> i32 {
+    if same_name(path, b"-") {
+        return STDIN_FILENO;
+    }
+    os::open_read(path)
+}
+
+// Says why a file can't be read.
+fn complain(path: &[u8]) {
+    io::write_all(STDERR_FILENO, path);
+    os::fail(b": can't be read");
+}
+
+// Reads to the start of the room until that is full or the file ends. What the room holds afterwards is free, as after `libc::read`.
+pub fn fetch(fd: i32, path: &[u8], room: &mut [u8]) -> Input
+    ensures { λ r. ⌜ within r (length (now (room .entry))) ⌝ }
+{
+    let mut n: usize = 0;
+    while n < room.len() {
+        let rest = &mut room[n..];
+        let got = libc::read(fd, rest);
+        if got < 0 {
+            complain(path);
+            return Input::Unread;
+        }
+        let more = io::count(got, rest);
+        if more == 0 {
+            return Input::Octets(n);
+        }
+        n += more;
+    }
+    Input::Octets(n)
+}
+
+// Reads the file of that name to the start of the room, or says why it can't be read.
+pub fn read(path: &[u8], room: &mut [u8]) -> Input
+    ensures { λ r. ⌜ within r (length (now (room .entry))) ⌝ }
+{
+    let fd = open(path);
+    if fd < 0 {
+        complain(path);
+        return Input::Unread;
+    }
+    let got = fetch(fd, path, room);
+    libc::close(fd);
+    got
+}
+
+// Opens the file that argument i names, and answers its descriptor, or -1 after saying why it can't be read.
+pub fn open_argument(i: usize) -> i32
+    ensures { λ r. ⌜ descriptor r ⌝ }
+{
+    let mut path = io::buffer();
+    let n = os::arg(i, &mut path);
+    let fd = os::open_read(&path[..n]);
+    if fd < 0 {
+        complain(&path[..n]);
+        return -1;
+    }
+    fd
+}
+
+// Reads from the file that argument i names and that is open.
+pub fn fetch_argument(i: usize, fd: i32, room: &mut [u8]) -> Input
+    ensures { λ r. ⌜ within r (length (now (room .entry))) ⌝ }
+{
+    let mut path = io::buffer();
+    let n = os::arg(i, &mut path);
+    fetch(fd, &path[..n], room)
+}

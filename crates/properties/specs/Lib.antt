@@ -1,2 +1,0 @@
--- The definitions that the contracts of `properties` cite. Assumes nothing.
-pub mod Rows

@@ -1,0 +1,91 @@
+-- `property_table::find_row` meets its contract. Assumes nothing.
+use borrow.Author.Needs.{needs}
+use mathlib.Core.Path.{_≡_, sym, _∙_}
+use mathlib.Core.List.{List}
+use Prim.Native.Nat.{ℕ, zero, suc, _-_, _%_, _<_}
+use native.Mathlib.Omega.{arith}
+use Rattle.property_table.specs.Rows.{nextOf}
+use Rattle.property_table.proofs.RowLaws.{Along, Sized, along-first, sized-next, search-found, search-long, search-empty}
+use Rattle.property_table.proofs.find_row.Statement.{statement}
+use Rattle.property_table.proofs.find_row.Tie as tie
+
+abbrev Inv-loop : tie.InvT-loop
+Inv-loop rows name row₀ row = Along name row
+
+-- rows go up, and 0 is the end
+abbrev μ-loop : tie.MeasureT-loop
+μ-loop rows name row₀ row = (39 - row) % 39
+
+falls : (n m : ℕ) → 0 < n → n < 39 → m < 39 → (0 < m → n < m) → (39 - m) % 39 < (39 - n) % 39
+falls n zero p h l f = omega arith
+falls n (suc m) p h l f = let up = f (omega arith) in omega arith
+
+returns : tie.Need-returns Inv-loop μ-loop
+returns c = (sym (search-empty (c .before .before .args .name .now) (c .if1 .taken)), omega arith)
+
+returns-2 : tie.Need-returns-2 Inv-loop μ-loop
+returns-2 c = (sym (search-long (c .before .before .before .args .name .now) (c .if2 .taken)), omega arith)
+
+first-sized-requires : tie.Need-first-sized-requires Inv-loop μ-loop
+first-sized-requires c κs = search needs
+
+loop-holds : tie.Need-loop-holds Inv-loop μ-loop
+loop-holds c = rw (c .first-sized .ensures) (along-first (c .before .before .before .before .args .name .now))
+
+spells-requires : tie.Need-spells-requires Inv-loop μ-loop
+spells-requires c κs = (search needs, (c .before .loop .inv .low, c .before .loop .inv .long (c .loop-test .taken)))
+
+returns-3 : tie.Need-returns-3 Inv-loop μ-loop
+returns-3 c =
+    let i = c .before .before in
+    let l = i .before in
+    let v = l .before .before .before .before .before .args .name .now in
+    let on = l .loop .inv in
+    (sym (on .here (i .loop-test .taken) ∙ search-found v (l .loop .row) (on .low) (sym (c .before .spells .ensures) ∙ c .if3 .taken)), on .low)
+
+next-sized-requires : tie.Need-next-sized-requires Inv-loop μ-loop
+next-sized-requires c κs = (search needs, c .before .before .before .loop .inv .low)
+
+-- the turn's start, and the name
+abbrev start : tie.Else3 Inv-loop μ-loop → tie.At-loop Inv-loop μ-loop
+start c = c .before .before .before
+
+abbrev sought : tie.At-loop Inv-loop μ-loop → List ℕ
+sought l = l .before .before .before .before .before .args .name .now
+
+-- the search goes on at the next row, which comes later
+onward : (c : tie.Else3 Inv-loop μ-loop) → Sized (sought (start c)) (suc (start c .loop .row)) (nextOf (start c .loop .row))
+onward c =
+    let l = start c in
+    sized-next (sought l) (l .loop .row) (c .before .before .loop-test .taken) (l .loop .inv) (sym (c .before .spells .ensures) ∙ c .if3 .left)
+
+loop-less : tie.Need-loop-less Inv-loop μ-loop
+loop-less c =
+    let l = start (c .before) .loop in
+    let on = onward (c .before) in
+    rw (c .next-sized .ensures) (falls (l .row) (nextOf (l .row)) (c .before .before .before .loop-test .taken) (l .inv .low) (on .on .low) (on .after))
+
+loop-again : tie.Need-loop-again Inv-loop μ-loop
+loop-again c = rw (c .next-sized .ensures) (onward (c .before) .on)
+
+returns-4 : tie.Need-returns-4 Inv-loop μ-loop
+returns-4 c =
+    let over : c .before .loop .row ≡ 0 = omega arith in
+    (sym (c .before .loop .inv .over over), omega arith)
+
+pub find-row-spec : {M : Type 1} → statement M
+find-row-spec =
+    tie.close
+    (tie.spec
+    Inv-loop
+    μ-loop
+    returns
+    returns-2
+    first-sized-requires
+    loop-holds
+    spells-requires
+    returns-3
+    next-sized-requires
+    loop-less
+    loop-again
+    returns-4)

@@ -1,0 +1,2 @@
+-- The definitions that the contracts of `property_table` cite. Assumes nothing.
+pub mod Rows

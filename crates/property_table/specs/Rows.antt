@@ -1,0 +1,171 @@
+-- The property table, by REFERENCE, The property table, the row of a name, and the kind of a line. Assumes nothing.
+use Prim.Native.Nat.{ℕ, zero, suc}
+use Prim.Native.String.{String}
+use mathlib.Core.Bool.{Bool, true, false, not, _&&_, _||_}
+use mathlib.Core.List.{List, [], _∷_, _++_}
+use mathlib.Core.Option.{Option, none, some}
+use lib.Dec.{eqb, ltb}
+use lib.ListN.{length, getD, take, drop}
+use Rattle.numbers.specs.Properties as property
+use Rattle.numbers.specs.Kinds as kinds
+use Rattle.octets.specs.Pick.{pick}
+use Rattle.octets.specs.Classes.{bit}
+use Rattle.octets.specs.Cases.{same}
+use Rattle.octets.specs.Ascii.{octets}
+use Rattle.octets.specs.Tables.{TableOf}
+
+-- how often a property may stand in a card: once where the table marks it so
+pub data Times : Type 0 where
+  once often : Times
+
+pub record Row : Type 0 where
+  pub name : List ℕ
+  pub kind : ℕ
+  pub times : Times
+
+abbrev pub row : String → ℕ → Times → Row
+row n k t = record { name = octets n; kind = k; times = t }
+
+unfoldable pub rows : List Row
+rows =
+    row "BEGIN" 0 often ∷
+    row "END" 0 often ∷
+    row "SOURCE" 3 often ∷
+    row "KIND" 1 once ∷
+    row "XML" 0 often ∷
+    row "FN" 1 often ∷
+    row "N" 4 once ∷
+    row "NICKNAME" 2 often ∷
+    row "PHOTO" 3 often ∷
+    row "BDAY" 0 once ∷
+    row "ANNIVERSARY" 0 once ∷
+    row "GENDER" 7 once ∷
+    row "ADR" 5 often ∷
+    row "TEL" 1 often ∷
+    row "EMAIL" 1 often ∷
+    row "IMPP" 3 often ∷
+    row "LANG" 0 often ∷
+    row "TZ" 1 often ∷
+    row "GEO" 3 often ∷
+    row "TITLE" 1 often ∷
+    row "ROLE" 1 often ∷
+    row "LOGO" 3 often ∷
+    row "ORG" 6 often ∷
+    row "MEMBER" 3 often ∷
+    row "RELATED" 3 often ∷
+    row "CATEGORIES" 2 often ∷
+    row "NOTE" 1 often ∷
+    row "PRODID" 1 once ∷
+    row "REV" 0 once ∷
+    row "SOUND" 3 often ∷
+    row "UID" 3 once ∷
+    row "CLIENTPIDMAP" 8 often ∷
+    row "URL" 3 often ∷
+    row "VERSION" 0 often ∷
+    row "KEY" 3 often ∷
+    row "FBURL" 3 often ∷
+    row "CALADRURI" 3 often ∷
+    row "CALURI" 3 often ∷
+    []
+
+-- the number of the first row whose name is v without case, counted from i; 0 where there is none
+unfoldable pub search : List ℕ → ℕ → List Row → ℕ
+search v i [] = 0
+search v i (r ∷ rs) = pick (same v (r .name)) i (search v (suc i) rs)
+
+unfoldable pub rowOf : List ℕ → ℕ
+rowOf v = search v 1 rows
+
+-- row 0: any other name
+abbrev pub noRow : Row
+noRow = record { name = []; kind = 0; times = often }
+
+unfoldable pub rowAt : ℕ → Row
+rowAt n = getD (noRow ∷ rows) n noRow
+
+-- the number of the first row whose name has l octets, counted from i; 0 where there is none
+unfoldable pub sized : ℕ → ℕ → List Row → ℕ
+sized l i [] = 0
+sized l i (r ∷ rs) = pick (eqb (length (r .name)) l) i (sized l (suc i) rs)
+
+unfoldable pub firstOf : ℕ → ℕ
+firstOf l = sized l 1 rows
+
+-- the first row after row n whose name is as long
+unfoldable pub nextOf : ℕ → ℕ
+nextOf n = sized (length (rowAt n .name)) (suc n) (drop n rows)
+
+unfoldable pub kindAt : ℕ → ℕ
+kindAt n = rowAt n .kind
+
+abbrev pub isOnce : Times → Bool
+isOnce once = true
+isOnce often = false
+
+-- the row is marked *1
+unfoldable pub single : ℕ → Bool
+single n = isOnce (rowAt n .times)
+
+abbrev pub marked : Times → ℕ → ℕ
+marked once n = suc n
+marked often n = n
+
+-- how many of the rows are marked *1
+unfoldable pub marks : List Row → ℕ
+marks [] = 0
+marks (r ∷ rs) = marked (r .times) (marks rs)
+
+-- the number of row n among the rows marked *1, counted from 1; 0 for any other row
+unfoldable pub onceAt : ℕ → ℕ
+onceAt n = pick (single n) (marks (take n rows)) 0
+
+-- BEGIN, VERSION and END frame a card
+unfoldable pub framing : ℕ → Bool
+framing n = eqb n property.begin || (eqb n property.version || eqb n property.end)
+
+-- VALUE sets the kind on listed rows of kind 0, 1 or 3, except BEGIN, VERSION, END and XML
+unfoldable pub takesValue : ℕ → Bool
+takesValue n =
+    (ltb 0 n && ltb n property.count)
+    && ((eqb (kindAt n) kinds.anything || (eqb (kindAt n) kinds.text || eqb (kindAt n) kinds.uri)) && not (framing n || eqb n property.xml))
+
+-- the kind that a VALUE parameter names
+unfoldable pub kindNamed : List ℕ → ℕ
+kindNamed v = pick (same v (octets "text")) kinds.text (pick (same v (octets "uri")) kinds.uri kinds.anything)
+
+-- the kind of a line of row n, given the first value of its first VALUE parameter, quotes taken off, where it has one
+unfoldable pub lineKind : ℕ → Option (List ℕ) → ℕ
+lineKind n none = kindAt n
+lineKind n (some v) = pick (takesValue n) (kindNamed v) (kindAt n)
+
+-- the name of the parameter that sets the kind
+abbrev pub valueName : List ℕ
+valueName = octets "VALUE"
+
+-- a KIND line's value that lets MEMBER stand in the card
+unfoldable pub isGroup : List ℕ → Bool
+isGroup v = same v (octets "group")
+
+-- the most octets of a name
+abbrev pub longestName : ℕ
+longestName = 12
+
+-- how many entries the table has for a row
+abbrev pub rowLength : ℕ
+rowLength = 16
+
+-- what the table has in the place of a row's name: the name, filled up by points; for row 0, which has none, the first row of each length
+unfoldable pub nameEntries : ℕ → List ℕ
+nameEntries zero =
+    firstOf 1 ∷ firstOf 2 ∷ firstOf 3 ∷ firstOf 4 ∷ firstOf 5 ∷ firstOf 6 ∷
+    firstOf 7 ∷ firstOf 8 ∷ firstOf 9 ∷ firstOf 10 ∷ firstOf 11 ∷ firstOf 12 ∷ []
+nameEntries (suc n) = take longestName (rowAt (suc n) .name ++ octets "............")
+
+-- the sixteen entries that the table has for a row: those of its name, its number among the rows marked *1, its kind, the next row whose name
+-- is as long, and 1 where VALUE sets the kind
+unfoldable pub entries : ℕ → List ℕ
+entries n = nameEntries n ++ onceAt n ∷ kindAt n ∷ nextOf n ∷ bit (takesValue n) 1 ∷ []
+
+-- a list is the property table
+unfoldable pub Lists : List ℕ → Type 0
+Lists t = TableOf entries property.count t

@@ -1,0 +1,171 @@
+// The property table: the row of a name, what a row says, and the kind that a VALUE parameter names.
+ghost use mathlib.Core.Path.{_≡_};
+ghost use Prim.Native.Nat.{_+_, _*_, _<_, _≤_};
+ghost use lib.ListN.{length, getD};
+ghost use Rattle.numbers.specs.Limits as limit;
+ghost use Rattle.numbers.specs.Properties as property;
+ghost use Rattle.numbers.specs.Kinds as kinds;
+ghost use Rattle.octets.specs.Cases.{same};
+ghost use Rattle.property_table.specs.Rows.{longestName, rowLength, rowOf, rowAt, firstOf, nextOf, kindAt, onceAt, framing, takesValue, kindNamed, isGroup, Lists};
+
+pub mod rows;
+
+use numbers::kind;
+use numbers::property;
+use octets::cases::same_name;
+use octets::indices::wide;
+use rows::PropertyTable;
+
+// How many entries the table has for a row.
+const ROW: usize = 16;
+
+// The most octets of a name; as many entries of a row are its name.
+const LONGEST: usize = 12;
+
+// The column of the number among the properties that a card has at most once.
+const ONCE: usize = LONGEST;
+
+// The column of the kind.
+const KIND: usize = 13;
+
+// The column of the next row whose name is as long.
+const NEXT: usize = 14;
+
+// The column with 1 where a VALUE parameter sets the kind.
+const VALUE: usize = 15;
+
+// The table as a value, which its users are lent: a use of the constant in a loop would build it there at each turn.
+pub fn table() -> PropertyTable
+    ensures { λ r. ⌜ Lists r ⌝ }
+{
+    rows::ROWS
+}
+
+// The entry of a row in a column.
+fn entry(rows: &PropertyTable, row: usize, column: usize) -> usize
+    requires { ⌜ (row < property.count) × (column < rowLength) ⌝ }
+    ensures { λ r. ⌜ r ≡ getD (now (rows .entry)) (row * rowLength + column) 0 ⌝ }
+{
+    wide(rows[row * ROW + column])
+}
+
+// The first row whose name has n octets, 0 for none.
+fn first_sized(rows: &PropertyTable, n: usize) -> usize
+    requires { ⌜ Lists (now rows) ⌝ }
+    requires { ⌜ (0 < n) × (n ≤ longestName) ⌝ }
+    ensures { λ r. ⌜ r ≡ firstOf n ⌝ }
+{
+    wide(rows[n - 1])
+}
+
+// The next row whose name is as long as this one's, 0 for none.
+fn next_sized(rows: &PropertyTable, row: usize) -> usize
+    requires { ⌜ Lists (now rows) ⌝ }
+    requires { ⌜ row < property.count ⌝ }
+    ensures { λ r. ⌜ r ≡ nextOf row ⌝ }
+{
+    entry(rows, row, NEXT)
+}
+
+// Whether the row's name, which is as long, is this one without case: a capital and an octet differ at most in the bit of 32.
+fn spells(rows: &PropertyTable, row: usize, name: &[u8]) -> bool
+    requires { ⌜ Lists (now rows) ⌝ }
+    requires { ⌜ row < property.count ⌝ }
+    requires { ⌜ length (rowAt row .name) ≡ length (now name) ⌝ }
+    ensures { λ r. ⌜ r ≡ same (now (name .entry)) (rowAt row .name) ⌝ }
+{
+    let base = row * ROW;
+    let mut i: usize = 0;
+    while i < name.len() {
+        if name[i] | 32 != rows[base + i] | 32 {
+            return false;
+        }
+        i += 1;
+    }
+    true
+}
+
+// The number of the row with this name without case, or 0: only rows whose name is as long are looked at.
+pub fn find_row(rows: &PropertyTable, name: &[u8]) -> usize
+    requires { ⌜ Lists (now rows) ⌝ }
+    ensures { λ r. ⌜ r ≡ rowOf (now (name .entry)) ⌝ }
+    ensures { λ r. ⌜ r < property.count ⌝ }
+{
+    if name.len() == 0 {
+        return 0;
+    }
+    if LONGEST < name.len() {
+        return 0;
+    }
+    let mut row = first_sized(rows, name.len());
+    while 0 < row {
+        if spells(rows, row, name) {
+            return row;
+        }
+        row = next_sized(rows, row);
+    }
+    0
+}
+
+// The kind of a row's value.
+pub fn kind_of(rows: &PropertyTable, row: usize) -> usize
+    requires { ⌜ Lists (now rows) ⌝ }
+    requires { ⌜ row < property.count ⌝ }
+    ensures { λ r. ⌜ r ≡ kindAt row ⌝ }
+    ensures { λ r. ⌜ r < kinds.count ⌝ }
+{
+    entry(rows, row, KIND)
+}
+
+// The number of a row among those of the properties that a card has at most once, counted from 1; 0 for any other row.
+pub fn once_of(rows: &PropertyTable, row: usize) -> usize
+    requires { ⌜ Lists (now rows) ⌝ }
+    requires { ⌜ row < property.count ⌝ }
+    ensures { λ r. ⌜ r ≡ onceAt row ⌝ }
+    ensures { λ r. ⌜ r ≤ limit.flags ⌝ }
+{
+    entry(rows, row, ONCE)
+}
+
+// Whether a VALUE parameter sets the kind of a row's line.
+pub fn takes_value(rows: &PropertyTable, row: usize) -> bool
+    requires { ⌜ Lists (now rows) ⌝ }
+    requires { ⌜ row < property.count ⌝ }
+    ensures { λ r. ⌜ r ≡ takesValue row ⌝ }
+{
+    entry(rows, row, VALUE) == 1
+}
+
+// The kind that a VALUE parameter names.
+pub fn kind_named(value: &[u8]) -> usize
+    ensures { λ r. ⌜ r ≡ kindNamed (now (value .entry)) ⌝ }
+    ensures { λ r. ⌜ r < kinds.count ⌝ }
+{
+    if same_name(value, b"text") {
+        return kind::TEXT;
+    }
+    if same_name(value, b"uri") {
+        return kind::URI;
+    }
+    kind::ANYTHING
+}
+
+// Whether lines of the row frame a card: BEGIN, VERSION and END.
+pub fn is_framing(row: usize) -> bool
+    ensures { λ r. ⌜ r ≡ framing row ⌝ }
+{
+    if row == property::BEGIN {
+        return true;
+    }
+    if row == property::VERSION {
+        return true;
+    }
+    row == property::END
+}
+
+// Whether a KIND line's value lets MEMBER stand in the card.
+pub fn is_group(value: &[u8]) -> bool
+    ensures { λ r. ⌜ r ≡ isGroup (now (value .entry)) ⌝ }
+{
+    same_name(value, b"group")
+}

@@ -1,0 +1,206 @@
+-- The judgement of one line, in both directions: what refuses it, and how the card goes on where nothing does. Assumes nothing.
+use mathlib.Core.Path.{_≡_, refl, sym, ap, subst, _∙_}
+use mathlib.Core.Bool.{Bool, true, false, not, _&&_, _||_, false≢true}
+use mathlib.Core.List.{List, [], _∷_}
+use mathlib.Core.Logic.{inl, inr}
+use Prim.Native.Nat.{ℕ, _≤_}
+use native.Mathlib.Omega.{arith}
+use lib.Dec.{eqb, ltb}
+use lib.ListN.{length}
+use borrow.Author.Tests.{eqb-true, eqb-false, eq-eqb, ne-eqb}
+use Rattle.octets.specs.Pick.{pick}
+use Rattle.utf8.specs.Characters.{allowed, firstBad}
+use Rattle.line_parser.specs.Parse.{Parse, got, bad}
+use Rattle.line_parser.specs.Grammar.{Line, front}
+use Rattle.line_parser.specs.Rule.{parseLine}
+use Rattle.line_parameters.proofs.Law.{line-law, refused-law}
+use Rattle.property_table.specs.Rows.{rows, rowAt, single, framing, isGroup}
+use Rattle.value_kinds.specs.Kinds.{valueScan}
+use Rattle.value_kinds.specs.declared.Fault.{Fault}
+use Rattle.value_kinds.specs.declared.Fault.the-variants.{Fits, Breaks}
+use Rattle.octets.proofs.Bools.{by}
+use Rattle.card_state.specs.State.{inOrder, noted, closed}
+use Rattle.card_line.specs.Parts.{rowOfLine, kindOfLine}
+use Rattle.card_judge.specs.Judge.{laden, entered, fitting, judgeParts, judgeParsed, judgeLine}
+use Rattle.card_state.specs.declared.Card.{Card}
+use Rattle.card_state.specs.declared.Step.{Step}
+use Rattle.card_state.specs.declared.Step.the-variants.{Next, Refused}
+use Rattle.reader_grammar.specs.Cards.{Clean, Bare, ofRow, linesOf, saysGroup, groupLines}
+use Rattle.reader_grammar.specs.Refusals.{Reads, InPlace, Framing, Unladen, Sound, LineRefused, octet, rule, order, laden as heavy, value, second, nameless, no-group}
+use Rattle.reader_grammar.proofs.ValueLaws.{value-fits, clean-law}
+use Rattle.reader_grammar.proofs.Known.{any, any-some, any-none, Known, order-law, lineCard, endCard, note-next, note-second, close-next, close-nameless, close-groupless}
+
+-- BEGIN, VERSION and END
+framing-to : (row : ℕ) → Framing row → framing row ≡ true
+unfolding framing
+framing-to row (inl e) = rw e
+framing-to row (inr (inl e)) = rw e
+framing-to row (inr (inr e)) = rw e
+
+framing-from : (row : ℕ) → framing row ≡ true → Framing row
+unfolding framing
+framing-from row e = go (eqb row 1) (eqb row 34) (eqb row 2) refl refl refl e
+  where
+    go : (a b c : Bool) → eqb row 1 ≡ a → eqb row 34 ≡ b → eqb row 2 ≡ c → (a || (b || c)) ≡ true → Framing row
+    go true b c p q r e = inl (eqb-true row 1 p)
+    go false true c p q r e = inr (inl (eqb-true row 34 q))
+    go false false true p q r e = inr (inr (eqb-true row 2 r))
+    go false false false p q r e = absurd (false≢true e)
+
+empty : {A : Type 0} (xs : List A) → eqb (length xs) 0 ≡ true → xs ≡ []
+empty [] e = refl
+empty (x ∷ xs) e = absurd (omega (arith, eqb-true (length (x ∷ xs)) 0 e))
+
+module _ (x : Line) where
+  unladen-to : laden (rowOfLine x) (length (x .group)) (length (x .params)) ≡ false → Unladen x
+  unfolding laden
+  unladen-to e f = go (eqb (length (x .group)) 0) (eqb (length (x .params)) 0) refl refl (rw (framing-to (rowOfLine x) f) at e)
+    where
+      go : (a b : Bool) → eqb (length (x .group)) 0 ≡ a → eqb (length (x .params)) 0 ≡ b → (not a || not b) ≡ false → Bare x
+      go true true p q e = record { group = empty (x .group) p; params = empty (x .params) q }
+      go true false p q e = absurd (false≢true (sym e))
+      go false b p q e = absurd (false≢true (sym e))
+
+  unladen-from : Unladen x → laden (rowOfLine x) (length (x .group)) (length (x .params)) ≡ false
+  unfolding laden
+  unladen-from f = go (framing (rowOfLine x)) refl
+    where
+      go : (t : Bool) → framing (rowOfLine x) ≡ t → (t && (not (eqb (length (x .group)) 0) || not (eqb (length (x .params)) 0))) ≡ false
+      go true e = let b = f (framing-from (rowOfLine x) e) in rw (b .group, b .params)
+      go false e = refl
+
+-- END is not marked *1
+end-often : single 2 ≡ false
+unfolding single rowAt rows
+end-often = refl
+
+-- what a judged line leads to, after the card's lines ys: a refusal at its place, another state of the card, or the card's end
+pub data Judged (c : Card) (ys : List Line) (at : ℕ) (l : List ℕ) : Step → Type 0 where
+  refused : {n : ℕ} → LineRefused ys l n → Judged c ys at l (Refused n at)
+  goes-on : (x : Line) → Sound ys l x → (rowOfLine x ≡ 2 → ⊥) → (single (rowOfLine x) ≡ true → linesOf (rowOfLine x) ys ≡ 0)
+      → Judged c ys at l (Next (lineCard c x))
+  ends : (x : Line) → Sound ys l x → rowOfLine x ≡ 2 → 1 ≤ linesOf 6 ys → (1 ≤ linesOf 24 ys → 1 ≤ groupLines ys)
+      → Judged c ys at l (Next (endCard c))
+
+module _ (c : Card) (ys : List Line) (k : Known c ys) (at : ℕ) (l : List ℕ) where
+  abbrev judgedParts : Line → Step
+  judgedParts x = judgeParts c at (rowOfLine x) (length (x .group)) (length (x .params)) (kindOfLine x) (x .value)
+
+  after-clean : Clean l → judgeLine c at l ≡ judgeParsed c at (parseLine l)
+  unfolding judgeLine
+  after-clean h = rw (clean-law l .1 h)
+
+  after-reads : (x : Line) → Reads l x → judgeLine c at l ≡ judgedParts x
+  after-reads x r =
+      after-clean (rw (r .text) (r .readable .clean))
+      ∙ ap (judgeParsed c at) (line-law l x (length (front x)) .1 (r .readable .formed, r .text, refl))
+
+  after-order : (x : Line) → Reads l x → InPlace ys x
+      → judgeLine c at l
+      ≡ pick (laden (rowOfLine x) (length (x .group)) (length (x .params))) (Refused 8 at)
+      (fitting at (valueScan (rowOfLine x) (kindOfLine x) (x .value)) (entered c at (rowOfLine x) (x .value)))
+  unfolding judgeParts
+  after-order x r h = after-reads x r ∙ rw (order-law c ys x k .1 h)
+
+  after-laden : (x : Line) → Reads l x → InPlace ys x → Unladen x
+      → judgeLine c at l ≡ fitting at (valueScan (rowOfLine x) (kindOfLine x) (x .value)) (entered c at (rowOfLine x) (x .value))
+  after-laden x r h u = after-order x r h ∙ rw (unladen-from x u)
+
+  after-value : (x : Line) → Sound ys l x → judgeLine c at l ≡ entered c at (rowOfLine x) (x .value)
+  after-value x s =
+      after-laden x (s .reads) (s .place) (s .unladen)
+      ∙ ap (λ (f : Fault). fitting at f (entered c at (rowOfLine x) (x .value))) (value-fits (rowOfLine x) (kindOfLine x) (x .value) .1 (s .fits))
+
+  at-end : (x : Line) → Sound ys l x → rowOfLine x ≡ 2 → judgeLine c at l ≡ closed c at
+  unfolding entered
+  at-end x s e = after-value x s ∙ rw (eq-eqb (rowOfLine x) 2 e)
+
+  at-line : (x : Line) → Sound ys l x → (rowOfLine x ≡ 2 → ⊥) → judgeLine c at l ≡ noted c at (rowOfLine x) (isGroup (x .value))
+  unfolding entered
+  at-line x s e = after-value x s ∙ rw (ne-eqb (rowOfLine x) 2 e)
+
+  -- a test that is passed where its failing says what is not so
+  abbrev passes : {A : Type 0} (t : Bool) → (t ≡ false → A) → (A → ⊥) → t ≡ true
+  passes t f g = by t (λ e. e) (λ e. absurd (g (f e)))
+
+  -- and one that is not
+  abbrev fails : {A : Type 0} (t : Bool) → (t ≡ true → A) → (A → ⊥) → t ≡ false
+  fails t f g = by t (λ e. absurd (g (f e))) (λ e. e)
+
+  broken : (f : Fault) (s : Step) → (f ≡ Fits → ⊥) → fitting at f s ≡ Refused 7 at
+  broken Fits s g = absurd (g refl)
+  broken (Breaks n) s g = refl
+
+  refusal : {n : ℕ} → LineRefused ys l n → judgeLine c at l ≡ Refused n at
+  unfolding judgeLine judgeParts
+  refusal (octet f) = rw (passes (ltb (firstBad (allowed false) l) (length l)) (clean-law l .0) f)
+  refusal (rule h f) = let r = refused-law l .1 f in after-clean h ∙ ap (judgeParsed c at) (r .1)
+  refusal (order x r f) = after-reads x r ∙ rw (fails (inOrder (c .phase) (rowOfLine x)) (order-law c ys x k .0) f)
+  refusal (heavy x r h f) =
+      after-order x r h ∙ rw (passes (laden (rowOfLine x) (length (x .group)) (length (x .params))) (unladen-to x) f)
+  refusal (value x r h u f) =
+      after-laden x r h u
+      ∙ broken (valueScan (rowOfLine x) (kindOfLine x) (x .value)) _ (λ e. f (value-fits (rowOfLine x) (kindOfLine x) (x .value) .0 e))
+  refusal (second x s e h) =
+      at-line x s (λ r. false≢true (sym end-often ∙ sym (ap single r) ∙ e)) ∙ note-second c ys k at x e h
+  refusal (nameless x s e h) = at-end x s e ∙ close-nameless c ys k at x h
+  refusal (no-group x s e h g f) = at-end x s e ∙ close-groupless c ys k at x h g f
+
+  -- each judgement is the one that is made
+  pub outcome : {s : Step} → Judged c ys at l s → judgeLine c at l ≡ s
+  outcome (refused f) = refusal f
+  outcome (goes-on x s e f) = at-line x s e ∙ note-next c ys k at x f
+  outcome (ends x s e h f) = at-end x s e ∙ close-next c ys k at x h f
+
+  abbrev Decided : Type 0
+  Decided = (s : Step) × Judged c ys at l s
+
+  end-decided : (x : Line) → Sound ys l x → rowOfLine x ≡ 2 → Decided
+  end-decided x s e =
+      by (any (ofRow 6) ys)
+      (λ t. by (any (ofRow 24) ys)
+      (λ u. by (any saysGroup ys)
+      (λ v. (Next (endCard c), ends x s e (any-some (ofRow 6) ys t) (λ h. any-some saysGroup ys v)))
+      (λ v. (Refused 12 at, refused (no-group x s e (any-some (ofRow 6) ys t) (any-some (ofRow 24) ys u) (any-none saysGroup ys v)))))
+      (λ u. (Next (endCard c), ends x s e (any-some (ofRow 6) ys t) (λ h. absurd (omega (arith, any-none (ofRow 24) ys u))))))
+      (λ t. (Refused 11 at, refused (nameless x s e (any-none (ofRow 6) ys t))))
+
+  line-decided : (x : Line) → Sound ys l x → (rowOfLine x ≡ 2 → ⊥) → Decided
+  line-decided x s e =
+      by (single (rowOfLine x))
+      (λ t. by (any (ofRow (rowOfLine x)) ys)
+      (λ u. (Refused 10 at, refused (second x s t (any-some (ofRow (rowOfLine x)) ys u))))
+      (λ u. (Next (lineCard c x), goes-on x s e (λ h. any-none (ofRow (rowOfLine x)) ys u))))
+      (λ t. (Next (lineCard c x), goes-on x s e (λ h. absurd (false≢true (sym t ∙ h)))))
+
+  value-decided : (x : Line) → Reads l x → InPlace ys x → Unladen x → (f : Fault) → valueScan (rowOfLine x) (kindOfLine x) (x .value) ≡ f → Decided
+  value-decided x r h u Fits e =
+      let s : Sound ys l x = record { reads = r; place = h; unladen = u; fits = value-fits (rowOfLine x) (kindOfLine x) (x .value) .0 e } in
+      by (eqb (rowOfLine x) 2) (λ t. end-decided x s (eqb-true (rowOfLine x) 2 t)) (λ t. line-decided x s (eqb-false (rowOfLine x) 2 t))
+  value-decided x r h u (Breaks n) e = (
+    Refused 7 at,
+    refused (value x r h u (λ f. let q = sym e ∙ value-fits (rowOfLine x) (kindOfLine x) (x .value) .1 f in let z : _≡_ {A = ℕ} 0 1 = cc in omega arith)),
+  )
+
+  reads-decided : (x : Line) → Reads l x → Decided
+  reads-decided x r =
+      by (inOrder (c .phase) (rowOfLine x))
+      (λ t.
+      let h = order-law c ys x k .0 t in
+      by (laden (rowOfLine x) (length (x .group)) (length (x .params)))
+      (λ u. (Refused 8 at, refused (heavy x r h (λ f. false≢true (sym (unladen-from x f) ∙ u)))))
+      (λ u. value-decided x r h (unladen-to x u) (valueScan (rowOfLine x) (kindOfLine x) (x .value)) refl))
+      (λ t. (Refused 9 at, refused (order x r (λ h. false≢true (sym t ∙ order-law c ys x k .1 h)))))
+
+  parse-decided : Clean l → (m : Parse Line) → parseLine l ≡ m → Decided
+  parse-decided h (bad e) p = (Refused 6 at, refused (rule h (refused-law l .0 (e, p))))
+  parse-decided h (got x n) p =
+      let w = line-law l x n .0 p in
+      reads-decided x (record { text = w .1; readable = record { clean = subst Clean (w .1) h; formed = w .0 } })
+
+  -- every line is judged in one of these ways
+  pub decided : Decided
+  decided =
+      by (ltb (firstBad (allowed false) l) (length l))
+      (λ t. (Refused 5 at, refused (octet (λ h. false≢true (sym (clean-law l .1 h) ∙ t)))))
+      (λ t. parse-decided (clean-law l .0 t) (parseLine l) refl)

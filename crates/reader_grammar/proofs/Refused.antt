@@ -1,0 +1,204 @@
+-- The reader refuses exactly the inputs that REFERENCE, Refusals lists, each with the number and place that come first. Assumes nothing.
+use mathlib.Core.Path.{_≡_, refl, sym, ap, subst, _∙_}
+use mathlib.Core.Bool.{Bool, true, false, false≢true}
+use mathlib.Core.List.{List, [], _∷_, _++_, map, map-append}
+use mathlib.Core.Logic.{_↔_}
+use Prim.Native.Nat.{ℕ, _+_, _<_, _≤_}
+use native.Mathlib.Nat.{add-zero, zero-add}
+use native.Mathlib.Omega.{arith}
+use lib.Dec.{eqb, ltb}
+use lib.ListN.{length, length-append, length-map}
+use borrow.Author.Tests.{ltb-true, ltb-false, lt-ltb, le-ltb, eqb-true, eqb-false, ne-eqb}
+use Rattle.octets.proofs.Scans.{scan-le}
+use Rattle.octets.specs.Pick.{pick}
+use Rattle.line_folds.specs.Folds.{unfolded}
+use Rattle.line_folds.specs.Logical.{rawLines}
+use Rattle.line_parser.specs.Grammar.{Line}
+use Rattle.octets.proofs.Bools.{by}
+use Rattle.card_state.specs.State.{freshCard}
+use Rattle.card_judge.specs.Judge.{judgeLine}
+use Rattle.card_state.specs.declared.Card.{Card}
+use Rattle.card_state.specs.declared.Step.{Step}
+use Rattle.card_state.specs.declared.Step.the-variants.{Next, Refused as Halted}
+use Rattle.line_breaks.specs.Lone.{loneStep, firstLone, endsCrLf}
+use Rattle.reader_walk.specs.Walk.{onward, judgeLines}
+use Rattle.reader.specs.Outcome.{verdictOf, judgeOf, ended}
+use Rattle.reader.specs.declared.Verdict.the-variants.{Accepted, Refused}
+use Rattle.reader_laws.proofs.LoneLaws.{lone-here, lone-none}
+use Rattle.line_laws.specs.Lined.{Lined, EndsCrLf}
+use Rattle.reader_grammar.specs.Refusals.{Framed, SoFar, LineRefused, RefusedBy, long, empty, lone, unended, line, unfinished}
+use Rattle.reader_grammar.proofs.Known.{phaseOf, Known, fresh-known}
+use Rattle.reader_grammar.proofs.LineLaws.{refused, outcome}
+use Rattle.reader_grammar.proofs.Runs.{steps-run, prefix-run}
+use Rattle.reader_grammar.proofs.Walks.{Walked, finished, stopped}
+use Rattle.reader_grammar.proofs.PairedLaws.{lone-within, paired-law, lone-first}
+use Rattle.line_laws.proofs.LinedLaws.{ends-law, lined-law, lined-only}
+use Rattle.reader_grammar.proofs.Accepted.{judge-framed, walk-all, phase-none}
+
+-- after the lines ds, which lead to d, the next are judged from where they start
+after-line : (ds es : List (List ℕ)) (p q : ℕ) (d : Card) → p + length (ended ds) ≡ q → (s : Step)
+    → ((c : Card) → judgeLines ds p c ≡ Next d → judgeLines (ds ++ es) p c ≡ judgeLines es (p + length (ended ds)) d)
+    → onward s (judgeLines ds p) ≡ Next d → onward s (judgeLines (ds ++ es) p) ≡ judgeLines es q d
+after-line ds es p q d n (Next c) ih h = ih c h ∙ ap (λ (m : ℕ). judgeLines es m d) n
+after-line ds es p q d n (Halted m r) ih h = let z : _≡_ {A = ℕ} 0 1 = cc in absurd (omega arith)
+
+judge-after : (ds es : List (List ℕ)) (at : ℕ) (c d : Card) → judgeLines ds at c ≡ Next d
+    → judgeLines (ds ++ es) at c ≡ judgeLines es (at + length (ended ds)) d
+unfolding judgeLines ended
+judge-after [] es at c d e =
+    let q : c ≡ d = cc in
+    rw (add-zero at, q)
+judge-after (l ∷ ds) es at c d e =
+    let n : at + length l + 2 + length (ended ds) ≡ at + length (l ++ (13 ∷ 10 ∷ ended ds)) = omega (arith, length-append l (13 ∷ 10 ∷ ended ds)) in
+    after-line ds es (at + length l + 2) (at + length (l ++ (13 ∷ 10 ∷ ended ds))) d n (judgeLine c at (unfolded l))
+    (λ b h. judge-after ds es (at + length l + 2) b d h) e
+
+-- the lines so far lead to a state that knows the card's lines
+led : (ds : List (List ℕ)) (k : ℕ) (zs ys : List Line) → SoFar (map unfolded ds) k zs ys → (d : Card) × (judgeLines ds 0 freshCard ≡ Next d) × Known d ys
+led ds k zs ys h =
+    let l = prefix-run k zs ys (h .cards) (h .begun) (h .readable) freshCard fresh-known in
+    (l .card, steps-run (l .steps) ds 0 (h .written), l .known)
+
+-- a card that has had a line
+some-phase : (ys : List Line) → 0 < length ys → phaseOf ys ≡ 0 → ⊥
+some-phase ys h e = omega (arith, ap length (phase-none ys e))
+
+has-some : (ys : List Line) → (phaseOf ys ≡ 0 → ⊥) → 0 < length ys
+unfolding phaseOf
+has-some [] f = absurd (f refl)
+has-some (y ∷ ys) f = omega arith
+
+-- lists that are joined alike, the first parts as long as each other, are alike
+same-parts : {A : Type 0} (us vs xs ys : List A) → length us ≡ length vs → us ++ xs ≡ vs ++ ys → (us ≡ vs) × (xs ≡ ys)
+same-parts [] [] xs ys n e = (refl, e)
+same-parts [] (b ∷ vs) xs ys n e = absurd (omega arith)
+same-parts (a ∷ us) [] xs ys n e = absurd (omega arith)
+same-parts (a ∷ us) (b ∷ vs) xs ys n e =
+    let h : a ≡ b = cc in
+    let q : us ++ xs ≡ vs ++ ys = cc in
+    let r = same-parts us vs xs ys (omega arith) q in
+    (ap (λ (z : _). z ∷ us) h ∙ ap (λ (zs : List _). b ∷ zs) (r .0), r .1)
+
+-- in lines that are split so, the logical line at a place is the raw one there without its folds
+module _ {i : List ℕ} (ds es ls ms : List (List ℕ)) (r l : List ℕ) (h : Lined i (ds ++ (r ∷ es)) (ls ++ (l ∷ ms))) (n : length ls ≡ length ds) where
+  raw-there : rawLines i ≡ ds ++ (r ∷ es)
+  raw-there = sym (lined-only h .0)
+
+  parts-there : (ls ≡ map unfolded ds) × (l ∷ ms ≡ unfolded r ∷ map unfolded es)
+  parts-there =
+      same-parts ls (map unfolded ds) (l ∷ ms) (unfolded r ∷ map unfolded es) (n ∙ sym (length-map ds unfolded))
+      (lined-only h .1 ∙ ap (map unfolded) raw-there ∙ map-append unfolded ds (r ∷ es))
+
+  line-there : l ≡ unfolded r
+  line-there = let e = parts-there .1 in cc
+
+module _ (i : List ℕ) where
+  stop-at : (ds : List (List ℕ)) (l : List ℕ) (es : List (List ℕ)) (n k : ℕ) (zs ys : List Line) → Framed i → rawLines i ≡ ds ++ (l ∷ es)
+      → SoFar (map unfolded ds) k zs ys → LineRefused ys (unfolded l) n → judgeOf i ≡ Refused n (length (ended ds))
+  unfolding judgeLines verdictOf
+  stop-at ds l es n k zs ys f e h r =
+      let d = led ds k zs ys h in
+      let at = 0 + length (ended ds) in
+      let o = outcome (d .0) ys (d .2) at (unfolded l) (refused r) in
+      judge-framed i f
+      ∙ ap (λ (ls : List (List ℕ)). verdictOf (length i) (judgeLines ls 0 freshCard)) e
+      ∙ ap (verdictOf (length i)) (judge-after ds (l ∷ es) 0 freshCard (d .0) (d .1) ∙ ap (λ (s : Step). onward s (judgeLines es (at + length l + 2))) o)
+      ∙ ap (Refused n) (zero-add (length (ended ds)))
+
+  stop-inside : (k : ℕ) (zs ys : List Line) → Framed i → SoFar (map unfolded (rawLines i)) k zs ys → 0 < length ys → judgeOf i ≡ Refused 9 (length i)
+  unfolding verdictOf
+  stop-inside k zs ys f h s =
+      let d = led (rawLines i) k zs ys h in
+      judge-framed i f
+      ∙ ap (verdictOf (length i)) (d .1)
+      ∙ rw (ne-eqb (d .0 .phase) 0 (λ e. some-phase ys s (sym (d .2 .phase) ∙ e)))
+
+  open-end : (EndsCrLf i → ⊥) → endsCrLf i ≡ false
+  open-end f = by (endsCrLf i) (λ e. absurd (f (ends-law i .0 e))) (λ e. e)
+
+  from : {n p : ℕ} → RefusedBy i n p → judgeOf i ≡ Refused n p
+  unfolding judgeOf
+  from (long h) = rw (lt-ltb 16384 (length i) h)
+  from (empty e) = rw (e)
+  from (lone {p = p} h s f g) =
+      let q = lone-first i p f g in
+      rw (
+        le-ltb 16384 (length i) h,
+        ne-eqb (length i) 0 (λ e. omega arith),
+        lt-ltb (firstLone i) (length i) (omega (arith, lone-within i p f, q)),
+      ) (ap (Refused 3) q)
+  from (unended h s f e) =
+      rw (
+        le-ltb 16384 (length i) h,
+        ne-eqb (length i) 0 (λ e. omega arith),
+        le-ltb (firstLone i) (length i) (omega (arith, paired-law i .1 f)),
+        open-end e,
+      )
+  from (line ds es ls ms r l n k zs ys f e c h q) =
+      stop-at ds r es n k zs ys f (raw-there ds es ls ms r l e c)
+      (subst (λ (x : List (List ℕ)). SoFar x k zs ys) (parts-there ds es ls ms r l e c .0) h)
+      (subst (λ (x : List ℕ). LineRefused ys x n) (line-there ds es ls ms r l e c) q)
+  from (unfinished rs ls k zs ys f e h s) = stop-inside k zs ys f (subst (λ (x : List (List ℕ)). SoFar x k zs ys) (lined-only e .1) h) s
+
+  -- past 1 to 4 the walk splits the input into its lines
+  split-so : Framed i → Lined i (rawLines i) (map unfolded (rawLines i))
+  split-so f = lined-law i (paired-law i .1 (f .paired)) (f .ends)
+
+  -- the walk ends in a refusal, or inside a card
+  walked-to : {s : Step} → Framed i → Walked (rawLines i) s → (n p : ℕ) → verdictOf (length i) s ≡ Refused n p → RefusedBy i n p
+  unfolding verdictOf
+  walked-to f (finished {c = c} r) n p e = inside (eqb (c .phase) 0) refl e
+    where
+      inside : (t : Bool) → eqb (c .phase) 0 ≡ t → pick t (Accepted (c .cards) (c .lines)) (Refused 9 (length i)) ≡ Refused n p → RefusedBy i n p
+      inside true q e = let z : _≡_ {A = ℕ} 0 1 = cc in absurd (omega arith)
+      inside false q e =
+          let a : 9 ≡ n = cc in
+          let b : length i ≡ p = cc in
+          rw (← a, ← b) (unfinished (rawLines i) (map unfolded (rawLines i)) (r .k) (r .zs) (r .ys) f (split-so f) (r .lines) (has-some (r .ys) (λ z. eqb-false (c .phase) 0 q (r .known .phase ∙ z))))
+  walked-to f (stopped ds l es {n = m} q r h) n p e =
+      let a : m ≡ n = cc in
+      let b : length (ended ds) ≡ p = cc in
+      let w : Lined i (ds ++ (l ∷ es)) (map unfolded ds ++ (unfolded l ∷ map unfolded es))
+      = subst (λ (x : List (List ℕ)). Lined i (ds ++ (l ∷ es)) x) (map-append unfolded ds (l ∷ es)) (subst (λ (x : List (List ℕ)). Lined i x (map unfolded x)) q (split-so f)) in
+      rw (← a, ← b) (line ds es (map unfolded ds) (map unfolded es) l (unfolded l) m (r .k) (r .zs) (r .ys) f w (length-map ds unfolded) (r .lines) h)
+
+  to-by : (n p : ℕ) (a b c d : Bool) → ltb 16384 (length i) ≡ a → eqb (length i) 0 ≡ b → ltb (firstLone i) (length i) ≡ c → endsCrLf i ≡ d
+      → pick a (Refused 1 16384) (pick b (Refused 2 0) (pick c (Refused 3 (firstLone i))
+      (pick d (verdictOf (length i) (judgeLines (rawLines i) 0 freshCard)) (Refused 4 (length i))))) ≡ Refused n p
+      → RefusedBy i n p
+  unfolding firstLone
+  to-by n p true b c d ea eb ec ed e =
+      let x : 1 ≡ n = cc in
+      let y : 16384 ≡ p = cc in
+      rw (← x, ← y) (long (ltb-true 16384 (length i) ea))
+  to-by n p false true c d ea eb ec ed e =
+      let x : 2 ≡ n = cc in
+      let y : 0 ≡ p = cc in
+      rw (← x, ← y) (empty (eqb-true (length i) 0 eb))
+  to-by n p false false true d ea eb ec ed e =
+      let x : 3 ≡ n = cc in
+      let y : firstLone i ≡ p = cc in
+      rw (← x, ← y) (lone (ltb-false 16384 (length i) ea) (omega (arith, eqb-false (length i) 0 eb)) (lone-here i (ltb-true (firstLone i) (length i) ec)) (lone-none i))
+  to-by n p false false false false ea eb ec ed e =
+      let x : 4 ≡ n = cc in
+      let y : length i ≡ p = cc in
+      let le : firstLone i ≤ length i = scan-le loneStep i 0 in
+      let s : 0 < length i = omega (arith, eqb-false (length i) 0 eb) in
+      let q : firstLone i ≡ length i = omega (arith, ltb-false (firstLone i) (length i) ec) in
+      rw (← x, ← y) (unended (ltb-false 16384 (length i) ea) s (paired-law i .0 q) (λ f. false≢true (sym ed ∙ ends-law i .1 f)))
+  to-by n p false false false true ea eb ec ed e =
+      let le : firstLone i ≤ length i = scan-le loneStep i 0 in
+      walked-to (record {
+        short = ltb-false 16384 (length i) ea;
+        some = omega (arith, eqb-false (length i) 0 eb);
+        paired = paired-law i .0 (omega (arith, ltb-false (firstLone i) (length i) ec));
+        ends = ends-law i .0 ed;
+      }) (walk-all i) n p e
+
+  to : (n p : ℕ) → judgeOf i ≡ Refused n p → RefusedBy i n p
+  unfolding judgeOf
+  to n p e = to-by n p (ltb 16384 (length i)) (eqb (length i) 0) (ltb (firstLone i) (length i)) (endsCrLf i) refl refl refl refl e
+
+  -- refused with number n at place p exactly where the table of refusals has it so
+  pub refused-law : (n p : ℕ) → (judgeOf i ≡ Refused n p) ↔ RefusedBy i n p
+  refused-law n p = (to n p, from)

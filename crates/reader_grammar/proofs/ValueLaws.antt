@@ -1,0 +1,87 @@
+-- The value of a line fits exactly where it is as REFERENCE, The kinds of value says, and so for clean lines and for lines without group and parameter.
+-- Assumes nothing.
+use mathlib.Core.Path.{_≡_, sym, subst, _∙_}
+use mathlib.Core.Bool.{false}
+use mathlib.Core.List.{List}
+use mathlib.Core.Logic.{_↔_}
+use Prim.Native.Nat.{ℕ, zero, suc}
+use native.Mathlib.Omega.{arith}
+use lib.Dec.{eqb, ltb}
+use lib.ListN.{length}
+use borrow.Author.Tests.{le-ltb, ltb-false, eqb-true, eqb-false}
+use Rattle.utf8.specs.Characters.{allowed, firstBad}
+use Rattle.utf8.proofs.Chars.{bad-le}
+use Rattle.utf8_laws.proofs.Utf8.{allowed-only}
+use Rattle.value_kinds.specs.Kinds.{shapeOf, kindScan, valueScan}
+use Rattle.value_kinds.specs.Shapes.{Matches}
+use Rattle.value_kinds.specs.declared.Fault.the-variants.{Fits}
+use Rattle.octets.proofs.Bools.{by}
+use Rattle.value_laws.proofs.KindLaws.{fits-kind}
+use Rattle.value_laws.proofs.Plain.{kind-0, kind-1, kind-2, kind-3, kind-4, kind-5, kind-6, kind-7, kind-8, fixed-begin, fixed-end, fixed-version, by-kind}
+use Rattle.reader_grammar.specs.Values.{OfKind, anything, text, texts, uri, five, seven, components, gender, pidmap, Fitting}
+use Rattle.reader_grammar.specs.Cards.{Clean}
+
+kind-to : (k : ℕ) (v : List ℕ) → kindScan k v ≡ Fits → OfKind k v
+unfolding shapeOf Matches
+kind-to zero v e = anything
+kind-to (suc zero) v e = text (kind-1 v .0 e)
+kind-to (suc (suc zero)) v e = texts (kind-2 v .0 e)
+kind-to (suc (suc (suc zero))) v e = uri (kind-3 v .0 e)
+kind-to (suc (suc (suc (suc zero)))) v e = five (kind-4 v .0 e)
+kind-to (suc (suc (suc (suc (suc zero))))) v e = seven (kind-5 v .0 e)
+kind-to (suc (suc (suc (suc (suc (suc zero)))))) v e = components (kind-6 v .0 e)
+kind-to (suc (suc (suc (suc (suc (suc (suc zero))))))) v e = gender (kind-7 v .0 e)
+kind-to (suc (suc (suc (suc (suc (suc (suc (suc zero)))))))) v e = pidmap (kind-8 v .0 e)
+kind-to (suc (suc (suc (suc (suc (suc (suc (suc (suc k))))))))) v e = absurd (fits-kind (suc (suc (suc (suc (suc (suc (suc (suc (suc k))))))))) v .0 e)
+
+kind-from : {k : ℕ} {v : List ℕ} → OfKind k v → kindScan k v ≡ Fits
+kind-from (anything {v = v}) = kind-0 v
+kind-from (text {v = v} h) = kind-1 v .1 h
+kind-from (texts {v = v} h) = kind-2 v .1 h
+kind-from (uri {v = v} h) = kind-3 v .1 h
+kind-from (five {v = v} h) = kind-4 v .1 h
+kind-from (seven {v = v} h) = kind-5 v .1 h
+kind-from (components {v = v} h) = kind-6 v .1 h
+kind-from (gender {v = v} h) = kind-7 v .1 h
+kind-from (pidmap {v = v} h) = kind-8 v .1 h
+
+-- a value fits its kind's scan exactly where it is of the kind
+pub of-kind : (k : ℕ) (v : List ℕ) → (kindScan k v ≡ Fits) ↔ OfKind k v
+of-kind k v = (kind-to k v, kind-from)
+
+module _ (row k : ℕ) (v : List ℕ) where
+  abbrev scanned : ℕ → Type 0
+  scanned n = valueScan n k v ≡ Fits
+
+  value-to : valueScan row k v ≡ Fits → Fitting row k v
+  value-to e = record {
+    begin = λ r. fixed-begin k v .0 (subst scanned r e);
+    end = λ r. fixed-end k v .0 (subst scanned r e);
+    version = λ r. fixed-version k v .0 (subst scanned r e);
+    other = λ a b c. kind-to k v (sym (by-kind row k v a b c) ∙ e);
+  }
+
+  value-from : Fitting row k v → valueScan row k v ≡ Fits
+  value-from f =
+      by (eqb row 1) (λ a. let r = eqb-true row 1 a in subst scanned (sym r) (fixed-begin k v .1 (f .begin r)))
+      (λ a. by (eqb row 2) (λ b. let r = eqb-true row 2 b in subst scanned (sym r) (fixed-end k v .1 (f .end r)))
+      (λ b. by (eqb row 34) (λ c. let r = eqb-true row 34 c in subst scanned (sym r) (fixed-version k v .1 (f .version r)))
+      (λ c.
+      let p = eqb-false row 1 a in
+      let q = eqb-false row 2 b in
+      let s = eqb-false row 34 c in
+      by-kind row k v p q s ∙ kind-from (f .other p q s))))
+
+  pub value-fits : (valueScan row k v ≡ Fits) ↔ Fitting row k v
+  value-fits = (value-to, value-from)
+
+-- no octet of the line is bad exactly where it is clean
+pub clean-law : (l : List ℕ) → (ltb (firstBad (allowed false) l) (length l) ≡ false) ↔ Clean l
+clean-law l = (
+  λ e.
+      let a = allowed-only false l .0 (omega (arith, ltb-false (firstBad (allowed false) l) (length l) e, bad-le (allowed false) l)) in
+      record { characters = a .0; octets = a .1 },
+  λ h.
+      let a = allowed-only false l .1 (h .characters, h .octets) in
+      le-ltb (firstBad (allowed false) l) (length l) (omega arith),
+)

@@ -1,0 +1,131 @@
+-- The walk over the lines of an input says what they are: cards and the lines of a card that has not ended, up to the end or to the
+-- first line that is refused. Assumes nothing.
+use mathlib.Core.Path.{_≡_, refl, sym, ap, subst, _∙_}
+use mathlib.Core.List.{List, [], _∷_, _++_, map, append-nil, append-assoc, map-append}
+use Prim.Native.Nat.{ℕ, suc, _+_}
+use native.Mathlib.Omega.{arith}
+use lib.ListN.{length, length-append}
+use lib.Seq.{append-snoc}
+use Rattle.line_folds.specs.Folds.{unfolded}
+use Rattle.line_parser.specs.Grammar.{Line, Each, render}
+use Rattle.card_state.specs.State.{freshCard}
+use Rattle.card_state.specs.declared.Card.{Card}
+use Rattle.card_state.specs.declared.Step.{Step}
+use Rattle.card_state.specs.declared.Step.the-variants.{Next, Refused}
+use Rattle.reader_walk.specs.Walk.{onward, judgeLines}
+use Rattle.reader.specs.Outcome.{ended}
+use Rattle.reader_grammar.specs.Cards.{Readable, CardLines, Cards, none, more}
+use Rattle.reader_grammar.specs.Refusals.{Begun, nothing, SoFar, Sound, LineRefused}
+use Rattle.reader_grammar.proofs.Known.{Known, fresh-known, lineCard, line-known, endCard, end-known}
+use Rattle.reader_grammar.proofs.LineLaws.{Judged, refused, goes-on, ends, outcome, decided}
+use Rattle.reader_grammar.proofs.BegunLaws.{each-join, Stands, begun-next, begun-end}
+
+-- one card more at the end
+cards-last : {k : ℕ} {zs : List Line} (ys : List Line) → Cards k zs → CardLines ys → Cards (suc k) (zs ++ ys)
+cards-last ys none h = subst (Cards 1) (append-nil ys) (more h none)
+cards-last ys (more {k = k} {xs = xs} {ys = zs} a rest) h = subst (Cards (suc (suc k))) (sym (append-assoc xs zs ys)) (more a (cards-last ys rest h))
+
+-- the raw lines ds were judged, and c is the state then
+pub record Reached (ds : List (List ℕ)) (c : Card) : Type 0 where
+  pub k : ℕ
+  pub zs : List Line
+  pub ys : List Line
+  pub lines : SoFar (map unfolded ds) k zs ys
+  pub known : Known c ys
+  pub cards : c .cards ≡ k
+  pub count : c .lines ≡ length (zs ++ ys)
+
+pub fresh-reached : Reached [] freshCard
+unfolding Each
+fresh-reached = record {
+  k = 0;
+  zs = [];
+  ys = [];
+  lines = record { written = refl; readable = tt; cards = none; begun = nothing };
+  known = fresh-known;
+  cards = refl;
+  count = refl;
+}
+
+stands : {ys : List Line} {l : List ℕ} {x : Line} → Sound ys l x → Stands ys x
+stands s = record { place = s .place; unladen = s .unladen; fits = s .fits }
+
+module _ (ds : List (List ℕ)) (c : Card) (r : Reached ds c) (l : List ℕ) (x : Line) (s : Sound (r .ys) (unfolded l) x) where
+  abbrev all : List Line
+  all = r .zs ++ r .ys
+
+  written : map unfolded (ds ++ (l ∷ [])) ≡ map render (all ++ (x ∷ []))
+  written =
+      map-append unfolded ds (l ∷ [])
+      ∙ ap (λ (a : List (List ℕ)). a ++ (unfolded l ∷ [])) (r .lines .written)
+      ∙ ap (λ (a : List ℕ). map render all ++ (a ∷ [])) (s .reads .text)
+      ∙ sym (map-append render all (x ∷ []))
+
+  readable : Each Readable (all ++ (x ∷ []))
+  unfolding Each
+  readable = each-join Readable all (x ∷ []) (r .lines .readable) (s .reads .readable, tt)
+
+  counted : c .lines + 1 ≡ length (all ++ (x ∷ []))
+  counted = omega (arith, r .count, length-append all (x ∷ []))
+
+  line-reached : Begun (r .ys ++ (x ∷ [])) → Reached (ds ++ (l ∷ [])) (lineCard c x)
+  line-reached b =
+      let q = append-assoc (r .zs) (r .ys) (x ∷ []) in
+      record {
+        k = r .k;
+        zs = r .zs;
+        ys = r .ys ++ (x ∷ []);
+        lines = record { written = rw q at written; readable = rw q at readable; cards = r .lines .cards; begun = b };
+        known = line-known c (r .ys) x (r .known) (s .place);
+        cards = r .cards;
+        count = rw q at counted;
+      }
+
+  end-reached : CardLines (r .ys ++ (x ∷ [])) → Reached (ds ++ (l ∷ [])) (endCard c)
+  end-reached b =
+      let q = append-assoc (r .zs) (r .ys) (x ∷ []) ∙ sym (append-nil (r .zs ++ (r .ys ++ (x ∷ [])))) in
+      record {
+        k = suc (r .k);
+        zs = r .zs ++ (r .ys ++ (x ∷ []));
+        ys = [];
+        lines = record { written = rw q at written; readable = rw q at readable; cards = cards-last (r .ys ++ (x ∷ [])) (r .lines .cards) b; begun = nothing };
+        known = end-known c;
+        cards = omega (arith, r .cards);
+        count = rw q at counted;
+      }
+
+-- what the walk over all the lines comes to
+pub data Walked (all : List (List ℕ)) : Step → Type 0 where
+  finished : {c : Card} → Reached all c → Walked all (Next c)
+  stopped : (ds : List (List ℕ)) (l : List ℕ) (es : List (List ℕ)) {c : Card} {n : ℕ} → all ≡ ds ++ (l ∷ es) → (r : Reached ds c)
+      → LineRefused (r .ys) (unfolded l) n → Walked all (Refused n (length (ended ds)))
+
+-- one line further
+turn : (ds : List (List ℕ)) (l : List ℕ) (es : List (List ℕ)) (c : Card) (r : Reached ds c) (f : Card → Step) {s : Step}
+    → Judged c (r .ys) (length (ended ds)) (unfolded l) s
+    → ((d : Card) → Reached (ds ++ (l ∷ [])) d → Walked (ds ++ (l ∷ es)) (f d)) → Walked (ds ++ (l ∷ es)) (onward s f)
+turn ds l es c r f (refused h) ih = stopped ds l es refl r h
+turn ds l es c r f (goes-on x s e h) ih = ih (lineCard c x) (line-reached ds c r l x s (begun-next x (r .lines .begun) (stands s) e h))
+turn ds l es c r f (ends x s e h g) ih = ih (endCard c) (end-reached ds c r l x s (begun-end x (r .lines .begun) (stands s) e h g))
+
+-- where the line after ds and l starts
+pub start-next : (ds : List (List ℕ)) (l : List ℕ) → length (ended (ds ++ (l ∷ []))) ≡ length (ended ds) + length l + 2
+unfolding ended
+start-next [] l = omega (arith, length-append l (13 ∷ 10 ∷ []))
+start-next (d ∷ ds) l =
+    omega (
+      arith,
+      length-append d (13 ∷ 10 ∷ ended (ds ++ (l ∷ []))),
+      length-append d (13 ∷ 10 ∷ ended ds),
+      start-next ds l,
+    )
+
+pub walk : (es ds : List (List ℕ)) (c : Card) → Reached ds c → Walked (ds ++ es) (judgeLines es (length (ended ds)) c)
+unfolding judgeLines
+walk [] ds c r = subst (λ (a : List (List ℕ)). Walked a (Next c)) (sym (append-nil ds)) (finished r)
+walk (l ∷ es) ds c r =
+    let j = decided c (r .ys) (r .known) (length (ended ds)) (unfolded l) in
+    let f = judgeLines es (length (ended ds) + length l + 2) in
+    subst (λ (s : Step). Walked (ds ++ (l ∷ es)) (onward s f))
+    (sym (outcome c (r .ys) (r .known) (length (ended ds)) (unfolded l) (j .1)))
+    (turn ds l es c r f (j .1) (λ d q. rw (append-snoc ds l es, start-next ds l) at (walk es (ds ++ (l ∷ [])) d q)))

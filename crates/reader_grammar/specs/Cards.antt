@@ -1,0 +1,98 @@
+-- What a card is, and any number of cards, as REFERENCE, The order of lines draws them. Assumes nothing.
+use Prim.Native.Nat.{ℕ, zero, suc, _≤_}
+use mathlib.Core.Path.{_≡_}
+use mathlib.Core.Bool.{Bool, true, false, _&&_}
+use mathlib.Core.List.{List, [], _∷_, _++_}
+use lib.Dec.{eqb}
+use Rattle.numbers.specs.Properties as property
+use Rattle.utf8.specs.Characters.{allowed}
+use Rattle.utf8.specs.Rfc3629.{Characters}
+use Rattle.utf8_laws.specs.Texts.{Each as EachOctet}
+use Rattle.line_parser.specs.Grammar.{Line, Each, WellFormed, render}
+use Rattle.property_table.specs.Rows.{single, isGroup}
+use Rattle.card_line.specs.Parts.{rowOfLine, kindOfLine}
+use Rattle.reader_grammar.specs.Values.{OfKind, Vcard, Four}
+
+-- no octet 00-08, 0A-1F or 7F, and RFC 3629 UTF-8
+pub record Clean (l : List ℕ) : Type 0 where
+  pub characters : Characters l
+  pub octets : EachOctet (allowed false) l
+
+-- a logical line that may be read: clean, and by the line rule
+pub record Readable (x : Line) : Type 0 where
+  pub clean : Clean (render x)
+  pub formed : WellFormed x
+
+-- neither group nor parameter
+pub record Bare (x : Line) : Type 0 where
+  pub group : x .group ≡ []
+  pub params : x .params ≡ []
+
+-- a line that frames a card: of the row of that number, bare, and with a value of P
+pub record Frame (number : ℕ) (P : List ℕ → Type 0) (x : Line) : Type 0 where
+  pub row : rowOfLine x ≡ number
+  pub bare : Bare x
+  pub value : P (x .value)
+
+abbrev pub Begins : Line → Type 0
+Begins x = Frame property.begin Vcard x
+
+abbrev pub Versions : Line → Type 0
+Versions x = Frame property.version Four x
+
+abbrev pub Ends : Line → Type 0
+Ends x = Frame property.end Vcard x
+
+-- any other line: its value is of its kind
+pub record Inside (x : Line) : Type 0 where
+  pub begin : rowOfLine x ≡ property.begin → ⊥
+  pub version : rowOfLine x ≡ property.version → ⊥
+  pub end : rowOfLine x ≡ property.end → ⊥
+  pub value : OfKind (kindOfLine x) (x .value)
+
+abbrev pub counts : Bool → ℕ → ℕ
+counts true n = suc n
+counts false n = n
+
+-- how many lines pass the test
+unfoldable pub count : (Line → Bool) → List Line → ℕ
+count p [] = 0
+count p (x ∷ xs) = counts (p x) (count p xs)
+
+abbrev pub ofRow : ℕ → Line → Bool
+ofRow row x = eqb (rowOfLine x) row
+
+-- how many lines are of the row
+abbrev pub linesOf : ℕ → List Line → ℕ
+linesOf row xs = count (ofRow row) xs
+
+-- a KIND line whose value is `group` in any case
+abbrev pub saysGroup : Line → Bool
+saysGroup x = eqb (rowOfLine x) property.kind && isGroup (x .value)
+
+abbrev pub groupLines : List Line → ℕ
+groupLines xs = count saysGroup xs
+
+-- each property marked *1 at most once
+abbrev pub Once : List Line → Type 0
+Once xs = (row : ℕ) → single row ≡ true → linesOf row xs ≤ 1
+
+-- lines after VERSION, before END
+pub record Inner (xs : List Line) : Type 0 where
+  pub each : Each Inside xs
+  pub once : Once xs
+
+-- all of them: FN (6) at least once, and MEMBER (24) only beside a KIND line with the value group
+pub record Body (xs : List Line) : Type 0 where
+  pub inner : Inner xs
+  pub named : 1 ≤ linesOf property.fn xs
+  pub members : 1 ≤ linesOf property.member xs → 1 ≤ groupLines xs
+
+-- "BEGIN, VERSION, other lines, END"
+pub data CardLines : List Line → Type 0 where
+  card : {b v e : Line} {xs : List Line} → Begins b → Versions v → Body xs → Ends e → CardLines (b ∷ v ∷ (xs ++ (e ∷ [])))
+
+-- k cards "with nothing between cards"
+pub data Cards : ℕ → List Line → Type 0 where
+  none : Cards zero []
+  more : {k : ℕ} {xs ys : List Line} → CardLines xs → Cards k ys → Cards (suc k) (xs ++ ys)

@@ -1,0 +1,90 @@
+-- Which inputs are refused, with which number and place, by REFERENCE, Refusals and The order of refusals. Assumes nothing.
+use Prim.Native.Nat.{ℕ, _<_, _≤_}
+use mathlib.Core.Path.{_≡_}
+use mathlib.Core.Bool.{true}
+use mathlib.Core.List.{List, [], _∷_, _++_, map}
+use mathlib.Core.Logic.{_⊎_}
+use lib.ListN.{length}
+use Rattle.numbers.specs.Limits as limit
+use Rattle.numbers.specs.Refusals as refusal
+use Rattle.numbers.specs.Properties as property
+use Rattle.line_parser.specs.Grammar.{Line, Each, WellFormed, render}
+use Rattle.property_table.specs.Rows.{single}
+use Rattle.card_line.specs.Parts.{rowOfLine, kindOfLine}
+use Rattle.reader.specs.Outcome.{ended}
+use Rattle.reader_laws.specs.Lone.{Lone}
+use Rattle.reader_grammar.specs.Values.{Fitting}
+use Rattle.line_laws.specs.Lined.{Lined, EndsCrLf}
+use Rattle.reader_grammar.specs.Cards.{Clean, Readable, Bare, Begins, Versions, Inner, Cards, linesOf, groupLines}
+
+-- no "CR without LF after it, or LF without CR before it"
+abbrev pub Paired : List ℕ → Type 0
+Paired i = (p : ℕ) → Lone i p → ⊥
+
+-- none of 1 to 4 holds
+pub record Framed (i : List ℕ) : Type 0 where
+  pub short : length i ≤ limit.octets
+  pub some : 0 < length i
+  pub paired : Paired i
+  pub ends : EndsCrLf i
+
+-- the lines of a card that has not ended: none, BEGIN, or BEGIN, VERSION and others
+pub data Begun : List Line → Type 0 where
+  nothing : Begun []
+  first : {b : Line} → Begins b → Begun (b ∷ [])
+  within : {b v : Line} {ys : List Line} → Begins b → Versions v → Inner ys → Begun (b ∷ v ∷ ys)
+
+-- the lines ls are k cards zs and then the lines ys of a card that has not ended
+pub record SoFar (ls : List (List ℕ)) (k : ℕ) (zs ys : List Line) : Type 0 where
+  pub written : ls ≡ map render (zs ++ ys)
+  pub readable : Each Readable (zs ++ ys)
+  pub cards : Cards k zs
+  pub begun : Begun ys
+
+-- the line l is read as x
+pub record Reads (l : List ℕ) (x : Line) : Type 0 where
+  pub text : l ≡ render x
+  pub readable : Readable x
+
+-- "Another line as a card's first or second, or BEGIN or VERSION elsewhere, is 9"; ys are the card's lines before x
+unfoldable pub InPlace : List Line → Line → Type 0
+InPlace [] x = rowOfLine x ≡ property.begin
+InPlace (b ∷ []) x = rowOfLine x ≡ property.version
+InPlace (b ∷ v ∷ ys) x = (rowOfLine x ≡ property.begin → ⊥) × (rowOfLine x ≡ property.version → ⊥)
+
+-- BEGIN, VERSION or END
+abbrev pub Framing : ℕ → Type 0
+Framing row = (row ≡ property.begin) ⊎ ((row ≡ property.version) ⊎ (row ≡ property.end))
+
+-- no "group or parameter on BEGIN, VERSION or END"
+abbrev pub Unladen : Line → Type 0
+Unladen x = Framing (rowOfLine x) → Bare x
+
+-- none of 5, 6, 9, 8, 7 holds of the line l after the card's lines ys
+pub record Sound (ys : List Line) (l : List ℕ) (x : Line) : Type 0 where
+  pub reads : Reads l x
+  pub place : InPlace ys x
+  pub unladen : Unladen x
+  pub fits : Fitting (rowOfLine x) (kindOfLine x) (x .value)
+
+-- the refusals of a line l after the card's lines ys, each where none before it holds: 5, 6, 9, 8, 7, 10 and, at END, 11, 12
+pub data LineRefused (ys : List Line) (l : List ℕ) : ℕ → Type 0 where
+  octet : (Clean l → ⊥) → LineRefused ys l refusal.badOctet
+  rule : Clean l → ((x : Line) → WellFormed x → l ≡ render x → ⊥) → LineRefused ys l refusal.lineRule
+  order : (x : Line) → Reads l x → (InPlace ys x → ⊥) → LineRefused ys l refusal.order
+  laden : (x : Line) → Reads l x → InPlace ys x → (Unladen x → ⊥) → LineRefused ys l refusal.laden
+  value : (x : Line) → Reads l x → InPlace ys x → Unladen x → (Fitting (rowOfLine x) (kindOfLine x) (x .value) → ⊥) → LineRefused ys l refusal.value
+  second : (x : Line) → Sound ys l x → single (rowOfLine x) ≡ true → 1 ≤ linesOf (rowOfLine x) ys → LineRefused ys l refusal.second
+  nameless : (x : Line) → Sound ys l x → rowOfLine x ≡ property.end → linesOf property.fn ys ≡ 0 → LineRefused ys l refusal.noFn
+  no-group : (x : Line) → Sound ys l x → rowOfLine x ≡ property.end → 1 ≤ linesOf property.fn ys → 1 ≤ linesOf property.member ys → groupLines ys ≡ 0 → LineRefused ys l refusal.member
+
+-- 1, 2, 3, 4 over the whole input; then the first line that is refused, its raw line r, its logical line l, at its start; then 9 where the input
+-- ends inside a card
+pub data RefusedBy (i : List ℕ) : ℕ → ℕ → Type 0 where
+  long : limit.octets < length i → RefusedBy i refusal.tooLong limit.octets
+  empty : length i ≡ 0 → RefusedBy i refusal.empty 0
+  lone : {p : ℕ} → length i ≤ limit.octets → 0 < length i → Lone i p → ((q : ℕ) → q < p → Lone i q → ⊥) → RefusedBy i refusal.loneCrOrLf p
+  unended : length i ≤ limit.octets → 0 < length i → Paired i → (EndsCrLf i → ⊥) → RefusedBy i refusal.noEnd (length i)
+  line : (ds es ls ms : List (List ℕ)) (r l : List ℕ) (n k : ℕ) (zs ys : List Line) → Framed i → Lined i (ds ++ (r ∷ es)) (ls ++ (l ∷ ms)) → length ls ≡ length ds
+      → SoFar ls k zs ys → LineRefused ys l n → RefusedBy i n (length (ended ds))
+  unfinished : (rs ls : List (List ℕ)) (k : ℕ) (zs ys : List Line) → Framed i → Lined i rs ls → SoFar ls k zs ys → 0 < length ys → RefusedBy i refusal.order (length i)

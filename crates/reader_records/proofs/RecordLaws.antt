@@ -1,0 +1,43 @@
+-- The records, line by line. Assumes nothing.
+use mathlib.Core.Path.{_≡_, refl, ap, _∙_}
+use mathlib.Core.List.{List, [], _∷_, _++_}
+use Prim.Native.Nat.{ℕ, _+_, _-_, _*_, _<_, _≤_}
+use native.Mathlib.Omega.{arith}
+use lib.ListN.{length, take, drop, length-append}
+use Rattle.line_folds.specs.Folds.{lineLength}
+use Rattle.line_folds.specs.Logical.{rawLines}
+use Rattle.line_folds.proofs.SpanLaws.{lines-turn, part-length}
+use Rattle.card_line.specs.Parts.{linePartsOf}
+use Rattle.card_line.specs.declared.LineParts.{LineParts}
+use Rattle.card_line.specs.declared.LineParts.the-variants.{Line, Fault}
+use Rattle.reader_records.specs.Records.{recordBy, recordOf, recordsFrom}
+
+by-length : (w n : ℕ) (x : LineParts) → length (recordBy w n x) ≡ 8
+unfolding recordBy
+by-length w n (Line x) = refl
+by-length w n (Fault k) = refl
+
+-- a record has eight numbers
+pub record-length : (w : ℕ) (l : List ℕ) → length (recordOf w l) ≡ 8
+unfolding recordOf
+record-length w l = by-length w (length l) (linePartsOf l)
+
+pub records-length : (w : ℕ) (ls : List (List ℕ)) → length (recordsFrom w ls) ≡ length ls * 8
+unfolding recordsFrom
+records-length w [] = refl
+records-length w (l ∷ ls) =
+    omega (
+      arith,
+      length-append (recordOf w l) (recordsFrom (w + length l + 2) ls),
+      record-length w l,
+      records-length (w + length l + 2) ls,
+    )
+
+-- one turn: the line from `at` to e is the first of those that are left
+pub records-turn : (s : List ℕ) (at e : ℕ) → at < length s → e ≡ at + lineLength (drop at s) → e ≤ length s
+    → recordsFrom at (rawLines (drop at s)) ≡ recordOf at (take (e - at) (drop at s)) ++ recordsFrom (e + 2) (rawLines (drop (e + 2) s))
+unfolding recordsFrom
+records-turn s at e lt he le =
+    let l : List ℕ = take (e - at) (drop at s) in
+    let q : at + length l + 2 ≡ e + 2 = rw (part-length s at e lt he le) (omega arith) in
+    ap (recordsFrom at) (lines-turn s at e lt he le) ∙ ap (λ (n : ℕ). recordOf at l ++ recordsFrom n (rawLines (drop (e + 2) s))) q

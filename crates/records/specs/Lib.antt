@@ -1,2 +1,0 @@
--- The definitions that the contracts of `records` cite. Assumes nothing.
-pub mod Records

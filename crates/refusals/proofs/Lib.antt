@@ -1,2 +1,0 @@
--- The laws that the proofs of `refusals` cite. Assumes nothing.
-pub mod WordLaws

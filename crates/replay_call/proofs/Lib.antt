@@ -1,0 +1,2 @@
+-- The laws that the proofs of `replay_call` cite. Assumes nothing.
+pub mod CallLaws

@@ -1,0 +1,2 @@
+-- The definitions that the contracts of `replay_call` cite. Assumes nothing.
+pub mod Stepped

@@ -1,0 +1,3 @@
+-- The definitions that the contracts of `replay_log` cite. Assumes nothing.
+pub mod Names
+pub mod Logs

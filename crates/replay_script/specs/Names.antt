@@ -1,0 +1,28 @@
+-- The octet that names each call of a script, and the lengths of calls. Assumes nothing.
+use Prim.Native.Nat.{ℕ}
+
+abbrev pub opens : ℕ
+opens = 1
+
+abbrev pub adds : ℕ
+adds = 2
+
+abbrev pub judges : ℕ
+judges = 3
+
+abbrev pub shows : ℕ
+shows = 4
+
+abbrev pub asks : ℕ
+asks = 5
+
+abbrev pub releases : ℕ
+releases = 6
+
+-- the octets of any call but an add: its name, and a number in four
+abbrev pub length : ℕ
+length = 5
+
+-- the octets of an add before its chunk: the chunk's length in two more
+abbrev pub chunk : ℕ
+chunk = 7

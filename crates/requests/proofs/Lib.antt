@@ -1,4 +1,0 @@
--- The laws that the proofs of `requests` and of the crates above it cite. Assumes nothing.
-pub mod NameLaws
-pub mod RequestLaws
-pub mod Untouched

@@ -1,2 +1,0 @@
--- The laws that the proofs of `runs` cite. Assumes nothing.
-pub mod CallLaws

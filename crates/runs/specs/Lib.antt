@@ -1,2 +1,0 @@
--- The definitions that the contracts of `runs` cite. Assumes nothing.
-pub mod Stepped

@@ -1,2 +1,0 @@
--- The definitions that the contracts of `screening` cite. Assumes nothing.
-pub mod Plain

@@ -1,2 +1,0 @@
--- The definitions that the contracts of `sessions` cite. Assumes nothing.
-pub mod Entries

@@ -1,3 +1,0 @@
--- The definitions that the contracts of `slots` cite. Assumes nothing.
-pub mod Sound
-pub mod Slots

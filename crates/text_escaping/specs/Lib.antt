@@ -1,0 +1,2 @@
+-- The definitions that the contracts of `text_escaping` cite. Assumes nothing.
+pub mod Escaped

@@ -1,0 +1,3 @@
+-- The definitions that the contracts of `text_marks` cite. Assumes nothing.
+pub mod Marks
+pub mod Seen

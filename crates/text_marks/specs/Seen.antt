@@ -1,0 +1,19 @@
+-- What is seen in a text: whether an octet is not plain, and whether one is a backslash, a comma or one of two octets more.
+-- Assumes nothing.
+use Prim.Native.Nat.{ℕ, _+_}
+use mathlib.Core.Bool.{Bool, _||_}
+use mathlib.Core.List.{List}
+use lib.Dec.{eqb}
+use Rattle.octets.specs.Ascii as ascii
+use Rattle.octets.specs.Classes.{bit}
+use Rattle.octets.specs.Counts.{any}
+use Rattle.utf8_screening.specs.Plain.{odd}
+use Rattle.text_marks.specs.Marks.{backslash}
+
+-- backslash, comma or one of two octets more
+unfoldable pub held : ℕ → ℕ → ℕ → Bool
+held x y b = (backslash b || eqb b ascii.comma) || (eqb b x || eqb b y)
+
+-- 1 where an octet is not plain, 2 where one is held, 3 where both
+unfoldable pub seen : ℕ → ℕ → List ℕ → ℕ
+seen x y s = bit (any odd s) 1 + bit (any (held x y) s) 2

@@ -1,0 +1,163 @@
+// Text with escapes: its first fault, how many octets it stands for, and writing those.
+ghost use mathlib.Core.Path.{_≡_};
+ghost use mathlib.Core.Bool.{true};
+ghost use Prim.Native.Nat.{_+_, _<_, _≤_};
+ghost use lib.ListN.{length, drop};
+ghost use Rattle.numbers.specs.Limits as limit;
+ghost use Rattle.octets.specs.Classes.{bit};
+ghost use Rattle.octets.specs.Room.{overlay};
+ghost use Rattle.text_unescaping.specs.Unescaped.{code, meant, escapeAt, firstFault, unescaped};
+ghost use Rattle.text_unescaping.specs.Pairs.{unsettled, settled};
+
+// The length below which a text is measured escape by escape.
+const SHORT: usize = 32;
+
+// The place of the first fault of a text, or its length; and, where it has none, how many octets it stands for.
+pub struct Measured {
+    pub first_fault: usize,
+    pub length: usize,
+}
+
+// Whether an octet makes an escape of the backslash before it.
+fn is_code(b: u8) -> bool
+    ensures { λ r. ⌜ r ≡ code b ⌝ }
+{
+    if b == b'\\' {
+        return true;
+    }
+    if b == b',' {
+        return true;
+    }
+    if b == b';' {
+        return true;
+    }
+    if b == b'n' {
+        return true;
+    }
+    b == b'N'
+}
+
+// Whether an escape starts at i.
+fn escape_at(s: &[u8], i: usize) -> bool
+    requires { ⌜ i < length (now s) ⌝ }
+    ensures { λ r. ⌜ r ≡ escapeAt (drop i (now (s .entry))) ⌝ }
+{
+    if s[i] != b'\\' {
+        return false;
+    }
+    if s.len() - i < 2 {
+        return false;
+    }
+    is_code(s[i + 1])
+}
+
+// The octet that an escape stands for, by what follows its backslash.
+fn meant_by(b: u8) -> u8
+    ensures { λ r. ⌜ r ≡ meant b ⌝ }
+{
+    if b == b'n' {
+        return b'\n';
+    }
+    if b == b'N' {
+        return b'\n';
+    }
+    b
+}
+
+// 1 for an octet that is no end of an escape after a backslash, or a bare comma after any other octet; 0 for any other.
+fn pair_bit(before: u8, b: u8) -> u8
+    ensures { λ r. ⌜ r ≡ bit (unsettled before b) 1 ⌝ }
+{
+    let coded = ((b == b',') as u8 | (b == b';') as u8) | ((b == b'n') as u8 | (b == b'N') as u8);
+    ((before == b'\\') as u8 & (coded == 0) as u8) | ((before != b'\\') as u8 & (b == b',') as u8)
+}
+
+// Whether each octet fits the one before it: one pass with no early exit, so that it compiles to vector instructions.
+fn all_pairs(s: &[u8]) -> bool
+    ensures { λ r. ⌜ r ≡ settled 0 (now (s .entry)) ⌝ }
+{
+    let mut bad: u8 = 0;
+    let mut before: u8 = 0;
+    let mut i: usize = 0;
+    while i < s.len() {
+        bad = bad | pair_bit(before, s[i]);
+        before = s[i];
+        i += 1;
+    }
+    if bad != 0 {
+        return false;
+    }
+    before != b'\\'
+}
+
+// Measures a text, escape by escape.
+fn measure_each(text: &[u8]) -> Measured
+    ensures { λ r. ⌜ (r .«first_fault» ≡ firstFault (now (text .entry))) × (r .«first_fault» ≡ length (now (text .entry)) → r .length ≡ length (unescaped (now (text .entry)))) ⌝ }
+{
+    let mut i: usize = 0;
+    let mut kept: usize = 0;
+    while i < text.len() {
+        if text[i] == b'\\' {
+            let whole = escape_at(text, i);
+            if !whole {
+                return Measured {
+                    first_fault: i,
+                    length: 0,
+                };
+            }
+            kept += 1;
+            i += 2;
+        } else {
+            if text[i] == b',' {
+                return Measured {
+                    first_fault: i,
+                    length: 0,
+                };
+            }
+            kept += 1;
+            i += 1;
+        }
+    }
+    Measured {
+        first_fault: i,
+        length: kept,
+    }
+}
+
+// Measures a text.
+pub fn measure(text: &[u8]) -> Measured
+    requires { ⌜ length (now text) ≤ limit.octets ⌝ }
+    ensures { λ r. ⌜ (r .«first_fault» ≡ firstFault (now (text .entry))) × (r .«first_fault» ≡ length (now (text .entry)) → r .length ≡ length (unescaped (now (text .entry)))) ⌝ }
+{
+    if text.len() < SHORT {
+        return measure_each(text);
+    }
+    if all_pairs(text) {
+        return Measured {
+            first_fault: text.len(),
+            length: text.len() - text_marks::counts::backslashes(text),
+        };
+    }
+    measure_each(text)
+}
+
+// Writes what a text without faults stands for to the start of `out`.
+pub fn write(text: &[u8], out: &mut [u8])
+    requires { ⌜ firstFault (now text) ≡ length (now text) ⌝ }
+    requires { ⌜ length (unescaped (now text)) ≤ length (now out) ⌝ }
+    ensures { λ _. ⌜ now (out .exit) ≡ overlay (unescaped (now (text .entry))) (now (out .entry)) ⌝ }
+{
+    let mut i: usize = 0;
+    let mut j: usize = 0;
+    while i < text.len() {
+        if text[i] == b'\\' {
+            out[j] = meant_by(text[i + 1]);
+            j += 1;
+            i += 2;
+        } else {
+            out[j] = text[i];
+            j += 1;
+            i += 1;
+        }
+    }
+}

@@ -1,3 +1,0 @@
--- The definitions that the contracts of `timed` cite. Assumes nothing.
-pub mod Answers
-pub mod Calls

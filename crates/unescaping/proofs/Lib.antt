@@ -1,5 +1,0 @@
--- The laws that the proofs of `unescaping` and of the crates above it cite. Assumes nothing.
-pub mod BitLaws
-pub mod UnescapeLaws
-pub mod PairLaws
-pub mod BareLaws

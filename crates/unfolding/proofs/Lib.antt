@@ -1,4 +1,0 @@
--- The laws that the proofs of `unfolding` and of the crates above it cite. Assumes nothing.
-pub mod RunLaws
-pub mod CountLaws
-pub mod PutLaws

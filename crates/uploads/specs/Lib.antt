@@ -1,2 +1,0 @@
--- The definitions that the contracts of `uploads` cite. Assumes nothing.
-pub mod Uploads

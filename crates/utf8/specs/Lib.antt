@@ -1,0 +1,3 @@
+-- The definitions that the contracts of `utf8` cite. Assumes nothing.
+pub mod Characters
+pub mod Rfc3629

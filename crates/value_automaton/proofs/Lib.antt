@@ -1,0 +1,3 @@
+-- The laws that the proofs of `value_automaton` and of the crates above it cite. Assumes nothing.
+pub mod StepLaws
+pub mod TableLaws

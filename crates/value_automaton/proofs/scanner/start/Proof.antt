@@ -1,0 +1,57 @@
+-- `value_automaton::scanner::start` meets its contract. Assumes nothing.
+use mathlib.Core.Path.{_≡_}
+use Prim.Native.Nat.{ℕ, suc, _<_, _≤_}
+use native.Mathlib.Omega.{arith}
+use Rattle.value_kinds.specs.Kinds.{parts, shapeOf}
+use Rattle.value_automaton.specs.States.{states, stateShape}
+use Rattle.value_automaton.proofs.scanner.start.Statement.{statement}
+use Rattle.value_automaton.proofs.scanner.start.Tie as tie
+
+up : (a k : ℕ) → a ≤ k → (k ≡ a → ⊥) → suc a ≤ k
+up a k h f = omega arith
+
+only : (k : ℕ) → 8 ≤ k → k < 9 → k ≡ 8
+only k g h = omega arith
+
+returns : tie.Need-returns
+unfolding stateShape states shapeOf parts
+returns c = (omega arith, rw (c .match .keys1))
+
+returns-2 : tie.Need-returns-2
+unfolding stateShape states shapeOf parts
+returns-2 c = (omega arith, rw (c .match .keys2))
+
+returns-3 : tie.Need-returns-3
+unfolding stateShape states shapeOf parts
+returns-3 c = (omega arith, rw (c .match .keys3))
+
+returns-4 : tie.Need-returns-4
+unfolding stateShape states shapeOf parts
+returns-4 c = (omega arith, rw (c .match .keys4))
+
+returns-5 : tie.Need-returns-5
+unfolding stateShape states shapeOf parts
+returns-5 c = (omega arith, rw (c .match .keys5))
+
+returns-6 : tie.Need-returns-6
+unfolding stateShape states shapeOf parts
+returns-6 c = (omega arith, rw (c .match .keys6))
+
+returns-7 : tie.Need-returns-7
+unfolding stateShape states shapeOf parts
+returns-7 c = (omega arith, rw (c .match .keys7))
+
+returns-8 : tie.Need-returns-8
+unfolding stateShape states shapeOf parts
+returns-8 c = (omega arith, rw (c .match .keys8))
+
+returns-9 : tie.Need-returns-9
+unfolding stateShape states shapeOf parts
+returns-9 c =
+    let o = c .match .rest in
+    let k = c .before .args .kind in
+    let last = only k (up 7 k (up 6 k (up 5 k (up 4 k (up 3 k (up 2 k (up 1 k (up 0 k (omega arith) (o .0 .0 .0 .0 .0 .0 .0 .1)) (o .0 .0 .0 .0 .0 .0 .1)) (o .0 .0 .0 .0 .0 .1)) (o .0 .0 .0 .0 .1)) (o .0 .0 .0 .1)) (o .0 .0 .1)) (o .0 .1)) (o .1)) (c .before .pre) in
+    (omega arith, rw last)
+
+pub start-spec : {M : Type 1} → statement M
+start-spec = tie.close (tie.spec returns returns-2 returns-3 returns-4 returns-5 returns-6 returns-7 returns-8 returns-9)

@@ -1,0 +1,26 @@
+-- `value_automaton::value_fault` meets its contract. Assumes nothing.
+use borrow.Author.Needs.{needs}
+use mathlib.Core.Path.{sym, ap, _∙_}
+use Rattle.value_kinds.specs.Shapes.{Shape, faultFrom}
+use Rattle.value_kinds.specs.Kinds.{kindScan}
+use Rattle.value_automaton.proofs.value_fault.Statement.{statement}
+use Rattle.value_automaton.proofs.value_fault.Tie as tie
+
+fits-at-once-requires : tie.Need-fits-at-once-requires
+fits-at-once-requires c κs = search needs
+
+returns : tie.Need-returns
+returns c = sym (c .before .fits-at-once .ensures (c .if1 .taken))
+
+start-requires : tie.Need-start-requires
+start-requires c κs = search needs
+
+scan-requires : tie.Need-scan-requires
+scan-requires c κs = search needs
+
+returns-2 : tie.Need-returns-2
+unfolding kindScan
+returns-2 c = c .scan .ensures ∙ ap (λ (r : Shape). faultFrom r 0 (c .before .before .before .before .before .args .s .now)) (c .before .start .ensures .1)
+
+pub value-fault-spec : {M : Type 1} → statement M
+value-fault-spec = tie.close (tie.spec fits-at-once-requires returns start-requires scan-requires returns-2)

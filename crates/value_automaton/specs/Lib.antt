@@ -1,0 +1,2 @@
+-- The definitions that the contracts of `value_automaton` cite. Assumes nothing.
+pub mod States

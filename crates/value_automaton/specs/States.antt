@@ -1,0 +1,98 @@
+-- The states of the automaton: each is a shape, the derivative by what came before, and the table leads from one to the next.
+-- Assumes nothing.
+use Prim.Native.Nat.{ℕ, _+_, _<_, _/_, _%_}
+use mathlib.Core.Path.{_≡_}
+use mathlib.Core.List.{List, [], _∷_}
+use lib.ListN.{getD}
+use Rattle.value_kinds.specs.Octets.{Octets, any, plain, inner, escapee, comma, semicolon, colon, scheme, graphic, digit, theC, theA, theR, theD, point, nought, holds}
+use Rattle.value_kinds.specs.Shapes.{Shape, never, empty, one, _then_, _or_, many, derivative}
+use Rattle.value_kinds.specs.Kinds.{textOf, text, texts, uri, component, parts, components, gender, pidmap, vcard, version}
+
+-- past a backslash
+abbrev pub escape : Octets → Shape
+escape own = one escapee then textOf own
+
+abbrev pub escapeIn : Octets → Octets → Shape
+escapeIn mark own = escape own then many (one mark then textOf own)
+
+-- how many states there are
+abbrev pub stateCount : ℕ
+stateCount = 38
+
+-- the state of the last part of a URI
+abbrev pub uriTail : ℕ
+uriTail = 32
+
+-- the first state in which a value may end
+abbrev pub firstNullable : ℕ
+firstNullable = 29
+
+-- how many entries the table has for a state, one for each sort of octet and fill
+abbrev pub stride : ℕ
+stride = 20
+
+-- how many entries it has for all states
+abbrev pub stepCount : ℕ
+stepCount = 760
+
+-- state 0 is dead, and the nullable states are those from firstNullable on
+unfoldable pub states : List Shape
+states =
+    never ∷
+    (escape plain) ∷
+    (escapeIn comma plain) ∷
+    uri ∷
+    (many (one scheme) then one colon then many (one graphic)) ∷
+    (parts 5) ∷
+    (parts 4) ∷
+    (escapeIn comma inner then one semicolon then parts 4) ∷
+    (parts 3) ∷
+    (escapeIn comma inner then one semicolon then parts 3) ∷
+    (parts 2) ∷
+    (escapeIn comma inner then one semicolon then parts 2) ∷
+    (escapeIn comma inner then one semicolon then component) ∷
+    (escapeIn comma inner) ∷
+    (parts 7) ∷
+    (parts 6) ∷
+    (escapeIn comma inner then one semicolon then parts 6) ∷
+    (escapeIn comma inner then one semicolon then parts 5) ∷
+    (escapeIn semicolon inner) ∷
+    pidmap ∷
+    (many (one digit) then one semicolon then uri) ∷
+    vcard ∷
+    (one theC then one theA then one theR then one theD) ∷
+    (one theA then one theR then one theD) ∷
+    (one theR then one theD) ∷
+    (one theD) ∷
+    version ∷
+    (one point then one nought) ∷
+    (one nought) ∷
+    (many (one any)) ∷
+    text ∷
+    texts ∷
+    (many (one graphic)) ∷
+    component ∷
+    components ∷
+    gender ∷
+    ((one semicolon then text) or empty) ∷
+    empty ∷
+    []
+
+unfoldable pub stateShape : ℕ → Shape
+stateShape q = getD states q never
+
+-- one octet of each sort: octets of one sort are in the same sets
+unfoldable pub representative : ℕ → ℕ
+representative c = getD (0 ∷ 33 ∷ 66 ∷ 77 ∷ 78 ∷ 86 ∷ 67 ∷ 65 ∷ 82 ∷ 68 ∷ 49 ∷ 52 ∷ 48 ∷ 43 ∷ 46 ∷ 58 ∷ 59 ∷ 44 ∷ 92 ∷ []) c 0
+
+-- the table gives the sort of each octet, and from 256 on, stride entries a state, the next state for each sort
+pub record Scanner (t : List ℕ) : Type 0 where
+  pub sort-low : (b : ℕ) → b < 256 → getD t b 0 < stride
+  pub sort : (b : ℕ) → b < 256 → (p : Octets) → holds p b ≡ holds p (representative (getD t b 0))
+  pub step-low : (k : ℕ) → k < stepCount → getD t (256 + k) 0 < stateCount
+  pub step : (k : ℕ) → k < stepCount → stateShape (getD t (256 + k) 0) ≡ derivative (representative (k % stride)) (stateShape (k / stride))
+
+-- the octet b leads from state q to state n
+pub record Next (q b n : ℕ) : Type 0 where
+  pub inside : n < stateCount
+  pub right : stateShape n ≡ derivative b (stateShape q)

@@ -1,0 +1,4 @@
+-- The definitions that the contracts of `value_kinds` cite. Assumes nothing.
+pub mod Octets
+pub mod Shapes
+pub mod Kinds

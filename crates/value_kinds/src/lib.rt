@@ -1,0 +1,92 @@
+// The kinds of value are regular expressions; here are tests of each octet by itself that settle most values.
+ghost use mathlib.Core.Path.{_≡_};
+ghost use mathlib.Core.Bool.{true, not};
+ghost use Rattle.octets.specs.Classes.{bit};
+ghost use Rattle.octets.specs.Counts.{allIn, count};
+ghost use Rattle.value_kinds.specs.Octets.{neither, graphic, semicolon, holds};
+ghost use Rattle.value_kinds.specs.Kinds.{kindScan};
+use numbers::kind;
+
+// A value fits, or the first octet from which nothing could, or the end.
+pub enum Fault {
+    Fits,
+    Breaks(usize),
+}
+
+// 1 for the octets a and b, else 0.
+fn mark_bit(a: u8, b: u8, x: u8) -> u8
+    ensures { λ r. ⌜ r ≡ bit (not (neither a b x)) 1 ⌝ }
+{
+    (x == a) as u8 | (x == b) as u8
+}
+
+// Whether no octet of s is a or b: no way out of the loop, so that it is compiled to vectors.
+fn lacks(a: u8, b: u8, s: &[u8]) -> bool
+    ensures { λ r. ⌜ r ≡ allIn (neither a b) (now (s .entry)) ⌝ }
+{
+    let mut marks: u8 = 0;
+    let mut i: usize = 0;
+    while i < s.len() {
+        marks = marks | mark_bit(a, b, s[i]);
+        i += 1;
+    }
+    marks == 0
+}
+
+// 0 for an octet 21-7E, else 1.
+fn hidden_bit(x: u8) -> u8
+    ensures { λ r. ⌜ r ≡ bit (not (holds graphic x)) 1 ⌝ }
+{
+    (x < b'!') as u8 | (b'~' < x) as u8
+}
+
+// Whether all octets of s are 21-7E.
+pub fn is_printing(s: &[u8]) -> bool
+    ensures { λ r. ⌜ r ≡ allIn (holds graphic) (now (s .entry)) ⌝ }
+{
+    let mut hidden: u8 = 0;
+    let mut i: usize = 0;
+    while i < s.len() {
+        hidden = hidden | hidden_bit(s[i]);
+        i += 1;
+    }
+    hidden == 0
+}
+
+// How many semicolons s has.
+fn count_semicolons(s: &[u8]) -> usize
+    ensures { λ r. ⌜ r ≡ count (holds semicolon) (now (s .entry)) ⌝ }
+{
+    let mut n: usize = 0;
+    let mut i: usize = 0;
+    while i < s.len() {
+        n += (s[i] == b';') as usize;
+        i += 1;
+    }
+    n
+}
+
+// True only where s has no backslash, and n semicolons.
+fn has_semicolons(s: &[u8], n: usize) -> bool
+    ensures { λ r. ⌜ (r ≡ true → (allIn (neither 92 92) (now (s .entry)) ≡ true) × (count (holds semicolon) (now (s .entry)) ≡ n)) ⌝ }
+{
+    if count_semicolons(s) != n {
+        return false;
+    }
+    lacks(b'\\', b'\\', s)
+}
+
+// True only where tests of each octet by itself show that s fits.
+pub fn fits_at_once(kind: usize, s: &[u8]) -> bool
+    ensures { λ r. ⌜ (r ≡ true → kindScan kind (now (s .entry)) ≡ Fault.Fits) ⌝ }
+{
+    match kind {
+        kind::ANYTHING => true,
+        kind::TEXT => lacks(b'\\', b',', s),
+        kind::TEXTS => lacks(b'\\', b'\\', s),
+        kind::NAME => has_semicolons(s, 4),
+        kind::ADDRESS => has_semicolons(s, 6),
+        kind::ORGANIZATION => lacks(b'\\', b',', s),
+        _ => false,
+    }
+}

@@ -1,2 +1,0 @@
--- The definitions that the contracts of `words` cite. Assumes nothing.
-pub mod Words

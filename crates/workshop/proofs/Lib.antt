@@ -1,2 +1,0 @@
--- The laws that the proofs of `workshop` cite. Assumes nothing.
-pub mod PartLaws
