@@ -1,6 +1,9 @@
 -- `text_unescaping::measure` meets its contract. Assumes nothing.
 use mathlib.Core.Path.{sym, _∙_}
+use Prim.Native.Nat.{_-_}
+use lib.ListN.{length}
 use native.Mathlib.Omega.{arith}
+use Rattle.text_unescaping.proofs.MeasureLaws.{at-end}
 use Rattle.text_unescaping.proofs.PairLaws.{settled-sound}
 use borrow.Author.Needs.{needs}
 use Rattle.text_unescaping.proofs.measure.Statement.{statement}
@@ -26,7 +29,7 @@ returns-2 : tie.Need-returns-2
 returns-2 c =
     let s = c .before .before .before .before .before .args .text .now in
     let w = settled-sound s (sym (c .before .before .all-pairs .ensures) ∙ c .before .if2 .taken) in
-    (sym (w .0), λ e. omega (arith, w .1, c .backslashes .ensures .0))
+    at-end s (length s - c .backslashes .result) (w .0) (omega (arith, w .1, c .backslashes .ensures .0))
 
 measure-each-requires-2 : tie.Need-measure-each-requires-2
 measure-each-requires-2 c κs = search needs
