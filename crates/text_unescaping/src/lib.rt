@@ -127,7 +127,8 @@ pub fn measure(text: &[u8]) -> Measured
         return measure_each(text);
     }
     if all_pairs(text) {
-        return Measured::Octets(text.len() - text_marks::counts::backslashes(text));
+        let kept = text.len() - text_marks::counts::backslashes(text);
+        return Measured::Octets(kept);
     }
     measure_each(text)
 }

@@ -22,37 +22,39 @@ enum-known-m-2 c = search needs
 
 returns : tie.Need-returns
 returns c =
-    let a = c .before .before .before .before .before .before .args in
+    let f = c .before .before in
+    let a = f .before .before .before .before .before .args in
     let t = a .text .now in
-    let m = c .before .before .before .measure in
-    let g = c .before .m2 .given .1 in
-    whole-outcome t (a .out .now) (m .ensures) g (fill-short (unescaped t) (a .out .now) _ (told t (a .out .now) (m .ensures) g .0) (c .if1 .taken))
+    let m = f .before .before .measure in
+    let e = told t (a .out .now) (m .ensures) (f .m2 .given .1) .0 in
+    whole-outcome t (a .out .now) (m .ensures) (f .m2 .given .1) (fill-short (unescaped t) (a .out .now) _ e (c .if1 .taken))
 
 write-requires : tie.Need-write-requires
 write-requires c κs =
-    let a = c .before .before .before .before .before .before .args in
-    let w = told (a .text .now) (a .out .now) (c .before .before .before .measure .ensures) (c .before .m2 .given .1) in
+    let f = c .before .before .before in
+    let a = f .before .before .before .before .before .args in
+    let w = told (a .text .now) (a .out .now) (f .before .before .measure .ensures) (f .m2 .given .1) in
     (w .1, omega (arith, w .0))
 
 returns-2 : tie.Need-returns-2
 returns-2 c =
-    let a = c .before .before .before .before .before .args in
-    fault-outcome (a .text .now) (a .out .now) (c .before .before .before .measure .ensures) (c .before .m .given .1)
+    let f = c .before in
+    let a = f .before .before .before .before .before .args in
+    fault-outcome (a .text .now) (a .out .now) (f .before .before .measure .ensures) (f .m .given .1)
 
 same-length : tie.Need-same-length
 same-length c = search needs
 
 returns-3 : tie.Need-returns-3
 returns-3 c =
-    let f = c .before .before .before in
-    let a = f .before .before .before .before .before .before .args in
+    let f = c .before .before .before .before .before .before in
+    let a = f .before .before .before .before .before .args in
     let t = a .text .now in
     let room = a .out .now in
-    let m = f .before .before .before .measure in
-    let g = f .before .m2 .given .1 in
-    let e = told t room (m .ensures) g .0 in
+    let m = f .before .before .measure in
+    let e = told t room (m .ensures) (f .m2 .given .1) .0 in
     let w = c .before .before .write in
-    whole-outcome t room (m .ensures) g
+    whole-outcome t room (m .ensures) (f .m2 .given .1)
     (fill-fits (unescaped t) room _ e (omega arith) (w .last .1 .0) (w .ensures ∙ ap (λ (k : ℕ). unescaped t ++ drop k room) (sym e)))
 
 pub unescape-each-spec : {M : Type 1} → statement M

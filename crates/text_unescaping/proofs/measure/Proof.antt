@@ -21,8 +21,8 @@ all-pairs-requires c κs = search needs
 backslashes-requires : tie.Need-backslashes-requires
 backslashes-requires c κs = search needs
 
-sub-t8 : tie.Need-sub-t8
-sub-t8 c =
+sub-kept : tie.Need-sub-kept
+sub-kept c =
     omega (arith, c .backslashes .ensures .1)
 
 returns-2 : tie.Need-returns-2
@@ -45,7 +45,7 @@ measure-spec =
     returns
     all-pairs-requires
     backslashes-requires
-    sub-t8
+    sub-kept
     returns-2
     measure-each-requires-2
     returns-3)
