@@ -52,8 +52,8 @@ pub fed : (g : Input) (k : ℕ) (room : List ℕ) (m : Morning) (p : List ℕ) (
 fed Unread k room m p r q t f = unread f
 fed (Octets n) k room m p r q t f = by-count (zero-or-more n)
   where
-  by-count : (n ≡ 0) ⊎ (0 < n) → Fed k m p r q
-  by-count (inl e) = judged (f .0 e)
-  by-count (inr h) =
-      let l : length (part room 0 n) ≡ n = part-length room n (t .1) in
-      added (part room 0 n) (omega (arith, l)) (omega (arith, l, t .0)) (f .1 (λ e. omega (arith, e, h)))
+    by-count : (n ≡ 0) ⊎ (0 < n) → Fed k m p r q
+    by-count (inl e) = judged (f .0 e)
+    by-count (inr h) =
+        let l : length (part room 0 n) ≡ n = part-length room n (t .1) in
+        added (part room 0 n) (omega (arith, l)) (omega (arith, l, t .0)) (f .1 (λ e. omega (arith, e, h)))

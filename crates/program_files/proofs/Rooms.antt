@@ -33,10 +33,11 @@ filled-on old room part n k h (a, b, c) (x, y, z) =
     let end : k ≤ length room - n = rw (whole, long) at x in
     let past : drop n (take n room ++ part) ≡ part = ap (λ (m : ℕ). drop m (take n room ++ part)) (sym seam) ∙ drop-append-seam (take n room) part in
     let rest : drop k part ≡ drop k (drop n room) = z ∙ ap (drop k) whole in
-    rw same
-    (omega arith,
-    length-append (take n room) part ∙ omega arith,
-    sym (drop-drop k n (take n room ++ part)) ∙ ap (drop k) past ∙ rest ∙ ap (drop k) c ∙ drop-drop k n old)
+    rw same (
+      omega arith,
+      length-append (take n room) part ∙ omega arith,
+      sym (drop-drop k n (take n room ++ part)) ∙ ap (drop k) past ∙ rest ∙ ap (drop k) c ∙ drop-drop k n old,
+    )
 
 -- and then none
 pub filled-end : (old room part : List ℕ) (n k : ℕ) → n ≤ length room → filledTo n old room → filledTo k (take (length room - n) (drop n room)) part
