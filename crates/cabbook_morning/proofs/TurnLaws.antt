@@ -1,11 +1,12 @@
 -- A turn of an upload, by what the desk answered and by what was read. Assumes nothing.
 use Prim.Native.Nat.{ℕ, zero, suc, _-_, _<_, _≤_}
 use mathlib.Core.Path.{_≡_, refl, subst, _∙_}
-use mathlib.Core.Bool.{false}
+use mathlib.Core.Bool.{true, false}
 use mathlib.Core.Logic.{_⊎_, inl, inr}
 use mathlib.Core.List.{List}
 use native.Mathlib.Omega.{arith}
 use lib.Dec.{ltb}
+use lib.IntN.{ℤ}
 use lib.ListN.{length, take, length-take}
 use lib.Seq.{length-take-le}
 use borrow.Author.Tests.{le-ltb}
@@ -16,8 +17,8 @@ use Rattle.reader.specs.declared.Verdict.the-variants.{Refused as NotAdded}
 use Rattle.program_files.specs.Inputs.{fetched}
 use Rattle.program_files.specs.declared.Input.{Input}
 use Rattle.program_files.specs.declared.Input.the-variants.{Octets, Unread}
-use Rattle.cabbook_morning.specs.Depot.{atDesk}
-use Rattle.cabbook_morning.specs.Turns.{Finished, Added, Taken, FedWith, Fed, unread, judged, added}
+use Rattle.cabbook_morning.specs.Depot.{asTicket, atDesk, counted, startedAt}
+use Rattle.cabbook_morning.specs.Turns.{Opened, Finished, Added, Taken, FedWith, Fed, unread, judged, added}
 use Rattle.cabbook_morning.specs.declared.depot.Morning.{Morning}
 
 -- the desk granted a chunk
@@ -28,6 +29,16 @@ add-done k m t s e n a = subst (λ (x : Turned). Added k m x (x .answer) (atDesk
 pub add-ended : (k : ℕ) (m : Morning) (t s : Turned) → t ≡ s → (n at : ℕ) → t .answer ≡ Refused n at
     → (r : Morning) (q : List ℕ) → Finished k (NotAdded n at) (atDesk (t .desk) m) (t .pool) r q → Added k m s (s .answer) r q
 add-ended k m t s e n at a r q f = subst (λ (x : Turned). Added k m x (x .answer) r q) e (rw a f)
+
+-- the desk granted an opening
+pub open-done : (k i : ℕ) (m : Morning) (t s : Turned) → t ≡ s → (n : ℕ) → t .answer ≡ Done n → (fd : ℤ) (r : Morning)
+    → r ≡ startedAt k (record { file = i; fd = fd; ticket = asTicket n }) (atDesk (t .desk) m) → Opened k i m s (s .answer) r
+open-done k i m t s e n a fd r h = subst (λ (x : Turned). Opened k i m x (x .answer) r) e (rw a (fd, h))
+
+-- it refused one
+pub open-refused : (k i : ℕ) (m : Morning) (t s : Turned) → t ≡ s → (n at : ℕ) → t .answer ≡ Refused n at → (r : Morning)
+    → r ≡ counted (NotAdded n at) true (atDesk (t .desk) m) → Opened k i m s (s .answer) r
+open-refused k i m t s e n at a r h = subst (λ (x : Turned). Opened k i m x (x .answer) r) e (rw a h)
 
 -- a chunk is read to the first octets of the room
 pub taken : (g : Input) (size n : ℕ) (room left after : List ℕ) → fetched g (take n room) left → n ≤ size → n ≤ length room → length after ≡ length room → Taken g size after

@@ -139,3 +139,37 @@ unreadCounted m =
       unread = oneMore (m .unread);
       differing = m .differing;
     }
+
+-- with the next file
+abbrev pub nextFile : Morning → Morning
+nextFile m =
+    record {
+      desk = m .desk;
+      uploads = m .uploads;
+      next = m .next + 1;
+      count = m .count;
+      running = m .running;
+      chunk = m .chunk;
+      width = m .width;
+      accepted = m .accepted;
+      refused = m .refused;
+      unread = m .unread;
+      differing = m .differing;
+    }
+
+-- with one more upload that runs, at k
+abbrev pub startedAt : ℕ → Upload → Morning → Morning
+startedAt k u m =
+    record {
+      desk = m .desk;
+      uploads = set (m .uploads) k u;
+      next = m .next;
+      count = m .count;
+      running = oneMore (m .running);
+      chunk = m .chunk;
+      width = m .width;
+      accepted = m .accepted;
+      refused = m .refused;
+      unread = m .unread;
+      differing = m .differing;
+    }

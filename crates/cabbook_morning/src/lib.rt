@@ -7,7 +7,7 @@ ghost use Prim.Native.Nat.{_<_, _≤_};
 ghost use Rattle.numbers.specs.Limits as limit;
 ghost use Rattle.cabbook_tables.specs.Statuses as status;
 ghost use Rattle.cabbook_morning.specs.Ends.{Ends};
-ghost use Rattle.cabbook_morning.specs.Turns.{Finished, AddedTo, Taken, FedWith, Fed, Turns};
+ghost use Rattle.cabbook_morning.specs.Turns.{Begun, Finished, AddedTo, Taken, FedWith, Fed, Turns};
 use depot::Morning;
 use depot::Upload;
 use desk::Answer;
@@ -51,6 +51,7 @@ fn finish(m: Morning, k: usize, v: Verdict, whole: bool, pool: &mut [u8]) -> Mor
 // Opens upload k with the next file, if there is one.
 fn take_file(mut m: Morning, k: usize, pool: &[u8]) -> Morning
     requires { ⌜ k < limit.slots ⌝ }
+    ensures { λ r. ⌜ Begun k m (now (pool .entry)) r ⌝ }
 {
     let i = m.next;
     if i >= m.count {
