@@ -111,7 +111,7 @@ fn run_morning(count: usize) -> u8
 {
     let p = cabbook_morning::play(count);
     match p {
-        Ending::NoSize => usage::print_usage(b"--chunk takes a number from 1 to 16384"),
+        Ending::NoSize => usage::print_usage(b"--chunk takes a number from 1 to 16,384"),
         Ending::NoFile => usage::print_usage(b"morning needs a FILE"),
         Ending::Played(status) => status,
     }

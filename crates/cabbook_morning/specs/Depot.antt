@@ -2,9 +2,12 @@
 use Prim.Native.Nat.{ℕ, _+_, _-_}
 use lib.Dec.{eqb, ltb}
 use lib.IntN.{pos}
-use lib.ListN.{set, replicate}
+use mathlib.Core.Bool.{Bool}
+use lib.ListN.{set, replicate, getD}
 use Rattle.numbers.specs.Limits as limit
 use Rattle.octets.specs.Pick.{pick}
+use Rattle.reader.specs.declared.Verdict.{Verdict}
+use Rattle.reader.specs.declared.Verdict.the-variants.{Accepted, Refused}
 use Rattle.desk.specs.declared.Desk.{Desk}
 use Rattle.desk.specs.Steps.{freshDesk}
 use Rattle.cabbook_morning.specs.declared.depot.Upload.{Upload}
@@ -48,6 +51,121 @@ releasedAt k d m =
       next = m .next;
       count = m .count;
       running = m .running - 1;
+      chunk = m .chunk;
+      width = m .width;
+      accepted = m .accepted;
+      refused = m .refused;
+      unread = m .unread;
+      differing = m .differing;
+    }
+
+-- the ticket of upload k
+abbrev pub ticketAt : Morning → ℕ → ℕ
+ticketAt m k = getD (m .uploads) k noUpload .ticket
+
+-- with another desk
+abbrev pub atDesk : Desk → Morning → Morning
+atDesk d m =
+    record {
+      desk = d;
+      uploads = m .uploads;
+      next = m .next;
+      count = m .count;
+      running = m .running;
+      chunk = m .chunk;
+      width = m .width;
+      accepted = m .accepted;
+      refused = m .refused;
+      unread = m .unread;
+      differing = m .differing;
+    }
+
+-- one more accepted, or one more refused
+abbrev pub acceptedBy : Verdict → ℕ → ℕ
+acceptedBy (Accepted cards lines) n = oneMore n
+acceptedBy (Refused number place) n = n
+
+abbrev pub refusedBy : Verdict → ℕ → ℕ
+refusedBy (Accepted cards lines) n = n
+refusedBy (Refused number place) n = oneMore n
+
+-- one more that does not hold its file's octets, unless it does
+abbrev pub differed : Bool → Morning → Morning
+differed same m =
+    record {
+      desk = m .desk;
+      uploads = m .uploads;
+      next = m .next;
+      count = m .count;
+      running = m .running;
+      chunk = m .chunk;
+      width = m .width;
+      accepted = m .accepted;
+      refused = m .refused;
+      unread = m .unread;
+      differing = pick same (m .differing) (oneMore (m .differing));
+    }
+
+-- a verdict counted, and whether what the upload holds is its file's
+abbrev pub counted : Verdict → Bool → Morning → Morning
+counted v same m =
+    record {
+      desk = m .desk;
+      uploads = m .uploads;
+      next = m .next;
+      count = m .count;
+      running = m .running;
+      chunk = m .chunk;
+      width = m .width;
+      accepted = acceptedBy v (m .accepted);
+      refused = refusedBy v (m .refused);
+      unread = m .unread;
+      differing = pick same (m .differing) (oneMore (m .differing));
+    }
+
+-- one more file that can't be read
+abbrev pub unreadCounted : Morning → Morning
+unreadCounted m =
+    record {
+      desk = m .desk;
+      uploads = m .uploads;
+      next = m .next;
+      count = m .count;
+      running = m .running;
+      chunk = m .chunk;
+      width = m .width;
+      accepted = m .accepted;
+      refused = m .refused;
+      unread = oneMore (m .unread);
+      differing = m .differing;
+    }
+
+-- with the next file
+abbrev pub nextFile : Morning → Morning
+nextFile m =
+    record {
+      desk = m .desk;
+      uploads = m .uploads;
+      next = m .next + 1;
+      count = m .count;
+      running = m .running;
+      chunk = m .chunk;
+      width = m .width;
+      accepted = m .accepted;
+      refused = m .refused;
+      unread = m .unread;
+      differing = m .differing;
+    }
+
+-- with one more upload that runs, at k
+abbrev pub startedAt : ℕ → Upload → Morning → Morning
+startedAt k u m =
+    record {
+      desk = m .desk;
+      uploads = set (m .uploads) k u;
+      next = m .next;
+      count = m .count;
+      running = oneMore (m .running);
       chunk = m .chunk;
       width = m .width;
       accepted = m .accepted;

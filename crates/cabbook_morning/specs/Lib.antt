@@ -2,3 +2,4 @@
 pub mod Ends
 pub mod Depot
 pub mod Options
+pub mod Turns

@@ -4,7 +4,7 @@ ghost use Prim.Native.Nat.{_<_};
 ghost use lib.ListN.{getD};
 ghost use Rattle.desk.specs.Steps.{releaseStep};
 ghost use Rattle.numbers.specs.Limits as limit;
-ghost use Rattle.cabbook_morning.specs.Depot.{oneMore, asTicket, noUpload, begun, releasedAt};
+ghost use Rattle.cabbook_morning.specs.Depot.{oneMore, asTicket, noUpload, begun, releasedAt, differed, counted, unreadCounted};
 use desk::Desk;
 use numbers::limit;
 use reader::Verdict;
@@ -102,18 +102,38 @@ pub(crate) fn release(mut m: Morning, k: usize, pool: &mut [u8]) -> Morning
     m
 }
 
-// Counts a verdict.
-pub(crate) fn count_verdict(mut m: Morning, v: Verdict, same: bool) -> Morning {
-    if !same {
-        m.differing = more(m.differing);
+// Counts an upload that does not hold its file's octets.
+fn count_difference(mut m: Morning, same: bool) -> Morning
+    ensures { λ r. ⌜ r ≡ differed same m ⌝ }
+{
+    if same {
+        return m;
     }
+    m.differing = more(m.differing);
+    m
+}
+
+// Counts a verdict, and whether the upload holds its file's octets.
+pub(crate) fn count_verdict(m: Morning, v: Verdict, same: bool) -> Morning
+    ensures { λ r. ⌜ r ≡ counted v same m ⌝ }
+{
+    let mut next = count_difference(m, same);
     match v {
         Verdict::Accepted(_, _) => {
-            m.accepted = more(m.accepted);
+            next.accepted = more(next.accepted);
+            next
         }
         Verdict::Refused(_, _) => {
-            m.refused = more(m.refused);
+            next.refused = more(next.refused);
+            next
         }
     }
+}
+
+// Counts a file that can't be read.
+pub(crate) fn count_unread(mut m: Morning) -> Morning
+    ensures { λ r. ⌜ r ≡ unreadCounted m ⌝ }
+{
+    m.unread = more(m.unread);
     m
 }

@@ -7,6 +7,7 @@ ghost use Prim.Native.Nat.{_<_, _≤_};
 ghost use Rattle.numbers.specs.Limits as limit;
 ghost use Rattle.cabbook_tables.specs.Statuses as status;
 ghost use Rattle.cabbook_morning.specs.Ends.{Ends};
+ghost use Rattle.cabbook_morning.specs.Turns.{Begun, Finished, AddedTo, Taken, FedWith, Fed, Turns};
 use depot::Morning;
 use depot::Upload;
 use desk::Answer;
@@ -37,6 +38,7 @@ fn compare(d: Desk, upload: Upload, whole: bool, pool: &[u8]) -> bool {
 // Ends upload k with a verdict: prints its row and releases it.
 fn finish(m: Morning, k: usize, v: Verdict, whole: bool, pool: &mut [u8]) -> Morning
     requires { ⌜ k < limit.slots ⌝ }
+    ensures { λ r. ⌜ Finished k v m (now (pool .entry)) r (now (pool .exit)) ⌝ }
 {
     let upload = m.uploads[k];
     let d = m.desk;
@@ -49,6 +51,7 @@ fn finish(m: Morning, k: usize, v: Verdict, whole: bool, pool: &mut [u8]) -> Mor
 // Opens upload k with the next file, if there is one.
 fn take_file(mut m: Morning, k: usize, pool: &[u8]) -> Morning
     requires { ⌜ k < limit.slots ⌝ }
+    ensures { λ r. ⌜ Begun k m (now (pool .entry)) r ⌝ }
 {
     let i = m.next;
     if i >= m.count {
@@ -57,8 +60,7 @@ fn take_file(mut m: Morning, k: usize, pool: &[u8]) -> Morning
     m.next = i + 1;
     let fd = program_files::open_argument(i);
     if fd < 0 {
-        m.unread = depot::more(m.unread);
-        return m;
+        return depot::count_unread(m);
     }
     let d = m.desk;
     let t = d.open(pool, 0);
@@ -87,6 +89,7 @@ fn take_file(mut m: Morning, k: usize, pool: &[u8]) -> Morning
 // Adds a chunk to upload k, and ends it where the desk refuses that.
 fn add_chunk(mut m: Morning, k: usize, chunk: &[u8], pool: &mut [u8]) -> Morning
     requires { ⌜ k < limit.slots ⌝ }
+    ensures { λ r. ⌜ AddedTo k (now (chunk .entry)) m (now (pool .entry)) r (now (pool .exit)) ⌝ }
 {
     let upload = m.uploads[k];
     let d = m.desk;
@@ -103,32 +106,44 @@ fn add_chunk(mut m: Morning, k: usize, chunk: &[u8], pool: &mut [u8]) -> Morning
 }
 
 // Reads a chunk of that size of an upload's file, as far as there is room.
-fn read_chunk(upload: Upload, size: usize, room: &mut [u8]) -> Input {
+fn read_chunk(upload: Upload, size: usize, room: &mut [u8]) -> Input
+    ensures { λ r. ⌜ Taken r size (now (room .exit)) ⌝ }
+{
     let n = octets::slices::least(size, room.len());
-    program_files::fetch_argument(upload.file, upload.fd, &mut room[0..n])
+    program_files::fetch_argument(upload.file, upload.fd, &mut room[..n])
+}
+
+// Adds the octets that were read to the start of the room to upload k, or judges the upload where there are none.
+fn feed_with(m: Morning, k: usize, got: Input, room: &[u8], pool: &mut [u8]) -> Morning
+    requires { ⌜ k < limit.slots ⌝ }
+    ensures { λ r. ⌜ FedWith k got (now (room .entry)) m (now (pool .entry)) r (now (pool .exit)) ⌝ }
+{
+    let Input::Octets(n) = got else {
+        return depot::release(depot::count_unread(m), k, pool);
+    };
+    if n == 0 {
+        let upload = m.uploads[k];
+        let d = m.desk;
+        return finish(m, k, d.judge(pool, upload.ticket), true, pool);
+    }
+    add_chunk(m, k, octets::slices::part(room, 0, n), pool)
 }
 
 // Adds the next chunk of its file to upload k, or at the file's end judges the upload.
-fn feed(mut m: Morning, k: usize, pool: &mut [u8]) -> Morning
+fn feed(m: Morning, k: usize, pool: &mut [u8]) -> Morning
     requires { ⌜ k < limit.slots ⌝ }
+    ensures { λ r. ⌜ Fed k m (now (pool .entry)) r (now (pool .exit)) ⌝ }
 {
     let upload = m.uploads[k];
     let mut room = [0u8; limit::OCTETS];
     let got = read_chunk(upload, m.chunk, &mut room);
-    let Input::Octets(n) = got else {
-        m.unread = depot::more(m.unread);
-        return depot::release(m, k, pool);
-    };
-    if n == 0 {
-        let d = m.desk;
-        return finish(m, k, d.judge(pool, upload.ticket), true, pool);
-    }
-    add_chunk(m, k, octets::slices::part(&room, 0, n), pool)
+    feed_with(m, k, got, &room, pool)
 }
 
 // One turn of upload k.
 fn turn(m: Morning, k: usize, pool: &mut [u8]) -> Morning
     requires { ⌜ k < limit.slots ⌝ }
+    ensures { λ r. ⌜ Turns k m (now (pool .entry)) r (now (pool .exit)) ⌝ }
 {
     let upload = m.uploads[k];
     if upload.file == 0 {

@@ -10,3 +10,4 @@ pub mod Demand
 pub mod PoolNoninterference
 pub mod Granted
 pub mod GrantedOnly
+pub mod Chunks

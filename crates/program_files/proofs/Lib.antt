@@ -1,1 +1,2 @@
--- No laws of its own. Assumes nothing.
+-- What a room holds after readings. Assumes nothing.
+pub mod Rooms

@@ -1,6 +1,5 @@
 // Files: one is opened by its name, `-` for standard input, and its octets are read.
-ghost use lib.ListN.{length};
-ghost use Rattle.program_files.specs.Inputs.{within, descriptor};
+ghost use Rattle.program_files.specs.Inputs.{fetched, descriptor};
 use libc::STDERR_FILENO;
 use libc::STDIN_FILENO;
 use octets::cases::same_name;
@@ -24,19 +23,40 @@ fn complain(path: &[u8]) {
     os::fail(b": can't be read");
 }
 
-// Reads to the start of the room until that is full or the file ends. What the room holds afterwards is free, as after `libc::read`.
+// Reads once to the start of the room, by way of the page, so that the octets past those read stay as they were.
+fn read_by(fd: i32, room: &mut [u8], page: &mut [u8]) -> Input
+    ensures { λ r. ⌜ fetched r (now (room .entry)) (now (room .exit)) ⌝ }
+{
+    let want = octets::slices::least(room.len(), page.len());
+    let got = libc::read(fd, &mut page[..want]);
+    if got < 0 {
+        return Input::Unread;
+    }
+    let n = octets::slices::least(io::count(got, page), want);
+    octets::copying::copy_in(room, &page[..n]);
+    Input::Octets(n)
+}
+
+// Reads once to the start of the room.
+fn read_once(fd: i32, room: &mut [u8]) -> Input
+    ensures { λ r. ⌜ fetched r (now (room .entry)) (now (room .exit)) ⌝ }
+{
+    let mut page = io::buffer();
+    read_by(fd, room, &mut page)
+}
+
+// Reads to the start of the room until that is full or the file ends.
 pub fn fetch(fd: i32, path: &[u8], room: &mut [u8]) -> Input
-    ensures { λ r. ⌜ within r (length (now (room .entry))) ⌝ }
+    ensures { λ r. ⌜ fetched r (now (room .entry)) (now (room .exit)) ⌝ }
 {
     let mut n: usize = 0;
     while n < room.len() {
         let rest = &mut room[n..];
-        let got = libc::read(fd, rest);
-        if got < 0 {
+        let got = read_once(fd, rest);
+        let Input::Octets(more) = got else {
             complain(path);
             return Input::Unread;
-        }
-        let more = io::count(got, rest);
+        };
         if more == 0 {
             return Input::Octets(n);
         }
@@ -47,7 +67,7 @@ pub fn fetch(fd: i32, path: &[u8], room: &mut [u8]) -> Input
 
 // Reads the file of that name to the start of the room, or says why it can't be read.
 pub fn read(path: &[u8], room: &mut [u8]) -> Input
-    ensures { λ r. ⌜ within r (length (now (room .entry))) ⌝ }
+    ensures { λ r. ⌜ fetched r (now (room .entry)) (now (room .exit)) ⌝ }
 {
     let fd = open(path);
     if fd < 0 {
@@ -75,7 +95,7 @@ pub fn open_argument(i: usize) -> i32
 
 // Reads from the file that argument i names and that is open.
 pub fn fetch_argument(i: usize, fd: i32, room: &mut [u8]) -> Input
-    ensures { λ r. ⌜ within r (length (now (room .entry))) ⌝ }
+    ensures { λ r. ⌜ fetched r (now (room .entry)) (now (room .exit)) ⌝ }
 {
     let mut path = io::buffer();
     let n = os::arg(i, &mut path);

@@ -13,6 +13,9 @@ use Rattle.octets.proofs.Bools.{clash}
 use Rattle.utf8.specs.Characters.{allowed, firstBad}
 use Rattle.text_escaping.specs.Escaped.{escaped}
 use Rattle.text_unescaping.specs.Unescaped.{firstFault, unescaped}
+use Rattle.text_unescaping.specs.Measured.{measured}
+use Rattle.text_unescaping.specs.declared.Measured.{Measured}
+use Rattle.text_unescaping.specs.declared.Measured.the-variants.{Octets, Fault}
 use Rattle.octets.specs.Counts.{any}
 use Rattle.text_marks.specs.Seen.{held, seen}
 use Rattle.text.specs.declared.Screened.{Screened}
@@ -23,6 +26,7 @@ use Rattle.octets.proofs.RoomLaws.{within-bound}
 use Rattle.text_marks.proofs.SeenLaws.{seen-low}
 use Rattle.text_escaping.proofs.LengthLaws.{same-unmarked}
 use Rattle.text_unescaping.proofs.BareLaws.{bare}
+use Rattle.text_unescaping.proofs.MeasureLaws.{fault-told, octets-told}
 
 -- by what screening answers: its refusal, or the outcome that is left
 module _ (lf : Bool) (x y : ℕ) (t room : List ℕ) (left : Filled) where
@@ -54,6 +58,18 @@ module _ (t room : List ℕ) (left : Filled) (f : ℕ) (e : f ≡ firstFault t) 
   pub no-fault : length t ≤ f → left ≡ faultless t room left
   unfolding faultless
   no-fault l = simp (sym e, le-ltb f (length t) l)
+
+-- the outcome of unescaping after refusals 1 and 31, by what measuring answered
+module _ (t room : List ℕ) {m : Measured} (e : m ≡ measured t) where
+  pub fault-outcome : {p : ℕ} → m ≡ Fault p → refuse 30 p room ≡ faultless t room (fill (unescaped t) room)
+  fault-outcome g = let h = fault-told t _ (sym e ∙ g) in a-fault t room (fill (unescaped t) room) _ (h .0) (h .1)
+
+  module _ {n : ℕ} (g : m ≡ Octets n) where
+    pub told : (n ≡ length (unescaped t)) × (firstFault t ≡ length t)
+    told = octets-told t n (sym e ∙ g)
+
+    pub whole-outcome : {r : Filled} → r ≡ fill (unescaped t) room → r ≡ faultless t room (fill (unescaped t) room)
+    whole-outcome h = h ∙ no-fault t room (fill (unescaped t) room) (firstFault t) refl (omega (arith, told .1))
 
 -- escape or unescape: whether LF is allowed, which octets are held besides backslash and comma, and the outcome after refusals 1 and 31,
 -- which for a text with no octet that is held is the text itself

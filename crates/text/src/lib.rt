@@ -15,6 +15,7 @@ ghost use Rattle.text.specs.Outcomes.{faultless, escapeOutcome, unescape
 use numbers::limit;
 use numbers::refusal;
 use octets::rooms::Written;
+use text_unescaping::Measured;
 
 // The first bad octet, or the length; where only plain octets were seen there is none.
 fn bad_octet(text: &[u8], seen: u8, lf: bool) -> usize
@@ -103,16 +104,16 @@ fn unescape_each(text: &[u8], out: &mut [u8]) -> Written
     ensures { λ r. ⌜ filled r (now (out .exit)) ≡ faultless (now (text .entry)) (now (out .entry)) (fill (unescaped (now (text .entry))) (now (out .entry))) ⌝ }
 {
     let m = text_unescaping::measure(text);
-    let fault = m.first_fault;
-    if fault < text.len() {
-        return Written::Refused(refusal::ESCAPE, fault);
+    match m {
+        Measured::Fault(place) => Written::Refused(refusal::ESCAPE, place),
+        Measured::Octets(kept) => {
+            if out.len() < kept {
+                return Written::Refused(refusal::ROOM, kept);
+            }
+            text_unescaping::write(text, out);
+            Written::Wrote(kept)
+        }
     }
-    let kept = m.length;
-    if out.len() < kept {
-        return Written::Refused(refusal::ROOM, kept);
-    }
-    text_unescaping::write(text, out);
-    Written::Wrote(kept)
 }
 
 // Writes the text that a text with escapes stands for, or refuses with TOO_LONG, TEXT_OCTET, ESCAPE or ROOM.

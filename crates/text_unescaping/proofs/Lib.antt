@@ -2,3 +2,4 @@
 pub mod UnescapeLaws
 pub mod PairLaws
 pub mod BareLaws
+pub mod MeasureLaws

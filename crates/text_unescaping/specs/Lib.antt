@@ -1,3 +1,4 @@
 -- The definitions that the contracts of `text_unescaping` cite. Assumes nothing.
 pub mod Unescaped
 pub mod Pairs
+pub mod Measured

@@ -8,14 +8,17 @@ ghost use Rattle.octets.specs.Classes.{bit};
 ghost use Rattle.octets.specs.Room.{overlay};
 ghost use Rattle.text_unescaping.specs.Unescaped.{code, meant, escapeAt, firstFault, unescaped};
 ghost use Rattle.text_unescaping.specs.Pairs.{unsettled, settled};
+ghost use Rattle.text_unescaping.specs.Measured.{measured};
 
 // The length below which a text is measured escape by escape.
 const SHORT: usize = 32;
 
-// The place of the first fault of a text, or its length; and, where it has none, how many octets it stands for.
-pub struct Measured {
-    pub first_fault: usize,
-    pub length: usize,
+// What measuring a text answers.
+pub enum Measured {
+    // The text has no fault, and stands for so many octets.
+    Octets(usize),
+    // The place of its first fault.
+    Fault(usize),
 }
 
 // Whether an octet makes an escape of the backslash before it.
@@ -92,7 +95,7 @@ fn all_pairs(s: &[u8]) -> bool
 
 // Measures a text, escape by escape.
 fn measure_each(text: &[u8]) -> Measured
-    ensures { λ r. ⌜ (r .«first_fault» ≡ firstFault (now (text .entry))) × (r .«first_fault» ≡ length (now (text .entry)) → r .length ≡ length (unescaped (now (text .entry)))) ⌝ }
+    ensures { λ r. ⌜ r ≡ measured (now (text .entry)) ⌝ }
 {
     let mut i: usize = 0;
     let mut kept: usize = 0;
@@ -100,43 +103,32 @@ fn measure_each(text: &[u8]) -> Measured
         if text[i] == b'\\' {
             let whole = escape_at(text, i);
             if !whole {
-                return Measured {
-                    first_fault: i,
-                    length: 0,
-                };
+                return Measured::Fault(i);
             }
             kept += 1;
             i += 2;
         } else {
             if text[i] == b',' {
-                return Measured {
-                    first_fault: i,
-                    length: 0,
-                };
+                return Measured::Fault(i);
             }
             kept += 1;
             i += 1;
         }
     }
-    Measured {
-        first_fault: i,
-        length: kept,
-    }
+    Measured::Octets(kept)
 }
 
 // Measures a text.
 pub fn measure(text: &[u8]) -> Measured
     requires { ⌜ length (now text) ≤ limit.octets ⌝ }
-    ensures { λ r. ⌜ (r .«first_fault» ≡ firstFault (now (text .entry))) × (r .«first_fault» ≡ length (now (text .entry)) → r .length ≡ length (unescaped (now (text .entry)))) ⌝ }
+    ensures { λ r. ⌜ r ≡ measured (now (text .entry)) ⌝ }
 {
     if text.len() < SHORT {
         return measure_each(text);
     }
     if all_pairs(text) {
-        return Measured {
-            first_fault: text.len(),
-            length: text.len() - text_marks::counts::backslashes(text),
-        };
+        let kept = text.len() - text_marks::counts::backslashes(text);
+        return Measured::Octets(kept);
     }
     measure_each(text)
 }

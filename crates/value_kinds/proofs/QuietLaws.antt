@@ -11,9 +11,11 @@ use Rattle.octets.specs.Classes.{bit}
 use Rattle.value_kinds.specs.Octets.{Octets, any, plain, inner, comma, semicolon, backslash, escapee, neither, holds}
 use Rattle.value_kinds.specs.Shapes.{Shape, one, _then_, _or_, many, joined, each, Matches, faultFrom}
 use Rattle.value_kinds.specs.Kinds.{textOf, text, texts, component, parts, components, split, shapeOf, kindScan}
+use Rattle.value_kinds.specs.AtOnce.{lacking, divided, fitsAtOnce}
 use Rattle.octets.specs.Counts.{allIn, count}
+use Rattle.octets.specs.Pick.{pick}
 use Rattle.value_kinds.specs.declared.Fault.the-variants.{Fits}
-use Rattle.octets.proofs.Bools.{and-both}
+use Rattle.octets.proofs.Bools.{by, and-both}
 use Rattle.value_kinds.proofs.ShapeLaws.{fits-from}
 
 -- octets that each make a text of the shape are a run of it
@@ -132,22 +134,52 @@ whole [] = ([], refl, tt)
 whole (x ∷ xs) = put (one any) x xs (x, refl, refl) (whole xs)
 
 -- what the tests of each octet say
-pub at-once-any : (v : List ℕ) → kindScan 0 v ≡ Fits
+at-once-any : (v : List ℕ) → kindScan 0 v ≡ Fits
 unfolding kindScan shapeOf
 at-once-any v = fits-from (many (one any)) 0 v (whole v)
 
-pub at-once-text : (v : List ℕ) → allIn (neither 92 44) v ≡ true → kindScan 1 v ≡ Fits
+at-once-text : (v : List ℕ) → lacking 92 44 v ≡ true → kindScan 1 v ≡ Fits
 unfolding kindScan shapeOf text holds
 at-once-text v e = fits-from text 0 v (run-many (one plain or one backslash then one escapee) (neither 92 44) (bare plain) v e)
 
-pub at-once-texts : (v : List ℕ) → allIn (neither 92 92) v ≡ true → kindScan 2 v ≡ Fits
+at-once-texts : (v : List ℕ) → lacking 92 92 v ≡ true → kindScan 2 v ≡ Fits
 unfolding kindScan shapeOf text texts
 at-once-texts v e = fits-from texts 0 v (run-split comma plain (neither 92 92) comma-or v e)
 
-pub at-once-components : (v : List ℕ) → allIn (neither 92 44) v ≡ true → kindScan 6 v ≡ Fits
+at-once-components : (v : List ℕ) → lacking 92 44 v ≡ true → kindScan 6 v ≡ Fits
 unfolding kindScan shapeOf components holds
 at-once-components v e =
     fits-from components 0 v (run-split semicolon inner (neither 92 44) (λ x h. ⊎-elim (λ k. inl k) (λ k. inr (k .0)) (semicolon-or x h)) v e)
 
-pub at-once-parts : (v : List ℕ) (n : ℕ) → allIn (neither 92 92) v ≡ true → count (holds semicolon) v ≡ n → faultFrom (parts (suc n)) 0 v ≡ Fits
-at-once-parts v n e f = fits-from (parts (suc n)) 0 v (subst (λ (m : ℕ). Matches (parts (suc m)) v) f (run-parts v e))
+at-once-parts : (v : List ℕ) (n : ℕ) → divided n v ≡ true → faultFrom (parts (suc n)) 0 v ≡ Fits
+at-once-parts v n e =
+    let h = and-both (eqb (count (holds semicolon) v) n) (lacking 92 92 v) e in
+    fits-from (parts (suc n)) 0 v (subst (λ (m : ℕ). Matches (parts (suc m)) v) (eqb-true (count (holds semicolon) v) n (h .0)) (run-parts v (h .1)))
+
+at-once-name : (v : List ℕ) → divided 4 v ≡ true → kindScan 4 v ≡ Fits
+unfolding kindScan shapeOf
+at-once-name v e = at-once-parts v 4 e
+
+at-once-address : (v : List ℕ) → divided 6 v ≡ true → kindScan 5 v ≡ Fits
+unfolding kindScan shapeOf
+at-once-address v e = at-once-parts v 6 e
+
+-- a choice by the kind's number that is true: of the kind, or of the others
+chosen : {A : Type 0} (k n : ℕ) (a b : Bool) → (k ≡ n → a ≡ true → A) → (b ≡ true → A) → pick (eqb k n) a b ≡ true → A
+chosen k n a b f g e =
+    by (eqb k n) (λ q. f (eqb-true k n q) (sym (ap (λ (t : Bool). pick t a b) q) ∙ e)) (λ q. g (sym (ap (λ (t : Bool). pick t a b) q) ∙ e))
+
+-- a value fits its kind where the tests of each octet say so
+pub at-once : (k : ℕ) (v : List ℕ) → fitsAtOnce k v ≡ true → kindScan k v ≡ Fits
+unfolding fitsAtOnce
+at-once k v e =
+    chosen k 0 true _ (λ q h. its 0 q (at-once-any v))
+    (chosen k 1 (lacking 92 44 v) _ (λ q h. its 1 q (at-once-text v h))
+    (chosen k 2 (lacking 92 92 v) _ (λ q h. its 2 q (at-once-texts v h))
+    (chosen k 4 (divided 4 v) _ (λ q h. its 4 q (at-once-name v h))
+    (chosen k 5 (divided 6 v) _ (λ q h. its 5 q (at-once-address v h))
+    (chosen k 6 (lacking 92 44 v) false (λ q h. its 6 q (at-once-components v h)) (λ h. absurd (false≢true h)))))))
+    e
+  where
+    its : (n : ℕ) → k ≡ n → kindScan n v ≡ Fits → kindScan k v ≡ Fits
+    its n q h = ap (λ (m : ℕ). kindScan m v) q ∙ h

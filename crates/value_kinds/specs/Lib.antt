@@ -2,3 +2,4 @@
 pub mod Octets
 pub mod Shapes
 pub mod Kinds
+pub mod AtOnce

@@ -1,10 +1,10 @@
 // The kinds of value are regular expressions; here are tests of each octet by itself that settle most values.
 ghost use mathlib.Core.Path.{_≡_};
-ghost use mathlib.Core.Bool.{true, not};
+ghost use mathlib.Core.Bool.{not};
 ghost use Rattle.octets.specs.Classes.{bit};
 ghost use Rattle.octets.specs.Counts.{allIn, count};
 ghost use Rattle.value_kinds.specs.Octets.{neither, graphic, semicolon, holds};
-ghost use Rattle.value_kinds.specs.Kinds.{kindScan};
+ghost use Rattle.value_kinds.specs.AtOnce.{lacking, divided, fitsAtOnce};
 use numbers::kind;
 
 // A value fits, or the first octet from which nothing could, or the end.
@@ -22,7 +22,7 @@ fn mark_bit(a: u8, b: u8, x: u8) -> u8
 
 // Whether no octet of s is a or b: no way out of the loop, so that it is compiled to vectors.
 fn lacks(a: u8, b: u8, s: &[u8]) -> bool
-    ensures { λ r. ⌜ r ≡ allIn (neither a b) (now (s .entry)) ⌝ }
+    ensures { λ r. ⌜ r ≡ lacking a b (now (s .entry)) ⌝ }
 {
     let mut marks: u8 = 0;
     let mut i: usize = 0;
@@ -66,9 +66,9 @@ fn count_semicolons(s: &[u8]) -> usize
     n
 }
 
-// True only where s has no backslash, and n semicolons.
+// Whether s has n semicolons, and no backslash.
 fn has_semicolons(s: &[u8], n: usize) -> bool
-    ensures { λ r. ⌜ (r ≡ true → (allIn (neither 92 92) (now (s .entry)) ≡ true) × (count (holds semicolon) (now (s .entry)) ≡ n)) ⌝ }
+    ensures { λ r. ⌜ r ≡ divided n (now (s .entry)) ⌝ }
 {
     if count_semicolons(s) != n {
         return false;
@@ -76,9 +76,9 @@ fn has_semicolons(s: &[u8], n: usize) -> bool
     lacks(b'\\', b'\\', s)
 }
 
-// True only where tests of each octet by itself show that s fits.
+// Whether a look at each octet by itself shows that s fits; no such look settles kinds 3, 7 and 8.
 pub fn fits_at_once(kind: usize, s: &[u8]) -> bool
-    ensures { λ r. ⌜ (r ≡ true → kindScan kind (now (s .entry)) ≡ Fault.Fits) ⌝ }
+    ensures { λ r. ⌜ r ≡ fitsAtOnce kind (now (s .entry)) ⌝ }
 {
     match kind {
         kind::ANYTHING => true,

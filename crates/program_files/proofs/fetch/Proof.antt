@@ -1,13 +1,16 @@
 -- `program_files::fetch` meets its contract. Assumes nothing.
-use borrow.Author.Needs.{needs}
-use mathlib.Core.Path.{_≡_}
-use Prim.Native.Nat.{_≤_, _-_}
+use denote.Ref.{now}
+use Prim.Native.Nat.{_-_}
 use lib.ListN.{length}
+use native.Mathlib.Omega.{arith}
+use Rattle.program_files.specs.Inputs.{filledTo}
+use Rattle.program_files.proofs.Rooms.{filled-on, filled-end}
+use borrow.Author.Needs.{needs}
 use Rattle.program_files.proofs.fetch.Statement.{statement}
 use Rattle.program_files.proofs.fetch.Tie as tie
 
 abbrev Inv-loop : tie.InvT-loop
-Inv-loop fd path room₀ n₀ room n = (n ≤ length room) × (length room ≡ length room₀)
+Inv-loop fd path room₀ n₀ room n = filledTo n room₀ room
 
 abbrev μ-loop : tie.MeasureT-loop
 μ-loop fd path room₀ n₀ room n = length room - n
@@ -24,8 +27,14 @@ part-rest-start c = search needs
 part-rest-end : tie.Need-part-rest-end Inv-loop μ-loop
 part-rest-end c = search needs
 
-read-requires : tie.Need-read-requires Inv-loop μ-loop
-read-requires c κs = search needs
+read-once-requires : tie.Need-read-once-requires Inv-loop μ-loop
+read-once-requires c κs = search needs
+
+enum-known-got : tie.Need-enum-known-got Inv-loop μ-loop
+enum-known-got c = search needs
+
+enum-told : tie.Need-enum-told Inv-loop μ-loop
+enum-told c = search needs
 
 complain-requires : tie.Need-complain-requires Inv-loop μ-loop
 complain-requires c κs = search needs
@@ -36,23 +45,34 @@ same-length c = search needs
 returns : tie.Need-returns Inv-loop μ-loop
 returns c = search needs
 
-count-requires : tie.Need-count-requires Inv-loop μ-loop
-count-requires c κs = search needs
-
 same-length-2 : tie.Need-same-length-2 Inv-loop μ-loop
 same-length-2 c = search needs
 
 returns-2 : tie.Need-returns-2 Inv-loop μ-loop
-returns-2 c = search needs
+returns-2 c =
+    let l = c .before .before .before .before .before .before .before .before .before .loop in
+    let f = rw (c .before .before .got .given .1) at (c .before .before .before .before .before .before .read-once .ensures) in
+    filled-end (now (c .before .before .before .before .before .before .before .before .before .before .before .before .args .room)) (l .room) (c .before .before .before .before .before .before .read-once .last .1 .0) (l .n) _ (omega arith) (l .inv) f (omega arith)
 
 add-n : tie.Need-add-n Inv-loop μ-loop
-add-n c = search needs
+add-n c =
+    let l = c .before .before .before .before .before .before .before .before .before .loop in
+    let f = rw (c .before .before .got .given .1) at (c .before .before .before .before .before .before .read-once .ensures) in
+    let g = filled-on (now (c .before .before .before .before .before .before .before .before .before .before .before .before .args .room)) (l .room) (c .before .before .before .before .before .before .read-once .last .1 .0) (l .n) _ (omega arith) (l .inv) f in
+    omega (arith, g .0, g .1, l .inv .1)
 
 loop-less : tie.Need-loop-less Inv-loop μ-loop
-loop-less c = search needs
+loop-less c =
+    let l = c .before .before .before .before .before .before .before .before .before .loop in
+    let f = rw (c .before .before .got .given .1) at (c .before .before .before .before .before .before .read-once .ensures) in
+    let g = filled-on (now (c .before .before .before .before .before .before .before .before .before .before .before .before .args .room)) (l .room) (c .before .before .before .before .before .before .read-once .last .1 .0) (l .n) _ (omega arith) (l .inv) f in
+    omega (arith, g .0, g .1, l .inv .1)
 
 loop-again : tie.Need-loop-again Inv-loop μ-loop
-loop-again c = search needs
+loop-again c =
+    let l = c .before .before .before .before .before .before .before .before .before .loop in
+    let f = rw (c .before .before .got .given .1) at (c .before .before .before .before .before .before .read-once .ensures) in
+    filled-on (now (c .before .before .before .before .before .before .before .before .before .before .before .before .args .room)) (l .room) (c .before .before .before .before .before .before .read-once .last .1 .0) (l .n) _ (omega arith) (l .inv) f
 
 same-length-3 : tie.Need-same-length-3 Inv-loop μ-loop
 same-length-3 c = search needs
@@ -70,11 +90,12 @@ fetch-spec =
     sub-rest
     part-rest-start
     part-rest-end
-    read-requires
+    read-once-requires
+    enum-known-got
+    enum-told
     complain-requires
     same-length
     returns
-    count-requires
     same-length-2
     returns-2
     add-n

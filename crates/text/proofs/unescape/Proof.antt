@@ -22,15 +22,23 @@ same-length c = search needs
 
 returns : tie.Need-returns
 unfolding unescapeOutcome
-returns c = same-outcome unescaping _ _ (c .before .before .before .before .before .before .before .before .screen .ensures)
-    (c .before .before .before .before .before .before .s2 .given .1) (c .before .before .before .before .if1 .taken) (c .before .before .put .ensures)
+returns c =
+    let m = c .before .before .before .before .before .before in
+    let a = m .before .before .before .before .before .args in
+    same-outcome unescaping (a .text .now) (a .out .now) (m .before .before .screen .ensures) (m .s2 .given .1) (c .before .before .before .before .if1 .taken)
+    (c .before .before .put .ensures)
 
 unescape-each-requires : tie.Need-unescape-each-requires
-unescape-each-requires c κs = let m = c .before .before .before in short-text unescaping _ (m .before .before .screen .ensures) (m .s2 .given .1)
+unescape-each-requires c κs =
+    let m = c .before .before .before in
+    short-text unescaping (m .before .before .before .before .before .args .text .now) (m .before .before .screen .ensures) (m .s2 .given .1)
 
 returns-2 : tie.Need-returns-2
 unfolding unescapeOutcome
-returns-2 c = let m = c .before in refused-outcome unescaping _ _ (m .before .before .screen .ensures) (m .s .given .1)
+returns-2 c =
+    let m = c .before in
+    let a = m .before .before .before .before .before .args in
+    refused-outcome unescaping (a .text .now) (a .out .now) (m .before .before .screen .ensures) (m .s .given .1)
 
 same-length-2 : tie.Need-same-length-2
 same-length-2 c = search needs
@@ -39,7 +47,8 @@ returns-3 : tie.Need-returns-3
 unfolding unescapeOutcome
 returns-3 c =
     let m = c .before .before .before .before .before .before in
-    left-outcome unescaping _ _ (m .before .before .screen .ensures) (m .s2 .given .1) (c .before .before .unescape-each .ensures)
+    let a = m .before .before .before .before .before .args in
+    left-outcome unescaping (a .text .now) (a .out .now) (m .before .before .screen .ensures) (m .s2 .given .1) (c .before .before .unescape-each .ensures)
 
 pub unescape-spec : {M : Type 1} → statement M
 unescape-spec =

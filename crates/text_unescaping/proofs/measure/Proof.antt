@@ -1,6 +1,9 @@
 -- `text_unescaping::measure` meets its contract. Assumes nothing.
 use mathlib.Core.Path.{sym, _∙_}
+use Prim.Native.Nat.{_-_}
+use lib.ListN.{length}
 use native.Mathlib.Omega.{arith}
+use Rattle.text_unescaping.proofs.MeasureLaws.{at-end}
 use Rattle.text_unescaping.proofs.PairLaws.{settled-sound}
 use borrow.Author.Needs.{needs}
 use Rattle.text_unescaping.proofs.measure.Statement.{statement}
@@ -18,15 +21,15 @@ all-pairs-requires c κs = search needs
 backslashes-requires : tie.Need-backslashes-requires
 backslashes-requires c κs = search needs
 
-sub-t8 : tie.Need-sub-t8
-sub-t8 c =
+sub-kept : tie.Need-sub-kept
+sub-kept c =
     omega (arith, c .backslashes .ensures .1)
 
 returns-2 : tie.Need-returns-2
 returns-2 c =
     let s = c .before .before .before .before .before .args .text .now in
     let w = settled-sound s (sym (c .before .before .all-pairs .ensures) ∙ c .before .if2 .taken) in
-    (sym (w .0), λ e. omega (arith, w .1, c .backslashes .ensures .0))
+    at-end s (length s - c .backslashes .result) (w .0) (omega (arith, w .1, c .backslashes .ensures .0))
 
 measure-each-requires-2 : tie.Need-measure-each-requires-2
 measure-each-requires-2 c κs = search needs
@@ -42,7 +45,7 @@ measure-spec =
     returns
     all-pairs-requires
     backslashes-requires
-    sub-t8
+    sub-kept
     returns-2
     measure-each-requires-2
     returns-3)

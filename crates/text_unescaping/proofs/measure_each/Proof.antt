@@ -8,6 +8,7 @@ use lib.ListN.{length, drop}
 use borrow.Author.Tests.{not-true, not-false}
 use Rattle.text_unescaping.specs.Unescaped.{firstFault, unescaped}
 use Rattle.text_unescaping.proofs.UnescapeLaws.{escape-inside, escape-not, step-backslash, step-comma, fault-escape, fault-octet, fault-stop, fault-end, unescaped-escape, unescaped-octet, unescaped-end}
+use Rattle.text_unescaping.proofs.MeasureLaws.{at-fault, at-end}
 use Rattle.text_unescaping.proofs.measure_each.Statement.{statement}
 use Rattle.text_unescaping.proofs.measure_each.Tie as tie
 
@@ -34,7 +35,7 @@ returns c =
     let s = c .before .before .before .before .before .before .before .args .text .now in
     let l = c .before .before .before .before .before .loop in
     let e = sym (c .before .escape-at .ensures) ∙ not-true _ (c .if2 .taken) in
-    (sym (l .inv .2 ∙ fault-stop s (l .i) (step-backslash s (l .i) e (c .before .before .if1 .taken))), λ (z : l .i ≡ length s). absurd (omega arith))
+    at-fault s (l .i) (sym (l .inv .2 ∙ fault-stop s (l .i) (step-backslash s (l .i) e (c .before .before .if1 .taken)))) (c .before .before .before .before .loop-test .taken)
 
 add-kept : tie.Need-add-kept Inv-loop μ-loop
 add-kept c = search needs
@@ -64,7 +65,7 @@ returns-2 : tie.Need-returns-2 Inv-loop μ-loop
 returns-2 c =
     let s = c .before .before .before .before .before .before .before .args .text .now in
     let l = c .before .before .before .before .before .loop in
-    (sym (l .inv .2 ∙ fault-stop s (l .i) (step-comma s (l .i) (escape-not s (l .i) (c .before .before .if1 .left)) (c .before .before .if1 .left) (c .if3 .taken))), λ (z : l .i ≡ length s). absurd (omega arith))
+    at-fault s (l .i) (sym (l .inv .2 ∙ fault-stop s (l .i) (step-comma s (l .i) (escape-not s (l .i) (c .before .before .if1 .left)) (c .before .before .if1 .left) (c .if3 .taken)))) (c .before .before .before .before .loop-test .taken)
 
 add-kept-2 : tie.Need-add-kept-2 Inv-loop μ-loop
 add-kept-2 c = search needs
@@ -87,7 +88,7 @@ returns-3 : tie.Need-returns-3 Inv-loop μ-loop
 returns-3 c =
     let s = c .before .before .before .args .text .now in
     let l = c .before .loop in
-    (sym (l .inv .2 ∙ fault-end s (l .i) (c .loop-test .left)), λ (z : l .i ≡ length s). omega (arith, l .inv .3, ap length (unescaped-end s (l .i) (c .loop-test .left))))
+    at-end s (l .kept) (omega (arith, l .inv .2, fault-end s (l .i) (c .loop-test .left))) (omega (arith, l .inv .3, ap length (unescaped-end s (l .i) (c .loop-test .left))))
 
 pub measure-each-spec : {M : Type 1} → statement M
 measure-each-spec =

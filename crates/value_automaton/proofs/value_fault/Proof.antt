@@ -3,6 +3,7 @@ use borrow.Author.Needs.{needs}
 use mathlib.Core.Path.{sym, ap, _∙_}
 use Rattle.value_kinds.specs.Shapes.{Shape, faultFrom}
 use Rattle.value_kinds.specs.Kinds.{kindScan}
+use Rattle.value_kinds.proofs.QuietLaws.{at-once}
 use Rattle.value_automaton.proofs.value_fault.Statement.{statement}
 use Rattle.value_automaton.proofs.value_fault.Tie as tie
 
@@ -10,7 +11,9 @@ fits-at-once-requires : tie.Need-fits-at-once-requires
 fits-at-once-requires c κs = search needs
 
 returns : tie.Need-returns
-returns c = sym (c .before .fits-at-once .ensures (c .if1 .taken))
+returns c =
+    let a = c .before .before .before .args in
+    sym (at-once (a .kind) (a .s .now) (sym (c .before .fits-at-once .ensures) ∙ c .if1 .taken))
 
 start-requires : tie.Need-start-requires
 start-requires c κs = search needs
