@@ -25,8 +25,7 @@ enum gerstebolk_refusal {
     GERSTEBOLK_EMPTY = 2,            /* no octet */
     GERSTEBOLK_LONE_CR_OR_LF = 3,    /* CR without LF, or LF without CR; place of the octet */
     GERSTEBOLK_NO_END = 4,           /* the last two octets aren't CR LF; place the input's length */
-    GERSTEBOLK_BAD_OCTET = 5,        /* a control, or no UTF-8, in a logical line; from here to 12 the place is a line's start */
-    GERSTEBOLK_LINE_RULE = 6,        /* the line breaks the line rule */
+    GERSTEBOLK_BAD_OCTET = 5,        /* a control, or no UTF-8, in a logical line; from here to 12, and for 40 to 43, the place is a line's start */
     GERSTEBOLK_VALUE = 7,            /* the value breaks its kind */
     GERSTEBOLK_LADEN = 8,            /* a group or a parameter on BEGIN, VERSION or END */
     GERSTEBOLK_ORDER = 9,            /* a line out of order; or the input ends inside a card, place its length */
@@ -36,13 +35,17 @@ enum gerstebolk_refusal {
     GERSTEBOLK_ROOM = 15,            /* the output room is too small; place the octets needed */
     GERSTEBOLK_FORM_TOO_LONG = 16,   /* the folded form has over 16,384 octets; place 16,384 */
     GERSTEBOLK_ESCAPE = 30,          /* text: a bare comma, or a backslash of no escape; place of that octet */
-    GERSTEBOLK_TEXT_OCTET = 31       /* text: an octet that isn't allowed, or bad UTF-8; its first octet */
+    GERSTEBOLK_TEXT_OCTET = 31,      /* text: an octet that isn't allowed, or bad UTF-8; its first octet */
+    GERSTEBOLK_NAME = 40,            /* no name, or a bad name or group */
+    GERSTEBOLK_PARAMETER = 41,       /* a parameter without '=', or with a bad name */
+    GERSTEBOLK_QUOTE = 42,           /* a quote left open, followed by something else than , ; : or standing in a bare value */
+    GERSTEBOLK_NO_COLON = 43         /* no colon */
 };
 
-/* Judges an input of cards: the count of cards, or a refusal 1 to 12. */
+/* Judges an input of cards: the count of cards, or a refusal 1 to 12 or 40 to 43. */
 uint64_t judge(const uint8_t *input, size_t length);
 
-/* Folds an input into physical lines of at most 75 octets: the octets written to out, or a refusal 1 to 12, 16, 15. */
+/* Folds an input into physical lines of at most 75 octets: the octets written to out, or a refusal 1 to 12, 40 to 43, 16, 15. */
 uint64_t fold(const uint8_t *input, size_t length, uint8_t *out, size_t room);
 
 /* Writes the text that a text with escapes stands for: the octets written to out, or a refusal 1, 31, 30, 15. */

@@ -13,6 +13,15 @@ fn print_accepted(path: &[u8], cards: usize, lines: usize) {
     printing::send(STDOUT_FILENO, &room, n);
 }
 
+// Prints that the line at a refusal's place is empty, or that there is none.
+fn print_no_line(is_inside: bool) {
+    if is_inside {
+        io::write_all(STDOUT_FILENO, b"    (an empty line)\n");
+        return;
+    }
+    io::write_all(STDOUT_FILENO, b"    (the end of the file)\n");
+}
+
 // Prints the logical line in which a refusal's place lies; nothing where the input is too long or empty.
 fn print_under(s: &[u8], number: u32, place: usize) {
     if number == refusal::TOO_LONG || number == refusal::EMPTY {
@@ -20,7 +29,7 @@ fn print_under(s: &[u8], number: u32, place: usize) {
     }
     let line = cabbook_rows::under::offending(s, number, place);
     if line.len() == 0 {
-        io::write_all(STDOUT_FILENO, b"    (the end of the file)\n");
+        print_no_line(place < s.len());
         return;
     }
     let mut room = io::buffer();

@@ -23,7 +23,6 @@ messages =
     message refusal.loneCrOrLf "CR without LF after it, or LF without CR before it" ∷
     message refusal.noEnd "last two octets aren't CR LF" ∷
     message refusal.badOctet "a control character, or not UTF-8" ∷
-    message refusal.lineRule "line breaks the line rule" ∷
     message refusal.value "value breaks its kind" ∷
     message refusal.laden "group or parameter on BEGIN, VERSION or END" ∷
     message refusal.order "line out of order, or input ends inside a card" ∷
@@ -43,6 +42,10 @@ messages =
     message refusal.slotCount "new desk of 0 or over 40 slots" ∷
     message refusal.escape "bare comma, or backslash without \\ , ; n or N after it" ∷
     message refusal.textOctet "octet not allowed, or bad UTF-8" ∷
+    message refusal.name "no name, or a bad name or group" ∷
+    message refusal.parameter "parameter without '=', or with a bad name" ∷
+    message refusal.quote "quote left open or out of place" ∷
+    message refusal.noColon "no colon" ∷
     []
 
 -- the words of a number among messages; none where no message has it

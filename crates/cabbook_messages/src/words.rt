@@ -8,7 +8,7 @@ use octets::indices::wide;
 const HEAD: usize = 2;
 
 // tools/messages makes the table from here on.
-const SIZE: usize = 804;
+const SIZE: usize = 896;
 
 const MESSAGES: [u8; SIZE] = *b"\
     \x01\x18input over 16,384 octets\
@@ -16,7 +16,6 @@ const MESSAGES: [u8; SIZE] = *b"\
     \x03\x32CR without LF after it, or LF without CR before it\
     \x04\x1clast two octets aren't CR LF\
     \x05\x21a control character, or not UTF-8\
-    \x06\x19line breaks the line rule\
     \x07\x15value breaks its kind\
     \x08\x2bgroup or parameter on BEGIN, VERSION or END\
     \x09\x2eline out of order, or input ends inside a card\
@@ -35,7 +34,11 @@ const MESSAGES: [u8; SIZE] = *b"\
     \x19\x14desk value not sound\
     \x1a\x1enew desk of 0 or over 40 slots\
     \x1e\x36bare comma, or backslash without \\ , ; n or N after it\
-    \x1f\x1foctet not allowed, or bad UTF-8";
+    \x1f\x1foctet not allowed, or bad UTF-8\
+    \x28\x1fno name, or a bad name or group\
+    \x29\x29parameter without '=', or with a bad name\
+    \x2a\x1fquote left open or out of place\
+    \x2b\x08no colon";
 
 // The table as a value.
 fn table() -> [u8; SIZE]

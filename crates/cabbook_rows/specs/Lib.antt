@@ -1,4 +1,5 @@
 -- The definitions that the contracts of `cabbook_rows` cite. Assumes nothing.
 pub mod Rows
 pub mod Under
+pub mod Faults
 pub mod Options

@@ -7,7 +7,7 @@ use Rattle.octets.specs.Slices.{part}
 use Rattle.cabbook_positions.specs.Positions.{count, isLf}
 use Rattle.cabbook_columns.specs.Visible.{visible}
 use Rattle.cabbook_messages.specs.Sentences.{amount, counted, refusal}
-use Rattle.cabbook_messages.specs.Words.{wordsOf}
+use Rattle.cabbook_rows.specs.Faults.{why}
 
 -- the start of a row: the file's name
 abbrev pub named : List ℕ → List ℕ
@@ -22,7 +22,7 @@ abbrev pub lineOf : List ℕ → ℕ → ℕ
 lineOf s place = 1 + count isLf (part s 0 (min place (length s)))
 
 abbrev pub reason : List ℕ → ℕ → ℕ → List ℕ
-reason s number place = octets ", line " ++ amount (lineOf s place) (octets ": ") ++ wordsOf number ++ octets "\n"
+reason s number place = octets ", line " ++ amount (lineOf s place) (octets ": ") ++ why s number place ++ octets "\n"
 
 abbrev pub refusedRow : List ℕ → List ℕ → ℕ → ℕ → List ℕ
 refusedRow path s number place = named path ++ refusal number place ++ reason s number place

@@ -1,4 +1,5 @@
 // What the workshop reads and types of a file: its row, the logical line under a refusal, and the numbers of options.
+pub mod faults;
 pub mod options;
 pub mod rows;
 pub mod under;

@@ -2,6 +2,7 @@
 ghost use mathlib.Core.Path.{_≡_};
 ghost use Rattle.program_output.specs.Pages.{page, added};
 ghost use Rattle.cabbook_rows.specs.Rows.{named, acceptedRow, lineOf, reason, refusedRow};
+use crate::faults;
 use cabbook_messages::sentences;
 
 // Adds the start of a file's row, its name.
@@ -31,14 +32,14 @@ fn line_of(s: &[u8], place: usize) -> usize
     cabbook_positions::line_number(octets::slices::part(s, 0, end))
 }
 
-// Adds the line in which a refusal's place lies, and the refusal's words.
+// Adds the line in which a refusal's place lies, and why it is refused.
 fn put_reason(room: &mut [u8], at: usize, s: &[u8], number: u32, place: usize) -> usize
     ensures { λ r. ⌜ page r (now (room .exit)) ≡ added (reason (now (s .entry)) number place) (page at (now (room .entry))) ⌝ }
 {
     let start = program_output::put_all(room, at, b", line ");
     let number_end = sentences::put_amount(room, start, line_of(s, place), b": ");
-    let words_end = cabbook_messages::words::put_words(room, number_end, number);
-    program_output::put_all(room, words_end, b"\n")
+    let why_end = faults::put_why(room, number_end, s, number, place);
+    program_output::put_all(room, why_end, b"\n")
 }
 
 // Adds the row of a file with these octets that is refused.

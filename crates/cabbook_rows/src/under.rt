@@ -34,7 +34,7 @@ pub fn offending(s: &[u8], number: u32, place: usize) -> &[u8]
 }
 
 // Adds a line; a longer one than that is cut at a character, and three points stand for the rest.
-fn put_cut(room: &mut [u8], at: usize, line: &[u8]) -> usize
+pub(crate) fn put_cut(room: &mut [u8], at: usize, line: &[u8]) -> usize
     ensures { λ r. ⌜ page r (now (room .exit)) ≡ added (cut (now (line .entry))) (page at (now (room .entry))) ⌝ }
 {
     let end = cabbook_positions::character_start(line, CUT);

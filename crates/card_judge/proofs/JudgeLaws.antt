@@ -63,12 +63,12 @@ module _ (c : Card) (at : ℕ) (l : List ℕ) (clean : length l ≤ firstBad (al
   unfolding judgeLine
   next = simp (le-ltb (firstBad (allowed false) l) (length l) clean)
 
-  pub refused : {e : ℕ} → fault e ≡ linePartsOf l → Refused 6 at ≡ judgeLine c at l
+  pub refused : {e : ℕ} → fault e ≡ linePartsOf l → Refused e at ≡ judgeLine c at l
   unfolding linePartsOf
   refused {e} h = by (parseLine l) h ∙ sym next
     where
-      by : (m : Parse Line) → fault e ≡ linePartsBy m → Refused 6 at ≡ judgeParsed c at m
-      by (bad x) h = refl
+      by : (m : Parse Line) → fault e ≡ linePartsBy m → Refused e at ≡ judgeParsed c at m
+      by (bad x) h = let z : e ≡ x = cc in ap (λ (n : ℕ). Refused n at) z
       by (got x k) h = let z : _≡_ {A = ℕ} 0 1 = cc in absurd (omega arith)
 
   -- the value is the rest of the line

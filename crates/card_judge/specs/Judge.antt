@@ -1,4 +1,4 @@
--- The judgement of one logical line within its card, by REFERENCE, The order of refusals: 5, 6, 9, 8, 7, 10 and, at END, 11, 12. Assumes nothing.
+-- The judgement of one logical line within its card, by REFERENCE, The order of refusals: 5, 40 to 43, 9, 8, 7, 10 and, at END, 11, 12. Assumes nothing.
 use Prim.Native.Nat.{ℕ}
 use mathlib.Core.Bool.{Bool, true, false, not, _&&_, _||_}
 use mathlib.Core.List.{List}
@@ -26,10 +26,6 @@ use Rattle.card_state.specs.declared.Step.the-variants.{Refused}
 -- the lent tables are those of classes, properties and transitions
 abbrev pub Tables : List ℕ → List ℕ → List ℕ → Type 0
 Tables t rows steps = Classes t × Lists rows × Scanner steps
-
--- the number of a fault of the line rule: 6 for each
-abbrev pub lineRefusal : ℕ → ℕ
-lineRefusal fault = refusal.lineRule
 
 -- the place of a value that breaks its kind at an octet of it: the line's start
 abbrev pub valuePlace : ℕ → ℕ → ℕ
@@ -61,9 +57,9 @@ judgeParts c at row group params kind value =
 
 abbrev pub judgeParsed : Card → ℕ → Parse Line → Step
 judgeParsed c at (got x k) = judgeParts c at (rowOfLine x) (length (x .group)) (length (x .params)) (kindOfLine x) (x .value)
-judgeParsed c at (bad e) = Refused (lineRefusal e) at
+judgeParsed c at (bad e) = Refused e at
 
--- 5: an octet that is not allowed, or no character; then the line rule, and the parts of the line
+-- 5: an octet that is not allowed, or no character; then the fault of the line rule, 40 to 43; then the parts of the line
 unfoldable pub judgeLine : Card → ℕ → List ℕ → Step
 judgeLine c at l =
     pick (ltb (firstBad (allowed false) l) (length l)) (Refused refusal.badOctet at) (judgeParsed c at (parseLine l))

@@ -130,10 +130,11 @@ pub fn judge_line(
     if utf8_screening::units::first_bad(t, s, false) < s.len() {
         return Step::Refused(refusal::BAD_OCTET, at);
     }
-    let p = card_line::parts_of(t, rows, s);
-    let LineParts::Line(x) = p else {
-        return Step::Refused(refusal::LINE_RULE, at);
-    };
-    let start = x.value_start;
-    judge_parts(rows, steps, x, &s[start..], at, c)
+    match card_line::parts_of(t, rows, s) {
+        LineParts::Fault(e) => Step::Refused(e, at),
+        LineParts::Line(x) => {
+            let start = x.value_start;
+            judge_parts(rows, steps, x, &s[start..], at, c)
+        }
+    }
 }

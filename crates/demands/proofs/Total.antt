@@ -17,6 +17,7 @@ use Rattle.desk_ledger.proofs.AnswerLaws.{verdict-refused, wrote-refused, said-
 use Rattle.firmware.specs.Word.{verdictWord, Low, wordOutcome}
 use Rattle.firmware.proofs.Places.{place-low}
 use Rattle.firmware.proofs.Lows.{low-unescape, low-fold}
+use Rattle.reader_grammar.proofs.Numbers.{refusal-number}
 use Rattle.reader_grammar.specs.Refusals.{RefusedBy}
 use Rattle.reader_grammar.proofs.Refused.{refused-law}
 use Rattle.demands.specs.Demand1.{Exactly, Answering, Reading, Filling, Turning, Halves, Demand1}
@@ -81,6 +82,7 @@ pub demand1 : Demand1
 demand1 =
     record {
       judges = λ i. verdict-exactly (judge-exactly i);
+      numbers = refusal-number;
       reads = λ i copy records. reading-exactly (read-exactly i copy records);
       folds = λ i out. filling-exactly (fold-exactly i out);
       escapes = λ t out. filling-exactly (escape-exactly t out);

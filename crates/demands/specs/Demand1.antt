@@ -27,7 +27,7 @@ use Rattle.firmware.specs.Word.{verdictWord, wordOutcome}
 use Rattle.desk_ledger.specs.Answers.{Reply, refused, told, verdict, wrote, said}
 use Rattle.desk_laws.specs.Demand.{OpenOn}
 use Rattle.reader_grammar.specs.Inputs.{InputOf}
-use Rattle.reader_grammar.specs.Refusals.{RefusedBy}
+use Rattle.reader_grammar.specs.Refusals.{RefusedBy, Judging}
 
 -- a refusal is answered only where `By` has its number and place; there it is answered, and what is left is `Left`
 pub record Exactly (answer : Reply) (Left : Type 0) (By : ℕ → ℕ → Type 0) : Type 0 where
@@ -44,14 +44,14 @@ copied h = ended (map render (h .lines))
 abbrev pub folded : {i : List ℕ} {k n : ℕ} → InputOf i k n → List ℕ
 folded h = foldedLines (map render (h .lines))
 
--- 1 to 12, then 13, 14
+-- those of the judgement, then 13, 14
 pub data ReadBy (i copy records : List ℕ) : ℕ → ℕ → Type 0 where
   unread : {n p : ℕ} → RefusedBy i n p → ReadBy i copy records n p
   copy-room : {k n : ℕ} (h : InputOf i k n) → length copy < length (copied h) → ReadBy i copy records refusal.copyRoom (length (copied h))
   record-room : {k n : ℕ} (h : InputOf i k n) → length (copied h) ≤ length copy → length records < n * limit.recordLength
       → ReadBy i copy records refusal.recordRoom (n * limit.recordLength)
 
--- 1 to 12, then 16, 15
+-- those of the judgement, then 16, 15
 pub data FoldBy (i out : List ℕ) : ℕ → ℕ → Type 0 where
   not-read : {n p : ℕ} → RefusedBy i n p → FoldBy i out n p
   fold-over : {k n : ℕ} (h : InputOf i k n) → limit.octets < length (folded h) → FoldBy i out refusal.formTooLong limit.octets
@@ -126,7 +126,7 @@ pub data AddBy (d : Desk) (p : List ℕ) (t : ℕ) (chunk : List ℕ) : ℕ → 
   no-upload : {n q : ℕ} → TicketBy d p t n q → AddBy d p t chunk n q
   too-much : {i : ℕ} {s : Session} → Holds d p t i s → limit.octets < s .held + length chunk → AddBy d p t chunk refusal.slotFull (s .held)
 
--- 25, 24, 22, then 1 to 12 of the octets held
+-- 25, 24, 22, then those of the judgement of the octets held
 pub data JudgeBy (d : Desk) (p : List ℕ) (t : ℕ) : ℕ → ℕ → Type 0 where
   nothing : {n q : ℕ} → TicketBy d p t n q → JudgeBy d p t n q
   octets : {i n q : ℕ} {s : Session} → Holds d p t i s → RefusedBy (octetsIn p i s) n q → JudgeBy d p t n q
@@ -153,6 +153,8 @@ pub record Halves (r n p : ℕ) : Type 0 where
 
 pub record Demand1 : Type 0 where
   pub judges : (i : List ℕ) → Answering (verdict (judgeOf i)) (RefusedBy i)
+  -- 6 is never given
+  pub numbers : {i : List ℕ} {n p : ℕ} → RefusedBy i n p → Judging n
   pub reads : (i copy records : List ℕ) → Reading (readOutcome i copy records) copy records (ReadBy i copy records)
   pub folds : (i out : List ℕ) → Filling (foldOutcome i out) out (FoldBy i out)
   pub escapes : (t out : List ℕ) → Filling (escapeOutcome t out) out (EscapeBy t out)

@@ -1,4 +1,4 @@
--- What folding an input answers, and what the room holds then, by REFERENCE, Folding: 1 to 12 as the reader does, then 16, 15, and else the
+-- What folding an input answers, and what the room holds then, by REFERENCE, Folding: the refusals of the reader, then 16, 15, and else the
 -- octets written. Assumes nothing.
 use Prim.Native.Nat.{ℕ}
 use mathlib.Core.List.{List}

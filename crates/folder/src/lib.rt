@@ -8,7 +8,7 @@ pub mod text;
 use octets::rooms::Written;
 use reader::Verdict;
 
-// Folds an input: 1 to 12 as the reader does, then 16, 15, else the octets written; nothing is written on a refusal.
+// Folds an input: the refusals of the reader, then 16, 15, else the octets written; nothing is written on a refusal.
 pub fn fold(input: &[u8], out: &mut [u8]) -> Written
     ensures { λ r. ⌜ filled r (now (out .exit)) ≡ foldOutcome (now (input .entry)) (now (out .entry)) ⌝ }
 {

@@ -2,4 +2,5 @@
 pub mod ParseLaws
 pub mod PartLaws
 pub mod Steps
+pub mod FaultSteps
 pub mod Inside

@@ -3,3 +3,4 @@ pub mod Parse
 pub mod Grammar
 pub mod Rule
 pub mod Places
+pub mod AtFault

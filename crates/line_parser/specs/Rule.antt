@@ -1,11 +1,11 @@
--- The line rule, read from the left. Faults: 40 no name, or a bad name or group; 41 a parameter without `=` or with a bad name; 42 a quote
+-- The line rule, read from the left. Refusals: 40 no name, or a bad name or group; 41 a parameter without `=` or with a bad name; 42 a quote
 -- left open, followed by something else than , ; : or standing in a bare value; 43 no colon. Assumes nothing.
 use Prim.Native.Nat.{ℕ, suc, _+_}
 use mathlib.Core.Bool.{Bool, _||_}
 use mathlib.Core.List.{List, []}
 use lib.Dec.{eqb, ltb}
 use lib.ListN.{length, take, drop}
-use Rattle.numbers.specs.Faults as fault
+use Rattle.numbers.specs.Refusals as refusal
 use Rattle.octets.specs.Ascii as ascii
 use Rattle.octets.specs.Pick.{pick}
 use Rattle.octets.specs.Classes.{run, named, quoted, bare}
@@ -18,7 +18,7 @@ word e l = guard (ltb 0 (run named l)) e (got (take (run named l) l) (run named 
 
 -- a quoted value, from after its first quote mark on, which is counted
 unfoldable pub closing : List ℕ → Parse Value
-closing l = guard (eqb (hd (drop (run quoted l) l)) ascii.quote) fault.quote (got (inQuotes (take (run quoted l) l)) (suc (run quoted l + 1)))
+closing l = guard (eqb (hd (drop (run quoted l) l)) ascii.quote) refusal.quote (got (inQuotes (take (run quoted l) l)) (suc (run quoted l + 1)))
 
 -- a value, quoted where a quote mark stands first
 unfoldable pub value : List ℕ → Parse Value
@@ -38,7 +38,7 @@ ends c = eqb c ascii.semicolon || eqb c ascii.colon
 
 -- further values, each after a comma, and then a `;` or a `:`
 unfoldable pub moreValues : ℕ → List ℕ → Parse (List Value)
-moreValues n l = many ascii.comma value ends (orEnd fault.quote fault.noColon) n l
+moreValues n l = many ascii.comma value ends (orEnd refusal.quote refusal.noColon) n l
 
 -- one or more values split by commas
 unfoldable pub values : List ℕ → Parse Values
@@ -48,7 +48,7 @@ values l =
 -- a name, `=` and the values
 unfoldable pub param : List ℕ → Parse Param
 param l =
-    next (word fault.parameter l) (λ a n. guard (eqb (hd (drop n l)) ascii.equals) fault.parameter
+    next (word refusal.parameter l) (λ a n. guard (eqb (hd (drop n l)) ascii.equals) refusal.parameter
     (next (values (drop 1 (drop n l))) (λ vs k. got (record { name = a; first = vs .first; more = vs .more }) (n + suc k))))
 
 pub record Head : Type 0 where
@@ -58,8 +58,8 @@ pub record Head : Type 0 where
 -- `[group "."] name`
 unfoldable pub head : List ℕ → Parse Head
 head l =
-    next (word fault.name l) (λ a n. pick (eqb (hd (drop n l)) ascii.dot)
-    (next (word fault.name (drop 1 (drop n l))) (λ b m. got (record { group = a; name = b }) (n + suc m)))
+    next (word refusal.name l) (λ a n. pick (eqb (hd (drop n l)) ascii.dot)
+    (next (word refusal.name (drop 1 (drop n l))) (λ b m. got (record { group = a; name = b }) (n + suc m)))
     (got (record { group = []; name = a }) n))
 
 unfoldable pub isColon : ℕ → Bool
@@ -67,7 +67,7 @@ isColon c = eqb c ascii.colon
 
 -- any number of parameters, each after a semicolon, and then a colon
 unfoldable pub params : ℕ → List ℕ → Parse (List Param)
-params n l = many ascii.semicolon param isColon (orEnd fault.name fault.noColon) n l
+params n l = many ascii.semicolon param isColon (orEnd refusal.name refusal.noColon) n l
 
 -- the whole line, and where its value starts
 unfoldable pub parseLine : List ℕ → Parse Line

@@ -5,7 +5,7 @@ ghost use lib.ListN.{length, drop};
 ghost use Rattle.octets.specs.Classes.{Classes};
 ghost use Rattle.line_parser.specs.Rule.{word, value, values, param, params, head, parseLine};
 ghost use Rattle.line_parser.specs.Places.{place, listed, headed, outcome};
-use numbers::fault;
+use numbers::refusal;
 use octets::classes;
 use octets::classes::ClassTable;
 
@@ -30,7 +30,7 @@ pub enum Part {
         param_count: usize,
         value_start: usize,
     },
-    // The number of the fault (`numbers::fault`).
+    // The refusal, 40 to 43.
     Fault(u32),
 }
 
@@ -48,7 +48,7 @@ fn read_word(t: &ClassTable, s: &[u8], at: usize, fault: u32) -> Part
 }
 
 // Reads a quoted value with its quote marks, or a bare one, which may be empty.
-fn read_value(t: &ClassTable, s: &[u8], at: usize) -> Part
+pub(crate) fn read_value(t: &ClassTable, s: &[u8], at: usize) -> Part
     requires { ⌜ Classes (now t) ⌝ }
     requires { ⌜ at ≤ length (now s) ⌝ }
     ensures { λ r. ⌜ r ≡ place at (value (drop at (now (s .entry)))) ⌝ }
@@ -62,10 +62,10 @@ fn read_value(t: &ClassTable, s: &[u8], at: usize) -> Part
     }
     let end = classes::span(t, s, at + 1, classes::QUOTED);
     if s.len() <= end {
-        return Part::Fault(fault::QUOTE);
+        return Part::Fault(refusal::QUOTE);
     }
     if s[end] != b'"' {
-        return Part::Fault(fault::QUOTE);
+        return Part::Fault(refusal::QUOTE);
     }
     Part::Upto(end + 1)
 }
@@ -90,7 +90,7 @@ fn read_values(t: &ClassTable, s: &[u8], from: usize) -> Part
             if b == b':' {
                 return Part::Upto(at);
             }
-            return Part::Fault(fault::QUOTE);
+            return Part::Fault(refusal::QUOTE);
         }
         let v = read_value(t, s, at + 1);
         let Part::Upto(end) = v else {
@@ -98,7 +98,7 @@ fn read_values(t: &ClassTable, s: &[u8], from: usize) -> Part
         };
         at = end;
     }
-    Part::Fault(fault::NO_COLON)
+    Part::Fault(refusal::NO_COLON)
 }
 
 // Reads a parameter: a name, `=` and the values.
@@ -107,15 +107,15 @@ pub fn read_param(t: &ClassTable, s: &[u8], at: usize) -> Part
     requires { ⌜ at ≤ length (now s) ⌝ }
     ensures { λ r. ⌜ r ≡ place at (param (drop at (now (s .entry)))) ⌝ }
 {
-    let name = read_word(t, s, at, fault::PARAMETER);
+    let name = read_word(t, s, at, refusal::PARAMETER);
     let Part::Upto(name_end) = name else {
         return name;
     };
     if s.len() <= name_end {
-        return Part::Fault(fault::PARAMETER);
+        return Part::Fault(refusal::PARAMETER);
     }
     if s[name_end] != b'=' {
-        return Part::Fault(fault::PARAMETER);
+        return Part::Fault(refusal::PARAMETER);
     }
     read_values(t, s, name_end + 1)
 }
@@ -136,7 +136,7 @@ fn read_params(t: &ClassTable, s: &[u8], from: usize) -> Part
                     end: at,
                 };
             }
-            return Part::Fault(fault::NAME);
+            return Part::Fault(refusal::NAME);
         }
         let p = read_param(t, s, at + 1);
         let Part::Upto(end) = p else {
@@ -145,7 +145,7 @@ fn read_params(t: &ClassTable, s: &[u8], from: usize) -> Part
         at = end;
         count += 1;
     }
-    Part::Fault(fault::NO_COLON)
+    Part::Fault(refusal::NO_COLON)
 }
 
 // Reads the group and its dot, if there is one, and the name.
@@ -153,7 +153,7 @@ fn read_head(t: &ClassTable, s: &[u8]) -> Part
     requires { ⌜ Classes (now t) ⌝ }
     ensures { λ r. ⌜ r ≡ headed (head (now (s .entry))) ⌝ }
 {
-    let first = read_word(t, s, 0, fault::NAME);
+    let first = read_word(t, s, 0, refusal::NAME);
     let Part::Upto(end) = first else {
         return first;
     };
@@ -170,7 +170,7 @@ fn read_head(t: &ClassTable, s: &[u8]) -> Part
         };
     }
     let start = end + 1;
-    let second = read_word(t, s, start, fault::NAME);
+    let second = read_word(t, s, start, refusal::NAME);
     let Part::Upto(name_end) = second else {
         return second;
     };

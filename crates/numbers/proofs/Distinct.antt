@@ -1,4 +1,4 @@
--- No two refusals, faults, properties or kinds have one number: by computing a test of each list. Assumes nothing.
+-- No two refusals, properties or kinds have one number: by computing a test of each list. Assumes nothing.
 use Prim.Native.Nat.{ℕ, zero, suc, _<_}
 use mathlib.Core.Path.{_≡_, refl, sym}
 use mathlib.Core.Bool.{Bool, true, false}
@@ -8,7 +8,6 @@ use lib.Dec.{eqb}
 use lib.ListN.{length, getD}
 use borrow.Author.Tests.{eqb-false}
 use Rattle.numbers.specs.Refusals.{refusals}
-use Rattle.numbers.specs.Faults.{faults}
 use Rattle.numbers.specs.Properties.{properties}
 use Rattle.numbers.specs.Kinds.{kinds}
 use Rattle.numbers.specs.Distinct.{NoTwo, Distinct}
@@ -65,10 +64,6 @@ refusals-computed : distinct refusals ≡ true
 unfolding differs distinct
 refusals-computed = refl
 
-faults-computed : distinct faults ≡ true
-unfolding differs distinct
-faults-computed = refl
-
 properties-computed : distinct properties ≡ true
 unfolding differs distinct
 properties-computed = refl
@@ -81,7 +76,6 @@ pub distinct-numbers : Distinct
 distinct-numbers =
     record {
       refusals = no-two refusals refusals-computed;
-      faults = no-two faults faults-computed;
       properties = no-two properties properties-computed;
       kinds = no-two kinds kinds-computed;
     }

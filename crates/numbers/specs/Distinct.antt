@@ -1,10 +1,9 @@
--- No two refusals, faults, properties or kinds have one number. Assumes nothing.
+-- No two refusals, properties or kinds have one number. Assumes nothing.
 use Prim.Native.Nat.{ℕ, _<_}
 use mathlib.Core.Path.{_≡_}
 use mathlib.Core.List.{List}
 use lib.ListN.{length, getD}
 use Rattle.numbers.specs.Refusals.{refusals}
-use Rattle.numbers.specs.Faults.{faults}
 use Rattle.numbers.specs.Properties.{properties}
 use Rattle.numbers.specs.Kinds.{kinds}
 
@@ -14,6 +13,5 @@ NoTwo xs = (i j : ℕ) → i < j → j < length xs → getD xs i 0 ≡ getD xs j
 
 pub record Distinct : Type 0 where
   pub refusals : NoTwo refusals
-  pub faults : NoTwo faults
   pub properties : NoTwo properties
   pub kinds : NoTwo kinds

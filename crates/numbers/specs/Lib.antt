@@ -1,7 +1,6 @@
--- The numbers with names, as definitions: limits, refusals, faults of the line rule, properties, kinds of value and fields of a record. Assumes nothing.
+-- The numbers with names, as definitions: limits, refusals, properties, kinds of value and fields of a record. Assumes nothing.
 pub mod Limits
 pub mod Refusals
-pub mod Faults
 pub mod Properties
 pub mod Kinds
 pub mod Fields

@@ -22,10 +22,6 @@ noEnd = 4
 abbrev pub badOctet : ℕ
 badOctet = 5
 
--- a line that breaks the line rule; at the line's start
-abbrev pub lineRule : ℕ
-lineRule = 6
-
 -- a value that breaks its kind; at the line's start
 abbrev pub value : ℕ
 value = 7
@@ -102,6 +98,22 @@ escape = 30
 abbrev pub textOctet : ℕ
 textOctet = 31
 
+-- a line with no name, or with a bad name or group; from here to 43 at the line's start
+abbrev pub name : ℕ
+name = 40
+
+-- a parameter without `=`, or with a bad name
+abbrev pub parameter : ℕ
+parameter = 41
+
+-- a quote that is left open, followed by something else than , ; : or standing in a bare value
+abbrev pub quote : ℕ
+quote = 42
+
+-- a line with no colon
+abbrev pub noColon : ℕ
+noColon = 43
+
 -- ---- a replay's own: no reader, desk or C routine answers them
 
 -- a call of a script that is unknown or cut off; at its first octet
@@ -120,8 +132,9 @@ replayLog = 92
 
 abbrev pub refusals : List ℕ
 refusals =
-    tooLong ∷ empty ∷ loneCrOrLf ∷ noEnd ∷ badOctet ∷ lineRule ∷ value ∷ laden ∷ order ∷ second ∷ noFn ∷ member ∷ []
+    tooLong ∷ empty ∷ loneCrOrLf ∷ noEnd ∷ badOctet ∷ value ∷ laden ∷ order ∷ second ∷ noFn ∷ member ∷ []
     ++ copyRoom ∷ recordRoom ∷ room ∷ formTooLong ∷ []
     ++ noFreeSlot ∷ ticketsUsedUp ∷ notOpen ∷ slotFull ∷ poolLength ∷ unsound ∷ slotCount ∷ []
     ++ escape ∷ textOctet ∷ []
+    ++ name ∷ parameter ∷ quote ∷ noColon ∷ []
     ++ replayCall ∷ replayPool ∷ replayLog ∷ []

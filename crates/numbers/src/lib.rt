@@ -1,5 +1,4 @@
-// The numbers with names: limits, refusals, faults of the line rule, properties, kinds of value and fields of a record.
-pub mod fault;
+// The numbers with names: limits, refusals, properties, kinds of value and fields of a record.
 pub mod field;
 pub mod kind;
 pub mod limit;

@@ -15,9 +15,6 @@ pub const NO_END: u32 = 4;
 // A logical line with an octet 00-08, 0A-1F or 7F, or with octets that are not UTF-8; at the line's start.
 pub const BAD_OCTET: u32 = 5;
 
-// A line that breaks the line rule; at the line's start.
-pub const LINE_RULE: u32 = 6;
-
 // A value that breaks its kind; at the line's start.
 pub const VALUE: u32 = 7;
 
@@ -74,6 +71,18 @@ pub const ESCAPE: u32 = 30;
 
 // Text with an octet that is not allowed, or with bad UTF-8; at its first octet.
 pub const TEXT_OCTET: u32 = 31;
+
+// A line with no name, or with a bad name or group; from here to 43 at the line's start.
+pub const NAME: u32 = 40;
+
+// A parameter without `=`, or with a bad name.
+pub const PARAMETER: u32 = 41;
+
+// A quote that is left open, followed by something else than , ; : or standing in a bare value.
+pub const QUOTE: u32 = 42;
+
+// A line with no colon.
+pub const NO_COLON: u32 = 43;
 
 // A replay's own refusals: no reader, desk or C routine answers them.
 

@@ -26,7 +26,7 @@ fn conclude(n: usize, last: Step) -> Verdict
     }
 }
 
-// The verdict on an input, 1 to 12 or the counts.
+// The verdict on an input: a refusal, or the counts.
 pub fn judge(input: &[u8]) -> Verdict
     ensures { λ r. ⌜ r ≡ judgeOf (now (input .entry)) ⌝ }
 {

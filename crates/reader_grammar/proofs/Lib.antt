@@ -11,3 +11,4 @@ pub mod FoldLaws
 pub mod Accepted
 pub mod RecordLaws
 pub mod Refused
+pub mod Numbers

@@ -13,7 +13,8 @@ use Rattle.utf8.specs.Characters.{allowed, firstBad}
 use Rattle.line_parser.specs.Parse.{Parse, got, bad}
 use Rattle.line_parser.specs.Grammar.{Line, front}
 use Rattle.line_parser.specs.Rule.{parseLine}
-use Rattle.line_parameters.proofs.Law.{line-law, refused-law}
+use Rattle.line_parameters.proofs.Law.{line-law}
+use Rattle.line_laws.proofs.FirstLaws.{first-fault-law}
 use Rattle.property_table.specs.Rows.{rows, rowAt, single, framing, isGroup}
 use Rattle.value_kinds.specs.Kinds.{valueScan}
 use Rattle.value_kinds.specs.declared.Fault.{Fault}
@@ -134,7 +135,7 @@ module _ (c : Card) (ys : List Line) (k : Known c ys) (at : ℕ) (l : List ℕ) 
   refusal : {n : ℕ} → LineRefused ys l n → judgeLine c at l ≡ Refused n at
   unfolding judgeLine judgeParts
   refusal (octet f) = rw (passes (ltb (firstBad (allowed false) l) (length l)) (clean-law l .0) f)
-  refusal (rule h f) = let r = refused-law l .1 f in after-clean h ∙ ap (judgeParsed c at) (r .1)
+  refusal (rule {e} h f) = after-clean h ∙ ap (judgeParsed c at) (first-fault-law l e .1 f)
   refusal (order x r f) = after-reads x r ∙ rw (fails (inOrder (c .phase) (rowOfLine x)) (order-law c ys x k .0) f)
   refusal (heavy x r h f) =
       after-order x r h ∙ rw (passes (laden (rowOfLine x) (length (x .group)) (length (x .params))) (unladen-to x) f)
@@ -193,7 +194,7 @@ module _ (c : Card) (ys : List Line) (k : Known c ys) (at : ℕ) (l : List ℕ) 
       (λ t. (Refused 9 at, refused (order x r (λ h. false≢true (sym t ∙ order-law c ys x k .1 h)))))
 
   parse-decided : Clean l → (m : Parse Line) → parseLine l ≡ m → Decided
-  parse-decided h (bad e) p = (Refused 6 at, refused (rule h (refused-law l .0 (e, p))))
+  parse-decided h (bad e) p = (Refused e at, refused (rule h (first-fault-law l e .0 p)))
   parse-decided h (got x n) p =
       let w = line-law l x n .0 p in
       reads-decided x (record { text = w .1; readable = record { clean = subst Clean (w .1) h; formed = w .0 } })

@@ -8,13 +8,14 @@ use lib.ListN.{length}
 use Rattle.numbers.specs.Limits as limit
 use Rattle.numbers.specs.Refusals as refusal
 use Rattle.numbers.specs.Properties as property
-use Rattle.line_parser.specs.Grammar.{Line, Each, WellFormed, render}
+use Rattle.line_parser.specs.Grammar.{Line, Each, render}
 use Rattle.property_table.specs.Rows.{single}
 use Rattle.card_line.specs.Parts.{rowOfLine, kindOfLine}
 use Rattle.reader.specs.Outcome.{ended}
 use Rattle.reader_laws.specs.Lone.{Lone}
 use Rattle.reader_grammar.specs.Values.{Fitting}
 use Rattle.line_laws.specs.Lined.{Lined, EndsCrLf}
+use Rattle.line_laws.specs.FirstFault.{FirstFault}
 use Rattle.reader_grammar.specs.Cards.{Clean, Readable, Bare, Begins, Versions, Inner, Cards, linesOf, groupLines}
 
 -- no "CR without LF after it, or LF without CR before it"
@@ -60,17 +61,17 @@ Framing row = (row ≡ property.begin) ⊎ ((row ≡ property.version) ⊎ (row 
 abbrev pub Unladen : Line → Type 0
 Unladen x = Framing (rowOfLine x) → Bare x
 
--- none of 5, 6, 9, 8, 7 holds of the line l after the card's lines ys
+-- none of 5, 40 to 43, 9, 8, 7 holds of the line l after the card's lines ys
 pub record Sound (ys : List Line) (l : List ℕ) (x : Line) : Type 0 where
   pub reads : Reads l x
   pub place : InPlace ys x
   pub unladen : Unladen x
   pub fits : Fitting (rowOfLine x) (kindOfLine x) (x .value)
 
--- the refusals of a line l after the card's lines ys, each where none before it holds: 5, 6, 9, 8, 7, 10 and, at END, 11, 12
+-- the refusals of a line l after the card's lines ys, each where none before it holds: 5, 40 to 43, 9, 8, 7, 10 and, at END, 11, 12
 pub data LineRefused (ys : List Line) (l : List ℕ) : ℕ → Type 0 where
   octet : (Clean l → ⊥) → LineRefused ys l refusal.badOctet
-  rule : Clean l → ((x : Line) → WellFormed x → l ≡ render x → ⊥) → LineRefused ys l refusal.lineRule
+  rule : {e : ℕ} → Clean l → FirstFault e l → LineRefused ys l e
   order : (x : Line) → Reads l x → (InPlace ys x → ⊥) → LineRefused ys l refusal.order
   laden : (x : Line) → Reads l x → InPlace ys x → (Unladen x → ⊥) → LineRefused ys l refusal.laden
   value : (x : Line) → Reads l x → InPlace ys x → Unladen x → (Fitting (rowOfLine x) (kindOfLine x) (x .value) → ⊥) → LineRefused ys l refusal.value
@@ -88,3 +89,9 @@ pub data RefusedBy (i : List ℕ) : ℕ → ℕ → Type 0 where
   line : (ds es ls ms : List (List ℕ)) (r l : List ℕ) (n k : ℕ) (zs ys : List Line) → Framed i → Lined i (ds ++ (r ∷ es)) (ls ++ (l ∷ ms)) → length ls ≡ length ds
       → SoFar ls k zs ys → LineRefused ys l n → RefusedBy i n (length (ended ds))
   unfinished : (rs ls : List (List ℕ)) (k : ℕ) (zs ys : List Line) → Framed i → Lined i rs ls → SoFar ls k zs ys → 0 < length ys → RefusedBy i refusal.order (length i)
+
+-- the numbers of these refusals: 1 to 5, 7 to 12, and 40 to 43; 6 is none of them
+abbrev pub Judging : ℕ → Type 0
+Judging n =
+    ((refusal.tooLong ≤ n) × (n ≤ refusal.badOctet))
+    ⊎ (((refusal.value ≤ n) × (n ≤ refusal.member)) ⊎ ((refusal.name ≤ n) × (n ≤ refusal.noColon)))

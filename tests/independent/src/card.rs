@@ -1,8 +1,9 @@
-// Knows a card: which line may stand where, and the checks 5 to 12 of one logical line.
+// Knows a card: which line may stand where, and the checks of one logical line.
 
 use crate::characters::first_fault;
 use crate::content::{parse, ContentLine};
 use crate::kinds::fits;
+use crate::line_faults::fault_of;
 use crate::lines::LogicalLine;
 use crate::properties::{is_frame, kind_of, row_of, Row, BEGIN, END, FN, KIND, MEMBER, VERSION};
 use crate::refusal::{refuse, Refusal};
@@ -32,14 +33,15 @@ impl Card {
         self.lines > 0
     }
 
-    /// Checks 5, 6, 9, 8, 7, 10 of the line and, at END, 11 and 12; then counts it in.
+    /// Checks 5, 40 to 43, 9, 8, 7, 10 of the line and, at END, 11 and 12; then counts it in.
     pub fn take(&mut self, line: LogicalLine) -> Result<AcceptedLine, Refusal> {
         if first_fault(&line.octets, |octet| !is_control(octet)).is_some() {
             return refuse(5, line.start);
         }
-        let Some(parts) = parse(&line.octets) else {
-            return refuse(6, line.start);
-        };
+        if let Some(fault) = fault_of(&line.octets) {
+            return refuse(fault, line.start);
+        }
+        let parts = parse(&line.octets).expect("a line without a fault has its parts");
         let row = row_of(&parts.name);
         if self.is_out_of_order(row) {
             return refuse(9, line.start);

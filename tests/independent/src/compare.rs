@@ -7,6 +7,7 @@ use std::thread;
 
 use crate::console::Console;
 use crate::generator::folds::folds;
+use crate::generator::line_faults::line_faults;
 use crate::generator::lists::lists;
 use crate::generator::protocol::protocol;
 use crate::generator::readers;
@@ -18,6 +19,7 @@ use crate::ledger_console::LedgerConsole;
 pub struct Plan {
     pub protocol: usize,
     pub readers: usize,
+    pub line_faults: usize,
     pub folds: usize,
     pub texts: usize,
     pub lists: usize,
@@ -31,6 +33,7 @@ impl Default for Plan {
         Plan {
             protocol: 1000,
             readers: 100_000,
+            line_faults: 30_000,
             folds: 10_000,
             texts: 80_000,
             lists: 2_000,
@@ -57,6 +60,7 @@ pub fn steps(plan: Plan) -> impl Iterator<Item = Step> {
     });
     (protocol().into_iter().take(plan.protocol).map(of("protocol")))
         .chain(readers(plan.seed).take(plan.readers).map(of("readers")))
+        .chain(line_faults(plan.seed).take(plan.line_faults).map(of("line faults")))
         .chain(folds(plan.seed).take(plan.folds).map(of("folds")))
         .chain(texts(plan.seed).take(plan.texts).map(of("texts")))
         .chain(calls)
@@ -93,8 +97,10 @@ impl Side {
 fn routine_steps(plan: Plan) -> impl Iterator<Item = Step> {
     let of = |family| move |line| Step { family, begins: false, line };
     let judged = readers(plan.seed).filter(|line| line.starts_with("judge "));
+    let faulty = line_faults(plan.seed).filter(|line| !line.starts_with("read "));
     let unescaped = texts(plan.seed).filter(|line| line.starts_with("unescape "));
     (judged.take(plan.readers).map(of("readers")))
+        .chain(faulty.take(plan.line_faults).map(of("line faults")))
         .chain(folds(plan.seed).take(plan.folds).map(of("folds")))
         .chain(unescaped.take(plan.texts).map(of("texts")))
 }

@@ -114,7 +114,7 @@ pub fn reader_examples() -> Vec<PaperExample> {
         one("(*) LF alone after the first line's text", judge_line(lone_lf), "no 3 11"),
         one("(*) N twice after FN", judge_line(&m_with(two_names)), "no 10 64"),
         one("(*) N:Doe;J", judge_line(&m_with(b"N:Doe;J")), "no 7 32"),
-        one("BDAY without colon", judge_line(&m_with(b"BDAY;19531015T231000Z")), "no 6 32"),
+        one("BDAY without colon", judge_line(&m_with(b"BDAY;19531015T231000Z")), "no 41 32"),
     ]
 }
 

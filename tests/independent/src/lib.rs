@@ -15,6 +15,7 @@ pub mod hex;
 pub mod kinds;
 pub mod ledger;
 pub mod ledger_console;
+pub mod line_faults;
 pub mod lines;
 pub mod properties;
 pub mod reader;

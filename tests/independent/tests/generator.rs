@@ -5,7 +5,8 @@ use std::collections::HashSet;
 use independent::beside::{compare_desks, survey_desks};
 use independent::compare::{steps, Plan};
 use independent::generator::{
-    desks::desks, folds, folds::folds, hand, lists, lists::lists, readers, texts, texts::texts,
+    desks::desks, folds, folds::folds, hand, line_faults::line_faults, lists, lists::lists, readers, texts,
+    texts::texts,
 };
 use independent::hex::word_of;
 use independent::survey::{survey, Survey};
@@ -16,11 +17,11 @@ fn times(survey: &Survey, number: u32) -> usize {
 }
 
 #[test]
-fn readers_reach_1_to_14_and_every_kind() {
+fn readers_reach_every_refusal_and_every_kind() {
     let survey = survey(readers(1).take(100_000));
     let reached: Vec<u32> = survey.refusals.keys().copied().collect();
-    assert_eq!(reached, (1..=14).collect::<Vec<u32>>());
-    for number in 3..=14 {
+    assert_eq!(reached, (1..=5).chain(7..=14).chain(40..=43).collect::<Vec<u32>>());
+    for number in (3..=5).chain(7..=14) {
         assert!(times(&survey, number) >= 1_000, "{number}: {survey}");
     }
     for kind in 0..=8 {
@@ -30,10 +31,22 @@ fn readers_reach_1_to_14_and_every_kind() {
 }
 
 #[test]
-fn folds_reach_1_to_12_and_15_and_16() {
+fn line_faults_reach_40_to_43_in_every_request() {
+    for word in ["judge ", "read ", "fold "] {
+        let survey = survey(line_faults(1).take(30_000).filter(|line| line.starts_with(word)));
+        for number in 40..=43 {
+            assert!(times(&survey, number) >= 500, "{word}{number}: {survey}");
+        }
+        assert_eq!(times(&survey, 6), 0);
+        assert!(survey.accepted >= 500, "{word}: {survey}");
+    }
+}
+
+#[test]
+fn folds_reach_every_refusal() {
     let survey = survey(folds(1).take(10_000));
     let reached: Vec<u32> = survey.refusals.keys().copied().collect();
-    assert_eq!(reached, [1, 2, 3, 4, 5, 6, 7, 8, 9, 10, 11, 12, 15, 16]);
+    assert_eq!(reached, [1, 2, 3, 4, 5, 7, 8, 9, 10, 11, 12, 15, 16, 40, 41, 42, 43]);
     assert!(survey.accepted >= 4_000 && survey.bad_requests == 0, "{survey}");
 }
 
@@ -46,22 +59,22 @@ fn texts_reach_1_15_16_30_and_31() {
 }
 
 #[test]
-fn lists_reach_20_to_26_and_2_to_12() {
+fn lists_reach_20_to_26_and_the_reader_s() {
     let survey = survey(lists(1).take(2_000).flatten());
     for number in 20..=26 {
         assert!(times(&survey, number) >= 100, "{number}: {survey}");
     }
-    for number in 2..=12 {
+    for number in (2..=5).chain(7..=12) {
         assert!(times(&survey, number) >= 5, "{number}: {survey}");
     }
     assert_eq!(times(&survey, 1), 0);
 }
 
 #[test]
-fn desk_values_reach_2_to_12_and_20_to_25() {
+fn desk_values_reach_20_to_25_and_the_reader_s() {
     let survey = survey_desks(1, Plan::default().desks).expect("desk and ledger agree");
     let reached: Vec<u32> = survey.refusals.keys().copied().collect();
-    assert_eq!(reached, (2..=12).chain(20..=25).collect::<Vec<u32>>());
+    assert_eq!(reached, (2..=5).chain(7..=12).chain(20..=25).chain(40..=43).collect::<Vec<u32>>());
     for number in 20..=25 {
         assert!(times(&survey, number) >= 1_000, "{number}: {survey}");
     }
@@ -86,7 +99,7 @@ fn desk_and_ledger_agree_on_desk_values() {
     }
 }
 
-/// Every number of document 01's table, and no other.
+/// Every number of the papers' tables, and no other.
 #[test]
 fn together_they_reach_every_refusal_of_the_paper() {
     let plan = Plan::default();
@@ -94,7 +107,7 @@ fn together_they_reach_every_refusal_of_the_paper() {
     let desk_values = survey_desks(plan.seed, plan.desks).expect("desk and ledger agree");
     let mut reached = requests.refusals;
     reached.extend(desk_values.refusals);
-    let all = (1..=16).chain(20..=26).chain([30, 31]);
+    let all = (1..=5).chain(7..=16).chain(20..=26).chain([30, 31]).chain(40..=43);
     assert_eq!(reached.into_keys().collect::<Vec<u32>>(), all.collect::<Vec<u32>>());
 }
 
@@ -138,7 +151,8 @@ fn no_line_is_longer_than_the_console_takes() {
 
 #[test]
 fn a_family_of_0_is_left_out() {
-    let plan = Plan { protocol: 0, readers: 10, folds: 0, texts: 5, lists: 0, desks: 0, seed: 1 };
+    let plan =
+        Plan { protocol: 0, readers: 10, line_faults: 0, folds: 0, texts: 5, lists: 0, desks: 0, seed: 1 };
     let families: Vec<&str> = steps(plan).map(|step| step.family).collect();
     assert_eq!(families, [["readers"; 10].as_slice(), &["texts"; 5]].concat());
 }

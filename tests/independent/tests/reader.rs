@@ -3,7 +3,10 @@
 mod common;
 
 use common::*;
+use independent::content::parse;
 use independent::examples::{m_with, CARD_M};
+use independent::generator::line_faults::TABLE;
+use independent::line_faults::fault_of;
 use independent::properties::ROWS;
 
 #[test]
@@ -33,12 +36,12 @@ fn octets_of_a_line() {
 fn names_are_letters_digits_and_hyphens() {
     for octet in (0x20..=0x7E).filter(|octet| !b".:;".contains(octet)) {
         let good = octet.is_ascii_alphanumeric() || octet == b'-';
-        let expected = if good { Ok((1, 5)) } else { Err((6, 32)) };
+        let expected = |number| if good { Ok((1, 5)) } else { Err((number, 32)) };
         for line in [[b"X", &[octet][..], b":"].concat(), [b"g", &[octet][..], b".X:"].concat()] {
-            assert_eq!(verdict(&m_with(&line)), expected, "{octet}");
+            assert_eq!(verdict(&m_with(&line)), expected(40), "{octet}");
         }
         if octet != b'=' {
-            assert_eq!(verdict(&m_with(&[b"X;a", &[octet][..], b"=:"].concat())), expected, "{octet}");
+            assert_eq!(verdict(&m_with(&[b"X;a", &[octet][..], b"=:"].concat())), expected(41), "{octet}");
         }
     }
 }
@@ -50,17 +53,44 @@ fn the_line_rule() {
         "A;B=\"\",\"\":", "A;B=\"C\",D:", "A;B=\"C;D:E,F\":", "A;B=C;D=E:", "A;B=\tC:", "A;B=é:", "A:;B",
         "A.B:C.D",
     ];
-    let bad = [
-        "", "A", ":", ":A", ".A:", "A.:", "A..B:", "A.B.C:", "A :", "A;:", "A;B:", "A;=:", "A;B=C",
-        "A;B=C;:", "A;B=\":", "A;B=\"C", "A;B=\"C\"D:", "A;B=\"C\"\"D\":", "A;B=C\":", "A;B=C\"D\":", "A_:",
-        "é:", "A;é=B:", "A; B=C:", "A;B =C:", "BDAY;19531015T231000Z",
+    let bad: [(u32, &[&str]); 4] = [
+        (40, &["", ":", ":A", ".A:", "A.:", "A..B:", "A.B.C:", "A :", "A_:", "é:"]),
+        (41, &["A;:", "A;B:", "A;=:", "A;B=C;:", "A;é=B:", "A; B=C:", "A;B =C:", "BDAY;19531015T231000Z"]),
+        (42, &["A;B=\":", "A;B=\"C", "A;B=\"C\"D:", "A;B=\"C\"\"D\":", "A;B=C\":", "A;B=C\"D\":"]),
+        (43, &["A", "A;B=C"]),
     ];
     for line in good {
         assert_eq!(line_verdict(line), Ok((1, 5)), "{line}");
     }
-    for line in bad {
-        assert_eq!(line_verdict(line), Err((6, 32)), "{line}");
+    for (number, lines) in bad {
+        for line in lines {
+            assert_eq!(line_verdict(line), Err((number, 32)), "{line}");
+        }
     }
+    for (number, line) in TABLE {
+        assert_eq!(fault_of(line.as_bytes()), Some(number), "{line}");
+    }
+}
+
+#[test]
+fn a_line_has_a_fault_exactly_if_it_has_no_parts() {
+    for line in lines_up_to(5, b"a.;=\",:") {
+        assert_eq!(fault_of(&line).is_none(), parse(&line).is_some(), "{line:?}");
+    }
+}
+
+/// All lines of at most so many of these octets.
+fn lines_up_to(most: usize, octets: &[u8]) -> Vec<Vec<u8>> {
+    let mut lines = vec![Vec::new()];
+    let mut last = lines.clone();
+    for _ in 0..most {
+        last = last
+            .iter()
+            .flat_map(|line| octets.iter().map(|&octet| [line.as_slice(), &[octet]].concat()))
+            .collect();
+        lines.extend(last.clone());
+    }
+    lines
 }
 
 #[test]

@@ -14,13 +14,13 @@ fn after_fn(octets: &[u8]) -> Vec<u8> {
 fn a1_a_line_that_begins_with_a_fold_starts_at_its_first_physical_line() {
     assert_eq!(verdict(&after_fn(b"\r\n N:Doe;J\r\n")), Err((7, 32)));
     assert_eq!(verdict(&after_fn(b"\r\n \x01\r\n")), Err((5, 32)));
-    assert_eq!(verdict(&after_fn(b"\r\n\t\r\n NOTE\r\n")), Err((6, 32)));
+    assert_eq!(verdict(&after_fn(b"\r\n\t\r\n NOTE\r\n")), Err((43, 32)));
     assert_eq!(verdict(b"BEGIN:VCARD\r\nVERSION:4.0\r\n\r\n END:VCARD\r\n"), Err((11, 26)));
 }
 
 #[test]
 fn a2_each_cr_lf_is_looked_at_once() {
-    assert_eq!(verdict(b"BEGIN:VCARD\r\nVERSION:4.0\r\nFN:A\r\n\r\n  X:1\r\nEND:VCARD\r\n"), Err((6, 32)));
+    assert_eq!(verdict(b"BEGIN:VCARD\r\nVERSION:4.0\r\nFN:A\r\n\r\n  X:1\r\nEND:VCARD\r\n"), Err((40, 32)));
 }
 
 #[test]
@@ -32,8 +32,8 @@ fn a3_a_fold_as_first_octets_is_removed() {
 
 #[test]
 fn a4_a_space_or_tab_as_first_octet_breaks_the_line_rule() {
-    assert_eq!(verdict(&[b" ", CARD_M].concat()), Err((6, 0)));
-    assert_eq!(verdict(&[b"\t", CARD_M].concat()), Err((6, 0)));
+    assert_eq!(verdict(&[b" ", CARD_M].concat()), Err((40, 0)));
+    assert_eq!(verdict(&[b"\t", CARD_M].concat()), Err((40, 0)));
     assert_eq!(verdict(b" \x01\r\n"), Err((5, 0)));
 }
 
@@ -54,8 +54,8 @@ fn a6_first_such_octet_and_the_order_of_3_and_4() {
 
 #[test]
 fn a7_blank_lines_and_lines_after_end() {
-    assert_eq!(verdict(&[CARD_M, b"\r\n"].concat()), Err((6, 43)));
-    assert_eq!(verdict(&[CARD_M, b"\r\n", CARD_M].concat()), Err((6, 43)));
+    assert_eq!(verdict(&[CARD_M, b"\r\n"].concat()), Err((40, 43)));
+    assert_eq!(verdict(&[CARD_M, b"\r\n", CARD_M].concat()), Err((40, 43)));
     assert_eq!(verdict(&[CARD_M, b"NOTE:a\r\n"].concat()), Err((9, 43)));
     assert_eq!(verdict(b"END:VCARD\r\n"), Err((9, 0)));
     assert_eq!(verdict(b"BEGIN:VCARD\r\nEND:VCARD\r\n"), Err((9, 13)));
@@ -160,8 +160,8 @@ fn a22_a_cut_may_fall_before_a_combining_mark() {
 #[test]
 fn a23_letters_are_ascii() {
     assert_eq!(line_kind("FN;VALUE=ur\u{131}:a"), 0);
-    assert_eq!(line_verdict("Ä:a"), Err((6, 32)));
-    assert_eq!(verdict(&["\u{FEFF}".as_bytes(), CARD_M].concat()), Err((6, 0)));
+    assert_eq!(line_verdict("Ä:a"), Err((40, 32)));
+    assert_eq!(verdict(&["\u{FEFF}".as_bytes(), CARD_M].concat()), Err((40, 0)));
 }
 
 #[test]

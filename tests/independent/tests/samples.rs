@@ -45,18 +45,18 @@ fn each_sample_has_its_verdict() {
 }
 
 #[test]
-fn the_table_names_forty_books_a_dozen_damaged_ones_and_no_other() {
+fn the_table_names_forty_books_fifteen_damaged_ones_and_no_other() {
     let (ordinary, damaged) = (books_in(""), books_in("damaged/"));
-    assert_eq!((ordinary.len(), damaged.len()), (40, 12));
+    assert_eq!((ordinary.len(), damaged.len()), (40, 15));
     let named: BTreeSet<String> = expected().into_iter().map(|(name, _)| name).collect();
     assert_eq!(named, &ordinary | &damaged);
 }
 
 #[test]
-fn the_damaged_books_have_one_refusal_each_from_1_to_12() {
+fn the_damaged_books_have_one_refusal_each() {
     let verdicts = expected().into_iter().filter(|(_, verdict)| verdict.starts_with("no "));
     let numbers = verdicts.map(|(_, verdict)| verdict.split(' ').nth(1).map(str::to_string));
-    assert!(numbers.eq((1..=12).map(|number| Some(number.to_string()))));
+    assert!(numbers.eq((1..=5).chain(7..=12).chain(40..=43).map(|number: u32| Some(number.to_string()))));
 }
 
 #[test]

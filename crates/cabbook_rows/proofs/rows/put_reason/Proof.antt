@@ -21,8 +21,8 @@ slice-aggregate-put-amount c = search needs
 put-amount-requires : tie.Need-put-amount-requires
 put-amount-requires c κs = search needs
 
-put-words-requires : tie.Need-put-words-requires
-put-words-requires c κs = search needs
+put-why-requires : tie.Need-put-why-requires
+put-why-requires c κs = search needs
 
 slice-aggregate-put-all-2 : tie.Need-slice-aggregate-put-all-2
 slice-aggregate-put-all-2 c = search needs
@@ -37,12 +37,12 @@ returns : tie.Need-returns
 unfolding octets
 returns c =
     let at-put-all2 = c .before .before in
-    let at-put-words = at-put-all2 .before .before .before .before .before in
-    let at-put-amount = at-put-words .before .before .before .before in
+    let at-put-why = at-put-all2 .before .before .before .before .before in
+    let at-put-amount = at-put-why .before .before .before .before in
     let at-line-of = at-put-amount .before .before in
     let at-put-all = at-line-of .before .before .before .before in
     let a = at-put-all .before .before .before .before .before .args in
-    rw (← at-line-of .line-of .ensures) ((piece _ (piece _ (piece _ (piece _ (nothing (page (a .at) (a .room .now))) (at-put-all .put-all .ensures)) (at-put-amount .put-amount .ensures)) (at-put-words .put-words .ensures)) (at-put-all2 .put-all2 .ensures)) .sum)
+    rw (← at-line-of .line-of .ensures) ((piece _ (piece _ (piece _ (piece _ (nothing (page (a .at) (a .room .now))) (at-put-all .put-all .ensures)) (at-put-amount .put-amount .ensures)) (at-put-why .put-why .ensures)) (at-put-all2 .put-all2 .ensures)) .sum)
 
 pub put-reason-spec : {M : Type 1} → statement M
 put-reason-spec =
@@ -53,7 +53,7 @@ put-reason-spec =
     line-of-requires
     slice-aggregate-put-amount
     put-amount-requires
-    put-words-requires
+    put-why-requires
     slice-aggregate-put-all-2
     put-all-requires-2
     same-length

@@ -22,21 +22,15 @@ returns c =
 parts-of-requires : tie.Need-parts-of-requires
 parts-of-requires c κs = search needs
 
-enum-known-p : tie.Need-enum-known-p
-enum-known-p c = search needs
+enum-known-e : tie.Need-enum-known-e
+enum-known-e c = search needs
 
-enum-told : tie.Need-enum-told
-enum-told c = search needs
-
-returns-2 : tie.Need-returns-2
-unfolding judgeLine
-returns-2 c =
-    let a = c .before .before .before .before .before .before .args in
-    refused (a .c) (a .at) (a .s .now) (rw (← c .before .before .before .before .first-bad .ensures) (c .before .before .before .if1 .left)) (sym (c .enum-told .given .1) ∙ c .before .before .parts-of .ensures)
+enum-known-x : tie.Need-enum-known-x
+enum-known-x c = search needs
 
 -- the line by its parts
-there : (c : tie.After-known-told) → Read (c .before .before .before .before .before .before .before .args .s .now) (c .before .p .given .0 .0)
-there c = read _ _ (sym (c .before .p .given .1) ∙ c .before .before .before .parts-of .ensures)
+there : (c : tie.After-known-told2) → Read (c .before .before .before .before .before .before .before .args .s .now) (c .before .x .given .0 .0)
+there c = read _ _ (sym (c .before .x .given .1) ∙ c .before .before .before .parts-of .ensures)
 
 sub-judge-parts : tie.Need-sub-judge-parts
 sub-judge-parts c = there c .inside
@@ -52,6 +46,12 @@ judge-parts-requires c κs =
     let s = c .before .before .before .before .before .before .before .before in
     (s .pre .0 .1, (s .pre .0 .2, ((there (c .before) .listed, there (c .before) .low), s .pre .1 .1)))
 
+returns-2 : tie.Need-returns-2
+unfolding judgeLine
+returns-2 c =
+    let a = c .before .before .before .before .before .before .before .args in
+    refused (a .c) (a .at) (a .s .now) (rw (← c .before .before .before .before .before .first-bad .ensures) (c .before .before .before .before .if1 .left)) (sym (c .before .e .given .1) ∙ c .before .before .before .parts-of .ensures)
+
 returns-3 : tie.Need-returns-3
 returns-3 c =
     let s = c .before .before .before .before .before .before .before .before .before in
@@ -65,11 +65,11 @@ judge-line-spec =
     first-bad-requires
     returns
     parts-of-requires
-    enum-known-p
-    enum-told
-    returns-2
+    enum-known-e
+    enum-known-x
     sub-judge-parts
     part-judge-parts-start
     part-judge-parts-end
     judge-parts-requires
+    returns-2
     returns-3)
