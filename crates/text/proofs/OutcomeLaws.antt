@@ -17,6 +17,7 @@ use Rattle.text_unescaping.specs.Measured.{measured}
 use Rattle.text_unescaping.specs.declared.Measured.{Measured}
 use Rattle.text_unescaping.specs.declared.Measured.the-variants.{Octets, Fault}
 use Rattle.octets.specs.Counts.{any}
+use Rattle.utf8_screening.specs.Plain.{odd}
 use Rattle.text_marks.specs.Seen.{held, seen}
 use Rattle.text.specs.declared.Screened.{Screened}
 use Rattle.text.specs.declared.Screened.the-variants.{Saw, Refused}
@@ -96,7 +97,7 @@ module _ (k : Change) (t room : List ℕ) {s : Screened} (e : s ≡ screened (k 
     left-outcome h = h ∙ saw .1 .1
 
     pub same-outcome : {r : Filled} → l < 2 → r ≡ fill t room → r ≡ outcome k t room
-    same-outcome low h = h ∙ k .same t room (saw .1 .0) (seen-low t l (k .x) (k .y) (saw .0) low) ∙ saw .1 .1
+    same-outcome low h = h ∙ k .same t room (saw .1 .0) (seen-low odd (held (k .x) (k .y)) t l (saw .0) low) ∙ saw .1 .1
 
 -- a text that screening does not refuse is short
 pub short-text : (k : Change) (t : List ℕ) {s : Screened} {l : ℕ} → s ≡ screened (k .lf) (k .x) (k .y) t → s ≡ Saw l → length t ≤ 16384

@@ -3,6 +3,8 @@ use mathlib.Core.Path.{sym}
 use lib.ListN.{length}
 use borrow.Author.Needs.{needs}
 use borrow.Author.Tests.{lt-ltb, le-ltb}
+use Rattle.utf8_screening.specs.Plain.{odd}
+use Rattle.text_marks.specs.Seen.{held}
 use Rattle.text_marks.proofs.SeenLaws.{seen-plain}
 use Rattle.text.specs.Screened.{screened}
 use Rattle.text.proofs.screen.Statement.{statement}
@@ -18,7 +20,7 @@ see-requires c κs = search needs
 bad-octet-requires : tie.Need-bad-octet-requires
 bad-octet-requires c κs =
     let a = c .before .before .before .args in
-    seen-plain (a .text .now) (c .see .result) (a .x) (a .y) (c .see .ensures)
+    seen-plain odd (held (a .x) (a .y)) (a .text .now) (c .see .result) (c .see .ensures)
 
 returns-2 : tie.Need-returns-2
 unfolding screened
