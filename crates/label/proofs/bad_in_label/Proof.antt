@@ -1,23 +1,19 @@
+-- `label::bad_in_label` meets its contract. Assumes nothing.
+use mathlib.Core.Path.{sym}
+use Rattle.label_marks.proofs.UnitLaws.{good-label}
 use borrow.Author.Needs.{needs}
 use Rattle.label.proofs.bad_in_label.Statement.{statement}
 use Rattle.label.proofs.bad_in_label.Tie as tie
-use Rattle.label.proofs.bad_in_label.Reads as reads
-use Rattle.label.proofs.bad_in_label.Lts as lts
-use Rattle.label_marks.proofs.units.first_bad.Reads as first-bad-reads
 
--- src/lib.rt:43:9
 returns : tie.Need-returns
-returns c = ?
+returns c = sym (good-label (c .before .before .args .label .now) (c .before .before .pre .0 (c .if1 .taken)))
 
--- src/lib.rt:46:9
 returns-2 : tie.Need-returns-2
-returns-2 c = ?
+returns-2 c = sym (good-label (c .before .before .before .args .label .now) (c .before .before .before .pre .1 (c .if2 .taken)))
 
--- src/lib.rt:48:5
 first-bad-requires : tie.Need-first-bad-requires
 first-bad-requires c κs = search needs
 
--- src/lib.rt:38:1
 returns-3 : tie.Need-returns-3
 returns-3 c = search needs
 

@@ -1,23 +1,19 @@
+-- `label::bad_in_value` meets its contract. Assumes nothing.
+use mathlib.Core.Path.{sym}
+use Rattle.label_marks.proofs.UnitLaws.{good-value}
 use borrow.Author.Needs.{needs}
 use Rattle.label.proofs.bad_in_value.Statement.{statement}
 use Rattle.label.proofs.bad_in_value.Tie as tie
-use Rattle.label.proofs.bad_in_value.Reads as reads
-use Rattle.label.proofs.bad_in_value.Lts as lts
-use Rattle.utf8_screening.proofs.texts.first_bad.Reads as first-bad-reads
 
--- src/lib.rt:29:9
 returns : tie.Need-returns
-returns c = ?
+returns c = sym (good-value (c .before .before .args .value .now) (c .before .before .pre .0 (c .if1 .taken)))
 
--- src/lib.rt:32:9
 returns-2 : tie.Need-returns-2
-returns-2 c = ?
+returns-2 c = sym (good-value (c .before .before .before .args .value .now) (c .before .before .before .pre .1 (c .if2 .taken)))
 
--- src/lib.rt:34:5
 first-bad-requires : tie.Need-first-bad-requires
 first-bad-requires c κs = search needs
 
--- src/lib.rt:24:1
 returns-3 : tie.Need-returns-3
 returns-3 c = search needs
 

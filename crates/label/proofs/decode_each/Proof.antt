@@ -1,42 +1,54 @@
+-- `label::decode_each` meets its contract. Assumes nothing.
+use mathlib.Core.Path.{_≡_, sym, ap, _∙_}
+use mathlib.Core.List.{_++_}
+use Prim.Native.Nat.{ℕ}
+use native.Mathlib.Omega.{arith}
+use lib.ListN.{length, drop}
+use Rattle.octets.proofs.RoomLaws.{fill-short, fill-fits}
+use Rattle.label_carets.specs.Decoded.{decoded}
+use Rattle.label_carets.specs.declared.Rule.the-variants.{Rfc6868}
+use Rattle.label_carets.proofs.PairLaws.{decoded-short}
 use borrow.Author.Needs.{needs}
 use Rattle.label.proofs.decode_each.Statement.{statement}
 use Rattle.label.proofs.decode_each.Tie as tie
-use Rattle.label.proofs.decode_each.Reads as reads
-use Rattle.label.proofs.decode_each.Lts as lts
-use Rattle.label_carets.proofs.measure.Reads as measure-reads
-use Rattle.label_carets.proofs.write.Reads as write-reads
 
--- src/lib.rt:151:13
 write-requires : tie.Need-write-requires
-write-requires c κs = ?
+write-requires c κs =
+    omega (arith, decoded-short Rfc6868 (c .before .before .before .before .args .label .now))
 
--- src/lib.rt:152:9
 same-length : tie.Need-same-length
 same-length c = search needs
 
--- src/lib.rt:152:9
 returns : tie.Need-returns
-returns c = ?
+returns c =
+    let a = c .before .before .before .before .before .before .before .args in
+    let d = decoded Rfc6868 (a .label .now) in
+    let w = c .before .before .write in
+    fill-fits d (a .out .now) (w .result) (w .ensures .1) (omega (arith, w .ensures .1, decoded-short Rfc6868 (a .label .now))) (w .last .1 .0)
+    (w .ensures .0 ∙ ap (λ (k : ℕ). d ++ drop k (a .out .now)) (sym (w .ensures .1)))
 
--- src/lib.rt:154:9
 measure-requires : tie.Need-measure-requires
 measure-requires c κs = search needs
 
--- src/lib.rt:156:9
 returns-2 : tie.Need-returns-2
-returns-2 c = ?
+returns-2 c =
+    let a = c .before .before .before .before .before .args in
+    let m = c .before .measure in
+    fill-short (decoded Rfc6868 (a .label .now)) (a .out .now) (m .result) (m .ensures) (c .if2 .taken)
 
--- src/lib.rt:158:5
 write-requires-2 : tie.Need-write-requires-2
 write-requires-2 c κs = search needs
 
--- src/lib.rt:147:1
 same-length-2 : tie.Need-same-length-2
 same-length-2 c = search needs
 
--- src/lib.rt:147:1
 returns-3 : tie.Need-returns-3
-returns-3 c = ?
+returns-3 c =
+    let a = c .before .before .before .before .before .before .before .before .before .args in
+    let d = decoded Rfc6868 (a .label .now) in
+    let m = c .before .before .before .before .before .measure in
+    let w = c .before .before .write2 in
+    fill-fits d (a .out .now) (m .result) (m .ensures) (omega arith) (w .last .1 .0) (w .ensures .0 ∙ ap (λ (k : ℕ). d ++ drop k (a .out .now)) (sym (m .ensures)))
 
 pub decode-each-spec : {M : Type 1} → statement M
 decode-each-spec =
