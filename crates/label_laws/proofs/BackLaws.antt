@@ -11,60 +11,66 @@ use borrow.Author.Tests.{ltb-false, le-ltb}
 use Rattle.octets.specs.Pick.{pick}
 use Rattle.octets.specs.Classes.{quoted, run, more}
 use Rattle.octets.specs.Room.{Filled, filled, refuse, overlay, fill, fillBounded}
-use Rattle.utf8.proofs.Chars.{bad-le}
 use Rattle.octets.specs.declared.rooms.Written.the-variants.{Wrote, Refused}
+use Rattle.octets.proofs.Bools.{clash}
 use Rattle.utf8.specs.Characters.{allowed, firstBad}
-use Rattle.label_laws.specs.Reads.{Reads, Caretless, Sayable}
+use Rattle.utf8.proofs.Chars.{bad-le}
+use Rattle.text.specs.Outcomes.{checked}
 use Rattle.label_carets.specs.Encoded.{encoded}
 use Rattle.label_carets.specs.Decoded.{decoded}
-use Rattle.text.specs.Outcomes.{checked}
-use Rattle.label.specs.Outcomes.{writable, sayable, encodeOutcome, decodeOutcome}
 use Rattle.label_carets.specs.declared.Rule.{Rule}
 use Rattle.label_carets.specs.declared.Rule.the-variants.{Rfc6350, Rfc6868}
-use Rattle.label_laws.proofs.ReadsLaws.{caretless, decoded-encoded, reads-so}
+use Rattle.label.specs.Outcomes.{writable, sayable, encodeOutcome, decodeOutcome}
+use Rattle.label_laws.specs.Reads.{Caretless, Sayable}
+use Rattle.label_laws.proofs.ReadsLaws.{caretless, decoded-encoded}
 use Rattle.label_laws.proofs.QuotedLaws.{encoded-fair, new-says, old-says}
 
 -- xs stand at the start of the room, which is as it was past them
 abbrev pub wrote : List ℕ → List ℕ → Filled
 wrote xs room = filled (Wrote (length xs)) (overlay xs room)
 
-never : {A : Type 0} (n k p : ℕ) → Wrote n ≡ Refused k p → A
-never n k p e = absurd (let z : _≡_ {A = ℕ} 0 1 = cc in omega arith)
-
 -- Shown for both at once: whatever the room, a value without a caret has the same outcome under any two rules.
 pub same-outcome : (r s : Rule) (t room : List ℕ) → Caretless t → decodeOutcome r t room ≡ decodeOutcome s t room
 unfolding decodeOutcome
 same-outcome r s t room c = ap (λ (x : List ℕ). checked quoted t room (fill x room)) (caretless r t c ∙ sym (caretless s t c))
 
--- decode writes what the grammar reads
-pub decodes : (r : Rule) (t v room : List ℕ) → length t ≤ 16384 → firstBad quoted t ≡ length t → Reads r t v → length v ≤ length room → decodeOutcome r t room ≡ wrote v room
-unfolding decodeOutcome checked fill
-decodes r t v room s f d h =
-    rw (reads-so d, le-ltb 16384 (length t) s, le-ltb (firstBad quoted t) (length t) (omega arith), le-ltb (length room) (length v) h) refl
+-- ---- where octets were written, no refusal was answered
 
--- ---- where encode wrote
+never : {A : Type 0} (k p n : ℕ) (room after : List ℕ) → refuse k p room ≡ filled (Wrote n) after → A
+never k p n room after e = let w : Refused k p ≡ Wrote n = ap (λ (f : Filled). f .answer) e in clash cc
 
-record Encoded (r : Rule) (t out after : List ℕ) (n : ℕ) : Type 0 where
-  fair : firstBad quoted (encoded r t) ≡ length (encoded r t)
-  short : length (encoded r t) ≤ 16384
-  written : take n after ≡ encoded r t
+module _ (n : ℕ) (after : List ℕ) where
+  passed : (p : ℕ → Bool) (t room : List ℕ) (left : Filled) → checked p t room left ≡ filled (Wrote n) after → (firstBad p t ≡ length t) × (left ≡ filled (Wrote n) after)
+  unfolding checked
+  passed p t room left e = by (ltb 16384 (length t)) (ltb (firstBad p t) (length t)) refl e
+    where
+      by : (a b : Bool) → ltb (firstBad p t) (length t) ≡ b → pick a (refuse 1 16384 room) (pick b (refuse 31 (firstBad p t) room) left) ≡ filled (Wrote n) after
+          → (firstBad p t ≡ length t) × (left ≡ filled (Wrote n) after)
+      by true b h e = never 1 16384 n room after e
+      by false true h e = never 31 (firstBad p t) n room after e
+      by false false h e = (omega (arith, ltb-false (firstBad p t) (length t) h, bad-le p t), e)
 
-module _ (r : Rule) (t out after : List ℕ) (n : ℕ) where
-  in-room : firstBad quoted (encoded r t) ≡ length (encoded r t) → (a b : Bool) → ltb 16384 (length (encoded r t)) ≡ a
-      → filled (Wrote n) after ≡ pick a (refuse 16 16384 out) (pick b (refuse 15 (length (encoded r t)) out) (wrote (encoded r t) out)) → Encoded r t out after n
-  in-room f true b p e = never n 16 16384 (ap (λ (x : Filled). x .answer) e)
-  in-room f false true p e = never n 15 (length (encoded r t)) (ap (λ (x : Filled). x .answer) e)
-  in-room f false false p e =
-      let a : Wrote n ≡ Wrote (length (encoded r t)) = ap (λ (x : Filled). x .answer) e in
-      let m : n ≡ length (encoded r t) = cc in
-      let q : after ≡ overlay (encoded r t) out = ap (λ (x : Filled). x .room) e in
-      record { fair = f; short = ltb-false 16384 (length (encoded r t)) p; written = rw (m, q) (take-append-seam (encoded r t) (drop (length (encoded r t)) out)) }
+  fit : (xs room : List ℕ) → fill xs room ≡ filled (Wrote n) after → (n ≡ length xs) × (after ≡ overlay xs room)
+  unfolding fill
+  fit xs room e = by (ltb (length room) (length xs)) e
+    where
+      count : Wrote (length xs) ≡ Wrote n → n ≡ length xs
+      count e = cc
 
-  bounded : firstBad quoted (encoded r t) ≡ length (encoded r t) → filled (Wrote n) after ≡ fillBounded (encoded r t) out → Encoded r t out after n
-  unfolding fillBounded fill
-  bounded f e = in-room f (ltb 16384 (length (encoded r t))) (ltb (length out) (length (encoded r t))) refl e
+      by : (a : Bool) → pick a (refuse 15 (length xs) room) (wrote xs room) ≡ filled (Wrote n) after → (n ≡ length xs) × (after ≡ overlay xs room)
+      by true e = never 15 (length xs) n room after e
+      by false e = (count (ap (λ (f : Filled). f .answer) e), sym (ap (λ (f : Filled). f .room) e))
 
-run-le : (p : ℕ → Bool) (l : List ℕ) → run p l ≤ length l
+  bounded : (xs room : List ℕ) → fillBounded xs room ≡ filled (Wrote n) after → (length xs ≤ 16384) × (fill xs room ≡ filled (Wrote n) after)
+  unfolding fillBounded
+  bounded xs room e = by (ltb 16384 (length xs)) refl e
+    where
+      by : (a : Bool) → ltb 16384 (length xs) ≡ a → pick a (refuse 16 16384 room) (fill xs room) ≡ filled (Wrote n) after
+          → (length xs ≤ 16384) × (fill xs room ≡ filled (Wrote n) after)
+      by true h e = never 16 16384 n room after e
+      by false h e = (ltb-false 16384 (length xs) h, e)
+
+pub run-le : (p : ℕ → Bool) (l : List ℕ) → run p l ≤ length l
 unfolding run
 run-le p [] = omega arith
 run-le p (x ∷ xs) = by (p x) (run-le p xs)
@@ -73,27 +79,39 @@ run-le p (x ∷ xs) = by (p x) (run-le p xs)
     by true h = omega arith
     by false h = omega arith
 
--- the old rule can write the value, or 44 was told
-said : (r : Rule) (t out after : List ℕ) (n : ℕ) → firstBad (allowed true) t ≡ length t → filled (Wrote n) after ≡ sayable r t out (fillBounded (encoded r t) out) → Encoded r t out after n
-said Rfc6868 t out after n f e = bounded Rfc6868 t out after n (encoded-fair Rfc6868 t f (new-says t)) e
-said Rfc6350 t out after n f e = by (ltb (run writable t) (length t)) refl e
+said : (r : Rule) (t room after : List ℕ) (n : ℕ) (left : Filled) → sayable r t room left ≡ filled (Wrote n) after → Sayable r t × (left ≡ filled (Wrote n) after)
+said Rfc6868 t room after n left e = (new-says t, e)
+said Rfc6350 t room after n left e = by (ltb (run writable t) (length t)) refl e
   where
-    by : (b : Bool) → ltb (run writable t) (length t) ≡ b → filled (Wrote n) after ≡ pick b (refuse 44 (run writable t) out) (fillBounded (encoded Rfc6350 t) out) → Encoded Rfc6350 t out after n
-    by true h e = never n 44 (run writable t) (ap (λ (x : Filled). x .answer) e)
-    by false h e =
-        bounded Rfc6350 t out after n (encoded-fair Rfc6350 t f (old-says t (omega (arith, ltb-false (run writable t) (length t) h, run-le writable t)))) e
+    by : (b : Bool) → ltb (run writable t) (length t) ≡ b → pick b (refuse 44 (run writable t) room) left ≡ filled (Wrote n) after
+        → Sayable Rfc6350 t × (left ≡ filled (Wrote n) after)
+    by true h e = never 44 (run writable t) n room after e
+    by false h e = (old-says t (omega (arith, ltb-false (run writable t) (length t) h, run-le writable t)), e)
 
-wrote-encoded : (r : Rule) (t out after : List ℕ) (n : ℕ) → encodeOutcome r t out ≡ filled (Wrote n) after → Encoded r t out after n
-unfolding encodeOutcome checked
-wrote-encoded r t out after n e = by (ltb 16384 (length t)) (ltb (firstBad (allowed true) t) (length t)) refl (sym e)
-  where
-    by : (a b : Bool) → ltb (firstBad (allowed true) t) (length t) ≡ b
-        → filled (Wrote n) after ≡ pick a (refuse 1 16384 out) (pick b (refuse 31 (firstBad (allowed true) t) out) (sayable r t out (fillBounded (encoded r t) out)))
-        → Encoded r t out after n
-    by true b h e = never n 1 16384 (ap (λ (x : Filled). x .answer) e)
-    by false true h e = never n 31 (firstBad (allowed true) t) (ap (λ (x : Filled). x .answer) e)
-    by false false h e =
-        said r t out after n (omega (arith, ltb-false (firstBad (allowed true) t) (length t) h, bad-le (allowed true) t)) e
+-- ---- where encode and decode wrote
+
+-- the label is short and may stand between quote marks, and its octets are those written
+pub record Encoded (r : Rule) (t out after : List ℕ) (n : ℕ) : Type 0 where
+  pub fair : firstBad quoted (encoded r t) ≡ length (encoded r t)
+  pub short : length (encoded r t) ≤ 16384
+  pub count : n ≡ length (encoded r t)
+  pub holds : after ≡ overlay (encoded r t) out
+
+pub wrote-encoded : (r : Rule) (t out after : List ℕ) (n : ℕ) → encodeOutcome r t out ≡ filled (Wrote n) after → Encoded r t out after n
+unfolding encodeOutcome
+wrote-encoded r t out after n e =
+    let c = passed n after (allowed true) t out (sayable r t out (fillBounded (encoded r t) out)) e in
+    let s = said r t out after n (fillBounded (encoded r t) out) (c .1) in
+    let b = bounded n after (encoded r t) out (s .1) in
+    let f = fit n after (encoded r t) out (b .1) in
+    record { fair = encoded-fair r t (c .0) (s .0); short = b .0; count = f .0; holds = f .1 }
+
+pub wrote-decoded : (r : Rule) (t out after : List ℕ) (n : ℕ) → decodeOutcome r t out ≡ filled (Wrote n) after → (n ≡ length (decoded r t)) × (after ≡ overlay (decoded r t) out)
+unfolding decodeOutcome
+wrote-decoded r t out after n e = fit n after (decoded r t) out (passed n after quoted t out (fill (decoded r t) out) e .1)
+
+pub written : {r : Rule} {t out after : List ℕ} {n : ℕ} → Encoded r t out after n → take n after ≡ encoded r t
+written {r} {t} {out} w = rw (w .count, w .holds) (take-append-seam (encoded r t) (drop (length (encoded r t)) out))
 
 -- One statement for both rules: what encode wrote, decode gives back, where there is room.
 pub back : (r : Rule) (t out after room : List ℕ) (n : ℕ) → encodeOutcome r t out ≡ filled (Wrote n) after → length t ≤ length room
@@ -101,4 +119,4 @@ pub back : (r : Rule) (t out after room : List ℕ) (n : ℕ) → encodeOutcome 
 unfolding decodeOutcome checked fill
 back r t out after room n e h =
     let w = wrote-encoded r t out after n e in
-    rw (w .written, decoded-encoded r t, le-ltb 16384 (length (encoded r t)) (w .short), le-ltb (firstBad quoted (encoded r t)) (length (encoded r t)) (omega (arith, w .fair)), le-ltb (length room) (length t) h) refl
+    rw (written w, decoded-encoded r t, le-ltb 16384 (length (encoded r t)) (w .short), le-ltb (firstBad quoted (encoded r t)) (length (encoded r t)) (omega (arith, w .fair)), le-ltb (length room) (length t) h) refl

@@ -1,12 +1,13 @@
 -- What encoding writes may stand between quote marks. Assumes nothing.
 use mathlib.Core.Path.{_≡_, refl, sym, ap, _∙_}
-use mathlib.Core.Bool.{Bool, true, false, not, _&&_, _||_, true≢false}
+use mathlib.Core.Bool.{Bool, true, false, not, _&&_, _||_, or-true, true≢false}
 use mathlib.Core.List.{List, [], _∷_, _++_}
+use mathlib.Core.Logic.{_⊎_, inl, inr}
 use Prim.Native.Nat.{ℕ, zero, suc, _<_, _≤_}
 use native.Mathlib.Omega.{arith}
 use lib.Dec.{eqb}
-use lib.ListN.{length, getD}
-use borrow.Author.Tests.{eqb-true, eqb-false, ne-eqb}
+use lib.ListN.{length, getD, take}
+use borrow.Author.Tests.{eqb-true, eqb-false, eq-eqb, ne-eqb}
 use Rattle.octets.specs.Pick.{pick}
 use Rattle.octets.specs.Classes.{valued, quoted, run, more as longer}
 use Rattle.utf8.specs.Characters.{tail, charLength, allowed, firstBad}
@@ -15,7 +16,7 @@ use Rattle.utf8.proofs.Chars.{ascii}
 use Rattle.label_marks.specs.Seen.{mark}
 use Rattle.label_carets.specs.Encoded.{marked, letter, inLabel, encoded}
 use Rattle.label.specs.Outcomes.{writable}
-use Rattle.label_laws.specs.Reads.{Says, Sayable, none, more}
+use Rattle.label_laws.specs.Reads.{Says, Sayable, none, more, Unsaid}
 use Rattle.label_carets.specs.declared.Rule.{Rule}
 use Rattle.label_carets.specs.declared.Rule.the-variants.{Rfc6350, Rfc6868}
 
@@ -160,3 +161,33 @@ pub says-old : {t : List ℕ} → Sayable Rfc6350 t → run writable t ≡ lengt
 unfolding run writable
 says-old none = refl
 says-old (more {b} {l} s f) = rw (ne-eqb b 10 (s .0), ne-eqb b 34 (s .1)) (ap suc (says-old f))
+
+-- ---- the first newline or quote mark of a value
+
+pub first-unsaid : (t : List ℕ) → run writable t < length t → Unsaid t (run writable t)
+unfolding run writable
+first-unsaid [] h = absurd (omega arith)
+first-unsaid (x ∷ xs) h = by (eqb x 10) refl (eqb x 34) refl h (first-unsaid xs)
+  where
+    by : (p : Bool) → eqb x 10 ≡ p → (q : Bool) → eqb x 34 ≡ q → longer (not (p || q)) (run writable xs) < suc (length xs)
+        → (run writable xs < length xs → Unsaid xs (run writable xs)) → Unsaid (x ∷ xs) (longer (not (p || q)) (run writable xs))
+    by true e q i h f = record { inside = omega arith; before = none; there = inl (eqb-true x 10 e) }
+    by false e true i h f = record { inside = omega arith; before = none; there = inr (eqb-true x 34 i) }
+    by false e false i h f =
+        let u = f (omega arith) in
+        record { inside = h; before = more (eqb-false x 10 e, eqb-false x 34 i) (u .before); there = u .there }
+
+pub unsaid-first : (t : List ℕ) (p : ℕ) → Unsaid t p → run writable t ≡ p
+unfolding run writable
+unsaid-first [] p u = absurd (omega (arith, u .inside))
+unsaid-first (x ∷ xs) zero u = by (u .there)
+  where
+    by : (x ≡ 10) ⊎ (x ≡ 34) → longer (not (eqb x 10 || eqb x 34)) (run writable xs) ≡ 0
+    by (inl e) = rw (eq-eqb x 10 e)
+    by (inr e) = rw (eq-eqb x 34 e, or-true (eqb x 10))
+unsaid-first (x ∷ xs) (suc p) u = by (u .before) (unsaid-first xs p)
+  where
+    by : Sayable Rfc6350 (x ∷ take p xs) → (Unsaid xs p → run writable xs ≡ p) → longer (not (eqb x 10 || eqb x 34)) (run writable xs) ≡ suc p
+    by (more s f) next =
+        let h = u .inside in
+        rw (ne-eqb x 10 (s .0), ne-eqb x 34 (s .1)) (ap suc (next (record { inside = omega arith; before = f; there = u .there })))
