@@ -21,14 +21,14 @@ enum-told-3 c = search needs
 unescape-requires : tie.Need-unescape-requires
 unescape-requires c κs = search needs
 
-enum-told-4 : tie.Need-enum-told-4
-enum-told-4 c = search needs
+enum-known-entry : tie.Need-enum-known-entry
+enum-known-entry c = search needs
 
 encode-requires : tie.Need-encode-requires
 encode-requires c κs = search needs
 
-enum-told-5 : tie.Need-enum-told-5
-enum-told-5 c = search needs
+enum-known-entry-2 : tie.Need-enum-known-entry-2
+enum-known-entry-2 c = search needs
 
 decode-requires : tie.Need-decode-requires
 decode-requires c κs = search needs
@@ -55,13 +55,13 @@ same-length-4 : tie.Need-same-length-4
 same-length-4 c = search needs
 
 returns-4 : tie.Need-returns-4
-returns-4 c = rw (c .before .before .before .before .enum-told4 .given .1) (c .before .before .encode .ensures)
+returns-4 c = rw (c .before .before .before .before .before .entry .given .1) (c .before .before .encode .ensures)
 
 same-length-5 : tie.Need-same-length-5
 same-length-5 c = search needs
 
 returns-5 : tie.Need-returns-5
-returns-5 c = rw (c .before .before .before .before .enum-told5 .given .1) (c .before .before .decode .ensures)
+returns-5 c = rw (c .before .before .before .before .before .entry2 .given .1) (c .before .before .decode .ensures)
 
 pub call-spec : {M : Type 1} → statement M
 call-spec =
@@ -73,9 +73,9 @@ call-spec =
     escape-requires
     enum-told-3
     unescape-requires
-    enum-told-4
+    enum-known-entry
     encode-requires
-    enum-told-5
+    enum-known-entry-2
     decode-requires
     same-length
     returns
