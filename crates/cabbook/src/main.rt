@@ -159,10 +159,18 @@ fn run(name: &[u8], count: usize) -> u8 {
         return apply_to_one_or_input(Command::Write(Form::Unescaped), FIRST_FILE, count);
     }
     if same_name(name, b"encode") {
-        return apply_by_rule(Form::Encoded(Rule::Rfc6350), Form::Encoded(Rule::Rfc6868), count);
+        return apply_by_rule(
+            Form::Encoded(Rule::Rfc6350),
+            Form::Encoded(Rule::Rfc6868),
+            count,
+        );
     }
     if same_name(name, b"decode") {
-        return apply_by_rule(Form::Decoded(Rule::Rfc6350), Form::Decoded(Rule::Rfc6868), count);
+        return apply_by_rule(
+            Form::Decoded(Rule::Rfc6350),
+            Form::Decoded(Rule::Rfc6868),
+            count,
+        );
     }
     if same_name(name, b"morning") {
         return run_morning(count);

@@ -180,7 +180,15 @@ pub fn put_write_answer(entry: Writer, r: usize, input: &[u8], out: &mut [u8], a
 }
 
 // Adds the answer to `encode RULE ROOM OCTETS` or `decode RULE ROOM OCTETS`: that of the one entry for rule 0, of the other for rule 1.
-pub fn put_rule_answer(old: Writer, new: Writer, rule: usize, r: usize, input: &[u8], out: &mut [u8], at: usize) -> usize
+pub fn put_rule_answer(
+    old: Writer,
+    new: Writer,
+    rule: usize,
+    r: usize,
+    input: &[u8],
+    out: &mut [u8],
+    at: usize,
+) -> usize
     ensures { λ q. ⌜ page q (now (out .exit)) ≡ added (ruleAnswer old new rule r (now (input .entry))) (page at (now (out .entry))) ⌝ }
 {
     if rule == 0 {

@@ -116,9 +116,9 @@ labels =
       between = between;
       back = λ r t out room n e h. writes (back r t out (encodeOutcome r t out .room) room n (filled-so (encodeOutcome r t out) n e) h);
       old-encodes = λ t out n e.
-        let w = wrote-encoded Rfc6350 t out (encodeOutcome Rfc6350 t out .room) n (filled-so (encodeOutcome Rfc6350 t out) n e) in
-        as-it-is (encodeOutcome Rfc6350 t out) n (encoded Rfc6350 t) t out e (w .count) (w .holds) (old-encoded t);
+          let w = wrote-encoded Rfc6350 t out (encodeOutcome Rfc6350 t out .room) n (filled-so (encodeOutcome Rfc6350 t out) n e) in
+          as-it-is (encodeOutcome Rfc6350 t out) n (encoded Rfc6350 t) t out e (w .count) (w .holds) (old-encoded t);
       old-decodes = λ t out n e.
-        let w = wrote-decoded Rfc6350 t out (decodeOutcome Rfc6350 t out .room) n (filled-so (decodeOutcome Rfc6350 t out) n e) in
-        as-it-is (decodeOutcome Rfc6350 t out) n (decoded Rfc6350 t) t out e (w .0) (w .1) (old-decoded t);
+          let w = wrote-decoded Rfc6350 t out (decodeOutcome Rfc6350 t out .room) n (filled-so (decodeOutcome Rfc6350 t out) n e) in
+          as-it-is (decodeOutcome Rfc6350 t out) n (decoded Rfc6350 t) t out e (w .0) (w .1) (old-decoded t);
     }

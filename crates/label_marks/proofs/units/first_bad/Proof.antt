@@ -46,9 +46,10 @@ loop-again : tie.Need-loop-again Inv-loop μ-loop
 loop-again c =
     let l = c .before .before .before .before in
     let s = l .before .before .before .args .s .now in
-    let u = c .before .unit-length in
-    (unit-inside quoted s (l .loop .i) (u .result) (u .ensures) (l .loop .inv .0),
-    l .loop .inv .1 ∙ bad-step quoted s (l .loop .i) (u .result) (u .ensures) (c .if1 .left) (l .loop .inv .0))
+    let u = c .before .unit-length in (
+      unit-inside quoted s (l .loop .i) (u .result) (u .ensures) (l .loop .inv .0),
+      l .loop .inv .1 ∙ bad-step quoted s (l .loop .i) (u .result) (u .ensures) (c .if1 .left) (l .loop .inv .0),
+    )
 
 returns-2 : tie.Need-returns-2 Inv-loop μ-loop
 returns-2 c =
