@@ -38,7 +38,7 @@ impl Default for Plan {
             line_faults: 30_000,
             folds: 10_000,
             texts: 80_000,
-            labels: 40_000,
+            labels: 50_000,
             lists: 2_000,
             desks: 3_000,
             seed: 1,

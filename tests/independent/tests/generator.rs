@@ -5,8 +5,8 @@ use std::collections::HashSet;
 use independent::beside::{compare_desks, survey_desks};
 use independent::compare::{steps, Plan};
 use independent::generator::{
-    desks::desks, folds, folds::folds, hand, labels, labels::labels, line_faults::line_faults, lists, lists::lists,
-    readers, texts, texts::texts,
+    desks::desks, folds, folds::folds, hand, labels, labels::labels, line_faults::line_faults, lists,
+    lists::lists, readers, texts, texts::texts,
 };
 use independent::hex::word_of;
 use independent::survey::{survey, Survey};
@@ -71,7 +71,10 @@ fn labels_reach_every_refusal_under_both_rules() {
         for &number in numbers.iter().filter(|&&number| number >= 31 || number == 15) {
             assert!(times(&survey, number) >= 500, "{start}{number}: {survey}");
         }
-        assert!(survey.requests >= 5_000 && survey.accepted >= 1_000 && survey.bad_requests == 0, "{start}{survey}");
+        assert!(
+            survey.requests >= 5_000 && survey.accepted >= 1_000 && survey.bad_requests == 0,
+            "{start}{survey}"
+        );
     }
 }
 
@@ -157,7 +160,8 @@ fn every_list_begins_with_its_desk() {
 
 #[test]
 fn the_same_seed_gives_the_same_lines_and_another_gives_others() {
-    let plan = Plan { readers: 60_000, folds: 4_000, texts: 70_000, labels: 30_000, lists: 60, ..Plan::default() };
+    let plan =
+        Plan { readers: 60_000, folds: 4_000, texts: 70_000, labels: 30_000, lists: 60, ..Plan::default() };
     assert!(steps(plan).eq(steps(plan)));
     assert!(!steps(plan).eq(steps(Plan { seed: 2, ..plan })));
 }
