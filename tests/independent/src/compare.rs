@@ -7,6 +7,7 @@ use std::thread;
 
 use crate::console::Console;
 use crate::generator::folds::folds;
+use crate::generator::labels::labels;
 use crate::generator::line_faults::line_faults;
 use crate::generator::lists::lists;
 use crate::generator::names::names;
@@ -24,6 +25,7 @@ pub struct Plan {
     pub names: usize,
     pub folds: usize,
     pub texts: usize,
+    pub labels: usize,
     pub lists: usize,
     pub desks: usize,
     pub seed: u64,
@@ -39,6 +41,7 @@ impl Default for Plan {
             names: 30_000,
             folds: 10_000,
             texts: 80_000,
+            labels: 50_000,
             lists: 2_000,
             desks: 3_000,
             seed: 1,
@@ -67,6 +70,7 @@ pub fn steps(plan: Plan) -> impl Iterator<Item = Step> {
         .chain(names(plan.seed).take(plan.names).map(of("names")))
         .chain(folds(plan.seed).take(plan.folds).map(of("folds")))
         .chain(texts(plan.seed).take(plan.texts).map(of("texts")))
+        .chain(labels(plan.seed).take(plan.labels).map(of("labels")))
         .chain(calls)
 }
 
