@@ -2,7 +2,7 @@
 use Prim.Native.Nat.{ℕ, _*_, _≤_}
 use mathlib.Core.Path.{_≡_, refl, sym, ap, subst, _∙_}
 use mathlib.Core.Bool.{Bool, true, false}
-use mathlib.Core.List.{List, _∷_}
+use mathlib.Core.List.{List, [], _∷_}
 use mathlib.Core.Logic.{_↔_}
 use native.Mathlib.Omega.{arith}
 use lib.Dec.{ltb}
@@ -20,7 +20,7 @@ use Rattle.text.specs.Outcomes.{checked, faultless, escapeOutcome, unescapeOutc
 use Rattle.text_laws.specs.Stands.{Stands, none, itself, escape}
 use Rattle.text_laws.proofs.StandsLaws.{stands-exactly}
 use Rattle.text_laws.proofs.BackLaws.{round-trip}
-use Rattle.line_parser.specs.Grammar.{Line, render}
+use Rattle.line_parser.specs.Grammar.{Line, Each, render}
 use Rattle.reader.specs.Outcome.{judgeOf, copyOf, recordsOf, Taken, took, readOutcome}
 use Rattle.reader.specs.declared.Verdict.{Verdict}
 use Rattle.reader.specs.declared.Verdict.the-variants.{Accepted, Refused}
@@ -29,7 +29,12 @@ use Rattle.reader.proofs.ReadLaws.{read-refused, numbers-counted, read-written,
 use Rattle.folder_line.specs.Pieces.{pieces, Clean}
 use Rattle.folder.specs.Outcome.{foldOutcome}
 use Rattle.folder_laws.specs.Cuttings.{Cutting}
+use Rattle.folder_laws.specs.Foldings.{Billed}
+use Rattle.folder_laws.specs.Physical.{physical as physicalLines}
 use Rattle.folder_laws.proofs.CuttingLaws.{cutting-law}
+use Rattle.folder_laws.proofs.Shortest.{least-lines}
+use Rattle.folder_laws.proofs.Fewest.{our-lines}
+use Rattle.folder_laws.proofs.Equal.{form, equal as equal-octets, fewest-written}
 use Rattle.line_folds.specs.Logical.{logicalLines}
 use Rattle.line_laws.specs.Lined.{Lined}
 use Rattle.line_laws.proofs.LinedLaws.{lined-only}
@@ -41,10 +46,10 @@ use Rattle.reader_grammar.specs.Cards.{Readable, card, Cards, none as no-cards,
 use Rattle.reader_grammar.specs.Inputs.{InputOf}
 use Rattle.reader_grammar.proofs.Accepted.{accepted-law, one-reading}
 use Rattle.reader_grammar.proofs.RecordLaws.{copy-law, records-law}
-use Rattle.demands.specs.Demand1.{folded, Fair}
+use Rattle.demands.specs.Demand1.{copied, folded, Fair}
 use Rattle.desk_ledger.specs.Answers.{counts, told, verdict, wrote as written-as}
 use Rattle.desk_ledger.proofs.AnswerLaws.{verdict-counts, wrote-told}
-use Rattle.demands.specs.Demand2.{Roomy, ReadAs, Writes, Demand2}
+use Rattle.demands.specs.Demand2.{Roomy, ReadAs, Writes, Shortest, Demand2}
 use Rattle.demands.proofs.Texts.{wrote-no, checked-fair, within-so, fault-le}
 use Rattle.demands.proofs.Cards.{accepted-no, fold-form}
 
@@ -112,6 +117,14 @@ line-clean x r = allowed-only false (render x) .1 (r .clean .characters, r .clea
 greedy : (x : Line) → Readable x → (p : List ℕ) (ps : List (List ℕ)) → Cutting (render x) p ps ↔ (p ∷ ps ≡ pieces (render x))
 greedy x r p ps = cutting-law (render x) p ps (line-clean x r)
 
+-- no folding of a line is shorter
+shortest : (xs : List Line) → Each Readable xs → Each Shortest xs
+unfolding Each
+shortest [] r = tt
+shortest (x ∷ xs) r =
+    let c = line-clean x (r .0) in
+    (λ t f. omega (arith, our-lines (render x) c, least-lines (render x) t c f), shortest xs (r .1))
+
 -- ---- text
 
 escapes : (t out : List ℕ) → Fair true t → length (escaped t) ≤ 16384 → length (escaped t) ≤ length out → escapeOutcome t out ≡ wrote (escaped t) out
@@ -166,6 +179,18 @@ physical : (i out after : List ℕ) (n : ℕ) → foldOutcome i out ≡ filled (
 unfolding logicalLines
 physical i out after n e rs ls h = subst (λ (xs : List (List ℕ)). Folds xs (take n after)) (sym (lined-only h .1)) (fold-written i out after n (sym e))
 
+fewest : (i out after : List ℕ) (n : ℕ) → foldOutcome i out ≡ filled (Wrote n) after → (rs ls : List (List ℕ)) → Lined i rs ls
+    → (t : List ℕ) (ss : List (List ℕ)) → Lined t ss ls → Billed t → length (physicalLines (take n after)) ≤ length (physicalLines t)
+unfolding logicalLines
+fewest i out after n e rs ls h t ss g b =
+    fewest-written (form i out after n (sym e)) t ss (subst (λ (xs : List (List ℕ)). Lined t ss xs) (lined-only h .1) g) b
+
+module _ (i j out after room back : List ℕ) (k l m n a b : ℕ) (h : InputOf i k m) (g : InputOf j l n) where
+  equal : foldOutcome i out ≡ filled (Wrote a) after → foldOutcome j room ≡ filled (Wrote b) back → (take a after ≡ take b back) ↔ (copied h ≡ copied g)
+  equal e f =
+      subst (λ (c : List ℕ). (take a after ≡ take b back) ↔ (c ≡ copied g)) (copy-law i k m h)
+      (subst (λ (c : List ℕ). (take a after ≡ take b back) ↔ (copyOf i ≡ c)) (copy-law j l n g) (equal-octets (form i out after a (sym e)) (form j room back b (sym f))))
+
 -- ---- answers in document 01's numbers
 
 accepts : (i : List ℕ) (k n : ℕ) → (verdict (judgeOf i) ≡ counts k n) ↔ InputOf i k n
@@ -191,6 +216,11 @@ demand2 =
       greedy = greedy;
       physical = λ i out n e. physical i out (foldOutcome i out .room) n (filled-so (foldOutcome i out) n e);
       read-again = λ i out n e. read-again i out (foldOutcome i out .room) n (sym (filled-so (foldOutcome i out) n e));
+      shortest = λ i k n h. shortest (h .lines) (h .readable);
+      fewest = λ i out n e. fewest i out (foldOutcome i out .room) n (filled-so (foldOutcome i out) n e);
+      equal = λ i j out room k l m n a b h g e f.
+          equal i j out (foldOutcome i out .room) room (foldOutcome j room .room) k l m n a b h g
+          (filled-so (foldOutcome i out) a e) (filled-so (foldOutcome j room) b f);
       escapes = λ t out f s h. writes (escapes t out f s h);
       unescapes = λ t u out f s h. writes (unescapes t u out f s h);
       back = λ t out room n e r. writes (round-trip t out (escapeOutcome t out .room) room n (filled-so (escapeOutcome t out) n e) r);

@@ -11,12 +11,14 @@ use Rattle.octets.specs.Room.{Filled, overlay}
 use Rattle.text_escaping.specs.Escaped.{escaped}
 use Rattle.text.specs.Outcomes.{escapeOutcome, unescapeOutcome}
 use Rattle.text_laws.specs.Stands.{Stands}
-use Rattle.line_parser.specs.Grammar.{Line, render}
+use Rattle.line_parser.specs.Grammar.{Line, Each, render}
 use Rattle.reader.specs.Outcome.{judgeOf, Taken, readOutcome}
 use Rattle.line_laws.specs.Lined.{Lined}
-use Rattle.folder_line.specs.Pieces.{pieces}
+use Rattle.folder_line.specs.Pieces.{pieces, joined}
 use Rattle.folder.specs.Outcome.{foldOutcome}
 use Rattle.folder_laws.specs.Cuttings.{Cutting}
+use Rattle.folder_laws.specs.Foldings.{Billed, Folding}
+use Rattle.folder_laws.specs.Physical.{physical as physicalLines}
 use Rattle.folder_laws.specs.Written.{Folds}
 use Rattle.desk_ledger.specs.Answers.{counts as accepted, told, verdict, wrote}
 use Rattle.firmware.specs.Word.{verdictWord, worded, wordOutcome}
@@ -42,6 +44,10 @@ pub record Writes (f : Filled) (xs room : List ℕ) : Type 0 where
   pub count : wrote (f .answer) ≡ told (length xs)
   pub holds : f .room ≡ overlay xs room
 
+-- the line's pieces, joined by folds, have the fewest physical lines of all its foldings
+abbrev pub Shortest : Line → Type 0
+Shortest x = (t : List ℕ) → Folding (render x) t → length (physicalLines (joined (pieces (render x)))) ≤ length (physicalLines t)
+
 pub record Demand2 : Type 0 where
   -- the reader accepts exactly the cards that REFERENCE draws
   pub accepts : (i : List ℕ) (k n : ℕ) → (verdict (judgeOf i) ≡ accepted k n) ↔ InputOf i k n
@@ -60,6 +66,14 @@ pub record Demand2 : Type 0 where
   -- and read again gives the same answer, copy and records
   pub read-again : (i out : List ℕ) (n : ℕ) → wrote (foldOutcome i out .answer) ≡ told n
       → (copy records : List ℕ) → readOutcome (take n (foldOutcome i out .room)) copy records ≡ readOutcome i copy records
+  -- no folding of a line of an accepted card has fewer physical lines than what is written for it,
+  pub shortest : (i : List ℕ) (k n : ℕ) (h : InputOf i k n) → Each Shortest (h .lines)
+  -- and no octets with the same logical lines have fewer than all that was written
+  pub fewest : (i out : List ℕ) (n : ℕ) → wrote (foldOutcome i out .answer) ≡ told n → (rs ls : List (List ℕ)) → Lined i rs ls
+      → (t : List ℕ) (ss : List (List ℕ)) → Lined t ss ls → Billed t → length (physicalLines (take n (foldOutcome i out .room))) ≤ length (physicalLines t)
+  -- two accepted inputs are written to equal octets exactly when their copies are equal
+  pub equal : (i j out room : List ℕ) (k l m n a b : ℕ) (h : InputOf i k m) (g : InputOf j l n) → wrote (foldOutcome i out .answer) ≡ told a
+      → wrote (foldOutcome j room .answer) ≡ told b → (take a (foldOutcome i out .room) ≡ take b (foldOutcome j room .room)) ↔ (copied h ≡ copied g)
   -- escape writes the escaped form of a text; unescape writes what a text stands for
   pub escapes : (t out : List ℕ) → Fair true t → length (escaped t) ≤ limit.octets → length (escaped t) ≤ length out
       → Writes (escapeOutcome t out) (escaped t) out

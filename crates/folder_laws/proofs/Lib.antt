@@ -8,4 +8,8 @@ pub mod BackLaws
 pub mod PhysicalLaws
 pub mod WrittenLaws
 pub mod Again
+pub mod Least
+pub mod Shortest
+pub mod Fewest
+pub mod Equal
 pub mod Cases

@@ -73,7 +73,7 @@ unfolding foldBy
 wrote-accepted (Accepted k m) i room after n e f = f k m refl e
 wrote-accepted (Denied k p) i room after n e f = absurd (never n k p (ap (λ (x : Filled). x .answer) e))
 
-line-unled : (c c′ : Card) (p : ℕ) (l : List ℕ) → judgeLine c p l ≡ Next c′ → Unled l
+pub line-unled : (c c′ : Card) (p : ℕ) (l : List ℕ) → judgeLine c p l ≡ Next c′ → Unled l
 unfolding Unled
 line-unled c c′ p l e = let w = line-clean c c′ p l e in (w .1, w .2)
 
