@@ -5,13 +5,13 @@ use crate::refusal::{refuse, Refusal, MOST_OCTETS};
 use crate::text::write;
 
 /// The most octets of a physical line without its CR LF, a later line's space included.
-const MOST_LINE_OCTETS: usize = 75;
+pub const MOST_LINE_OCTETS: usize = 75;
 
 /// Writes the folded form of an accepted input to the room; answers the octets written.
 pub fn fold(input: &[u8], out: &mut [u8]) -> Result<usize, Refusal> {
     let mut folded = Vec::new();
     for line in accepted_lines(input)? {
-        folded.extend(folded_line(&line.octets));
+        folded.extend(folded_line(&line.octets, MOST_LINE_OCTETS));
     }
     if folded.len() > MOST_OCTETS {
         return refuse(16, MOST_OCTETS);
@@ -19,13 +19,13 @@ pub fn fold(input: &[u8], out: &mut [u8]) -> Result<usize, Refusal> {
     write(&folded, out)
 }
 
-/// One logical line cut greedily at character boundaries, with its final CR LF.
-fn folded_line(line: &[u8]) -> Vec<u8> {
+/// One logical line cut greedily at character boundaries into physical lines of at most `most` octets, with its final CR LF.
+pub fn folded_line(line: &[u8], most: usize) -> Vec<u8> {
     let characters = std::str::from_utf8(line).expect("check 5 passed").chars();
     let mut folded = Vec::new();
     let mut used = 0;
     for character in characters {
-        if used + character.len_utf8() > MOST_LINE_OCTETS {
+        if used + character.len_utf8() > most {
             folded.extend(b"\r\n ");
             used = 1;
         }
