@@ -67,7 +67,7 @@ our-lines l c =
     let k = clean-chars l c in
     ap suc (behind-joined (no-end (first-whole k 75 (omega arith))) (later-good k 75 (omega arith)))
 
-our-text : (l : List ℕ) (ls : List (List ℕ)) → Clean l → length (physical (foldedLines (l ∷ ls))) ≡ length (pieces l) + length (physical (foldedLines ls))
+pub our-text : (l : List ℕ) (ls : List (List ℕ)) → Clean l → length (physical (foldedLines (l ∷ ls))) ≡ length (pieces l) + length (physical (foldedLines ls))
 unfolding foldedLines folded
 our-text l ls c =
     ap (λ (t : List ℕ). length (physical t)) (append-assoc (joined (pieces l)) (13 ∷ 10 ∷ []) (foldedLines ls))

@@ -24,11 +24,11 @@ pub data Near : ℕ → ℕ → Type 0 where
   same : {a : ℕ} → Near a a
   ascii : {a b : ℕ} → a < 128 → b < 128 → Near a b
 
-and-left : (a b : Bool) → (a && b) ≡ true → a ≡ true
+pub and-left : (a b : Bool) → (a && b) ≡ true → a ≡ true
 and-left true b e = refl
 and-left false b e = e
 
-and-right : (a b : Bool) → (a && b) ≡ true → b ≡ true
+pub and-right : (a b : Bool) → (a && b) ≡ true → b ≡ true
 and-right true b e = e
 and-right false true e = refl
 and-right false false e = e
@@ -41,13 +41,13 @@ near-upper b = go (within 97 122 b) refl
     go true e = let h : b ≤ 122 = leb-true b 122 (and-right (leb 97 b) _ e) in ascii {a = b - 32} {b = b} (omega arith) (omega arith)
     go false e = same
 
-near-turned : (k : Spot) (b : ℕ) → Near (turned k b) b
+pub near-turned : (k : Spot) (b : ℕ) → Near (turned k b) b
 near-turned Name b = near-upper b
 near-turned Values b = same
 near-turned Quotes b = same
 near-turned Past b = same
 
-near-at : (k : Spot) (l : List ℕ) (i : ℕ) → Near (getD (raisedFrom k l) i 0) (getD l i 0)
+pub near-at : (k : Spot) (l : List ℕ) (i : ℕ) → Near (getD (raisedFrom k l) i 0) (getD l i 0)
 unfolding raisedFrom
 near-at k [] i = same
 near-at k (x ∷ xs) zero = near-turned k x
@@ -70,7 +70,7 @@ second-near x a b n =
     rw (within-near 0xA0 0xBF a b (omega arith) n, within-near 0x80 0x9F a b (omega arith) n, within-near 0x90 0xBF a b (omega arith) n, within-near 0x80 0x8F a b (omega arith) n, within-near 0x80 0xBF a b (omega arith) n)
     refl
 
-tail-near : (a b : ℕ) → Near a b → tail a ≡ tail b
+pub tail-near : (a b : ℕ) → Near a b → tail a ≡ tail b
 unfolding tail
 tail-near a b n = within-near 0x80 0xBF a b (omega arith) n
 
@@ -88,7 +88,7 @@ module _ (l m : List ℕ) (e : length l ≡ length m) (n : (i : ℕ) → Near (g
   pub char-near : charLength l ≡ charLength m
   char-near = first-case (getD l 0 0) (getD m 0 0) (n 0) refl refl
 
-over-raised : (k : Spot) (l : List ℕ) (r : ℕ) → over (raisedFrom k l) r ≡ over l r
+pub over-raised : (k : Spot) (l : List ℕ) (r : ℕ) → over (raisedFrom k l) r ≡ over l r
 unfolding over
 over-raised k l r = ap (ltb r) (char-near (raisedFrom k l) l (raised-length k l) (near-at k l))
 
