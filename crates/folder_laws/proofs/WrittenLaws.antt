@@ -82,6 +82,7 @@ line-unled c c′ p l e = let w = line-clean c c′ p l e in (w .1, w .2)
 -- What was written: the folded form of the input's lines in the style, which are clean and led by no space or tab.
 pub record Form (s : Style) (i t : List ℕ) : Type 0 where
   pub octets : t ≡ foldedLines (map (written s) (logicalLines i))
+  pub short : length t ≤ 16384
   pub clean : All Clean (logicalLines i)
   pub unled : All Unled (logicalLines i)
 
@@ -90,8 +91,10 @@ unfolding foldIn
 form s i room after n e =
     wrote-accepted s (judgeOf i) i room after n e
     (λ k m a f.
+    let p = wrote (foldedLines (map (written s) (logicalLines i))) room after n f in
     record {
-      octets = wrote (foldedLines (map (written s) (logicalLines i))) room after n f .written;
+      octets = p .written;
+      short = omega (arith, p .count, p .bound, ap length (p .written));
       clean = accepted i k m a .0;
       unled = all-lines Unled line-unled i k m a;
     })

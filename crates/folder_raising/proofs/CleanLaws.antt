@@ -10,6 +10,7 @@ use lib.ListN.{length}
 use borrow.Author.Tests.{leb-true, le-leb}
 use Rattle.octets.specs.Pick.{pick}
 use Rattle.octets.specs.Classes.{within, valued}
+use Rattle.octets.proofs.Bools.{and-both}
 use Rattle.utf8.specs.Characters.{allowed, tail}
 use Rattle.utf8.proofs.Chains.{Chars, end, start, inner}
 use Rattle.folder_line.specs.Pieces.{over, later, pieces, Clean}
@@ -21,7 +22,7 @@ use Rattle.folder_raising.specs.declared.Style.{Style}
 use Rattle.folder_raising.specs.declared.Style.the-variants.{AsRead, Raised}
 use Rattle.folder_raising.specs.declared.Spot.{Spot}
 use Rattle.folder_raising.specs.declared.Spot.the-variants.{Name, Values, Quotes, Past}
-use Rattle.folder_raising.proofs.Kept.{and-left, and-right, near-turned, near-at, raised-length, tail-near, char-near, over-raised}
+use Rattle.folder_raising.proofs.Kept.{near-turned, near-at, raised-length, tail-near, char-near, over-raised}
 
 -- a small letter becomes its capital, any other octet stays
 pub data Upper (b : ℕ) : Type 0 where
@@ -33,7 +34,7 @@ unfolding upper
 upper-case b = go (within 97 122 b) refl
   where
     go : (t : Bool) → within 97 122 b ≡ t → Upper b
-    go true e = small (leb-true 97 b (and-left (leb 97 b) _ e)) (leb-true b 122 (and-right (leb 97 b) _ e)) (rw e)
+    go true e = let h = and-both (leb 97 b) _ e in small (leb-true 97 b (h .0)) (leb-true b 122 (h .1)) (rw e)
     go false e = stays (rw e)
 
 -- a capital is allowed

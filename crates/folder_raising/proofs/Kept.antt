@@ -9,6 +9,7 @@ use lib.ListN.{length, getD, length-append}
 use borrow.Author.Tests.{leb-true, lt-leb, lt-ltb, eqb-true}
 use Rattle.octets.specs.Pick.{pick}
 use Rattle.octets.specs.Classes.{within}
+use Rattle.octets.proofs.Bools.{and-both}
 use Rattle.utf8.specs.Characters.{lengthBy, second, tail, rest, charLength}
 use Rattle.folder_line.specs.Pieces.{over, first, later, cutFrom, pieces, joined, folded, foldedLines}
 use Rattle.folder_line.proofs.PieceLaws.{first-over, first-goes, later-over, later-goes}
@@ -24,21 +25,12 @@ pub data Near : ℕ → ℕ → Type 0 where
   same : {a : ℕ} → Near a a
   ascii : {a b : ℕ} → a < 128 → b < 128 → Near a b
 
-pub and-left : (a b : Bool) → (a && b) ≡ true → a ≡ true
-and-left true b e = refl
-and-left false b e = e
-
-pub and-right : (a b : Bool) → (a && b) ≡ true → b ≡ true
-and-right true b e = e
-and-right false true e = refl
-and-right false false e = e
-
 near-upper : (b : ℕ) → Near (upper b) b
 unfolding upper
 near-upper b = go (within 97 122 b) refl
   where
     go : (t : Bool) → within 97 122 b ≡ t → Near (pick t (b - 32) b) b
-    go true e = let h : b ≤ 122 = leb-true b 122 (and-right (leb 97 b) _ e) in ascii {a = b - 32} {b = b} (omega arith) (omega arith)
+    go true e = let h : b ≤ 122 = leb-true b 122 (and-both (leb 97 b) _ e .1) in ascii {a = b - 32} {b = b} (omega arith) (omega arith)
     go false e = same
 
 pub near-turned : (k : Spot) (b : ℕ) → Near (turned k b) b

@@ -9,7 +9,12 @@ use lib.Seq.{take-suc, drop-cons, append-snoc, take-set-le, drop-set-lt, getD-se
 use Rattle.folder_raising.specs.Walk.{after, turned, raisedFrom, raised}
 use Rattle.folder_raising.specs.declared.Spot.{Spot}
 use Rattle.folder_raising.specs.declared.Spot.the-variants.{Name, Values, Quotes, Past}
-use Rattle.folder_raising.proofs.ByParts.{past}
+
+-- behind the colon nothing changes
+pub past : (l : List ℕ) → raisedFrom Past l ≡ l
+unfolding raisedFrom
+past [] = refl
+past (x ∷ xs) = ap (λ (r : List ℕ). x ∷ r) (past xs)
 
 -- the octets before i are raised, and the line stands at spot there
 pub record Upto (d₀ d : List ℕ) (spot : Spot) (i : ℕ) : Type 0 where

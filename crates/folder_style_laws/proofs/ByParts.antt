@@ -1,6 +1,6 @@
 -- Raised octet by octet, a line is the one with its parts raised. Assumes nothing.
 use mathlib.Core.Path.{_≡_, refl, sym, ap, _∙_}
-use mathlib.Core.Bool.{Bool, true, false, not, _&&_, _||_}
+use mathlib.Core.Bool.{Bool, true, false, not, _&&_, _||_, true≢false}
 use mathlib.Core.List.{List, [], _∷_, _++_, map, append-assoc}
 use Prim.Native.Nat.{ℕ, _-_, _<_, _≤_}
 use native.Mathlib.Omega.{arith}
@@ -9,17 +9,15 @@ use borrow.Author.Tests.{eqb-true, ne-eqb}
 use Rattle.octets.specs.Pick.{pick}
 use Rattle.octets.specs.Classes.{within, letter, digit, hyphen, valued, quoted, bare, named}
 use Rattle.line_parser.specs.Grammar.{Value, plain, inQuotes, Param, Line, Each, Is, Word, GoodValue, GoodParam, WellFormed, led, valueText, paramText, groupText, front, render}
 use Rattle.folder_raising.specs.Capitals.{upper, raisedParam, raisedLine}
 use Rattle.folder_raising.specs.Walk.{after, turned, raisedFrom, raised}
 use Rattle.folder_raising.specs.declared.Spot.{Spot}
 use Rattle.folder_raising.specs.declared.Spot.the-variants.{Name, Values, Quotes, Past}
-
-clash : {A : Type 0} → true ≡ false → A
-clash e = absurd (let z : _≡_ {A = ℕ} 0 1 = cc in omega arith)
+use Rattle.folder_raising.proofs.Steps.{past}
 
 -- an octet that a class has is none that it lacks
 unlike : (p : ℕ → Bool) (b c : ℕ) → p c ≡ false → p b ≡ true → eqb b c ≡ false
-unlike p b c f e = ne-eqb b c (λ q. clash (sym e ∙ ap p q ∙ f))
+unlike p b c f e = ne-eqb b c (λ q. true≢false (sym e ∙ ap p q ∙ f))
 
 -- ---- through names
 
@@ -72,12 +70,6 @@ in-param p t g =
     ∙ ap (λ (r : List ℕ). valueText (p .first) ++ r) (in-more (p .more) t (g .more))
     ∙ sym (append-assoc (valueText (p .first)) (led 44 valueText (p .more)) (raisedFrom Values t)))
     ∙ sym (append-assoc (map upper (p .name)) (61 ∷ (valueText (p .first) ++ led 44 valueText (p .more))) (raisedFrom Values t))
-
--- behind the colon nothing changes
-pub past : (l : List ℕ) → raisedFrom Past l ≡ l
-unfolding raisedFrom
-past [] = refl
-past (x ∷ xs) = ap (λ (r : List ℕ). x ∷ r) (past xs)
 
 -- a semicolon, from a name or from values; and the colon
 data Front : Spot → Type 0 where
