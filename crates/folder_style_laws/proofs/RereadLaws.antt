@@ -53,7 +53,7 @@ cards-styled : (s : Style) {k : ℕ} {xs : List Line} → Cards k xs → Cards k
 cards-styled AsRead {k} {xs} c = subst (Cards k) (sym (lines-as-read xs)) c
 cards-styled Raised c = cards-raised c
 
-line-styled : (s : Style) (x : Line) → Readable x → written s (render x) ≡ render (styled s x)
+pub line-styled : (s : Style) (x : Line) → Readable x → written s (render x) ≡ render (styled s x)
 line-styled AsRead x r = refl
 line-styled Raised x r = raised-render x (r .formed)
 
@@ -111,8 +111,8 @@ writes-alike v xs ys rs copy records e = rw e (go _ _ (ltb (length copy) (length
   where
     go : (c d : List ℕ) (p q : Bool)
         → Alike
-            (pick p (took (Refused 13 (length ys)) copy records) (pick q (took (Refused 14 (length rs)) copy records) (took v c (overlay rs records))))
-            (pick p (took (Refused 13 (length ys)) copy records) (pick q (took (Refused 14 (length rs)) copy records) (took v d (overlay rs records))))
+        (pick p (took (Refused 13 (length ys)) copy records) (pick q (took (Refused 14 (length rs)) copy records) (took v c (overlay rs records))))
+        (pick p (took (Refused 13 (length ys)) copy records) (pick q (took (Refused 14 (length rs)) copy records) (took v d (overlay rs records))))
     go c d true q = record { answer = refl; records = refl }
     go c d false true = record { answer = refl; records = refl }
     go c d false false = record { answer = refl; records = refl }
