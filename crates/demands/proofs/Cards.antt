@@ -12,7 +12,7 @@ use Rattle.reader.specs.declared.Verdict.{Verdict}
 use Rattle.reader.specs.declared.Verdict.the-variants.{Accepted, Refused}
 use Rattle.reader.proofs.ReadLaws.{read-refused, numbers-counted, read-13, read-14}
 use Rattle.folder_line.specs.Pieces.{foldedLines}
-use Rattle.folder_raising.specs.Capitals.{styled}
+use Rattle.folder_style_laws.specs.Capitals.{styled}
 use Rattle.folder_raising.specs.Walk.{written}
 use Rattle.folder_raising.specs.declared.Style.{Style}
 use Rattle.folder_raising.proofs.Kept.{styled-lines}

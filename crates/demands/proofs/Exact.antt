@@ -26,7 +26,7 @@ use Rattle.reader.specs.declared.Verdict.the-variants.{Accepted, Refused}
 use Rattle.reader.proofs.AcceptLaws.{lines-few, lines-counted}
 use Rattle.reader.proofs.ReadLaws.{read-refused, numbers-counted, read-written, read-13, read-14}
 use Rattle.folder_line.specs.Pieces.{pieces, joined, foldedLines}
-use Rattle.folder_raising.specs.Capitals.{styled}
+use Rattle.folder_style_laws.specs.Capitals.{styled}
 use Rattle.folder_raising.specs.Walk.{written as in-style}
 use Rattle.folder_raising.specs.declared.Style.{Style}
 use Rattle.folder_raising.specs.declared.Style.the-variants.{AsRead, Raised}

@@ -33,7 +33,7 @@ use Rattle.reader_walk.specs.Walk as walk
 use Rattle.reader_records.specs.Records as records
 use Rattle.reader.specs.Outcome as reader
 use Rattle.folder_line.specs.Pieces as pieces
-use Rattle.folder_raising.specs.Capitals as capitals
+use Rattle.folder_raising.specs.Letters as capitals
 use Rattle.folder_raising.specs.Walk as styles
 use Rattle.folder.specs.Outcome as folder
 use Rattle.desk_pool.specs.Pools as pool

@@ -15,7 +15,7 @@ use Rattle.line_parser.specs.Grammar.{Line, Each, render}
 use Rattle.reader.specs.Outcome.{judgeOf, Taken, readOutcome}
 use Rattle.line_laws.specs.Lined.{Lined}
 use Rattle.folder_line.specs.Pieces.{pieces, joined, foldedLines}
-use Rattle.folder_raising.specs.Capitals.{styled}
+use Rattle.folder_style_laws.specs.Capitals.{styled}
 use Rattle.folder_raising.specs.declared.Style.{Style}
 use Rattle.folder_raising.specs.declared.Style.the-variants.{AsRead}
 use Rattle.folder.specs.Outcome.{foldIn, foldOutcome}

@@ -6,7 +6,7 @@ use native.Mathlib.Omega.{arith}
 use lib.ListN.{length}
 use Rattle.line_laws.specs.Lined.{Unled, Lined}
 use Rattle.folder_line.specs.Pieces.{foldedLines, Clean, All}
-use Rattle.folder_raising.specs.Capitals.{upper}
+use Rattle.folder_raising.specs.Letters.{upper}
 use Rattle.folder_raising.specs.Walk.{raisedFrom, raised, written}
 use Rattle.folder_raising.specs.declared.Style.{Style}
 use Rattle.folder_raising.specs.declared.Style.the-variants.{AsRead, Raised}

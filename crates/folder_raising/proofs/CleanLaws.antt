@@ -16,7 +16,7 @@ use Rattle.utf8.proofs.Chains.{Chars, end, start, inner}
 use Rattle.folder_line.specs.Pieces.{over, later, pieces, Clean}
 use Rattle.folder_line.proofs.PieceLaws.{later-over, later-goes}
 use Rattle.folder_line.proofs.Turns.{clean-chars, chars-clean}
-use Rattle.folder_raising.specs.Capitals.{upper}
+use Rattle.folder_raising.specs.Letters.{upper}
 use Rattle.folder_raising.specs.Walk.{after, turned, raisedFrom, raised, written}
 use Rattle.folder_raising.specs.declared.Style.{Style}
 use Rattle.folder_raising.specs.declared.Style.the-variants.{AsRead, Raised}

@@ -13,7 +13,7 @@ use Rattle.octets.proofs.Bools.{and-both}
 use Rattle.utf8.specs.Characters.{lengthBy, second, tail, rest, charLength}
 use Rattle.folder_line.specs.Pieces.{over, first, later, cutFrom, pieces, joined, folded, foldedLines}
 use Rattle.folder_line.proofs.PieceLaws.{first-over, first-goes, later-over, later-goes}
-use Rattle.folder_raising.specs.Capitals.{upper}
+use Rattle.folder_raising.specs.Letters.{upper}
 use Rattle.folder_raising.specs.Walk.{after, turned, raisedFrom, raised, written}
 use Rattle.folder_raising.specs.declared.Style.{Style}
 use Rattle.folder_raising.specs.declared.Style.the-variants.{AsRead, Raised}

@@ -3,7 +3,7 @@ use Prim.Native.Nat.{ℕ}
 use mathlib.Core.List.{List, [], _∷_}
 use lib.Dec.{eqb}
 use Rattle.octets.specs.Pick.{pick}
-use Rattle.folder_raising.specs.Capitals.{upper}
+use Rattle.folder_raising.specs.Letters.{upper}
 use Rattle.folder_raising.specs.declared.Style.{Style}
 use Rattle.folder_raising.specs.declared.Style.the-variants.{AsRead, Raised}
 use Rattle.folder_raising.specs.declared.Spot.{Spot}

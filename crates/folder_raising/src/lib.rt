@@ -1,7 +1,7 @@
 // The two styles in which a line is written, and raising the names of a line to capitals in the room in which it was written.
 ghost use mathlib.Core.Path.{_≡_};
 ghost use mathlib.Core.Bool.{true};
-ghost use Rattle.folder_raising.specs.Capitals.{upper};
+ghost use Rattle.folder_raising.specs.Letters.{upper};
 ghost use Rattle.folder_raising.specs.Walk.{after, turned, raised};
 
 // As read, or with the ASCII letters of group, property and parameter names as capitals.

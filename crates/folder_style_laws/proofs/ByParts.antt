@@ -9,7 +9,8 @@ use borrow.Author.Tests.{eqb-true, ne-eqb}
 use Rattle.octets.specs.Pick.{pick}
 use Rattle.octets.specs.Classes.{within, letter, digit, hyphen, valued, quoted, bare, named}
 use Rattle.line_parser.specs.Grammar.{Value, plain, inQuotes, Param, Line, Each, Is, Word, GoodValue, GoodParam, WellFormed, led, valueText, paramText, groupText, front, render}
-use Rattle.folder_raising.specs.Capitals.{upper, raisedParam, raisedLine}
+use Rattle.folder_raising.specs.Letters.{upper}
+use Rattle.folder_style_laws.specs.Capitals.{raisedParam, raisedLine}
 use Rattle.folder_raising.specs.Walk.{after, turned, raisedFrom, raised}
 use Rattle.folder_raising.specs.declared.Spot.{Spot}
 use Rattle.folder_raising.specs.declared.Spot.the-variants.{Name, Values, Quotes, Past}

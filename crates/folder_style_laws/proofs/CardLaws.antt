@@ -12,7 +12,8 @@ use Rattle.card_line.specs.Parts.{rowOfLine, kindOfLine}
 use Rattle.reader_grammar.specs.Values.{OfKind}
 use Rattle.reader_grammar.specs.Cards.{Readable, Frame, Inside, count, counts, ofRow, saysGroup, Body, CardLines, card, Cards, none, more}
 use Rattle.folder_line.specs.Pieces.{Clean}
-use Rattle.folder_raising.specs.Capitals.{upper, raisedParam, raisedLine}
+use Rattle.folder_raising.specs.Letters.{upper}
+use Rattle.folder_style_laws.specs.Capitals.{raisedParam, raisedLine}
 use Rattle.folder_raising.specs.Walk.{raised}
 use Rattle.folder_raising.specs.declared.Style.the-variants.{Raised}
 use Rattle.folder_raising.proofs.CleanLaws.{clean-written}

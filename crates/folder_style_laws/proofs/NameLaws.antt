@@ -15,7 +15,8 @@ use Rattle.line_parser.specs.Grammar.{Value, Param, Line, Each, Is, Word, GoodP
 use Rattle.line_parameters.specs.First.{firstNamed}
 use Rattle.property_table.specs.Rows.{Row, search, rows, rowOf, lineKind, valueName}
 use Rattle.card_line.specs.Parts.{octetsOf, paramValue, rowOfLine, kindOfLine}
-use Rattle.folder_raising.specs.Capitals.{upper, raisedParam, raisedLine}
+use Rattle.folder_raising.specs.Letters.{upper}
+use Rattle.folder_style_laws.specs.Capitals.{raisedParam, raisedLine}
 use Rattle.folder_raising.specs.Walk.{raised}
 use Rattle.folder_raising.specs.declared.Spot.the-variants.{Name}
 use Rattle.folder_raising.proofs.Kept.{raised-length}

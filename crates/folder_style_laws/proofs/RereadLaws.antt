@@ -21,7 +21,7 @@ use Rattle.reader_grammar.specs.Inputs.{Written, none, more, InputOf}
 use Rattle.reader_grammar.proofs.Accepted.{accepted-law, lines-law}
 use Rattle.reader_grammar.proofs.RecordLaws.{numbers}
 use Rattle.folder_line.specs.Pieces.{pieces, joined, folded, foldedLines}
-use Rattle.folder_raising.specs.Capitals.{raisedLine, styled}
+use Rattle.folder_style_laws.specs.Capitals.{raisedLine, styled}
 use Rattle.folder_raising.specs.Walk.{written}
 use Rattle.folder_raising.specs.declared.Style.{Style}
 use Rattle.folder_raising.specs.declared.Style.the-variants.{AsRead, Raised}

@@ -8,7 +8,7 @@ use lib.Dec.{eqb, leb}
 use borrow.Author.Tests.{ne-eqb, lt-leb}
 use Rattle.octets.specs.Pick.{pick}
 use Rattle.octets.specs.Classes.{within}
-use Rattle.folder_raising.specs.Capitals.{upper}
+use Rattle.folder_raising.specs.Letters.{upper}
 use Rattle.folder_raising.specs.Walk.{after, turned, raisedFrom, raised, written}
 use Rattle.folder_raising.specs.declared.Style.{Style}
 use Rattle.folder_raising.specs.declared.Style.the-variants.{AsRead, Raised}

@@ -1,7 +1,7 @@
 -- `folder_raising::capital` meets its contract. Assumes nothing.
 use borrow.Author.Needs.{needs}
 use borrow.Author.Tests.{le-leb, lt-leb}
-use Rattle.folder_raising.specs.Capitals.{upper}
+use Rattle.folder_raising.specs.Letters.{upper}
 use Rattle.folder_raising.proofs.capital.Statement.{statement}
 use Rattle.folder_raising.proofs.capital.Tie as tie
 

@@ -1,15 +1,9 @@
 -- Names in capitals: the parts of a line with the ASCII letters of group, property name and parameter names raised. Assumes nothing.
-use Prim.Native.Nat.{ℕ, _-_}
 use mathlib.Core.List.{List, map}
-use Rattle.octets.specs.Pick.{pick}
-use Rattle.octets.specs.Classes.{within}
 use Rattle.line_parser.specs.Grammar.{Param, Line}
+use Rattle.folder_raising.specs.Letters.{upper}
 use Rattle.folder_raising.specs.declared.Style.{Style}
 use Rattle.folder_raising.specs.declared.Style.the-variants.{AsRead, Raised}
-
--- a small ASCII letter as its capital, any other octet as it is
-unfoldable pub upper : ℕ → ℕ
-upper b = pick (within 97 122 b) (b - 32) b
 
 -- its values stay
 abbrev pub raisedParam : Param → Param
