@@ -6,7 +6,7 @@ use common::*;
 use independent::billing::{fewest_of_all, fewest_parts};
 use independent::dice::Dice;
 use independent::examples::m_with;
-use independent::folder::{fold, folded_line, MOST_LINE_OCTETS};
+use independent::folder::{fold, fold_as_read, folded_line, MOST_LINE_OCTETS};
 use independent::generator::folds::folds;
 use independent::generator::grammar::folded;
 use independent::lines::logical_lines;
@@ -70,7 +70,7 @@ fn equal_octets_are_written_exactly_of_equal_copies() {
         let inputs = [first, second].map(|value| folded(&mut dice, &lines_of_m(&value)));
         let written = [0, 1].map(|side| {
             let mut room = vec![0; 16_384];
-            let count = fold(&inputs[side], &mut room).expect("a small card");
+            let count = fold_as_read(&inputs[side], &mut room).expect("a small card");
             room[..count].to_vec()
         });
         let copies = [0, 1].map(|side| copy_and_records(&inputs[side]).0);
@@ -78,4 +78,14 @@ fn equal_octets_are_written_exactly_of_equal_copies() {
         alike += usize::from(copies[0] == copies[1]);
     }
     assert!((9_000..=12_000).contains(&alike), "{alike} pairs alike");
+}
+
+#[test]
+fn raised_equal_octets_do_not_tell_equal_copies() {
+    let written = ["x:1", "X:1"].map(|line| {
+        let mut room = vec![0; 16_384];
+        let count = fold(&m_with(line.as_bytes()), &mut room).expect("a small card");
+        room[..count].to_vec()
+    });
+    assert_eq!(written[0], written[1]);
 }
