@@ -43,6 +43,18 @@ static const struct row {
     {ESCAPE, "plain", 32},
     {ESCAPE, "plain", 12},
     {ESCAPE, "plain", 4},
+    {ENCODE, "value", LIMIT},
+    {ENCODE, "accents", LIMIT},
+    {ENCODE, "plain", LIMIT},
+    {ENCODE, "plain", 63},
+    {ENCODE, "plain", 32},
+    {ENCODE, "plain", 12},
+    {DECODE, "label", LIMIT},
+    {DECODE, "letters", LIMIT},
+    {DECODE, "plain", LIMIT},
+    {DECODE, "plain", 63},
+    {DECODE, "plain", 32},
+    {DECODE, "plain", 12},
     {MEMCPY, "book", LIMIT},
 };
 #define ROWS LENGTH(rows)

@@ -91,6 +91,13 @@ def main():
     small = b"BEGIN:VCARD\r\nVERSION:4.0\r\nFN:A\r\nEND:VCARD\r\n"
     long = b"BEGIN:VCARD\r\nVERSION:4.0\r\nFN:A\r\n" + fold("NOTE:" + "Umspannwerk " * 1200) + b"END:VCARD\r\n"
     prose = "Bei Störung der Oberleitung zuerst das Umspannwerk rufen, dann die Leitstelle; Funk auf Kanal 4 lassen.\n" * 70
+    # an address on lines, with a newline, a quote mark or a caret every 40 octets; and the same with an accent a line
+    address = 'Depot Lindenhof Halle sieben links hinten\n"Tor vier" am Umspannwerk Hafen bei der ^ Weiche\nFunk auf Kanal 4 lassen bis zum Morgen\n'
+    accents = address.replace("Lindenhof", "Lindenhöhe").replace("hinten", "zurück").replace("Morgen", "Süden")
+
+    def encoded(value):
+        return value.replace("^", "^^").replace("\n", "^n").replace('"', "^'")
+
     files = {
         "book": book,
         "dense": filled(dense_card),
@@ -99,6 +106,10 @@ def main():
         "damaged": book[:-20] + b"\x01" + book[-19:],
         "plain": b"Leitstelle Nord, Umspannwerk Hafen, Depot Lindenhof ".replace(b",", b"") * 150,
         "prose": prose.encode(),
+        "value": (address * 50).encode(),
+        "label": encoded(address * 50).encode(),
+        "accents": (accents * 50).encode(),
+        "letters": encoded(accents * 50).encode(),
         "escaped": prose.replace("\\", "\\\\").replace(",", "\\,").replace(";", "\\;").replace("\n", "\\n").encode(),
     }
     for name, octets in files.items():

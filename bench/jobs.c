@@ -1,4 +1,4 @@
-/* The routines as jobs: the unit's, of which read, escape and the desk's calls are for the benchmark alone, and plain C's. */
+/* The routines as jobs: the unit's, of which read, escape, encode, decode and the desk's calls are for the benchmark alone, and plain C's. */
 #include "jobs.h"
 #include "gerstebolk.h"
 #include <stdio.h>
@@ -6,6 +6,8 @@
 #include <string.h>
 
 extern uint64_t timed_escape(const uint8_t *text, size_t len, uint8_t *out, size_t room);
+extern uint64_t timed_encode(const uint8_t *value, size_t len, uint8_t *out, size_t room);
+extern uint64_t timed_decode(const uint8_t *label, size_t len, uint8_t *out, size_t room);
 extern uint64_t timed_read(const uint8_t *input, size_t len, uint8_t *copy, size_t copy_room, uint32_t *records, size_t record_room);
 extern uint64_t timed_desk(uint8_t *pool, size_t size, const uint8_t *chunk, size_t len, uint32_t opens, size_t adds, uint32_t kind, size_t n);
 
@@ -32,16 +34,20 @@ JOB(unit_read, timed_read(IN, COPY))
 JOB(unit_fold, fold(IN, OUT))
 JOB(unit_unescape, unescape(IN, OUT))
 JOB(unit_escape, timed_escape(IN, OUT))
+JOB(unit_encode, timed_encode(IN, OUT))
+JOB(unit_decode, timed_decode(IN, OUT))
 JOB(copy_octets, (uintptr_t)memcpy(rooms.octets, IN))
 JOB(c_judge, plain_judge(IN))
 JOB(c_read, number_of(plain_read(IN, COPY)))
 JOB(c_fold, plain_fold(IN, OUT))
 JOB(c_unescape, plain_unescape(IN, OUT))
 JOB(c_escape, number_of(plain_escape(IN, OUT)))
+JOB(c_encode, number_of(plain_encode(IN, OUT)))
+JOB(c_decode, number_of(plain_decode(IN, OUT)))
 
-const char *const routine_names[ROUTINES] = {"judge", "read", "fold", "unescape", "escape", "memcpy"};
-uint64_t (*const unit_jobs[ROUTINES])(const void *) = {unit_judge, unit_read, unit_fold, unit_unescape, unit_escape, copy_octets};
-uint64_t (*const plain_jobs[ROUTINES])(const void *) = {c_judge, c_read, c_fold, c_unescape, c_escape, NULL};
+const char *const routine_names[ROUTINES] = {"judge", "read", "fold", "unescape", "escape", "encode", "decode", "memcpy"};
+uint64_t (*const unit_jobs[ROUTINES])(const void *) = {unit_judge, unit_read, unit_fold, unit_unescape, unit_escape, unit_encode, unit_decode, copy_octets};
+uint64_t (*const plain_jobs[ROUTINES])(const void *) = {c_judge, c_read, c_fold, c_unescape, c_escape, c_encode, c_decode, NULL};
 
 #define DESK_JOB(name, answer)               \
     static uint64_t name(const void *what) { \

@@ -4,7 +4,7 @@
 #include "plain.h"
 #include "timing.h"
 
-enum routine { JUDGE, READ, FOLD, UNESCAPE, ESCAPE, MEMCPY, ROUTINES };
+enum routine { JUDGE, READ, FOLD, UNESCAPE, ESCAPE, ENCODE, DECODE, MEMCPY, ROUTINES };
 
 extern const char *const routine_names[ROUTINES];
 /* The unit's routines, for MEMCPY the C library's. */

@@ -390,3 +390,49 @@ uint64_t plain_unescape(const uint8_t *in, size_t len, uint8_t *out, size_t room
     }
     return w;
 }
+
+uint64_t plain_encode(const uint8_t *in, size_t len, uint8_t *out, size_t room) {
+    if (len > LIMIT) return REFUSE(1, LIMIT);
+    size_t bad = first_bad(in, len, 1);
+    if (bad < len) return REFUSE(31, bad);
+    size_t need = len;
+    for (size_t i = 0; i < len; i++)
+        if (in[i] == '^' || in[i] == '"' || in[i] == 10) need++;
+    if (need > LIMIT) return REFUSE(16, LIMIT);
+    if (room < need) return REFUSE(15, need);
+    size_t w = 0;
+    for (size_t i = 0; i < len; i++) {
+        uint8_t b = in[i];
+        if (b == '^' || b == '"' || b == 10) {
+            out[w++] = '^';
+            out[w++] = b == 10 ? 'n' : b == '"' ? '\'' : '^';
+        } else {
+            out[w++] = b;
+        }
+    }
+    return w;
+}
+
+/* The octet that the pair at s stands for, 0 where there is none. */
+static uint8_t paired(const uint8_t *s, size_t left) {
+    if (s[0] != '^' || left < 2) return 0;
+    return s[1] == 'n' ? 10 : s[1] == '\'' ? '"' : s[1] == '^' ? '^' : 0;
+}
+
+uint64_t plain_decode(const uint8_t *in, size_t len, uint8_t *out, size_t room) {
+    if (len > LIMIT) return REFUSE(1, LIMIT);
+    size_t bad = first_bad(in, len, 0);
+    for (size_t i = 0; i < bad; i++)
+        if (in[i] == '"') bad = i;
+    if (bad < len) return REFUSE(31, bad);
+    size_t need = 0;
+    for (size_t i = 0; i < len; i += paired(in + i, len - i) ? 2 : 1) need++;
+    if (room < need) return REFUSE(15, need);
+    size_t w = 0;
+    for (size_t i = 0; i < len; i++) {
+        uint8_t b = paired(in + i, len - i);
+        if (b) i++;
+        out[w++] = b ? b : in[i];
+    }
+    return w;
+}

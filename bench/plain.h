@@ -11,6 +11,9 @@ uint64_t plain_read(const uint8_t *in, size_t len, uint8_t *copy, size_t copy_ro
 uint64_t plain_fold(const uint8_t *in, size_t len, uint8_t *out, size_t room);
 uint64_t plain_escape(const uint8_t *in, size_t len, uint8_t *out, size_t room);
 uint64_t plain_unescape(const uint8_t *in, size_t len, uint8_t *out, size_t room);
+/* Labels by RFC 6868. */
+uint64_t plain_encode(const uint8_t *in, size_t len, uint8_t *out, size_t room);
+uint64_t plain_decode(const uint8_t *in, size_t len, uint8_t *out, size_t room);
 
 /* The calls that a desk of 40 slots is timed on. */
 enum call { OPEN, ADD, RELEASE, HELD, JUDGE_HELD };

@@ -1,4 +1,4 @@
-// cabbook: the workshop's command-line tool over the reader, the folder, text and the desk.
+// cabbook: the workshop's command-line tool over the reader, the folder, text, labels and the desk.
 mod checking;
 mod printing;
 mod table;
@@ -6,9 +6,11 @@ mod usage;
 mod values;
 mod writing;
 
+ghost use Prim.Native.Nat.{_≤_};
 ghost use Rattle.cabbook.specs.Numbers.{Status};
 use cabbook_morning::Ending;
 use cabbook_tables::status;
+use label_carets::Rule;
 use numbers::limit;
 use octets::cases::same_name;
 use program_files::Input;
@@ -23,7 +25,7 @@ const COMMAND: usize = 1;
 // The argument that names the first file.
 const FIRST_FILE: usize = 2;
 
-// The octets of a command's name that are looked at.
+// The octets of a command's name, or of an option, that are looked at.
 const NAME: usize = 16;
 
 // What is done with the octets of a file.
@@ -89,20 +91,42 @@ fn check_all(count: usize) -> u8
     status
 }
 
-// Does the command with the one file that is named.
-fn apply_to_one(command: Command, count: usize) -> u8 {
-    if count == FIRST_FILE + 1 {
-        return apply_to_argument(command, FIRST_FILE);
+// Does the command with the file that the argument `first` names, which is the last.
+fn apply_to_one(command: Command, first: usize, count: usize) -> u8
+    requires { ⌜ first ≤ 3 ⌝ }
+{
+    if count == first + 1 {
+        return apply_to_argument(command, first);
     }
     usage::print_usage(b"this command takes one FILE")
 }
 
-// Does the command with the one file that is named, or with standard input.
-fn apply_to_one_or_input(command: Command, count: usize) -> u8 {
-    if count == FIRST_FILE {
+// Does the command with the file that the argument `first` names, or with standard input where there is none.
+fn apply_to_one_or_input(command: Command, first: usize, count: usize) -> u8
+    requires { ⌜ first ≤ 3 ⌝ }
+{
+    if count == first {
         return apply_to_file(command, b"-");
     }
-    apply_to_one(command, count)
+    apply_to_one(command, first, count)
+}
+
+// Whether the argument after the command is the option of RFC 6350's rule.
+fn has_old_rule(count: usize) -> bool {
+    if count <= FIRST_FILE {
+        return false;
+    }
+    let mut word = [0u8; NAME];
+    let n = os::arg(FIRST_FILE, &mut word);
+    same_name(&word[..n], b"--rfc6350")
+}
+
+// Writes the one file that is named, or standard input, in the form of the rule that is asked for.
+fn apply_by_rule(old: Form, new: Form, count: usize) -> u8 {
+    if has_old_rule(count) {
+        return apply_to_one_or_input(Command::Write(old), FIRST_FILE + 1, count);
+    }
+    apply_to_one_or_input(Command::Write(new), FIRST_FILE, count)
 }
 
 // Runs a morning of uploads, or says what its options lack.
@@ -123,16 +147,30 @@ fn run(name: &[u8], count: usize) -> u8 {
         return check_all(count);
     }
     if same_name(name, b"show") {
-        return apply_to_one(Command::Show, count);
+        return apply_to_one(Command::Show, FIRST_FILE, count);
     }
     if same_name(name, b"fold") {
-        return apply_to_one(Command::Write(Form::Folded), count);
+        return apply_to_one(Command::Write(Form::Folded), FIRST_FILE, count);
     }
     if same_name(name, b"escape") {
-        return apply_to_one_or_input(Command::Write(Form::Escaped), count);
+        return apply_to_one_or_input(Command::Write(Form::Escaped), FIRST_FILE, count);
     }
     if same_name(name, b"unescape") {
-        return apply_to_one_or_input(Command::Write(Form::Unescaped), count);
+        return apply_to_one_or_input(Command::Write(Form::Unescaped), FIRST_FILE, count);
+    }
+    if same_name(name, b"encode") {
+        return apply_by_rule(
+            Form::Encoded(Rule::Rfc6350),
+            Form::Encoded(Rule::Rfc6868),
+            count,
+        );
+    }
+    if same_name(name, b"decode") {
+        return apply_by_rule(
+            Form::Decoded(Rule::Rfc6350),
+            Form::Decoded(Rule::Rfc6868),
+            count,
+        );
     }
     if same_name(name, b"morning") {
         return run_morning(count);

@@ -38,6 +38,15 @@ fn print_fields(copy: &[u8], start: u32, group_length: u32, name_length: u32, va
     printing::send(STDOUT_FILENO, &room, n);
 }
 
+// Where the name ends in a line with a group and a name of these lengths.
+fn name_end(group_length: u32, name_length: u32) -> usize {
+    let name = name_length as usize;
+    if group_length == 0 {
+        return name;
+    }
+    group_length as usize + 1 + name
+}
+
 // Prints the row of a record.
 fn print_row(copy: &[u8], r: &[u32]) {
     if r.len() < limit::RECORD_LENGTH {
@@ -52,6 +61,10 @@ fn print_row(copy: &[u8], r: &[u32]) {
     let end = wide_number(start) + wide_number(r[field::LENGTH]);
     let value = octets::slices::part(copy, wide_number(value_start), end);
     values::print_value(value, r[field::KIND]);
+    if wide_number(r[field::PROPERTY]) == property::ADR {
+        let line = octets::slices::part(copy, wide_number(start), end);
+        values::print_label(line, name_end(r[field::GROUP], r[field::NAME]));
+    }
     io::write_all(STDOUT_FILENO, b"\n");
 }
 

@@ -29,6 +29,14 @@ fn print_commands(to: i32) {
     );
     io::write_all(
         to,
+        b"  cabbook encode [--rfc6350] [FILE]   a value as a label, by RFC 6868 or RFC 6350\n",
+    );
+    io::write_all(
+        to,
+        b"  cabbook decode [--rfc6350] [FILE]   the value that a label stands for\n",
+    );
+    io::write_all(
+        to,
         b"  cabbook morning [--chunk N] FILE..  forty uploads at a time on one desk\n",
     );
     io::write_all(to, b"  cabbook help                        this\n");

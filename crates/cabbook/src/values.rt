@@ -1,9 +1,11 @@
-// The values of `show`: text without its escapes, the components of lists, or the value as it stands.
+// The values of `show`: text without its escapes, the components of lists, or the value as it stands; and the label of an address.
 ghost use lib.ListN.{length};
 ghost use Prim.Native.Nat.{_≤_};
 use crate::printing;
 use cabbook_tables::fields;
+use label_carets::Rule;
 use libc::STDOUT_FILENO;
+use line_parameters::First;
 use numbers::kind;
 use numbers::limit;
 use octets::rooms::Written;
@@ -86,4 +88,28 @@ pub(crate) fn print_value(s: &[u8], number: u32) {
         kind::NAME | kind::ADDRESS | kind::ORGANIZATION => print_components(s, true),
         _ => printing::print_visible(s),
     }
+}
+
+// Prints the value that a label stands for.
+fn print_decoded(s: &[u8]) {
+    let mut room = [0u8; limit::OCTETS];
+    let w = label::decode(Rule::Rfc6868, s, &mut room);
+    match w {
+        Written::Wrote(n) => {
+            let count = octets::slices::least(n, limit::OCTETS);
+            print_paragraphs(&room[0..count]);
+        }
+        Written::Refused(_, _) => printing::print_visible(s),
+    }
+}
+
+// Prints the LABEL of a line whose name ends there, if it has one, each of its lines in the value's column.
+pub(crate) fn print_label(line: &[u8], name_end: usize) {
+    let t = octets::classes::table();
+    let first = line_parameters::param_first(&t, line, name_end, b"LABEL");
+    let First::Between { start, end } = first else {
+        return;
+    };
+    print_indent();
+    print_decoded(octets::slices::part(line, start, end));
 }

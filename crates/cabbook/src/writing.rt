@@ -1,7 +1,8 @@
-// `fold`, `escape` and `unescape`: octets to standard output.
+// `fold`, `escape`, `unescape`, `encode` and `decode`: octets to standard output.
 ghost use Rattle.cabbook.specs.Numbers.{Status};
 use crate::printing;
 use cabbook_tables::status;
+use label_carets::Rule;
 use libc::STDERR_FILENO;
 use libc::STDOUT_FILENO;
 use numbers::limit;
@@ -12,6 +13,8 @@ pub enum Form {
     Folded,
     Escaped,
     Unescaped,
+    Encoded(Rule),
+    Decoded(Rule),
 }
 
 // Writes octets in a form to room.
@@ -20,6 +23,8 @@ fn write(form: Form, s: &[u8], room: &mut [u8]) -> Written {
         Form::Folded => folder::fold(s, room),
         Form::Escaped => text::escape(s, room),
         Form::Unescaped => text::unescape(s, room),
+        Form::Encoded(rule) => label::encode(rule, s, room),
+        Form::Decoded(rule) => label::decode(rule, s, room),
     }
 }
 

@@ -32,7 +32,7 @@ messages =
     message refusal.copyRoom "copy room too small" ∷
     message refusal.recordRoom "record room too small" ∷
     message refusal.room "output room too small" ∷
-    message refusal.formTooLong "folded or escaped form over 16,384 octets" ∷
+    message refusal.formTooLong "folded, escaped or encoded form over 16,384 octets" ∷
     message refusal.noFreeSlot "no free slot" ∷
     message refusal.ticketsUsedUp "tickets used up" ∷
     message refusal.notOpen "ticket not open" ∷
@@ -46,6 +46,7 @@ messages =
     message refusal.parameter "parameter without '=', or with a bad name" ∷
     message refusal.quote "quote left open or out of place" ∷
     message refusal.noColon "no colon" ∷
+    message refusal.noLabel "newline or quote mark, which RFC 6350 can't write" ∷
     []
 
 -- the words of a number among messages; none where no message has it

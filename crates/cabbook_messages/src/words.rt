@@ -8,7 +8,7 @@ use octets::indices::wide;
 const HEAD: usize = 2;
 
 // tools/messages makes the table from here on.
-const SIZE: usize = 896;
+const SIZE: usize = 956;
 
 const MESSAGES: [u8; SIZE] = *b"\
     \x01\x18input over 16,384 octets\
@@ -25,7 +25,7 @@ const MESSAGES: [u8; SIZE] = *b"\
     \x0d\x13copy room too small\
     \x0e\x15record room too small\
     \x0f\x15output room too small\
-    \x10\x29folded or escaped form over 16,384 octets\
+    \x10\x32folded, escaped or encoded form over 16,384 octets\
     \x14\x0cno free slot\
     \x15\x0ftickets used up\
     \x16\x0fticket not open\
@@ -38,7 +38,8 @@ const MESSAGES: [u8; SIZE] = *b"\
     \x28\x1fno name, or a bad name or group\
     \x29\x29parameter without '=', or with a bad name\
     \x2a\x1fquote left open or out of place\
-    \x2b\x08no colon";
+    \x2b\x08no colon\
+    \x2c\x31newline or quote mark, which RFC 6350 can't write";
 
 // The table as a value.
 fn table() -> [u8; SIZE]

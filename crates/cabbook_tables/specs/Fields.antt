@@ -2,12 +2,16 @@
 use Prim.Native.Nat.{ℕ, _+_, _-_}
 use mathlib.Core.Bool.{Bool, true}
 use mathlib.Core.List.{List, _++_}
-use lib.Dec.{eqb}
+use lib.Dec.{eqb, ltb}
+use lib.ListN.{length}
+use Rattle.numbers.specs.Limits as limit
 use Rattle.numbers.specs.Properties as property
 use Rattle.octets.specs.Pick.{pick}
 use Rattle.octets.specs.Ascii.{octets}
 use Rattle.octets.specs.Slices.{part}
 use Rattle.line_parser.specs.Places.{nameStart}
+use Rattle.label_carets.specs.Decoded.{decoded}
+use Rattle.label_carets.specs.declared.Rule.the-variants.{Rfc6868}
 use Rattle.cabbook_messages.specs.Sentences.{amount}
 use Rattle.cabbook_columns.specs.Columns.{atLeft}
 
@@ -31,9 +35,13 @@ titleText = atLeft (octets "property") propertyWidth ++ atLeft (octets "group") 
 abbrev pub cardText : ℕ → List ℕ
 cardText n = octets "card " ++ amount n (octets "\n")
 
+-- parameters with what each pair of RFC 6868 stands for; there are no more octets than an input has
+unfoldable pub meanings : List ℕ → List ℕ
+meanings s = pick (ltb limit.octets (length s)) s (decoded Rfc6868 s)
+
 -- of a line with a group and a name of these lengths: the name; the group; and what stands between a semicolon after the name and the colon before the value
 abbrev pub fields : List ℕ → ℕ → ℕ → ℕ → ℕ → List ℕ
 fields copy start group name value =
     atLeft (part copy (start + nameStart group) (start + nameStart group + name)) propertyWidth
     ++ atLeft (part copy start (start + group)) groupWidth
-    ++ atLeft (part copy (start + nameStart group + name + 1) (value - 1)) parametersWidth
+    ++ atLeft (meanings (part copy (start + nameStart group + name + 1) (value - 1))) parametersWidth

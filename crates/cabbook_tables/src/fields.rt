@@ -3,7 +3,9 @@ ghost use mathlib.Core.Path.{_≡_};
 ghost use Prim.Native.Nat.{_+_, _≤_};
 ghost use Rattle.program_output.specs.Pages.{page, added};
 ghost use Rattle.line_parser.specs.Places.{nameStart};
-ghost use Rattle.cabbook_tables.specs.Fields.{framed, fields, titleText, cardText};
+ghost use Rattle.cabbook_columns.specs.Columns.{atLeft};
+ghost use Rattle.cabbook_tables.specs.Fields.{framed, parametersWidth, meanings, fields, titleText, cardText};
+use numbers::limit;
 use numbers::property;
 
 // How many characters the column of the property has.
@@ -58,6 +60,23 @@ fn name_start(start: u32, group_length: u32) -> usize
     start as usize + group_length as usize + 1
 }
 
+// Adds the column of the parameters, with what each pair of RFC 6868 stands for.
+fn put_parameters(room: &mut [u8], at: usize, parameters: &[u8]) -> usize
+    ensures { λ r. ⌜ page r (now (room .exit)) ≡ added (atLeft (meanings (now (parameters .entry))) parametersWidth) (page at (now (room .entry))) ⌝ }
+{
+    if limit::OCTETS < parameters.len() {
+        return cabbook_columns::put_column(room, at, parameters, PARAMETERS_WIDTH);
+    }
+    let mut meant = [0u8; limit::OCTETS];
+    let n = label_carets::write(parameters, &mut meant);
+    cabbook_columns::put_column(
+        room,
+        at,
+        octets::slices::part(&meant, 0, n),
+        PARAMETERS_WIDTH,
+    )
+}
+
 // Adds the columns before the value, of a line that starts there, has a group and a name of these lengths, and a value from there on.
 pub fn put_fields(
     room: &mut [u8],
@@ -79,5 +98,5 @@ pub fn put_fields(
     let group_column = cabbook_columns::put_column(room, property_column, group, GROUP_WIDTH);
     let end = cabbook_positions::before(value_start as usize);
     let parameters = octets::slices::part(copy, name_end + 1, end);
-    cabbook_columns::put_column(room, group_column, parameters, PARAMETERS_WIDTH)
+    put_parameters(room, group_column, parameters)
 }

@@ -8,10 +8,11 @@ use Rattle.octets.specs.Slices.{part}
 use Rattle.console_requests.specs.Requests.{Requested, requestOf}
 use Rattle.console_requests.specs.declared.Request.{Request}
 use Rattle.console_requests.specs.declared.Name.{Name}
-use Rattle.console_requests.specs.declared.Name.the-variants.{Judge, Read, Fold, Escape, Unescape, Desk, Open, Add, Check, Show, Held, Release, Pool, Next, Bad}
-use Rattle.console_entries.specs.Entries.{judgeAnswer, readAnswer, writeAnswer}
+use Rattle.console_requests.specs.declared.Name.the-variants.{Judge, Read, Fold, Escape, Unescape, Desk, Open, Add, Check, Show, Held, Release, Pool, Next, Encode, Decode, Bad}
+use Rattle.label_carets.specs.declared.Rule.the-variants.{Rfc6350, Rfc6868}
+use Rattle.console_entries.specs.Entries.{judgeAnswer, readAnswer, writeAnswer, ruleAnswer}
 use Rattle.console_desk.specs.DeskAnswers.{State, WithPool, withPool, says, saysBad, deskAnswer, nextAnswer, changeAnswer, lookAnswer, poolAnswer}
-use Rattle.console_entries.specs.declared.entries.Writer.the-variants.{Fold as toFold, Escape as toEscape, Unescape as toUnescape}
+use Rattle.console_entries.specs.declared.entries.Writer.the-variants.{Fold as toFold, Escape as toEscape, Unescape as toUnescape, Encode as toEncode, Decode as toDecode}
 use Rattle.console_desk.specs.declared.Change.the-variants.{Open as toOpen, Add as toAdd, Release as toRelease}
 use Rattle.console_desk.specs.declared.Look.the-variants.{Check as toCheck, Show as toShow, Held as toHeld}
 
@@ -31,6 +32,8 @@ answerBy Held n k sent t pool = withPool (lookAnswer toHeld n t pool) pool
 answerBy Release n k sent t pool = changeAnswer toRelease n sent t pool
 answerBy Pool n k sent t pool = withPool (poolAnswer n k t pool) pool
 answerBy Next n k sent t pool = withPool (nextAnswer n t) pool
+answerBy Encode n k sent t pool = withPool (says (ruleAnswer (toEncode Rfc6350) (toEncode Rfc6868) n k sent) t) pool
+answerBy Decode n k sent t pool = withPool (says (ruleAnswer (toDecode Rfc6350) (toDecode Rfc6868) n k sent) t) pool
 answerBy Bad n k sent t pool = withPool (saysBad t) pool
 
 abbrev pub answerTo : Request → List ℕ → State → List ℕ → WithPool

@@ -9,6 +9,7 @@ use console_entries::entries;
 use console_entries::entries::Writer;
 use console_requests::Name;
 use console_requests::Request;
+use label_carets::Rule;
 
 // The most octets of a line, its LF and a CR before it not counted.
 const LINE: usize = 140000;
@@ -50,6 +51,24 @@ fn answer_request(q: Request, c: Console, sent: &[u8], pool: &mut [u8], out: &mu
         Name::Release => console_desk::answer_change(Change::Release, c, n, sent, pool, out),
         Name::Pool => console_desk::answer_pool(c, n, k, pool, out),
         Name::Next => console_desk::answer_next(c, n, out),
+        Name::Encode => c.with_output(entries::put_rule_answer(
+            Writer::Encode(Rule::Rfc6350),
+            Writer::Encode(Rule::Rfc6868),
+            n,
+            k,
+            sent,
+            out,
+            c.at,
+        )),
+        Name::Decode => c.with_output(entries::put_rule_answer(
+            Writer::Decode(Rule::Rfc6350),
+            Writer::Decode(Rule::Rfc6868),
+            n,
+            k,
+            sent,
+            out,
+            c.at,
+        )),
         Name::Bad => c.answer_bad(out),
     }
 }

@@ -1,4 +1,4 @@
--- What the console answers to a request of reader, folder or text. Assumes nothing.
+-- What the console answers to a request of reader, folder, text or labels. Assumes nothing.
 use Prim.Native.Nat.{ℕ, _+_, _-_, _*_, min}
 use mathlib.Core.List.{List, [], _++_}
 use lib.Dec.{ltb, eqb}
@@ -15,10 +15,11 @@ use Rattle.reader.specs.declared.Verdict.{Verdict}
 use Rattle.reader.specs.declared.Verdict.the-variants.{Accepted, Refused}
 use Rattle.folder.specs.Outcome.{foldOutcome}
 use Rattle.text.specs.Outcomes.{escapeOutcome, unescapeOutcome}
+use Rattle.label.specs.Outcomes.{encodeOutcome, decodeOutcome}
 use Rattle.console_answers.specs.Texts.{lineEnd, badLine, verdictText, writtenText, octetsWord, joined, spaced, roomEnd}
 use Rattle.console_entries.specs.Rooms.{octetFill, mostRoom, octetRoom, numberRoom, all, bothKept}
 use Rattle.console_entries.specs.declared.entries.Writer.{Writer}
-use Rattle.console_entries.specs.declared.entries.Writer.the-variants.{Fold, Escape, Unescape}
+use Rattle.console_entries.specs.declared.entries.Writer.the-variants.{Fold, Escape, Unescape, Encode, Decode}
 
 -- more room than that is no request
 abbrev pub within : ℕ → List ℕ → List ℕ
@@ -70,12 +71,14 @@ readText i copy records = takenAnswer (readOutcome i copy records)
 unfoldable pub readAnswer : ℕ → ℕ → List ℕ → List ℕ
 readAnswer r k i = within r (within k (readText i (octetRoom r) (numberRoom k)))
 
--- ---- fold, escape, unescape
+-- ---- fold, escape, unescape, encode, decode
 
 abbrev pub outcomeOf : Writer → List ℕ → List ℕ → Filled
 outcomeOf Fold i room = foldOutcome i room
 outcomeOf Escape i room = escapeOutcome i room
 outcomeOf Unescape i room = unescapeOutcome i room
+outcomeOf (Encode r) i room = encodeOutcome r i room
+outcomeOf (Decode r) i room = decodeOutcome r i room
 
 abbrev pub count : Written → ℕ
 count (Wrote n) = n
@@ -87,3 +90,7 @@ writeText f = writtenText (f .answer) (f .room) ++ roomEnd (all octetFill (drop 
 
 unfoldable pub writeAnswer : Writer → ℕ → List ℕ → List ℕ
 writeAnswer e r i = within r (writeText (outcomeOf e i (octetRoom r)))
+
+-- rule 0 is RFC 6350's, rule 1 is RFC 6868's, and any other number is no request
+unfoldable pub ruleAnswer : Writer → Writer → ℕ → ℕ → List ℕ → List ℕ
+ruleAnswer old new rule r i = pick (eqb rule 0) (writeAnswer old r i) (pick (eqb rule 1) (writeAnswer new r i) badLine)

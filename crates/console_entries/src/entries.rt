@@ -1,11 +1,12 @@
-// The calls of reader, folder and text.
+// The calls of reader, folder, text and labels.
 ghost use mathlib.Core.Path.{_≡_};
 ghost use Prim.Native.Nat.{_+_, _≤_};
 ghost use Rattle.octets.specs.Room.{filled};
 ghost use Rattle.program_output.specs.Pages.{page, added};
 ghost use Rattle.console_entries.specs.Rooms.{mostRoom, octetRoom, numberRoom};
-ghost use Rattle.console_entries.specs.Entries.{lineEndLength, linesOf, count, numbersOf, copyLength, takenText, roomsText, readText, outcomeOf, writeText, judgeAnswer, readAnswer, writeAnswer};
+ghost use Rattle.console_entries.specs.Entries.{lineEndLength, linesOf, count, numbersOf, copyLength, takenText, roomsText, readText, outcomeOf, writeText, judgeAnswer, readAnswer, writeAnswer, ruleAnswer};
 use crate::rooms;
+use label_carets::Rule;
 use numbers::field;
 use numbers::limit;
 use octets::rooms::Written;
@@ -22,6 +23,8 @@ pub enum Writer {
     Fold,
     Escape,
     Unescape,
+    Encode(Rule),
+    Decode(Rule),
 }
 
 // Adds the answer to `judge OCTETS`.
@@ -133,6 +136,8 @@ fn call(entry: Writer, input: &[u8], room: &mut [u8]) -> Written
         Writer::Fold => folder::fold(input, room),
         Writer::Escape => text::escape(input, room),
         Writer::Unescape => text::unescape(input, room),
+        Writer::Encode(rule) => label::encode(rule, input, room),
+        Writer::Decode(rule) => label::decode(rule, input, room),
     }
 }
 
@@ -172,4 +177,25 @@ pub fn put_write_answer(entry: Writer, r: usize, input: &[u8], out: &mut [u8], a
         return console_answers::put_bad(out, at);
     }
     put_write_fresh(entry, r, input, out, at)
+}
+
+// Adds the answer to `encode RULE ROOM OCTETS` or `decode RULE ROOM OCTETS`: that of the one entry for rule 0, of the other for rule 1.
+pub fn put_rule_answer(
+    old: Writer,
+    new: Writer,
+    rule: usize,
+    r: usize,
+    input: &[u8],
+    out: &mut [u8],
+    at: usize,
+) -> usize
+    ensures { λ q. ⌜ page q (now (out .exit)) ≡ added (ruleAnswer old new rule r (now (input .entry))) (page at (now (out .entry))) ⌝ }
+{
+    if rule == 0 {
+        return put_write_answer(old, r, input, out, at);
+    }
+    if rule == 1 {
+        return put_write_answer(new, r, input, out, at);
+    }
+    console_answers::put_bad(out, at)
 }

@@ -106,14 +106,14 @@ module _ (i copy records : List ℕ) (k n : ℕ) where
 -- ---- fold
 
 -- xs stand at the start of the room, which is as it was past them
-abbrev wrote : List ℕ → List ℕ → Filled
+abbrev pub wrote : List ℕ → List ℕ → Filled
 wrote xs room = filled (Wrote (length xs)) (overlay xs room)
 
-fill-so : (xs out : List ℕ) → length xs ≤ length out → fill xs out ≡ wrote xs out
+pub fill-so : (xs out : List ℕ) → length xs ≤ length out → fill xs out ≡ wrote xs out
 unfolding fill
 fill-so xs out h = rw (le-ltb (length out) (length xs) h)
 
-bounded-so : (xs out : List ℕ) → length xs ≤ 16384 → length xs ≤ length out → fillBounded xs out ≡ wrote xs out
+pub bounded-so : (xs out : List ℕ) → length xs ≤ 16384 → length xs ≤ length out → fillBounded xs out ≡ wrote xs out
 bounded-so xs out s h = within-so xs out s ∙ fill-so xs out h
 
 greedy : (x : Line) → Readable x → (p : List ℕ) (ps : List (List ℕ)) → Cutting (render x) p ps ↔ (p ∷ ps ≡ pieces (render x))
@@ -134,13 +134,13 @@ shortest s (x ∷ xs) r =
 
 escapes : (t out : List ℕ) → Fair true t → length (escaped t) ≤ 16384 → length (escaped t) ≤ length out → escapeOutcome t out ≡ wrote (escaped t) out
 unfolding escapeOutcome
-escapes t out f s h = checked-fair true t out _ f ∙ bounded-so (escaped t) out s h
+escapes t out f s h = checked-fair (allowed true) t out _ f ∙ bounded-so (escaped t) out s h
 
 unescapes : (t u out : List ℕ) → Fair false t → Stands t u → length u ≤ length out → unescapeOutcome t out ≡ wrote u out
 unfolding unescapeOutcome faultless
 unescapes t u out f s h =
     let w = stands-exactly t u .0 s in
-    checked-fair false t out _ f ∙ rw (le-ltb (firstFault t) (length t) (omega (arith, w .0)), w .1) (fill-so u out h)
+    checked-fair (allowed false) t out _ f ∙ rw (le-ltb (firstFault t) (length t) (omega (arith, w .0)), w .1) (fill-so u out h)
 
 -- ---- counts
 
@@ -219,10 +219,10 @@ accepts : (i : List ℕ) (k n : ℕ) → (verdict (judgeOf i) ≡ counts k n) �
 accepts i k n = (λ e. accepted-law i k n .0 (verdict-counts (judgeOf i) k n e), λ h. ap verdict (accepted-law i k n .1 h))
 
 -- an outcome that tells a count is one that wrote as many octets
-filled-so : (f : Filled) (n : ℕ) → written-as (f .answer) ≡ told n → f ≡ filled (Wrote n) (f .room)
+pub filled-so : (f : Filled) (n : ℕ) → written-as (f .answer) ≡ told n → f ≡ filled (Wrote n) (f .room)
 filled-so f n e = let r : filled (f .answer) (f .room) ≡ filled (Wrote n) (f .room) = rw (wrote-told (f .answer) n e) in r
 
-writes : {f : Filled} {xs room : List ℕ} → f ≡ wrote xs room → Writes f xs room
+pub writes : {f : Filled} {xs room : List ℕ} → f ≡ wrote xs room → Writes f xs room
 writes {f} {xs} {room} e = record { count = ap (λ (f : Filled). written-as (f .answer)) e; holds = ap (λ (f : Filled). f .room) e }
 
 -- ---- the whole

@@ -19,7 +19,7 @@ use Rattle.text_unescaping.specs.Unescaped.{textStep, firstFault, unescaped}
 use Rattle.text.specs.Outcomes.{checked, faultless, escapeOutcome, unescapeOutcome}
 use Rattle.text_laws.specs.Stands.{Stands, Faulty}
 use Rattle.text_laws.proofs.StandsLaws.{stands-exactly, fault-found, fault-first}
-use Rattle.demands.specs.Demand1.{BadAt, Fair, Unfair, long, octet, EscapeBy, no-text, escape-over, escape-room, UnescapeBy, not-text, fault, text-room}
+use Rattle.demands.specs.Demand1.{BadAt, FairBy, UnfairBy, long, octet, EscapeBy, no-text, escape-over, escape-room, UnescapeBy, not-text, fault, text-room}
 use Rattle.demands.proofs.Refusing.{FillingByCase as Filling, clash, Telling, first}
 
 -- refusals of an entry that writes octets
@@ -51,40 +51,40 @@ bounded-told By xs out n p e y z =
 
 -- ---- 1 and 31
 
-module _ (lf : Bool) (t out : List ℕ) where
-  bad-there : firstBad (allowed lf) t < length t → BadAt lf t (firstBad (allowed lf) t)
+module _ (allows : ℕ → Bool) (t out : List ℕ) where
+  bad-there : firstBad allows t < length t → BadAt allows t (firstBad allows t)
   bad-there h =
-      let w = bad-place (allowed lf) t (firstBad (allowed lf) t) .0 refl in
+      let w = bad-place allows t (firstBad allows t) .0 refl in
       record { inside = h; before = w .1; there = w .2 }
 
-  bad-is : {p : ℕ} → BadAt lf t p → firstBad (allowed lf) t ≡ p
-  bad-is {p} b = let h = b .inside in bad-place (allowed lf) t p .1 (omega arith, b .before, b .there)
+  bad-is : {p : ℕ} → BadAt allows t p → firstBad allows t ≡ p
+  bad-is {p} b = let h = b .inside in bad-place allows t p .1 (omega arith, b .before, b .there)
 
-  fair : length t ≤ 16384 → length t ≤ firstBad (allowed lf) t → Fair lf t
-  fair s h = record { short = s; clean = bad-nowhere (allowed lf) t .0 (omega (arith, bad-le (allowed lf) t)) }
+  fair : length t ≤ 16384 → length t ≤ firstBad allows t → FairBy allows t
+  fair s h = record { short = s; clean = bad-nowhere allows t .0 (omega (arith, bad-le allows t)) }
 
-  clean-end : Fair lf t → firstBad (allowed lf) t ≡ length t
-  clean-end f = bad-nowhere (allowed lf) t .1 (f .clean)
+  clean-end : FairBy allows t → firstBad allows t ≡ length t
+  clean-end f = bad-nowhere allows t .1 (f .clean)
 
-  checked-told : (By : ℕ → ℕ → Type 0) (left : Filled) (n p : ℕ) → checked (allowed lf) t out left .answer ≡ Refused n p
-      → ((m q : ℕ) → Unfair lf t m q → By m q) → (Fair lf t → left .answer ≡ Refused n p → By n p) → By n p
+  pub checked-told : (By : ℕ → ℕ → Type 0) (left : Filled) (n p : ℕ) → checked allows t out left .answer ≡ Refused n p
+      → ((m q : ℕ) → UnfairBy allows t m q → By m q) → (FairBy allows t → left .answer ≡ Refused n p → By n p) → By n p
   unfolding checked
   checked-told By left n p e y x =
       first (written-tells out) By (ltb 16384 (length t)) 1 16384 n p _ e (λ a. y 1 16384 (long (ltb-true 16384 (length t) a))) (λ a f.
       let s = ltb-false 16384 (length t) a in
-      first (written-tells out) By (ltb (firstBad (allowed lf) t) (length t)) 31 (firstBad (allowed lf) t) n p left f
-      (λ b. y 31 (firstBad (allowed lf) t) (octet s (bad-there (ltb-true (firstBad (allowed lf) t) (length t) b))))
-      (λ b g. x (fair s (ltb-false (firstBad (allowed lf) t) (length t) b)) g))
+      first (written-tells out) By (ltb (firstBad allows t) (length t)) 31 (firstBad allows t) n p left f
+      (λ b. y 31 (firstBad allows t) (octet s (bad-there (ltb-true (firstBad allows t) (length t) b))))
+      (λ b g. x (fair s (ltb-false (firstBad allows t) (length t) b)) g))
 
-  checked-unfair : (left : Filled) (n p : ℕ) → Unfair lf t n p → checked (allowed lf) t out left ≡ refuse n p out
+  pub checked-unfair : (left : Filled) (n p : ℕ) → UnfairBy allows t n p → checked allows t out left ≡ refuse n p out
   unfolding checked
   checked-unfair left n p (long h) = rw (lt-ltb 16384 (length t) h)
   checked-unfair left n p (octet s b) = rw (le-ltb 16384 (length t) s, bad-is b, lt-ltb p (length t) (b .inside))
 
-  pub checked-fair : (left : Filled) → Fair lf t → checked (allowed lf) t out left ≡ left
+  pub checked-fair : (left : Filled) → FairBy allows t → checked allows t out left ≡ left
   unfolding checked
   checked-fair left f =
-      rw (le-ltb 16384 (length t) (f .short), le-ltb (firstBad (allowed lf) t) (length t) (omega (arith, clean-end f)))
+      rw (le-ltb 16384 (length t) (f .short), le-ltb (firstBad allows t) (length t) (omega (arith, clean-end f)))
 
 -- ---- escape
 
@@ -104,14 +104,14 @@ module _ (t out : List ℕ) where
   escape-told : (n p : ℕ) → escapeOutcome t out .answer ≡ Refused n p → EscapeBy t out n p
   unfolding escapeOutcome
   escape-told n p e =
-      checked-told true t out (EscapeBy t out) (fillBounded (escaped t) out) n p e (λ m q u. no-text u)
+      checked-told (allowed true) t out (EscapeBy t out) (fillBounded (escaped t) out) n p e (λ m q u. no-text u)
       (λ f g. bounded-told (EscapeBy t out) (escaped t) out n p g (λ h. escape-over f h) (λ h k. escape-room f h k))
 
   escape-so : (n p : ℕ) → EscapeBy t out n p → escapeOutcome t out ≡ refuse n p out
   unfolding escapeOutcome
-  escape-so n p (no-text u) = checked-unfair true t out _ n p u
-  escape-so n p (escape-over f h) = checked-fair true t out _ f ∙ over-so (escaped t) out h
-  escape-so n p (escape-room f h k) = checked-fair true t out _ f ∙ within-so (escaped t) out h ∙ short-so (escaped t) out k
+  escape-so n p (no-text u) = checked-unfair (allowed true) t out _ n p u
+  escape-so n p (escape-over f h) = checked-fair (allowed true) t out _ f ∙ over-so (escaped t) out h
+  escape-so n p (escape-room f h k) = checked-fair (allowed true) t out _ f ∙ within-so (escaped t) out h ∙ short-so (escaped t) out k
 
   pub escape-exactly : Filling (escapeOutcome t out) out (EscapeBy t out)
   escape-exactly = record { only = escape-told; unchanged = escape-so }
@@ -130,7 +130,7 @@ module _ (t out : List ℕ) where
   unescape-told : (n p : ℕ) → unescapeOutcome t out .answer ≡ Refused n p → UnescapeBy t out n p
   unfolding unescapeOutcome faultless
   unescape-told n p e =
-      checked-told false t out (UnescapeBy t out) _ n p e (λ m q u. not-text u) (λ f g.
+      checked-told (allowed false) t out (UnescapeBy t out) _ n p e (λ m q u. not-text u) (λ f g.
       first (written-tells out) (UnescapeBy t out) (ltb (firstFault t) (length t)) 30 (firstFault t) n p _ g
       (λ a. let h = ltb-true (firstFault t) (length t) a in let w = fault-found t h in fault f h (w .0 .1) (w .1))
       (λ a k.
@@ -139,11 +139,11 @@ module _ (t out : List ℕ) where
 
   unescape-so : (n p : ℕ) → UnescapeBy t out n p → unescapeOutcome t out ≡ refuse n p out
   unfolding unescapeOutcome faultless
-  unescape-so n p (not-text u) = checked-unfair false t out _ n p u
-  unescape-so n p (fault {u = u} f h s b) = checked-fair false t out _ f ∙ rw (fault-is p u h s b, lt-ltb p (length t) h)
+  unescape-so n p (not-text u) = checked-unfair (allowed false) t out _ n p u
+  unescape-so n p (fault {u = u} f h s b) = checked-fair (allowed false) t out _ f ∙ rw (fault-is p u h s b, lt-ltb p (length t) h)
   unescape-so n p (text-room {u = u} f s h) =
       let w = stands-exactly t u .0 s in
-      checked-fair false t out _ f
+      checked-fair (allowed false) t out _ f
       ∙ rw (le-ltb (firstFault t) (length t) (omega (arith, w .0)), w .1) (short-so u out h)
 
   pub unescape-exactly : Filling (unescapeOutcome t out) out (UnescapeBy t out)

@@ -24,6 +24,7 @@ use Rattle.reader_grammar.proofs.Refused.{refused-law}
 use Rattle.demands.specs.Demand1.{Exactly, Answering, Reading, Filling, Turning, Halves, Demand1}
 use Rattle.demands.proofs.Refusing.{ByCase, FillingByCase, TurningByCase}
 use Rattle.demands.proofs.Texts.{escape-exactly, unescape-exactly}
+use Rattle.demands.proofs.Labels.{encode-exactly, decode-exactly}
 use Rattle.demands.proofs.Cards.{judge-exactly, read-exactly, fold-exactly}
 use Rattle.demands.proofs.Desks.{new-exactly, open-exactly, add-exactly, release-exactly, held-exactly, judge-held-exactly, shows-none, shows, counted, judged}
 
@@ -88,6 +89,8 @@ demand1 =
       folds = λ s i out. filling-exactly (fold-exactly i s out);
       escapes = λ t out. filling-exactly (escape-exactly t out);
       unescapes = λ t out. filling-exactly (unescape-exactly t out);
+      encodes = λ r t out. filling-exactly (encode-exactly t out r);
+      decodes = λ r t out. filling-exactly (decode-exactly t out r);
       starts = λ slots. starting-exactly (new-exactly slots);
       opens = λ d pool m. turning-exactly (open-exactly d pool m);
       adds = λ d pool t chunk. turning-exactly (add-exactly d pool t chunk);

@@ -9,11 +9,17 @@ use lib.ListN.{length, take, drop}
 use Rattle.numbers.specs.Limits as limit
 use Rattle.numbers.specs.Refusals as refusal
 use Rattle.utf8.specs.Characters.{allowed}
+use Rattle.octets.specs.Classes.{quoted}
 use Rattle.octets.specs.Room.{Filled}
 use Rattle.utf8_laws.specs.Texts.{Text, Stops}
 use Rattle.text_escaping.specs.Escaped.{escaped}
 use Rattle.text.specs.Outcomes.{escapeOutcome, unescapeOutcome}
 use Rattle.text_laws.specs.Stands.{Stands, Faulty}
+use Rattle.label_carets.specs.Encoded.{encoded}
+use Rattle.label_carets.specs.declared.Rule.{Rule}
+use Rattle.label_carets.specs.declared.Rule.the-variants.{Rfc6350, Rfc6868}
+use Rattle.label.specs.Outcomes.{encodeOutcome, decodeOutcome}
+use Rattle.label_laws.specs.Reads.{Reads, Sayable, Unsaid}
 use Rattle.line_parser.specs.Grammar.{render}
 use Rattle.reader.specs.Outcome.{judgeOf, ended, Taken, readOutcome}
 use Rattle.folder_line.specs.Pieces.{foldedLines}
@@ -60,21 +66,28 @@ pub data FoldBy (i out : List ℕ) : ℕ → ℕ → Type 0 where
 
 -- ---- text
 
--- allowed characters before p, and none at p; lf says whether 0A is allowed
-pub record BadAt (lf : Bool) (t : List ℕ) (p : ℕ) : Type 0 where
+-- allowed characters before p, and none at p
+pub record BadAt (allows : ℕ → Bool) (t : List ℕ) (p : ℕ) : Type 0 where
   pub inside : p < length t
-  pub before : Text (allowed lf) (take p t)
-  pub there : Stops (allowed lf) (drop p t)
+  pub before : Text allows (take p t)
+  pub there : Stops allows (drop p t)
 
 -- neither 1 nor 31
-pub record Fair (lf : Bool) (t : List ℕ) : Type 0 where
+pub record FairBy (allows : ℕ → Bool) (t : List ℕ) : Type 0 where
   pub short : length t ≤ limit.octets
-  pub clean : Text (allowed lf) t
+  pub clean : Text allows t
 
 -- 1, 31
-pub data Unfair (lf : Bool) (t : List ℕ) : ℕ → ℕ → Type 0 where
-  long : limit.octets < length t → Unfair lf t refusal.tooLong limit.octets
-  octet : {p : ℕ} → length t ≤ limit.octets → BadAt lf t p → Unfair lf t refusal.textOctet p
+pub data UnfairBy (allows : ℕ → Bool) (t : List ℕ) : ℕ → ℕ → Type 0 where
+  long : limit.octets < length t → UnfairBy allows t refusal.tooLong limit.octets
+  octet : {p : ℕ} → length t ≤ limit.octets → BadAt allows t p → UnfairBy allows t refusal.textOctet p
+
+-- of a text, where lf says whether 0A is allowed
+abbrev pub Fair : Bool → List ℕ → Type 0
+Fair lf t = FairBy (allowed lf) t
+
+abbrev pub Unfair : Bool → List ℕ → ℕ → ℕ → Type 0
+Unfair lf t n p = UnfairBy (allowed lf) t n p
 
 -- 1, 31, 16, 15
 pub data EscapeBy (t out : List ℕ) : ℕ → ℕ → Type 0 where
@@ -87,6 +100,21 @@ pub data UnescapeBy (t out : List ℕ) : ℕ → ℕ → Type 0 where
   not-text : {n p : ℕ} → Unfair false t n p → UnescapeBy t out n p
   fault : {p : ℕ} {u : List ℕ} → Fair false t → p < length t → Stands (take p t) u → Faulty (drop p t) → UnescapeBy t out refusal.escape p
   text-room : {u : List ℕ} → Fair false t → Stands t u → length out < length u → UnescapeBy t out refusal.room (length u)
+
+-- ---- labels
+
+-- 1, 31; by RFC 6350 then 44, 15, by RFC 6868 then 16, 15
+pub data EncodeBy (t out : List ℕ) : Rule → ℕ → ℕ → Type 0 where
+  no-value : {r : Rule} {n p : ℕ} → Unfair true t n p → EncodeBy t out r n p
+  unsaid : {p : ℕ} → Fair true t → Unsaid t p → EncodeBy t out Rfc6350 refusal.noLabel p
+  encode-over : Fair true t → limit.octets < length (encoded Rfc6868 t) → EncodeBy t out Rfc6868 refusal.formTooLong limit.octets
+  encode-room : {r : Rule} → Fair true t → Sayable r t → length (encoded r t) ≤ limit.octets → length out < length (encoded r t)
+      → EncodeBy t out r refusal.room (length (encoded r t))
+
+-- 1, 31, 15; a label has the octets that may stand between quote marks, and v is what it stands for
+pub data DecodeBy (t out : List ℕ) (r : Rule) : ℕ → ℕ → Type 0 where
+  not-label : {n p : ℕ} → UnfairBy quoted t n p → DecodeBy t out r n p
+  label-room : {v : List ℕ} → FairBy quoted t → Reads r t v → length out < length v → DecodeBy t out r refusal.room (length v)
 
 -- ---- desk
 
@@ -160,6 +188,8 @@ pub record Demand1 : Type 0 where
   pub folds : (s : Style) (i out : List ℕ) → Filling (foldIn s i out) out (FoldBy i out)
   pub escapes : (t out : List ℕ) → Filling (escapeOutcome t out) out (EscapeBy t out)
   pub unescapes : (t out : List ℕ) → Filling (unescapeOutcome t out) out (UnescapeBy t out)
+  pub encodes : (r : Rule) (t out : List ℕ) → Filling (encodeOutcome r t out) out (EncodeBy t out r)
+  pub decodes : (r : Rule) (t out : List ℕ) → Filling (decodeOutcome r t out) out (DecodeBy t out r)
   -- a refused desk has 0 slots
   pub starts : (slots : ℕ) → Exactly (said (newStep slots .answer)) (newStep slots .desk ≡ freshDesk 0) (NewBy slots)
   pub opens : (d : Desk) (pool : List ℕ) (m : ℕ) → Turning (openStep d pool m) d pool (OpenBy d pool)

@@ -1,12 +1,15 @@
-// For the benchmark alone: escape, read and the desk's calls, for C to time; a refusal is answered by its number alone.
+// For the benchmark alone: escape, labels, read and the desk's calls, for C to time; a refusal is answered by its number alone.
 use desk::Answer;
 use desk::Desk;
+use label_carets::Rule;
 use numbers::limit;
 use octets::rooms::Written;
 use reader::Verdict;
 ghost use mathlib.Core.Path.{_≡_};
 ghost use Rattle.reader.specs.Outcome.{readOutcome};
 ghost use Rattle.text.specs.Outcomes.{escapeOutcome};
+ghost use Rattle.label.specs.Outcomes.{encodeOutcome, decodeOutcome};
+ghost use Rattle.label_carets.specs.declared.Rule.the-variants.{Rfc6868};
 ghost use Rattle.firmware_bench.specs.Answers.{number, writtenNumber, verdictNumber, answerNumber};
 ghost use Rattle.firmware_bench.specs.Calls.{served};
 
@@ -26,6 +29,32 @@ pub extern "C" fn timed_escape(text: &[u8], out: &mut [u8]) -> u64
     ensures { λ _. ⌜ now (out .exit) ≡ escapeOutcome (now (text .entry)) (now (out .entry)) .room ⌝ }
 {
     let w = text::escape(text, out);
+    match w {
+        Written::Wrote(n) => n as u64,
+        Written::Refused(n, _) => pack_refusal(n),
+    }
+}
+
+// Encodes a value by RFC 6868: the count of octets written, or the refusal; the room is as encoding leaves it.
+#[no_mangle]
+pub extern "C" fn timed_encode(value: &[u8], out: &mut [u8]) -> u64
+    ensures { λ r. ⌜ r ≡ writtenNumber (encodeOutcome Rfc6868 (now (value .entry)) (now (out .entry)) .answer) ⌝ }
+    ensures { λ _. ⌜ now (out .exit) ≡ encodeOutcome Rfc6868 (now (value .entry)) (now (out .entry)) .room ⌝ }
+{
+    let w = label::encode(Rule::Rfc6868, value, out);
+    match w {
+        Written::Wrote(n) => n as u64,
+        Written::Refused(n, _) => pack_refusal(n),
+    }
+}
+
+// Decodes a label by RFC 6868: the count of octets written, or the refusal; the room is as decoding leaves it.
+#[no_mangle]
+pub extern "C" fn timed_decode(label: &[u8], out: &mut [u8]) -> u64
+    ensures { λ r. ⌜ r ≡ writtenNumber (decodeOutcome Rfc6868 (now (label .entry)) (now (out .entry)) .answer) ⌝ }
+    ensures { λ _. ⌜ now (out .exit) ≡ decodeOutcome Rfc6868 (now (label .entry)) (now (out .entry)) .room ⌝ }
+{
+    let w = label::decode(Rule::Rfc6868, label, out);
     match w {
         Written::Wrote(n) => n as u64,
         Written::Refused(n, _) => pack_refusal(n),

@@ -2,7 +2,7 @@
 use Prim.Native.Nat.{ℕ}
 use mathlib.Core.List.{List, [], _∷_, _++_}
 
--- an input or a text of over 16,384 octets; at 16,384
+-- an input, a text, a value or a label of over 16,384 octets; at 16,384
 abbrev pub tooLong : ℕ
 tooLong = 1
 
@@ -58,7 +58,7 @@ recordRoom = 14
 abbrev pub room : ℕ
 room = 15
 
--- a folded or escaped form of over 16,384 octets; at 16,384
+-- a folded, escaped or encoded form of over 16,384 octets; at 16,384
 abbrev pub formTooLong : ℕ
 formTooLong = 16
 
@@ -94,7 +94,7 @@ slotCount = 26
 abbrev pub escape : ℕ
 escape = 30
 
--- text with an octet that is not allowed, or with bad UTF-8; at its first octet
+-- text, a value or a label with an octet that is not allowed, or with bad UTF-8; at its first octet
 abbrev pub textOctet : ℕ
 textOctet = 31
 
@@ -113,6 +113,10 @@ quote = 42
 -- a line with no colon
 abbrev pub noColon : ℕ
 noColon = 43
+
+-- a value with a newline or a quote mark, which RFC 6350's labels can't hold; at the first such octet
+abbrev pub noLabel : ℕ
+noLabel = 44
 
 -- ---- a replay's own: no reader, desk or C routine answers them
 
@@ -136,5 +140,5 @@ refusals =
     ++ copyRoom ∷ recordRoom ∷ room ∷ formTooLong ∷ []
     ++ noFreeSlot ∷ ticketsUsedUp ∷ notOpen ∷ slotFull ∷ poolLength ∷ unsound ∷ slotCount ∷ []
     ++ escape ∷ textOctet ∷ []
-    ++ name ∷ parameter ∷ quote ∷ noColon ∷ []
+    ++ name ∷ parameter ∷ quote ∷ noColon ∷ noLabel ∷ []
     ++ replayCall ∷ replayPool ∷ replayLog ∷ []

@@ -1,6 +1,6 @@
 // Refusals: the number of each, in the order of the table in docs/REFERENCE.md; a comment has the condition and the place.
 
-// An input or a text of over 16,384 octets; at 16,384.
+// An input, a text, a value or a label of over 16,384 octets; at 16,384.
 pub const TOO_LONG: u32 = 1;
 
 // An input of 0 octets; at 0.
@@ -42,7 +42,7 @@ pub const RECORD_ROOM: u32 = 14;
 // Output room too small; the octets needed.
 pub const ROOM: u32 = 15;
 
-// A folded or escaped form of over 16,384 octets; at 16,384.
+// A folded, escaped or encoded form of over 16,384 octets; at 16,384.
 pub const FORM_TOO_LONG: u32 = 16;
 
 // No slot is free; at 0.
@@ -69,7 +69,7 @@ pub const SLOT_COUNT: u32 = 26;
 // Text with a bare comma, or a backslash of no escape; at that octet.
 pub const ESCAPE: u32 = 30;
 
-// Text with an octet that is not allowed, or with bad UTF-8; at its first octet.
+// Text, a value or a label with an octet that is not allowed, or with bad UTF-8; at its first octet.
 pub const TEXT_OCTET: u32 = 31;
 
 // A line with no name, or with a bad name or group; from here to 43 at the line's start.
@@ -83,6 +83,9 @@ pub const QUOTE: u32 = 42;
 
 // A line with no colon.
 pub const NO_COLON: u32 = 43;
+
+// A value with a newline or a quote mark, which RFC 6350's labels can't hold; at the first such octet.
+pub const NO_LABEL: u32 = 44;
 
 // A replay's own refusals: no reader, desk or C routine answers them.
 

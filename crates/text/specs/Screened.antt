@@ -12,7 +12,11 @@ use Rattle.text_marks.specs.Seen.{seen}
 use Rattle.text.specs.declared.Screened.{Screened}
 use Rattle.text.specs.declared.Screened.the-variants.{Saw, Refused}
 
-unfoldable pub screened : Bool → ℕ → ℕ → List ℕ → Screened
-screened lf x y t =
+-- by the octets that are allowed, and what is seen
+unfoldable pub screenedBy : (ℕ → Bool) → ℕ → List ℕ → Screened
+screenedBy p seen t =
     pick (ltb limit.octets (length t)) (Refused refusal.tooLong limit.octets)
-    (pick (ltb (firstBad (allowed lf) t) (length t)) (Refused refusal.textOctet (firstBad (allowed lf) t)) (Saw (seen x y t)))
+    (pick (ltb (firstBad p t) (length t)) (Refused refusal.textOctet (firstBad p t)) (Saw seen))
+
+abbrev pub screened : Bool → ℕ → ℕ → List ℕ → Screened
+screened lf x y t = screenedBy (allowed lf) (seen x y t) t

@@ -55,7 +55,7 @@ fn screen(text: &[u8], x: u8, y: u8, lf: bool) -> Screened
 }
 
 // Writes the text as it is, or refuses with ROOM.
-fn put(text: &[u8], out: &mut [u8]) -> Written
+pub fn put(text: &[u8], out: &mut [u8]) -> Written
     ensures { λ r. ⌜ filled r (now (out .exit)) ≡ fill (now (text .entry)) (now (out .entry)) ⌝ }
 {
     if out.len() < text.len() {
@@ -78,7 +78,7 @@ fn escape_each(text: &[u8], out: &mut [u8]) -> Written
         return Written::Refused(refusal::ROOM, n);
     }
     let t = text_escaping::letters();
-    text_escaping::write(&t, text, out);
+    text_escaping::write(&t, b'\\', text, out);
     Written::Wrote(n)
 }
 

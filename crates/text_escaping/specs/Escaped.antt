@@ -1,5 +1,5 @@
 -- Escaping, by REFERENCE, Escaping: backslash, comma and semicolon get a backslash, 0A becomes `\n`. Assumes nothing.
-use Prim.Native.Nat.{ℕ, _<_}
+use Prim.Native.Nat.{ℕ}
 use mathlib.Core.Path.{_≡_}
 use mathlib.Core.List.{List, [], _∷_, _++_}
 use lib.Dec.{eqb}
@@ -16,9 +16,9 @@ letter b = pick (eqb b ascii.lf) ascii.smallN b
 unfoldable pub inEscape : ℕ → List ℕ
 inEscape b = pick (marked b) (ascii.backslash ∷ letter b ∷ []) (b ∷ [])
 
--- a table of 256 entries has the letters, and 0 for an octet that stays as it is
+-- a table has the letters, and 0 for an octet that stays as it is
 unfoldable pub Letters : List ℕ → Type 0
-Letters t = (k : ℕ) → k < 256 → getD t k 0 ≡ pick (marked k) (letter k) 0
+Letters t = (k : ℕ) → getD t k 0 ≡ pick (marked k) (letter k) 0
 
 -- a text with each octet so written
 unfoldable pub escaped : List ℕ → List ℕ

@@ -17,7 +17,7 @@ use Rattle.utf8_screening.specs.Plain.{odd, allPlain}
 use Rattle.utf8_screening.proofs.PlainLaws.{plain-all}
 use Rattle.octets.specs.Counts.{any, count}
 use Rattle.text_marks.specs.Marks.{backslash, special, marked}
-use Rattle.text_marks.specs.Seen.{held, seen}
+use Rattle.text_marks.specs.Seen.{held, seenBy}
 
 -- the parts of a list
 module _ (p : ℕ → Bool) where
@@ -62,34 +62,34 @@ two-or false false true false = refl
 two-or false false false true = refl
 two-or false false false false = refl
 
-module _ (x y : ℕ) where
-  joined : (s a b : List ℕ) → any odd s ≡ (any odd a || any odd b) → any (held x y) s ≡ (any (held x y) a || any (held x y) b) → bitOr (seen x y a) (seen x y b) ≡ seen x y s
-  unfolding seen
-  joined s a b e f = two-or (any odd a) (any (held x y) a) (any odd b) (any (held x y) b) ∙ rw (e, f)
+module _ (p q : ℕ → Bool) where
+  joined : (s a b : List ℕ) → any p s ≡ (any p a || any p b) → any q s ≡ (any q a || any q b) → bitOr (seenBy p q a) (seenBy p q b) ≡ seenBy p q s
+  unfolding seenBy
+  joined s a b e f = two-or (any p a) (any q a) (any p b) (any q b) ∙ rw (e, f)
 
-  pub seen-none : seen x y [] ≡ 0
-  unfolding seen any
+  pub seen-none : seenBy p q [] ≡ 0
+  unfolding seenBy any
   seen-none = refl
 
-  pub seen-one : (b m n : ℕ) → m ≡ bit (odd b) 1 → n ≡ bit (held x y b) 1 → m + 2 * n ≡ seen x y (b ∷ [])
-  unfolding seen any
-  seen-one b m n e f = rw (e, f, or-false (odd b), or-false (held x y b)) (by (odd b) (held x y b))
+  pub seen-one : (b m n : ℕ) → m ≡ bit (p b) 1 → n ≡ bit (q b) 1 → m + 2 * n ≡ seenBy p q (b ∷ [])
+  unfolding seenBy any
+  seen-one b m n e f = rw (e, f, or-false (p b), or-false (q b)) (by (p b) (q b))
     where
       by : (o h : Bool) → bit o 1 + 2 * bit h 1 ≡ bit o 1 + bit h 2
       by o true = refl
       by o false = refl
 
   module _ (s : List ℕ) where
-    pub seen-step : (i m n : ℕ) → i < length s → m ≡ seen x y (take i s) → n ≡ seen x y (getD s i 0 ∷ []) → bitOr m n ≡ seen x y (take (i + 1) s)
+    pub seen-step : (i m n : ℕ) → i < length s → m ≡ seenBy p q (take i s) → n ≡ seenBy p q (getD s i 0 ∷ []) → bitOr m n ≡ seenBy p q (take (i + 1) s)
     seen-step i m n h e f =
         rw (e, f, add-one, take-suc s i 0 h)
-        (joined (take i s ++ (getD s i 0 ∷ [])) (take i s) (getD s i 0 ∷ []) (any-append odd (take i s) (getD s i 0 ∷ [])) (any-append (held x y) (take i s) (getD s i 0 ∷ [])))
+        (joined (take i s ++ (getD s i 0 ∷ [])) (take i s) (getD s i 0 ∷ []) (any-append p (take i s) (getD s i 0 ∷ [])) (any-append q (take i s) (getD s i 0 ∷ [])))
 
-    pub seen-parts : (end from m n : ℕ) → from ≤ end → m ≡ seen x y (take end s) → n ≡ seen x y (take (length s - from) (drop from s)) → bitOr m n ≡ seen x y s
+    pub seen-parts : (end from m n : ℕ) → from ≤ end → m ≡ seenBy p q (take end s) → n ≡ seenBy p q (take (length s - from) (drop from s)) → bitOr m n ≡ seenBy p q s
     seen-parts end from m n h e f =
         let d : length (drop from s) ≤ length s - from = rw (length-drop from s) (omega arith) in
         rw (e, f, take-all (length s - from) (drop from s) d)
-        (joined s (take end s) (drop from s) (any-parts odd from end h s) (any-parts (held x y) from end h s))
+        (joined s (take end s) (drop from s) (any-parts p from end h s) (any-parts q from end h s))
 
 -- what the two bits say
 no-low : (a b : Bool) → bit a 1 + bit b 2 ≡ 0 → a ≡ false
@@ -128,14 +128,14 @@ unmarked (x ∷ xs) e =
     let n : marked x ≡ false = sym (held-marked x) ∙ or-none-left (held 59 10 x) (any (held 59 10) xs) e in
     rw n (omega (arith, unmarked xs (or-none-right (held 59 10 x) (any (held 59 10) xs) e)))
 
-module _ (s : List ℕ) (n x y : ℕ) (e : n ≡ seen x y s) where
-  pub seen-plain : (n ≡ 0 → any odd s ≡ false) × (n ≡ 2 → any odd s ≡ false)
-  unfolding seen
-  seen-plain = (λ z. no-low (any odd s) (any (held x y) s) (sym e ∙ z), λ z. only-high (any odd s) (any (held x y) s) (sym e ∙ z))
+module _ (p q : ℕ → Bool) (s : List ℕ) (n : ℕ) (e : n ≡ seenBy p q s) where
+  pub seen-plain : (n ≡ 0 → any p s ≡ false) × (n ≡ 2 → any p s ≡ false)
+  unfolding seenBy
+  seen-plain = (λ z. no-low (any p s) (any q s) (sym e ∙ z), λ z. only-high (any p s) (any q s) (sym e ∙ z))
 
-  pub seen-low : n < 2 → any (held x y) s ≡ false
-  unfolding seen
-  seen-low h = no-high (any odd s) (any (held x y) s) (omega arith)
+  pub seen-low : n < 2 → any q s ≡ false
+  unfolding seenBy
+  seen-low h = no-high (any p s) (any q s) (omega arith)
 
 pub good-plain : (lf : Bool) (s : List ℕ) → any odd s ≡ false → length s ≡ firstBad (allowed lf) s
 good-plain lf s e = sym (plain-all lf s (plain s e))

@@ -14,6 +14,10 @@ use Rattle.text_marks.specs.Marks.{backslash}
 unfoldable pub held : ℕ → ℕ → ℕ → Bool
 held x y b = (backslash b || eqb b ascii.comma) || (eqb b x || eqb b y)
 
+-- 1 where an octet passes the first test, 2 where one passes the second, 3 where both are so, else 0
+unfoldable pub seenBy : (ℕ → Bool) → (ℕ → Bool) → List ℕ → ℕ
+seenBy p q s = bit (any p s) 1 + bit (any q s) 2
+
 -- 1 where an octet is not plain, 2 where one is held, 3 where both
-unfoldable pub seen : ℕ → ℕ → List ℕ → ℕ
-seen x y s = bit (any odd s) 1 + bit (any (held x y) s) 2
+abbrev pub seen : ℕ → ℕ → List ℕ → ℕ
+seen x y s = seenBy odd (held x y) s

@@ -7,6 +7,7 @@ use std::thread;
 
 use crate::console::Console;
 use crate::generator::folds::folds;
+use crate::generator::labels::labels;
 use crate::generator::line_faults::line_faults;
 use crate::generator::lists::lists;
 use crate::generator::protocol::protocol;
@@ -22,6 +23,7 @@ pub struct Plan {
     pub line_faults: usize,
     pub folds: usize,
     pub texts: usize,
+    pub labels: usize,
     pub lists: usize,
     pub desks: usize,
     pub seed: u64,
@@ -36,6 +38,7 @@ impl Default for Plan {
             line_faults: 30_000,
             folds: 10_000,
             texts: 80_000,
+            labels: 40_000,
             lists: 2_000,
             desks: 3_000,
             seed: 1,
@@ -63,6 +66,7 @@ pub fn steps(plan: Plan) -> impl Iterator<Item = Step> {
         .chain(line_faults(plan.seed).take(plan.line_faults).map(of("line faults")))
         .chain(folds(plan.seed).take(plan.folds).map(of("folds")))
         .chain(texts(plan.seed).take(plan.texts).map(of("texts")))
+        .chain(labels(plan.seed).take(plan.labels).map(of("labels")))
         .chain(calls)
 }
 

@@ -22,6 +22,7 @@ use std::io::{self, BufRead, BufReader, Read, Write};
 use crate::desk::Desk;
 use crate::folder::fold;
 use crate::hex::word_of;
+use crate::labels::{decode, encode};
 use crate::reader::{judge, read, Counts, RECORD_NUMBERS};
 use crate::refusal::Refusal;
 use crate::requests::{request_of, Request};
@@ -72,6 +73,8 @@ impl Console {
             Request::Fold { room, octets } => room_answer(fold, room, &octets),
             Request::Escape { room, octets } => room_answer(escape, room, &octets),
             Request::Unescape { room, octets } => room_answer(unescape, room, &octets),
+            Request::Encode { rule, room, octets } => room_answer(|value, out| encode(rule, value, out), room, &octets),
+            Request::Decode { rule, room, octets } => room_answer(|label, out| decode(rule, label, out), room, &octets),
             Request::Desk { slots, pool } => self.new_desk(slots, pool),
             Request::Open { tram } => {
                 let (answer, next) = self.desk.open(&self.pool, tram);
@@ -138,7 +141,11 @@ fn copy_length(records: &[u32]) -> usize {
 }
 
 /// The answer of an entry that writes octets to room of this size.
-fn room_answer(entry: fn(&[u8], &mut [u8]) -> Result<usize, Refusal>, room: usize, octets: &[u8]) -> String {
+fn room_answer(
+    entry: impl Fn(&[u8], &mut [u8]) -> Result<usize, Refusal>,
+    room: usize,
+    octets: &[u8],
+) -> String {
     let mut out = vec![ROOM_OCTET; room];
     let answer = entry(octets, &mut out);
     let (written, past) = out.split_at(answer.unwrap_or(0));

@@ -1,4 +1,4 @@
-// Knows which parts the independent program has; each part is written from document 01 alone.
+// Knows which parts the independent program has; each part is written from documents 01 and 02 alone.
 
 pub mod beside;
 pub mod billing;
@@ -14,6 +14,7 @@ pub mod folder;
 pub mod generator;
 pub mod hex;
 pub mod kinds;
+pub mod labels;
 pub mod ledger;
 pub mod ledger_console;
 pub mod line_faults;

@@ -1,6 +1,7 @@
 // Knows the console's requests: taking a line apart into a request, and writing one as a line.
 
 use crate::hex::{octets_of, word_of};
+use crate::labels::{Rule, RULES};
 
 /// The most octets or numbers of room that can be asked for.
 pub const MOST_ROOM: usize = 70_000;
@@ -19,6 +20,8 @@ pub enum Request {
     Fold { room: usize, octets: Vec<u8> },
     Escape { room: usize, octets: Vec<u8> },
     Unescape { room: usize, octets: Vec<u8> },
+    Encode { rule: Rule, room: usize, octets: Vec<u8> },
+    Decode { rule: Rule, room: usize, octets: Vec<u8> },
     Desk { slots: u64, pool: usize },
     Open { tram: u32 },
     Add { ticket: u32, chunk: Vec<u8> },
@@ -40,7 +43,7 @@ pub fn request_of(line: &[u8]) -> Option<Request> {
     entry_request(&words).or_else(|| desk_request(&words))
 }
 
-/// The requests to reader, folder and text.
+/// The requests to reader, folder, text and labels.
 fn entry_request(words: &[&[u8]]) -> Option<Request> {
     match words {
         [b"judge", octets] => Some(Request::Judge { octets: octets_of(octets)? }),
@@ -49,6 +52,15 @@ fn entry_request(words: &[&[u8]]) -> Option<Request> {
             record_room: size_of(records, MOST_ROOM)?,
             octets: octets_of(octets)?,
         }),
+        [word @ (b"encode" | b"decode"), rule, room, octets] => {
+            let rule = *RULES.get(size_of(rule, RULES.len())?)?;
+            let room = size_of(room, MOST_ROOM)?;
+            let octets = octets_of(octets)?;
+            Some(match *word {
+                b"encode" => Request::Encode { rule, room, octets },
+                _ => Request::Decode { rule, room, octets },
+            })
+        }
         [word, room, octets] => {
             let room = size_of(room, MOST_ROOM)?;
             let octets = octets_of(octets)?;
@@ -117,6 +129,11 @@ pub fn read_line(copy_room: usize, record_room: usize, octets: &[u8]) -> String 
 /// The line `WORD ROOM OCTETS`, for fold, escape and unescape.
 pub fn room_line(word: &str, room: usize, octets: &[u8]) -> String {
     format!("{word} {room} {}", word_of(octets))
+}
+
+/// The line `WORD RULE ROOM OCTETS`, for encode and decode.
+pub fn label_line(word: &str, rule: Rule, room: usize, octets: &[u8]) -> String {
+    format!("{word} {} {room} {}", rule as usize, word_of(octets))
 }
 
 /// The line `add TICKET OCTETS`.

@@ -4,6 +4,19 @@ use independent::compare::{compare, Plan, Side};
 
 const SELF: &str = env!("CARGO_BIN_EXE_independent");
 
+/// A plan of nothing.
+const NOTHING: Plan = Plan {
+    protocol: 0,
+    readers: 0,
+    line_faults: 0,
+    folds: 0,
+    texts: 0,
+    labels: 0,
+    lists: 0,
+    desks: 0,
+    seed: 1,
+};
+
 /// A plan that takes no time.
 fn small() -> Plan {
     Plan {
@@ -12,6 +25,7 @@ fn small() -> Plan {
         line_faults: 300,
         folds: 500,
         texts: 1_000,
+        labels: 1_000,
         lists: 60,
         desks: 0,
         seed: 5,
@@ -32,7 +46,7 @@ fn compare_side(side: Side, script: &str, plan: Plan) -> Result<String, String> 
 fn the_own_console_gives_the_same_answers() {
     let counts = compare(Side::Console, SELF, &["console".to_string()], small()).expect("no difference");
     assert!(counts.starts_with(
-        "same answers: protocol 117, readers 2000, line faults 300, folds 500, texts 1000, 60 lists of "
+        "same answers: protocol 117, readers 2000, line faults 300, folds 500, texts 1000, labels 1000, 60 lists of "
     ));
 }
 
@@ -47,7 +61,7 @@ fn a_changed_answer_is_reported_with_its_request() {
 
 #[test]
 fn a_difference_in_a_call_list_comes_with_the_calls_before_it() {
-    let plan = Plan { protocol: 0, readers: 0, line_faults: 0, folds: 0, texts: 0, ..small() };
+    let plan = Plan { lists: 60, seed: 5, ..NOTHING };
     let report =
         compare_shell("\"$0\" console | sed 's/^ok 16384$/ok 16383/'", plan).expect_err("a difference");
     assert!(report.starts_with("difference in lists, request "), "{report}");
@@ -70,8 +84,7 @@ fn a_console_that_ends_early_or_says_too_much_or_ends_badly_differs() {
 
 #[test]
 fn families_that_the_console_does_not_know_can_be_left_out() {
-    let only_readers =
-        Plan { protocol: 0, readers: 500, line_faults: 0, folds: 0, texts: 0, lists: 0, desks: 0, seed: 1 };
+    let only_readers = Plan { readers: 500, ..NOTHING };
     let script = "\"$0\" console | sed 's/^ok \\([0-9]*\\)$/gone/'";
     assert_eq!(compare_shell(script, only_readers), Ok("same answers: readers 500".to_string()));
     assert!(compare_shell(script, Plan { lists: 1, ..only_readers }).is_err());

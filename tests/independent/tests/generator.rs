@@ -5,8 +5,8 @@ use std::collections::HashSet;
 use independent::beside::{compare_desks, survey_desks};
 use independent::compare::{steps, Plan};
 use independent::generator::{
-    desks::desks, folds, folds::folds, hand, line_faults::line_faults, lists, lists::lists, readers, texts,
-    texts::texts,
+    desks::desks, folds, folds::folds, hand, labels, labels::labels, line_faults::line_faults, lists, lists::lists,
+    readers, texts, texts::texts,
 };
 use independent::hex::word_of;
 use independent::survey::{survey, Survey};
@@ -59,6 +59,23 @@ fn texts_reach_1_15_16_30_and_31() {
 }
 
 #[test]
+fn labels_reach_every_refusal_under_both_rules() {
+    for (start, numbers) in [
+        ("encode 0 ", [1, 15, 31, 44].as_slice()),
+        ("encode 1 ", &[1, 15, 16, 31]),
+        ("decode 0 ", &[1, 15, 31]),
+        ("decode 1 ", &[1, 15, 31]),
+    ] {
+        let survey = survey(labels(1).take(40_000).filter(|line| line.starts_with(start)));
+        assert_eq!(survey.refusals.keys().copied().collect::<Vec<u32>>(), numbers, "{start}");
+        for &number in numbers.iter().filter(|&&number| number >= 31 || number == 15) {
+            assert!(times(&survey, number) >= 500, "{start}{number}: {survey}");
+        }
+        assert!(survey.requests >= 5_000 && survey.accepted >= 1_000 && survey.bad_requests == 0, "{start}{survey}");
+    }
+}
+
+#[test]
 fn lists_reach_20_to_26_and_the_reader_s() {
     let survey = survey(lists(1).take(2_000).flatten());
     for number in 20..=26 {
@@ -107,7 +124,7 @@ fn together_they_reach_every_refusal_of_the_paper() {
     let desk_values = survey_desks(plan.seed, plan.desks).expect("desk and ledger agree");
     let mut reached = requests.refusals;
     reached.extend(desk_values.refusals);
-    let all = (1..=5).chain(7..=16).chain(20..=26).chain([30, 31]).chain(40..=43);
+    let all = (1..=5).chain(7..=16).chain(20..=26).chain([30, 31]).chain(40..=44);
     assert_eq!(reached.into_keys().collect::<Vec<u32>>(), all.collect::<Vec<u32>>());
 }
 
@@ -125,6 +142,8 @@ fn a_usual_run_has_everything_made_by_hand() {
     assert!(folds::by_hand().iter().all(|input| folded.contains(&word_of(input))));
     let texts = last_words(texts(1).take(plan.texts));
     assert!(texts::by_hand().iter().all(|(_, text)| texts.contains(&word_of(text))));
+    let labelled = last_words(labels(1).take(plan.labels));
+    assert!(labels::by_hand().iter().all(|(_, _, octets)| labelled.contains(&word_of(octets))));
     assert!(lists::by_hand().len() < plan.lists);
 }
 
@@ -138,7 +157,7 @@ fn every_list_begins_with_its_desk() {
 
 #[test]
 fn the_same_seed_gives_the_same_lines_and_another_gives_others() {
-    let plan = Plan { readers: 60_000, folds: 4_000, texts: 70_000, lists: 60, ..Plan::default() };
+    let plan = Plan { readers: 60_000, folds: 4_000, texts: 70_000, labels: 30_000, lists: 60, ..Plan::default() };
     assert!(steps(plan).eq(steps(plan)));
     assert!(!steps(plan).eq(steps(Plan { seed: 2, ..plan })));
 }
@@ -151,8 +170,17 @@ fn no_line_is_longer_than_the_console_takes() {
 
 #[test]
 fn a_family_of_0_is_left_out() {
-    let plan =
-        Plan { protocol: 0, readers: 10, line_faults: 0, folds: 0, texts: 5, lists: 0, desks: 0, seed: 1 };
+    let plan = Plan {
+        protocol: 0,
+        readers: 10,
+        line_faults: 0,
+        folds: 0,
+        texts: 5,
+        labels: 0,
+        lists: 0,
+        desks: 0,
+        seed: 1,
+    };
     let families: Vec<&str> = steps(plan).map(|step| step.family).collect();
     assert_eq!(families, [["readers"; 10].as_slice(), &["texts"; 5]].concat());
 }

@@ -9,6 +9,7 @@ use Rattle.text_marks.specs.Marks.{marked}
 use Rattle.text_escaping.specs.Escaped.{escaped}
 use Rattle.octets.specs.Counts.{count}
 use Rattle.text_escaping.proofs.LengthLaws.{escaped-length}
+use Rattle.text_escaping.proofs.CodedLaws.{coded-escaped}
 use borrow.Author.Needs.{needs}
 use Rattle.text.proofs.escape_each.Statement.{statement}
 use Rattle.text.proofs.escape_each.Tie as tie
@@ -47,7 +48,8 @@ write-requires c κs =
     let t = c .before .before .before .before .before .before .before .before .args .text .now in
     let k = c .before .before .before .before .before .marks in
     let e = counted t (k .result) (k .ensures .0) in
-    (c .before .before .letters .ensures, omega arith)
+    let l = c .before .before .letters in
+    rw (coded-escaped (l .result) (l .ensures) t) (omega arith)
 
 same-length : tie.Need-same-length
 same-length c = search needs
@@ -58,7 +60,9 @@ returns-3 c =
     let t = a .text .now in
     let k = c .before .before .before .before .before .before .before .before .marks in
     let e = counted t (k .result) (k .ensures .0) in
-    fill-fits (escaped t) (a .out .now) (length t + k .result) e (omega arith) (c .before .before .write .last .1 .1 .0) (c .before .before .write .ensures ∙ ap (λ (m : ℕ). escaped t ++ drop m (a .out .now)) (sym e))
+    let l = c .before .before .before .before .before .letters in
+    let w = rw (coded-escaped (l .result) (l .ensures) t) at (c .before .before .write .ensures) in
+    fill-fits (escaped t) (a .out .now) (length t + k .result) e (omega arith) (c .before .before .write .last .1 .1 .1 .0) (w ∙ ap (λ (m : ℕ). escaped t ++ drop m (a .out .now)) (sym e))
     ∙ within-bound (escaped t) (a .out .now) (length t + k .result) e (omega arith)
 
 pub escape-each-spec : {M : Type 1} → statement M

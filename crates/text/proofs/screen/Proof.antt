@@ -3,13 +3,15 @@ use mathlib.Core.Path.{sym}
 use lib.ListN.{length}
 use borrow.Author.Needs.{needs}
 use borrow.Author.Tests.{lt-ltb, le-ltb}
+use Rattle.utf8_screening.specs.Plain.{odd}
+use Rattle.text_marks.specs.Seen.{held}
 use Rattle.text_marks.proofs.SeenLaws.{seen-plain}
-use Rattle.text.specs.Screened.{screened}
+use Rattle.text.specs.Screened.{screenedBy}
 use Rattle.text.proofs.screen.Statement.{statement}
 use Rattle.text.proofs.screen.Tie as tie
 
 returns : tie.Need-returns
-unfolding screened
+unfolding screenedBy
 returns c = simp (lt-ltb 16384 (length (c .before .before .args .text .now)) (c .if1 .taken))
 
 see-requires : tie.Need-see-requires
@@ -18,17 +20,17 @@ see-requires c κs = search needs
 bad-octet-requires : tie.Need-bad-octet-requires
 bad-octet-requires c κs =
     let a = c .before .before .before .args in
-    seen-plain (a .text .now) (c .see .result) (a .x) (a .y) (c .see .ensures)
+    seen-plain odd (held (a .x) (a .y)) (a .text .now) (c .see .result) (c .see .ensures)
 
 returns-2 : tie.Need-returns-2
-unfolding screened
+unfolding screenedBy
 returns-2 c =
     let n = length (c .before .before .before .before .before .args .text .now) in
     let b = c .before .bad-octet in
     simp (le-ltb 16384 n (c .before .before .before .if1 .left), sym (b .ensures), lt-ltb (b .result) n (c .if2 .taken))
 
 returns-3 : tie.Need-returns-3
-unfolding screened
+unfolding screenedBy
 returns-3 c =
     let n = length (c .before .before .before .before .before .args .text .now) in
     let b = c .before .bad-octet in

@@ -4,7 +4,8 @@ use Prim.Native.Nat.{_≤_, _-_}
 use native.Mathlib.Omega.{arith}
 use lib.ListN.{length, take}
 use lib.Seq.{take-all}
-use Rattle.text_marks.specs.Seen.{seen}
+use Rattle.utf8_screening.specs.Plain.{odd}
+use Rattle.text_marks.specs.Seen.{held, seen}
 use Rattle.text_marks.proofs.SeenLaws.{seen-none, seen-step}
 use borrow.Author.Needs.{needs}
 use Rattle.text_marks.proofs.see_each.Statement.{statement}
@@ -19,7 +20,7 @@ abbrev μ-loop : tie.MeasureT-loop
 loop-holds : tie.Need-loop-holds Inv-loop μ-loop
 loop-holds c =
     let a = c .before .args in
-    (search needs, sym (seen-none (a .x) (a .y)))
+    (search needs, sym (seen-none odd (held (a .x) (a .y))))
 
 shared-slice-read-see-octet : tie.Need-shared-slice-read-see-octet Inv-loop μ-loop
 shared-slice-read-see-octet c = search needs
@@ -37,7 +38,7 @@ loop-again : tie.Need-loop-again Inv-loop μ-loop
 loop-again c =
     let a = c .before .before .before .before .before .args in
     let l = c .before .before .before .loop in
-    (omega arith, seen-step (a .x) (a .y) (a .s .now) (l .i) (l .bits) (c .see-octet .result) (c .before .before .loop-test .taken) (l .inv .1) (c .see-octet .ensures))
+    (omega arith, seen-step odd (held (a .x) (a .y)) (a .s .now) (l .i) (l .bits) (c .see-octet .result) (c .before .before .loop-test .taken) (l .inv .1) (c .see-octet .ensures))
 
 returns : tie.Need-returns Inv-loop μ-loop
 returns c =

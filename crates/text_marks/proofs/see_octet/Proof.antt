@@ -27,7 +27,7 @@ add-result c =
 returns : tie.Need-returns
 returns c =
     let a = c .before .before .args in
-    seen-one (a .x) (a .y) (a .b) (c .before .odd-bit .result) (c .held-bit .result) (c .before .odd-bit .ensures) (c .held-bit .ensures)
+    seen-one odd (held (a .x) (a .y)) (a .b) (c .before .odd-bit .result) (c .held-bit .result) (c .before .odd-bit .ensures) (c .held-bit .ensures)
 
 pub see-octet-spec : {M : Type 1} → statement M
 see-octet-spec =

@@ -2,6 +2,8 @@
 use mathlib.Core.Path.{_≡_}
 use Prim.Native.Nat.{_-_}
 use native.Mathlib.Omega.{arith}
+use Rattle.utf8_screening.specs.Plain.{odd}
+use Rattle.text_marks.specs.Seen.{held}
 use Rattle.text_marks.proofs.SeenLaws.{seen-parts}
 use borrow.Author.Needs.{needs}
 use Rattle.text_marks.proofs.see_parts.Statement.{statement}
@@ -35,7 +37,7 @@ returns : tie.Need-returns
 returns c =
     let a = c .before .before .before .before .before .args in
     let n : a .end - 0 ≡ a .end = omega arith in
-    seen-parts (a .x) (a .y) (a .s .now) (a .end) (a .from) (c .before .before .see-each .result) (c .see-each2 .result) (c .before .before .before .before .before .pre .0) (rw n at (c .before .before .see-each .ensures)) (c .see-each2 .ensures)
+    seen-parts odd (held (a .x) (a .y)) (a .s .now) (a .end) (a .from) (c .before .before .see-each .result) (c .see-each2 .result) (c .before .before .before .before .before .pre .0) (rw n at (c .before .before .see-each .ensures)) (c .see-each2 .ensures)
 
 pub see-parts-spec : {M : Type 1} → statement M
 see-parts-spec =

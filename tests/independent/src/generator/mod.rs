@@ -5,6 +5,7 @@ pub mod faults;
 pub mod folds;
 pub mod grammar;
 pub mod hand;
+pub mod labels;
 pub mod line_faults;
 pub mod lists;
 pub mod mutation;

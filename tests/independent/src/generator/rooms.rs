@@ -31,7 +31,7 @@ pub fn read_request(input: &[u8], turn: usize) -> String {
 }
 
 /// The octets that an entry needs for this input, or a guess where it refuses.
-pub fn octets_needed(entry: fn(&[u8], &mut [u8]) -> Result<usize, Refusal>, input: &[u8]) -> usize {
+pub fn octets_needed(entry: impl Fn(&[u8], &mut [u8]) -> Result<usize, Refusal>, input: &[u8]) -> usize {
     let mut out = vec![0; MOST_OCTETS];
     entry(input, &mut out).unwrap_or(input.len())
 }
@@ -48,14 +48,22 @@ pub fn room_request(
     input: &[u8],
     turn: usize,
 ) -> String {
+    room_line(word, room_around(entry, input, turn), input)
+}
+
+/// One short, exact, one over, no or large room for what an entry writes, as the turn says.
+pub fn room_around(
+    entry: impl Fn(&[u8], &mut [u8]) -> Result<usize, Refusal>,
+    input: &[u8],
+    turn: usize,
+) -> usize {
     let needed = octets_needed(entry, input);
-    let room = match turn % 8 {
+    match turn % 8 {
         0 | 4 => needed,
         1 | 5 => needed.saturating_sub(1),
         2 | 6 => needed + 1,
         3 => needed + 40,
         _ if turn % 16 == 7 => 0,
         _ => LARGE_COPY,
-    };
-    room_line(word, room, input)
+    }
 }

@@ -3,6 +3,7 @@
 
 use independent::examples::m_with;
 use independent::folder::fold;
+use independent::labels::{decode, encode, Rule};
 use independent::reader::{judge, read};
 use independent::text::{escape, unescape};
 
@@ -46,7 +47,7 @@ pub fn line_kind(line: &str) -> u32 {
 
 /// What an entry writes to room of this size, or its refusal; a refusal must leave the room alone.
 fn written(
-    entry: fn(&[u8], &mut [u8]) -> Result<usize, independent::refusal::Refusal>,
+    entry: impl Fn(&[u8], &mut [u8]) -> Result<usize, independent::refusal::Refusal>,
     input: &[u8],
     room: usize,
 ) -> Answer<Vec<u8>> {
@@ -74,4 +75,12 @@ pub fn escaped(text: &[u8], room: usize) -> Answer<Vec<u8>> {
 
 pub fn unescaped(text: &[u8], room: usize) -> Answer<Vec<u8>> {
     written(unescape, text, room)
+}
+
+pub fn encoded(rule: Rule, value: &[u8], room: usize) -> Answer<Vec<u8>> {
+    written(|value, out| encode(rule, value, out), value, room)
+}
+
+pub fn decoded(rule: Rule, label: &[u8], room: usize) -> Answer<Vec<u8>> {
+    written(|label, out| decode(rule, label, out), label, room)
 }

@@ -36,8 +36,8 @@ add-part c = search needs
 part-requires-3 : tie.Need-part-requires-3
 part-requires-3 c κs = search needs
 
-put-column-requires-3 : tie.Need-put-column-requires-3
-put-column-requires-3 c κs = search needs
+put-parameters-requires : tie.Need-put-parameters-requires
+put-parameters-requires c κs = search needs
 
 same-length : tie.Need-same-length
 same-length c = search needs
@@ -45,7 +45,7 @@ same-length c = search needs
 returns : tie.Need-returns
 returns c =
     rw (← c .before .before .before .before .before .before .before .before .before .before .before .before .before .before .before .before .name-start .ensures .0, ← c .before .before .before .before .before .before2 .ensures, ← c .before .before .before .before .before .before .before .before .before .before .before .before .before .before .before .part .ensures, ← c .before .before .before .before .before .before .before .before .before .before .part2 .ensures, ← c .before .before .before .before .part3 .ensures)
-    ((piece _ (piece _ (piece _ (nothing (page (c .before .before .before .before .before .before .before .before .before .before .before .before .before .before .before .before .before .before .before .args .at) (c .before .before .before .before .before .before .before .before .before .before .before .before .before .before .before .before .before .before .before .args .room .now))) (c .before .before .before .before .before .before .before .before .before .before .before .before .before .put-column .ensures)) (c .before .before .before .before .before .before .before .before .put-column2 .ensures)) (c .before .before .put-column3 .ensures)) .sum)
+    ((piece _ (piece _ (piece _ (nothing (page (c .before .before .before .before .before .before .before .before .before .before .before .before .before .before .before .before .before .before .before .args .at) (c .before .before .before .before .before .before .before .before .before .before .before .before .before .before .before .before .before .before .before .args .room .now))) (c .before .before .before .before .before .before .before .before .before .before .before .before .before .put-column .ensures)) (c .before .before .before .before .before .before .before .before .put-column2 .ensures)) (c .before .before .put-parameters .ensures)) .sum)
 
 pub put-fields-spec : {M : Type 1} → statement M
 put-fields-spec =
@@ -61,6 +61,6 @@ put-fields-spec =
     before-requires
     add-part
     part-requires-3
-    put-column-requires-3
+    put-parameters-requires
     same-length
     returns)

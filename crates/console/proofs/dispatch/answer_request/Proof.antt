@@ -2,9 +2,10 @@
 use denote.Ref.{now}
 use mathlib.Core.Path.{ap}
 use borrow.Author.Needs.{needs}
-use Rattle.console_entries.specs.Entries.{judgeAnswer, readAnswer, writeAnswer}
+use Rattle.console_entries.specs.Entries.{judgeAnswer, readAnswer, writeAnswer, ruleAnswer}
+use Rattle.label_carets.specs.declared.Rule.the-variants.{Rfc6350, Rfc6868}
 use Rattle.console_desk.specs.DeskAnswers.{State, withPool}
-use Rattle.console_entries.specs.declared.entries.Writer.the-variants.{Fold, Escape, Unescape}
+use Rattle.console_entries.specs.declared.entries.Writer.the-variants.{Fold, Escape, Unescape, Encode, Decode}
 use Rattle.console.specs.Dispatch.{answerBy}
 use Rattle.console.proofs.Said.{said}
 use Rattle.console.proofs.dispatch.answer_request.Statement.{statement}
@@ -111,6 +112,24 @@ answer-next-requires c κs = search needs
 
 enum-told-15 : tie.Need-enum-told-15
 enum-told-15 c = search needs
+
+put-rule-answer-requires : tie.Need-put-rule-answer-requires
+put-rule-answer-requires c κs = search needs
+
+with-output-requires-6 : tie.Need-with-output-requires-6
+with-output-requires-6 c κs = search needs
+
+enum-told-16 : tie.Need-enum-told-16
+enum-told-16 c = search needs
+
+put-rule-answer-requires-2 : tie.Need-put-rule-answer-requires-2
+put-rule-answer-requires-2 c κs = search needs
+
+with-output-requires-7 : tie.Need-with-output-requires-7
+with-output-requires-7 c κs = search needs
+
+enum-told-17 : tie.Need-enum-told-17
+enum-told-17 c = search needs
 
 answer-bad-requires : tie.Need-answer-bad-requires
 answer-bad-requires c κs = search needs
@@ -252,7 +271,25 @@ same-length-23 c = search needs
 
 returns-15 : tie.Need-returns-15
 unfolding answerBy
-returns-15 c = rw (c .before .before .before .before .enum-told15 .given .1) (ap (λ (x : State). withPool x (now (c .before .before .before .before .before .before .before .before .before .args .pool))) (c .before .before .answer-bad .ensures))
+returns-15 c =
+    let a = c .before .before .before .before .before .before .before .before .before .before .args in
+    rw (c .before .before .before .before .before .enum-told15 .given .1) (said (a .c) (now (a .pool)) (now (a .out)) (ruleAnswer (Encode Rfc6350) (Encode Rfc6868) (a .q .first) (a .q .second) (now (a .sent))) (c .with-output6 .ensures) (c .before .before .before .put-rule-answer .ensures))
+
+same-length-24 : tie.Need-same-length-24
+same-length-24 c = search needs
+
+returns-16 : tie.Need-returns-16
+unfolding answerBy
+returns-16 c =
+    let a = c .before .before .before .before .before .before .before .before .before .before .args in
+    rw (c .before .before .before .before .before .enum-told16 .given .1) (said (a .c) (now (a .pool)) (now (a .out)) (ruleAnswer (Decode Rfc6350) (Decode Rfc6868) (a .q .first) (a .q .second) (now (a .sent))) (c .with-output7 .ensures) (c .before .before .before .put-rule-answer2 .ensures))
+
+same-length-25 : tie.Need-same-length-25
+same-length-25 c = search needs
+
+returns-17 : tie.Need-returns-17
+unfolding answerBy
+returns-17 c = rw (c .before .before .before .before .enum-told17 .given .1) (ap (λ (x : State). withPool x (now (c .before .before .before .before .before .before .before .before .before .args .pool))) (c .before .before .answer-bad .ensures))
 
 pub answer-request-spec : {M : Type 1} → statement M
 answer-request-spec =
@@ -292,6 +329,12 @@ answer-request-spec =
     enum-told-14
     answer-next-requires
     enum-told-15
+    put-rule-answer-requires
+    with-output-requires-6
+    enum-told-16
+    put-rule-answer-requires-2
+    with-output-requires-7
+    enum-told-17
     answer-bad-requires
     same-length
     returns
@@ -330,4 +373,8 @@ answer-request-spec =
     same-length-22
     returns-14
     same-length-23
-    returns-15)
+    returns-15
+    same-length-24
+    returns-16
+    same-length-25
+    returns-17)

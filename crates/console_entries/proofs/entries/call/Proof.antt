@@ -21,6 +21,18 @@ enum-told-3 c = search needs
 unescape-requires : tie.Need-unescape-requires
 unescape-requires c κs = search needs
 
+enum-known-entry : tie.Need-enum-known-entry
+enum-known-entry c = search needs
+
+encode-requires : tie.Need-encode-requires
+encode-requires c κs = search needs
+
+enum-known-entry-2 : tie.Need-enum-known-entry-2
+enum-known-entry-2 c = search needs
+
+decode-requires : tie.Need-decode-requires
+decode-requires c κs = search needs
+
 same-length : tie.Need-same-length
 same-length c = search needs
 
@@ -39,6 +51,18 @@ same-length-3 c = search needs
 returns-3 : tie.Need-returns-3
 returns-3 c = rw (c .before .before .before .before .enum-told3 .given .1) (c .before .before .unescape .ensures)
 
+same-length-4 : tie.Need-same-length-4
+same-length-4 c = search needs
+
+returns-4 : tie.Need-returns-4
+returns-4 c = rw (c .before .before .before .before .before .entry .given .1) (c .before .before .encode .ensures)
+
+same-length-5 : tie.Need-same-length-5
+same-length-5 c = search needs
+
+returns-5 : tie.Need-returns-5
+returns-5 c = rw (c .before .before .before .before .before .entry2 .given .1) (c .before .before .decode .ensures)
+
 pub call-spec : {M : Type 1} → statement M
 call-spec =
     tie.close
@@ -49,9 +73,17 @@ call-spec =
     escape-requires
     enum-told-3
     unescape-requires
+    enum-known-entry
+    encode-requires
+    enum-known-entry-2
+    decode-requires
     same-length
     returns
     same-length-2
     returns-2
     same-length-3
-    returns-3)
+    returns-3
+    same-length-4
+    returns-4
+    same-length-5
+    returns-5)

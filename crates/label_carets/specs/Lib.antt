@@ -1,0 +1,3 @@
+-- The definitions that the contracts of `label_carets` cite. Assumes nothing.
+pub mod Encoded
+pub mod Decoded

@@ -1,0 +1,4 @@
+-- The laws of labels. Assumes nothing.
+pub mod ReadsLaws
+pub mod QuotedLaws
+pub mod BackLaws

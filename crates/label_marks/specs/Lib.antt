@@ -1,0 +1,2 @@
+-- The definitions that the contracts of `label_marks` cite. Assumes nothing.
+pub mod Seen
