@@ -15,6 +15,9 @@ pub enum Style {
     Raised,
 }
 
+/// The styles by the console's number.
+pub const STYLES: [Style; 2] = [Style::AsRead, Style::Raised];
+
 /// Folds with names in capitals, which is the default.
 pub fn fold(input: &[u8], out: &mut [u8]) -> Result<usize, Refusal> {
     fold_in(Style::Raised, input, out)
@@ -26,7 +29,7 @@ pub fn fold_as_read(input: &[u8], out: &mut [u8]) -> Result<usize, Refusal> {
 }
 
 /// Writes the folded form of an accepted input in a style to the room; answers the octets written.
-fn fold_in(style: Style, input: &[u8], out: &mut [u8]) -> Result<usize, Refusal> {
+pub fn fold_in(style: Style, input: &[u8], out: &mut [u8]) -> Result<usize, Refusal> {
     let mut folded = Vec::new();
     for line in accepted_lines(input)? {
         folded.extend(folded_line(&styled(style, line), MOST_LINE_OCTETS));
