@@ -74,8 +74,12 @@ impl Console {
             Request::FoldIn { style, room, octets } => room_answer(|input, out| fold_in(style, input, out), room, &octets),
             Request::Escape { room, octets } => room_answer(escape, room, &octets),
             Request::Unescape { room, octets } => room_answer(unescape, room, &octets),
-            Request::Encode { rule, room, octets } => room_answer(|value, out| encode(rule, value, out), room, &octets),
-            Request::Decode { rule, room, octets } => room_answer(|label, out| decode(rule, label, out), room, &octets),
+            Request::Encode { rule, room, octets } => {
+                room_answer(|value, out| encode(rule, value, out), room, &octets)
+            }
+            Request::Decode { rule, room, octets } => {
+                room_answer(|label, out| decode(rule, label, out), room, &octets)
+            }
             Request::Desk { slots, pool } => self.new_desk(slots, pool),
             Request::Open { tram } => {
                 let (answer, next) = self.desk.open(&self.pool, tram);

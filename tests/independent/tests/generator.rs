@@ -5,10 +5,20 @@ use std::collections::HashSet;
 use independent::beside::{compare_desks, survey_desks};
 use independent::compare::{steps, Plan};
 use independent::generator::{
-    desks::desks, folds, folds::folds, hand, labels, labels::labels, line_faults::line_faults, lists, lists::lists,
-    readers, texts, texts::texts,
+    desks::desks,
+    folds,
+    folds::folds,
+    hand, labels,
+    labels::labels,
+    line_faults::line_faults,
+    lists,
+    lists::lists,
+    names::{names, names_by_hand, LONGEST},
+    readers, texts,
+    texts::texts,
 };
 use independent::hex::word_of;
+use independent::properties::row_of;
 use independent::survey::{survey, Survey};
 
 /// How often a refusal number came.
@@ -43,6 +53,26 @@ fn line_faults_reach_40_to_43_in_every_request() {
 }
 
 #[test]
+fn names_have_every_length_and_first_letter_and_reach_every_row() {
+    let by_hand: HashSet<Vec<u8>> = names_by_hand().into_iter().collect();
+    for length in 1..=LONGEST {
+        for first in (b'A'..=b'Z').chain(b'a'..=b'z').chain(b'0'..=b'9').chain([b'-']) {
+            assert!(by_hand.iter().any(|name| name.len() == length && name[0] == first), "{length} {first}");
+        }
+    }
+    let found: HashSet<u32> = by_hand.iter().map(|name| row_of(name).number).collect();
+    assert_eq!(found, (0..=38).collect());
+    let survey = survey(names(1).take(30_000));
+    for number in [7, 8, 9, 12] {
+        assert!(times(&survey, number) >= 10, "{number}: {survey}");
+    }
+    for kind in 0..=8 {
+        assert!(survey.kinds.get(&kind).is_some_and(|&count| count >= 10), "{kind}: {survey}");
+    }
+    assert!(survey.accepted >= 10_000 && survey.bad_requests == 0, "{survey}");
+}
+
+#[test]
 fn folds_reach_every_refusal() {
     let survey = survey(folds(1).take(10_000));
     let reached: Vec<u32> = survey.refusals.keys().copied().collect();
@@ -71,7 +101,10 @@ fn labels_reach_every_refusal_under_both_rules() {
         for &number in numbers.iter().filter(|&&number| number >= 31 || number == 15) {
             assert!(times(&survey, number) >= 500, "{start}{number}: {survey}");
         }
-        assert!(survey.requests >= 5_000 && survey.accepted >= 1_000 && survey.bad_requests == 0, "{start}{survey}");
+        assert!(
+            survey.requests >= 5_000 && survey.accepted >= 1_000 && survey.bad_requests == 0,
+            "{start}{survey}"
+        );
     }
 }
 
@@ -157,7 +190,8 @@ fn every_list_begins_with_its_desk() {
 
 #[test]
 fn the_same_seed_gives_the_same_lines_and_another_gives_others() {
-    let plan = Plan { readers: 60_000, folds: 4_000, texts: 70_000, labels: 30_000, lists: 60, ..Plan::default() };
+    let plan =
+        Plan { readers: 60_000, folds: 4_000, texts: 70_000, labels: 30_000, lists: 60, ..Plan::default() };
     assert!(steps(plan).eq(steps(plan)));
     assert!(!steps(plan).eq(steps(Plan { seed: 2, ..plan })));
 }
@@ -174,6 +208,7 @@ fn a_family_of_0_is_left_out() {
         protocol: 0,
         readers: 10,
         line_faults: 0,
+        names: 0,
         folds: 0,
         texts: 5,
         labels: 0,

@@ -20,7 +20,8 @@ pub type Asked = (&'static str, Rule, Vec<u8>);
 
 /// Label requests without end: large ones, then borders, all short ones and chance.
 pub fn labels(seed: u64) -> impl Iterator<Item = String> {
-    let asked = mixed(seed, by_hand(), 3, |dice| (*dice.pick(&BOTH), *dice.pick(&RULES), octets_by_chance(dice)));
+    let asked =
+        mixed(seed, by_hand(), 3, |dice| (*dice.pick(&BOTH), *dice.pick(&RULES), octets_by_chance(dice)));
     let requests = asked.enumerate().map(|(index, asked)| request(&asked, index / 3));
     large().into_iter().chain(requests)
 }
@@ -56,7 +57,9 @@ fn borders() -> Vec<Vec<u8>> {
         all.extend([vec![b'"', octet], vec![b'\n', octet, b'"'], vec![b'^', b'^', octet], vec![octet, b'^']]);
     }
     for sequence in SEQUENCES {
-        for (before, after) in [("", ""), ("ab", "c"), ("é", "\""), ("\"", ""), ("^", "^"), ("\n", "\n"), ("^n", "")] {
+        for (before, after) in
+            [("", ""), ("ab", "c"), ("é", "\""), ("\"", ""), ("^", "^"), ("\n", "\n"), ("^n", "")]
+        {
             all.push([before.as_bytes(), sequence, after.as_bytes()].concat());
         }
     }

@@ -21,11 +21,13 @@ const LINES: &[&str] = &[
     "pool 0 1", "pool 16383 1", "pool 16384 1", "pool 16384 0", "pool 16385 0", "pool 655360 655360",
     "held 18446744073709551617", "desk 18446744073709551617 16384", "read 18446744073709551616 0 -",
     "held 1", "desk 18446744073709551615 16384", "held 1", "next", "next 1 1", "next -", "next 4294967296",
-    "next 0001", "next 0", "fold-in", "fold-in 1 0 1", "fold-in 1 0 1 -", "fold-in 01 1 1 -", "fold-in 2 0 1 -", "fold-in 0 0 1 -",
-    "fold-in 1 2 1 -", "fold-in 1 0 70001 -", "fold-in 1 0 70000 -", "fold-in -1 0 1 -", "fold-in 1 0 1 - -", "fold-in 1 00 1 6", "encode", "encode 1 1", "encode 1 1 -", "encode 0 1 -", "encode 2 1 -", "encode 00 2 22",
-    "encode 1 2 22", "encode 01 1 22", "encode -1 1 -", "encode 1 70001 -", "encode 1 1 6", "encode 1 1 - -", "decode",
-    "decode 0 -", "decode 0 1 -", "decode 1 1 5e6e", "decode 0 1 5e6e", "decode 2 1 5e6e", "decode 1 70001 -",
-    "decode 18446744073709551617 1 5e6e", "decode 1 1 22",
+    "next 0001", "next 0", "encode", "encode 1 1", "encode 1 1 -", "encode 0 1 -", "encode 2 1 -",
+    "encode 00 2 22", "encode 1 2 22", "encode 01 1 22", "encode -1 1 -", "encode 1 70001 -", "encode 1 1 6",
+    "encode 1 1 - -", "decode", "decode 0 -", "decode 0 1 -", "decode 1 1 5e6e", "decode 0 1 5e6e",
+    "decode 2 1 5e6e", "decode 1 70001 -", "decode 18446744073709551617 1 5e6e", "decode 1 1 22",
+    "fold-in", "fold-in 1 0 1", "fold-in 1 0 1 -", "fold-in 01 1 1 -", "fold-in 2 0 1 -", "fold-in 0 0 1 -",
+    "fold-in 1 2 1 -", "fold-in 1 0 70001 -", "fold-in 1 0 70000 -", "fold-in -1 0 1 -", "fold-in 1 0 1 - -",
+    "fold-in 1 00 1 6",
 ];
 
 /// All protocol lines.
