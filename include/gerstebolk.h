@@ -45,7 +45,8 @@ enum gerstebolk_refusal {
 /* Judges an input of cards: the count of cards, or a refusal 1 to 12 or 40 to 43. */
 uint64_t judge(const uint8_t *input, size_t length);
 
-/* Folds an input into physical lines of at most 75 octets: the octets written to out, or a refusal 1 to 12, 40 to 43, 16, 15. */
+/* Folds an input into physical lines of at most 75 octets, the names of groups, properties and parameters in capitals and all else as it was read: the
+ * octets written to out, or a refusal 1 to 12, 40 to 43, 16, 15. */
 uint64_t fold(const uint8_t *input, size_t length, uint8_t *out, size_t room);
 
 /* Writes the text that a text with escapes stands for: the octets written to out, or a refusal 1, 31, 30, 15. */

@@ -10,6 +10,7 @@ ghost use Prim.Native.Nat.{_≤_};
 ghost use Rattle.cabbook.specs.Numbers.{Status};
 use cabbook_morning::Ending;
 use cabbook_tables::status;
+use folder_raising::Style;
 use label_carets::Rule;
 use numbers::limit;
 use octets::cases::same_name;
@@ -111,22 +112,38 @@ fn apply_to_one_or_input(command: Command, first: usize, count: usize) -> u8
     apply_to_one(command, first, count)
 }
 
-// Whether the argument after the command is the option of RFC 6350's rule.
-fn has_old_rule(count: usize) -> bool {
+// Whether the argument after the command is this option.
+fn has_option(option: &[u8], count: usize) -> bool {
     if count <= FIRST_FILE {
         return false;
     }
     let mut word = [0u8; NAME];
     let n = os::arg(FIRST_FILE, &mut word);
-    same_name(&word[..n], b"--rfc6350")
+    same_name(&word[..n], option)
 }
 
 // Writes the one file that is named, or standard input, in the form of the rule that is asked for.
 fn apply_by_rule(old: Form, new: Form, count: usize) -> u8 {
-    if has_old_rule(count) {
+    if has_option(b"--rfc6350", count) {
         return apply_to_one_or_input(Command::Write(old), FIRST_FILE + 1, count);
     }
     apply_to_one_or_input(Command::Write(new), FIRST_FILE, count)
+}
+
+// Writes the one file that is named, folded, its names in capitals or as read.
+fn fold_one(count: usize) -> u8 {
+    if has_option(b"--as-read", count) {
+        return apply_to_one(
+            Command::Write(Form::Folded(Style::AsRead)),
+            FIRST_FILE + 1,
+            count,
+        );
+    }
+    apply_to_one(
+        Command::Write(Form::Folded(Style::Raised)),
+        FIRST_FILE,
+        count,
+    )
 }
 
 // Runs a morning of uploads, or says what its options lack.
@@ -150,7 +167,7 @@ fn run(name: &[u8], count: usize) -> u8 {
         return apply_to_one(Command::Show, FIRST_FILE, count);
     }
     if same_name(name, b"fold") {
-        return apply_to_one(Command::Write(Form::Folded), FIRST_FILE, count);
+        return fold_one(count);
     }
     if same_name(name, b"escape") {
         return apply_to_one_or_input(Command::Write(Form::Escaped), FIRST_FILE, count);

@@ -17,7 +17,7 @@ fn print_commands(to: i32) {
     );
     io::write_all(
         to,
-        b"  cabbook fold FILE                   the cards with their lines folded\n",
+        b"  cabbook fold [--as-read] FILE       the cards folded, names in capitals or as read\n",
     );
     io::write_all(
         to,

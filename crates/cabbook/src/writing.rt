@@ -2,6 +2,7 @@
 ghost use Rattle.cabbook.specs.Numbers.{Status};
 use crate::printing;
 use cabbook_tables::status;
+use folder_raising::Style;
 use label_carets::Rule;
 use libc::STDERR_FILENO;
 use libc::STDOUT_FILENO;
@@ -10,7 +11,7 @@ use octets::rooms::Written;
 
 // The form in which octets are written.
 pub enum Form {
-    Folded,
+    Folded(Style),
     Escaped,
     Unescaped,
     Encoded(Rule),
@@ -20,7 +21,7 @@ pub enum Form {
 // Writes octets in a form to room.
 fn write(form: Form, s: &[u8], room: &mut [u8]) -> Written {
     match form {
-        Form::Folded => folder::fold(s, room),
+        Form::Folded(style) => folder::fold_styled(style, s, room),
         Form::Escaped => text::escape(s, room),
         Form::Unescaped => text::unescape(s, room),
         Form::Encoded(rule) => label::encode(rule, s, room),

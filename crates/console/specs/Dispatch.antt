@@ -8,36 +8,37 @@ use Rattle.octets.specs.Slices.{part}
 use Rattle.console_requests.specs.Requests.{Requested, requestOf}
 use Rattle.console_requests.specs.declared.Request.{Request}
 use Rattle.console_requests.specs.declared.Name.{Name}
-use Rattle.console_requests.specs.declared.Name.the-variants.{Judge, Read, Fold, Escape, Unescape, Desk, Open, Add, Check, Show, Held, Release, Pool, Next, Encode, Decode, Bad}
+use Rattle.console_requests.specs.declared.Name.the-variants.{Judge, Read, Fold, Escape, Unescape, Desk, Open, Add, Check, Show, Held, Release, Pool, Next, Encode, Decode, FoldIn, Bad}
 use Rattle.label_carets.specs.declared.Rule.the-variants.{Rfc6350, Rfc6868}
-use Rattle.console_entries.specs.Entries.{judgeAnswer, readAnswer, writeAnswer, ruleAnswer}
+use Rattle.console_entries.specs.Entries.{judgeAnswer, readAnswer, writeAnswer, chosenAnswer, foldAnswer}
 use Rattle.console_desk.specs.DeskAnswers.{State, WithPool, withPool, says, saysBad, deskAnswer, nextAnswer, changeAnswer, lookAnswer, poolAnswer}
 use Rattle.console_entries.specs.declared.entries.Writer.the-variants.{Fold as toFold, Escape as toEscape, Unescape as toUnescape, Encode as toEncode, Decode as toDecode}
 use Rattle.console_desk.specs.declared.Change.the-variants.{Open as toOpen, Add as toAdd, Release as toRelease}
 use Rattle.console_desk.specs.declared.Look.the-variants.{Check as toCheck, Show as toShow, Held as toHeld}
 
 -- each request, with its numbers and the octets that it sends
-unfoldable pub answerBy : Name → ℕ → ℕ → List ℕ → State → List ℕ → WithPool
-answerBy Judge n k sent t pool = withPool (says (judgeAnswer sent) t) pool
-answerBy Read n k sent t pool = withPool (says (readAnswer n k sent) t) pool
-answerBy Fold n k sent t pool = withPool (says (writeAnswer toFold n sent) t) pool
-answerBy Escape n k sent t pool = withPool (says (writeAnswer toEscape n sent) t) pool
-answerBy Unescape n k sent t pool = withPool (says (writeAnswer toUnescape n sent) t) pool
-answerBy Desk n k sent t pool = deskAnswer n k t pool
-answerBy Open n k sent t pool = changeAnswer toOpen n sent t pool
-answerBy Add n k sent t pool = changeAnswer toAdd n sent t pool
-answerBy Check n k sent t pool = withPool (lookAnswer toCheck n t pool) pool
-answerBy Show n k sent t pool = withPool (lookAnswer toShow n t pool) pool
-answerBy Held n k sent t pool = withPool (lookAnswer toHeld n t pool) pool
-answerBy Release n k sent t pool = changeAnswer toRelease n sent t pool
-answerBy Pool n k sent t pool = withPool (poolAnswer n k t pool) pool
-answerBy Next n k sent t pool = withPool (nextAnswer n t) pool
-answerBy Encode n k sent t pool = withPool (says (ruleAnswer (toEncode Rfc6350) (toEncode Rfc6868) n k sent) t) pool
-answerBy Decode n k sent t pool = withPool (says (ruleAnswer (toDecode Rfc6350) (toDecode Rfc6868) n k sent) t) pool
-answerBy Bad n k sent t pool = withPool (saysBad t) pool
+unfoldable pub answerBy : Name → ℕ → ℕ → ℕ → List ℕ → State → List ℕ → WithPool
+answerBy Judge n k m sent t pool = withPool (says (judgeAnswer sent) t) pool
+answerBy Read n k m sent t pool = withPool (says (readAnswer n k sent) t) pool
+answerBy Fold n k m sent t pool = withPool (says (writeAnswer toFold n sent) t) pool
+answerBy Escape n k m sent t pool = withPool (says (writeAnswer toEscape n sent) t) pool
+answerBy Unescape n k m sent t pool = withPool (says (writeAnswer toUnescape n sent) t) pool
+answerBy Desk n k m sent t pool = deskAnswer n k t pool
+answerBy Open n k m sent t pool = changeAnswer toOpen n sent t pool
+answerBy Add n k m sent t pool = changeAnswer toAdd n sent t pool
+answerBy Check n k m sent t pool = withPool (lookAnswer toCheck n t pool) pool
+answerBy Show n k m sent t pool = withPool (lookAnswer toShow n t pool) pool
+answerBy Held n k m sent t pool = withPool (lookAnswer toHeld n t pool) pool
+answerBy Release n k m sent t pool = changeAnswer toRelease n sent t pool
+answerBy Pool n k m sent t pool = withPool (poolAnswer n k t pool) pool
+answerBy Next n k m sent t pool = withPool (nextAnswer n t) pool
+answerBy Encode n k m sent t pool = withPool (says (chosenAnswer (toEncode Rfc6350) (toEncode Rfc6868) n k sent) t) pool
+answerBy Decode n k m sent t pool = withPool (says (chosenAnswer (toDecode Rfc6350) (toDecode Rfc6868) n k sent) t) pool
+answerBy FoldIn n k m sent t pool = withPool (says (foldAnswer n k m sent) t) pool
+answerBy Bad n k m sent t pool = withPool (saysBad t) pool
 
 abbrev pub answerTo : Request → List ℕ → State → List ℕ → WithPool
-answerTo q sent t pool = answerBy (q .name) (q .first) (q .second) sent t pool
+answerTo q sent t pool = answerBy (q .name) (q .first) (q .second) (q .third) sent t pool
 
 -- the octets that a request sends stand at the front of the room
 abbrev pub answerFrom : Requested → State → List ℕ → WithPool

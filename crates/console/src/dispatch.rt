@@ -24,6 +24,7 @@ fn answer_request(q: Request, c: Console, sent: &[u8], pool: &mut [u8], out: &mu
     let name = q.name;
     let n = q.first;
     let k = q.second;
+    let m = q.third;
     match name {
         Name::Judge => c.with_output(entries::put_judge_answer(sent, out, c.at)),
         Name::Read => c.with_output(entries::put_read_answer(n, k, sent, out, c.at)),
@@ -51,7 +52,7 @@ fn answer_request(q: Request, c: Console, sent: &[u8], pool: &mut [u8], out: &mu
         Name::Release => console_desk::answer_change(Change::Release, c, n, sent, pool, out),
         Name::Pool => console_desk::answer_pool(c, n, k, pool, out),
         Name::Next => console_desk::answer_next(c, n, out),
-        Name::Encode => c.with_output(entries::put_rule_answer(
+        Name::Encode => c.with_output(entries::put_chosen_answer(
             Writer::Encode(Rule::Rfc6350),
             Writer::Encode(Rule::Rfc6868),
             n,
@@ -60,7 +61,7 @@ fn answer_request(q: Request, c: Console, sent: &[u8], pool: &mut [u8], out: &mu
             out,
             c.at,
         )),
-        Name::Decode => c.with_output(entries::put_rule_answer(
+        Name::Decode => c.with_output(entries::put_chosen_answer(
             Writer::Decode(Rule::Rfc6350),
             Writer::Decode(Rule::Rfc6868),
             n,
@@ -69,6 +70,7 @@ fn answer_request(q: Request, c: Console, sent: &[u8], pool: &mut [u8], out: &mu
             out,
             c.at,
         )),
+        Name::FoldIn => c.with_output(entries::put_fold_answer(n, k, m, sent, out, c.at)),
         Name::Bad => c.answer_bad(out),
     }
 }

@@ -13,13 +13,14 @@ use Rattle.octets.specs.Slices.{part}
 use Rattle.reader.specs.Outcome.{judgeOf, Taken, readOutcome}
 use Rattle.reader.specs.declared.Verdict.{Verdict}
 use Rattle.reader.specs.declared.Verdict.the-variants.{Accepted, Refused}
-use Rattle.folder.specs.Outcome.{foldOutcome}
+use Rattle.folder_raising.specs.declared.Style.the-variants.{AsRead, Raised}
+use Rattle.folder.specs.Outcome.{foldIn, foldOutcome}
 use Rattle.text.specs.Outcomes.{escapeOutcome, unescapeOutcome}
 use Rattle.label.specs.Outcomes.{encodeOutcome, decodeOutcome}
 use Rattle.console_answers.specs.Texts.{lineEnd, badLine, verdictText, writtenText, octetsWord, joined, spaced, roomEnd}
 use Rattle.console_entries.specs.Rooms.{octetFill, mostRoom, octetRoom, numberRoom, all, bothKept}
 use Rattle.console_entries.specs.declared.entries.Writer.{Writer}
-use Rattle.console_entries.specs.declared.entries.Writer.the-variants.{Fold, Escape, Unescape, Encode, Decode}
+use Rattle.console_entries.specs.declared.entries.Writer.the-variants.{Fold, Escape, Unescape, Encode, Decode, FoldIn}
 
 -- more room than that is no request
 abbrev pub within : ℕ → List ℕ → List ℕ
@@ -79,6 +80,7 @@ outcomeOf Escape i room = escapeOutcome i room
 outcomeOf Unescape i room = unescapeOutcome i room
 outcomeOf (Encode r) i room = encodeOutcome r i room
 outcomeOf (Decode r) i room = decodeOutcome r i room
+outcomeOf (FoldIn s) i room = foldIn s i room
 
 abbrev pub count : Written → ℕ
 count (Wrote n) = n
@@ -91,6 +93,14 @@ writeText f = writtenText (f .answer) (f .room) ++ roomEnd (all octetFill (drop 
 unfoldable pub writeAnswer : Writer → ℕ → List ℕ → List ℕ
 writeAnswer e r i = within r (writeText (outcomeOf e i (octetRoom r)))
 
--- rule 0 is RFC 6350's, rule 1 is RFC 6868's, and any other number is no request
-unfoldable pub ruleAnswer : Writer → Writer → ℕ → ℕ → List ℕ → List ℕ
-ruleAnswer old new rule r i = pick (eqb rule 0) (writeAnswer old r i) (pick (eqb rule 1) (writeAnswer new r i) badLine)
+-- of two entries the one for 0, the other for 1; any other number is no request
+unfoldable pub chosenAnswer : Writer → Writer → ℕ → ℕ → List ℕ → List ℕ
+chosenAnswer old new which r i = pick (eqb which 0) (writeAnswer old r i) (pick (eqb which 1) (writeAnswer new r i) badLine)
+
+-- the number of edition one, the only one
+abbrev pub firstEdition : ℕ
+firstEdition = 1
+
+-- style 0 is as read, style 1 is raised
+unfoldable pub foldAnswer : ℕ → ℕ → ℕ → List ℕ → List ℕ
+foldAnswer edition style r i = pick (eqb edition firstEdition) (chosenAnswer (FoldIn AsRead) (FoldIn Raised) style r i) badLine

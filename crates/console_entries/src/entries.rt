@@ -4,8 +4,9 @@ ghost use Prim.Native.Nat.{_+_, _≤_};
 ghost use Rattle.octets.specs.Room.{filled};
 ghost use Rattle.program_output.specs.Pages.{page, added};
 ghost use Rattle.console_entries.specs.Rooms.{mostRoom, octetRoom, numberRoom};
-ghost use Rattle.console_entries.specs.Entries.{lineEndLength, linesOf, count, numbersOf, copyLength, takenText, roomsText, readText, outcomeOf, writeText, judgeAnswer, readAnswer, writeAnswer, ruleAnswer};
+ghost use Rattle.console_entries.specs.Entries.{lineEndLength, linesOf, count, numbersOf, copyLength, takenText, roomsText, readText, outcomeOf, writeText, judgeAnswer, readAnswer, writeAnswer, chosenAnswer, foldAnswer};
 use crate::rooms;
+use folder_raising::Style;
 use label_carets::Rule;
 use numbers::field;
 use numbers::limit;
@@ -14,6 +15,9 @@ use reader::Verdict;
 
 // The most octets or numbers of room that a request may ask for.
 const ROOM: usize = 70000;
+
+// The number of edition one.
+const FIRST_EDITION: usize = 1;
 
 // How many octets end a line: CR LF.
 const LINE_END: usize = 2;
@@ -25,6 +29,7 @@ pub enum Writer {
     Unescape,
     Encode(Rule),
     Decode(Rule),
+    FoldIn(Style),
 }
 
 // Adds the answer to `judge OCTETS`.
@@ -138,6 +143,7 @@ fn call(entry: Writer, input: &[u8], room: &mut [u8]) -> Written
         Writer::Unescape => text::unescape(input, room),
         Writer::Encode(rule) => label::encode(rule, input, room),
         Writer::Decode(rule) => label::decode(rule, input, room),
+        Writer::FoldIn(style) => folder::fold_styled(style, input, room),
     }
 }
 
@@ -179,23 +185,48 @@ pub fn put_write_answer(entry: Writer, r: usize, input: &[u8], out: &mut [u8], a
     put_write_fresh(entry, r, input, out, at)
 }
 
-// Adds the answer to `encode RULE ROOM OCTETS` or `decode RULE ROOM OCTETS`: that of the one entry for rule 0, of the other for rule 1.
-pub fn put_rule_answer(
+// Adds the answer to `encode RULE ROOM OCTETS`, and to the others that choose between two entries: that of the one for 0, of the other for 1.
+pub fn put_chosen_answer(
     old: Writer,
     new: Writer,
-    rule: usize,
+    which: usize,
     r: usize,
     input: &[u8],
     out: &mut [u8],
     at: usize,
 ) -> usize
-    ensures { λ q. ⌜ page q (now (out .exit)) ≡ added (ruleAnswer old new rule r (now (input .entry))) (page at (now (out .entry))) ⌝ }
+    ensures { λ q. ⌜ page q (now (out .exit)) ≡ added (chosenAnswer old new which r (now (input .entry))) (page at (now (out .entry))) ⌝ }
 {
-    if rule == 0 {
+    if which == 0 {
         return put_write_answer(old, r, input, out, at);
     }
-    if rule == 1 {
+    if which == 1 {
         return put_write_answer(new, r, input, out, at);
     }
     console_answers::put_bad(out, at)
+}
+
+// Adds the answer to `fold-in EDITION STYLE ROOM OCTETS`: edition 1 is the only one, style 0 is as read and 1 is raised.
+pub fn put_fold_answer(
+    edition: usize,
+    style: usize,
+    r: usize,
+    input: &[u8],
+    out: &mut [u8],
+    at: usize,
+) -> usize
+    ensures { λ q. ⌜ page q (now (out .exit)) ≡ added (foldAnswer edition style r (now (input .entry))) (page at (now (out .entry))) ⌝ }
+{
+    if edition != FIRST_EDITION {
+        return console_answers::put_bad(out, at);
+    }
+    put_chosen_answer(
+        Writer::FoldIn(Style::AsRead),
+        Writer::FoldIn(Style::Raised),
+        style,
+        r,
+        input,
+        out,
+        at,
+    )
 }

@@ -43,10 +43,10 @@ the-octets w o room h = rw (ne-eqb o 0 h)
 -- a request by what its words are; n is the row's count of numbers
 module _ (r : Row) (line room : List ℕ) (n : ℕ) (e : n ≡ r .numbers) where
   read-at : read r line room
-      ≡ whole (r .name) (numberAt (wordAt line 1) 1 n) (numberAt (wordAt line 2) 2 n) (octetsAt (wordAt line (n + 1)) (r .octets) room) room
+      ≡ whole (r .name) (numberAt (wordAt line 1) 1 n) (numberAt (wordAt line 2) 2 n) (numberAt (wordAt line 3) 3 n) (octetsAt (wordAt line (n + 1)) (r .octets) room) room
   read-at = rw e
 
-  -- x, y and z are what the words were read as
+  -- x, y, v and z are what the words were read as
   module _ (x : Number) (p : x ≡ numberAt (wordAt line 1) 1 n) where
     pub first-bad : x ≡ Bad → read r line room ≡ requested noRequest room
     first-bad h = rw (read-at, sym p, h)
@@ -55,6 +55,10 @@ module _ (r : Row) (line room : List ℕ) (n : ℕ) (e : n ≡ r .numbers) where
       pub second-bad : y ≡ Bad → read r line room ≡ requested noRequest room
       second-bad h = rw (read-at, sym p, f, sym q, h)
 
-      module _ (b o : ℕ) (g : y ≡ Is b) (d : o ≡ r .octets) (z : Octets) (out : List ℕ) (s : taken z out ≡ octetsAt (wordAt line (n + 1)) o room) where
-        pub all-read : read r line room ≡ requested (makeRequest (r .name) a b z) out
-        all-read = rw (read-at, sym p, f, sym q, g, sym d, sym s)
+      module _ (v : Number) (u : v ≡ numberAt (wordAt line 3) 3 n) (b : ℕ) (g : y ≡ Is b) where
+        pub third-bad : v ≡ Bad → read r line room ≡ requested noRequest room
+        third-bad h = rw (read-at, sym p, f, sym q, g, sym u, h)
+
+        module _ (c o : ℕ) (k : v ≡ Is c) (d : o ≡ r .octets) (z : Octets) (out : List ℕ) (s : taken z out ≡ octetsAt (wordAt line (n + 1)) o room) where
+          pub all-read : read r line room ≡ requested (makeRequest (r .name) a b c z) out
+          all-read = rw (read-at, sym p, f, sym q, g, sym u, k, sym d, sym s)

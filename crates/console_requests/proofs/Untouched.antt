@@ -20,7 +20,7 @@ use Rattle.console_requests.proofs.RequestLaws.{no-octets}
 use Rattle.console_requests.specs.Names.{Row, rows, noRow, fits, search, rowOf}
 use Rattle.console_requests.specs.Requests.{numberAt, octetsAt, makeRequest, whole, requestOf}
 use Rattle.console_requests.specs.declared.Name.{Name}
-use Rattle.console_requests.specs.declared.Name.the-variants.{Judge, Read, Fold, Escape, Unescape, Desk, Open, Add, Check, Show, Held, Release, Pool, Next, Encode, Decode, Bad}
+use Rattle.console_requests.specs.declared.Name.the-variants.{Judge, Read, Fold, Escape, Unescape, Desk, Open, Add, Check, Show, Held, Release, Pool, Next, Encode, Decode, FoldIn, Bad}
 
 -- bad octets leave the room as it was
 short-room : (t : Bool) (xs room out : List ℕ) → pick t (taken NoOctets room) (taken (Are (length xs)) out) .answer ≡ NoOctets
@@ -70,6 +70,7 @@ named Pool = true
 named Next = true
 named Encode = true
 named Decode = true
+named FoldIn = true
 named Bad = false
 
 all-named : List Row → Bool
@@ -91,16 +92,17 @@ pub no-name : (w : List ℕ) (k : ℕ) → rowOf w k .name ≡ Bad → rowOf w k
 unfolding rowOf rows named all-named
 no-name w k e = bad-search w k rows refl e
 
-counted-room : (n : Name) (a b : ℕ) (x : Octets) (out room : List ℕ) → (n ≡ Bad → out ≡ room) → (x ≡ NoOctets → out ≡ room)
-    → makeRequest n a b x .name ≡ Bad → out ≡ room
-counted-room n a b (Are k) out room f g e = f e
-counted-room n a b NoOctets out room f g e = g refl
+counted-room : (n : Name) (a b c : ℕ) (x : Octets) (out room : List ℕ) → (n ≡ Bad → out ≡ room) → (x ≡ NoOctets → out ≡ room)
+    → makeRequest n a b c x .name ≡ Bad → out ≡ room
+counted-room n a b c (Are k) out room f g e = f e
+counted-room n a b c NoOctets out room f g e = g refl
 
-whole-room : (n : Name) (a b : Number) (t : Taken) (room : List ℕ) → (n ≡ Bad → t .room ≡ room) → (t .answer ≡ NoOctets → t .room ≡ room)
-    → whole n a b t room .request .name ≡ Bad → whole n a b t room .room ≡ room
-whole-room n (Is a) (Is b) t room f g e = counted-room n a b (t .answer) (t .room) room f g e
-whole-room n (Is a) NoNumber t room f g e = refl
-whole-room n NoNumber b t room f g e = refl
+whole-room : (n : Name) (a b c : Number) (t : Taken) (room : List ℕ) → (n ≡ Bad → t .room ≡ room) → (t .answer ≡ NoOctets → t .room ≡ room)
+    → whole n a b c t room .request .name ≡ Bad → whole n a b c t room .room ≡ room
+whole-room n (Is a) (Is b) (Is c) t room f g e = counted-room n a b c (t .answer) (t .room) room f g e
+whole-room n (Is a) (Is b) NoNumber t room f g e = refl
+whole-room n (Is a) NoNumber c t room f g e = refl
+whole-room n NoNumber b c t room f g e = refl
 
 -- a line that is no request leaves the room as it was
 pub bad-untouched : (line room : List ℕ) → requestOf line room .request .name ≡ Bad → requestOf line room .room ≡ room
@@ -111,4 +113,4 @@ bad-untouched line room e =
     let w = wordAt line (r .numbers + 1) in
     let none : r .name ≡ Bad → octetsAt w (r .octets) room .room ≡ room =
     λ b. ap (λ (t : Taken). t .room) (no-octets w (r .octets) room (ap (λ (x : Row). x .octets) (no-name (wordAt line 0) k b))) in
-    whole-room (r .name) (numberAt (wordAt line 1) 1 (r .numbers)) (numberAt (wordAt line 2) 2 (r .numbers)) (octetsAt w (r .octets) room) room none (at-room w (r .octets) room) e
+    whole-room (r .name) (numberAt (wordAt line 1) 1 (r .numbers)) (numberAt (wordAt line 2) 2 (r .numbers)) (numberAt (wordAt line 3) 3 (r .numbers)) (octetsAt w (r .octets) room) room none (at-room w (r .octets) room) e

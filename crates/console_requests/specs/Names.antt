@@ -1,6 +1,6 @@
 -- The requests, as the console's table lists them: the name, how many numbers stand after it, and whether octets stand after those.
 -- Assumes nothing.
-use Prim.Native.Nat.{ℕ, _+_}
+use Prim.Native.Nat.{ℕ, suc, _+_}
 use Prim.Native.String.{String}
 use mathlib.Core.Bool.{Bool, _&&_}
 use mathlib.Core.List.{List, [], _∷_, _++_}
@@ -11,7 +11,7 @@ use Rattle.octets.specs.Ascii.{octets}
 use Rattle.octets.specs.Tables.{TableOf}
 use Rattle.program_numbers.specs.Alike.{alike}
 use Rattle.console_requests.specs.declared.Name.{Name}
-use Rattle.console_requests.specs.declared.Name.the-variants.{Judge, Read, Fold, Escape, Unescape, Desk, Open, Add, Check, Show, Held, Release, Pool, Next, Encode, Decode, Bad}
+use Rattle.console_requests.specs.declared.Name.the-variants.{Judge, Read, Fold, Escape, Unescape, Desk, Open, Add, Check, Show, Held, Release, Pool, Next, Encode, Decode, FoldIn, Bad}
 
 pub record Row : Type 0 where
   pub name : Name
@@ -47,7 +47,20 @@ rows =
     row Next "next" 1 alone ∷
     row Encode "encode" 2 withOctets ∷
     row Decode "decode" 2 withOctets ∷
+    row FoldIn "fold-in" 3 withOctets ∷
     []
+
+-- how many requests there are
+abbrev pub requests : ℕ
+requests = 17
+
+-- the rows of the table: those of the requests, and a last one for none
+abbrev pub tableRows : ℕ
+tableRows = suc requests
+
+-- the most numbers after a name
+abbrev pub mostNumbers : ℕ
+mostNumbers = 3
 
 -- no request: it has neither numbers nor octets
 abbrev pub noRow : Row
@@ -75,4 +88,4 @@ entries n = take 8 (rowAt n .spelling ++ octets "........") ++ length (rowAt n .
 
 -- a list is the table of requests, with a last row for none
 unfoldable pub Lists : List ℕ → Type 0
-Lists t = TableOf entries 17 t
+Lists t = TableOf entries tableRows t

@@ -16,11 +16,11 @@ use Rattle.program_numbers.specs.declared.decimal.Number.the-variants.{Is, Bad 
 use Rattle.program_numbers.specs.declared.hex.Octets.{Octets}
 use Rattle.program_numbers.specs.declared.hex.Octets.the-variants.{Are, Bad as NoOctets}
 
-abbrev pub request : Name → ℕ → ℕ → ℕ → Request
-request n a b k = record { name = n; first = a; second = b; count = k }
+abbrev pub request : Name → ℕ → ℕ → ℕ → ℕ → Request
+request n a b c k = record { name = n; first = a; second = b; third = c; count = k }
 
 abbrev pub noRequest : Request
-noRequest = request Bad 0 0 0
+noRequest = request Bad 0 0 0 0
 
 -- a request, and what the room holds then
 pub record Requested : Type 0 where
@@ -39,19 +39,20 @@ unfoldable pub octetsAt : List ℕ → ℕ → List ℕ → Taken
 octetsAt w octets room = pick (eqb octets 0) (taken (Are 0) room) (octetsOf w room)
 
 -- a request has its numbers and its octets, or there is none
-abbrev pub makeRequest : Name → ℕ → ℕ → Octets → Request
-makeRequest n a b (Are k) = request n a b k
-makeRequest n a b NoOctets = noRequest
+abbrev pub makeRequest : Name → ℕ → ℕ → ℕ → Octets → Request
+makeRequest n a b c (Are k) = request n a b c k
+makeRequest n a b c NoOctets = noRequest
 
-abbrev pub whole : Name → Number → Number → Taken → List ℕ → Requested
-whole n (Is a) (Is b) t room = requested (makeRequest n a b (t .answer)) (t .room)
-whole n (Is a) NoNumber t room = requested noRequest room
-whole n NoNumber b t room = requested noRequest room
+abbrev pub whole : Name → Number → Number → Number → Taken → List ℕ → Requested
+whole n (Is a) (Is b) (Is c) t room = requested (makeRequest n a b c (t .answer)) (t .room)
+whole n (Is a) (Is b) NoNumber t room = requested noRequest room
+whole n (Is a) NoNumber c t room = requested noRequest room
+whole n NoNumber b c t room = requested noRequest room
 
 -- what a line says that starts with this request
 abbrev pub read : Row → List ℕ → List ℕ → Requested
 read r line room =
-    whole (r .name) (numberAt (wordAt line 1) 1 (r .numbers)) (numberAt (wordAt line 2) 2 (r .numbers))
+    whole (r .name) (numberAt (wordAt line 1) 1 (r .numbers)) (numberAt (wordAt line 2) 2 (r .numbers)) (numberAt (wordAt line 3) 3 (r .numbers))
     (octetsAt (wordAt line (r .numbers + 1)) (r .octets) room) room
 
 -- the request that the first word and the number of words name, with the numbers and octets that the other words are

@@ -5,7 +5,7 @@ ghost use mathlib.Core.Path.{_≡_};
 ghost use Prim.Native.Nat.{_+_, _≤_, _<_};
 ghost use Rattle.program_numbers.specs.Hex.{taken};
 ghost use Rattle.console_words.specs.Words.{wordAt};
-ghost use Rattle.console_requests.specs.Names.{Lists, rowAt};
+ghost use Rattle.console_requests.specs.Names.{Lists, rowAt, tableRows, mostNumbers};
 ghost use Rattle.console_requests.specs.Requests.{noRequest, makeRequest, numberAt, octetsAt, requested, read, requestOf};
 use program_numbers::decimal::Number;
 use program_numbers::hex::Octets;
@@ -28,6 +28,7 @@ pub enum Name {
     Next,
     Encode,
     Decode,
+    FoldIn,
     Bad,
 }
 
@@ -36,6 +37,7 @@ pub struct Request {
     pub name: Name,
     pub first: usize,
     pub second: usize,
+    pub third: usize,
     pub count: usize,
 }
 
@@ -47,6 +49,7 @@ fn none() -> Request
         name: Name::Bad,
         first: 0,
         second: 0,
+        third: 0,
         count: 0,
     }
 }
@@ -63,7 +66,7 @@ fn number(line: &[u8], k: usize, numbers: usize) -> Number
 
 // The octets after the numbers, where the request has octets.
 fn last(line: &[u8], numbers: usize, octets: usize, out: &mut [u8]) -> Octets
-    requires { ⌜ numbers ≤ 2 ⌝ }
+    requires { ⌜ numbers ≤ mostNumbers ⌝ }
     ensures { λ r. ⌜ taken r (now (out .exit)) ≡ octetsAt (wordAt (now (line .entry)) (numbers + 1)) octets (now (out .entry)) ⌝ }
 {
     if octets == 0 {
@@ -73,8 +76,8 @@ fn last(line: &[u8], numbers: usize, octets: usize, out: &mut [u8]) -> Octets
 }
 
 // The request with these numbers and octets, or none where the octets are bad.
-fn make_request(name: Name, first: usize, second: usize, octets: Octets) -> Request
-    ensures { λ r. ⌜ r ≡ makeRequest name first second octets ⌝ }
+fn make_request(name: Name, first: usize, second: usize, third: usize, octets: Octets) -> Request
+    ensures { λ r. ⌜ r ≡ makeRequest name first second third octets ⌝ }
 {
     let Octets::Are(count) = octets else {
         return none();
@@ -83,6 +86,7 @@ fn make_request(name: Name, first: usize, second: usize, octets: Octets) -> Requ
         name: name,
         first: first,
         second: second,
+        third: third,
         count: count,
     }
 }
@@ -90,7 +94,7 @@ fn make_request(name: Name, first: usize, second: usize, octets: Octets) -> Requ
 // What a line says that starts with this row's name, with its octets at the front of out.
 fn read_row(t: &[u8], row: usize, line: &[u8], out: &mut [u8]) -> Request
     requires { ⌜ Lists (now t) ⌝ }
-    requires { ⌜ row < 17 ⌝ }
+    requires { ⌜ row < tableRows ⌝ }
     ensures { λ r. ⌜ requested r (now (out .exit)) ≡ read (rowAt row) (now (line .entry)) (now (out .entry)) ⌝ }
 {
     let after = names::after_name(t, row);
@@ -100,8 +104,11 @@ fn read_row(t: &[u8], row: usize, line: &[u8], out: &mut [u8]) -> Request
     let Number::Is(second) = number(line, 2, after.numbers) else {
         return none();
     };
+    let Number::Is(third) = number(line, 3, after.numbers) else {
+        return none();
+    };
     let octets = last(line, after.numbers, after.octets, out);
-    make_request(names::name_at(row), first, second, octets)
+    make_request(names::name_at(row), first, second, third, octets)
 }
 
 // The request of a line, with its octets at the front of out; out stays as it is where there is none.

@@ -1,7 +1,7 @@
 // The requests: one table of their names, and how many numbers and octets stand after each.
 ghost use mathlib.Core.Path.{_≡_};
 ghost use Prim.Native.Nat.{_<_, _≤_};
-ghost use Rattle.console_requests.specs.Names.{Lists, rowAt, fits, rowOf};
+ghost use Rattle.console_requests.specs.Names.{Lists, rowAt, fits, rowOf, tableRows, mostNumbers};
 use crate::Name;
 use octets::indices::wide;
 
@@ -18,10 +18,10 @@ const NUMBERS: usize = 9;
 const OCTETS: usize = 10;
 
 // The entries of the table.
-const TABLE: usize = 187;
+const TABLE: usize = ROW * (NO_REQUEST + 1);
 
 // The row of no request, after those of the requests.
-const NO_REQUEST: usize = 16;
+const NO_REQUEST: usize = 17;
 
 // Eleven entries for each row, and a last row for no request: name, its length, how many numbers stand after it, 1 where octets do.
 const ROWS: [u8; TABLE] = *b"\
@@ -41,6 +41,7 @@ const ROWS: [u8; TABLE] = *b"\
     next....\x04\x01\x00\
     encode..\x06\x02\x01\
     decode..\x06\x02\x01\
+    fold-in.\x07\x03\x01\
     ........\x00\x00\x00";
 
 // The table as a value, which its users are lent.
@@ -59,9 +60,9 @@ pub struct After {
 // What stands after a row's name.
 pub fn after_name(t: &[u8], row: usize) -> After
     requires { ⌜ Lists (now t) ⌝ }
-    requires { ⌜ row < 17 ⌝ }
+    requires { ⌜ row < tableRows ⌝ }
     ensures { λ r. ⌜ (r .numbers ≡ rowAt row .numbers) × (r .octets ≡ rowAt row .octets) ⌝ }
-    ensures { λ r. ⌜ (r .numbers ≤ 2) × (r .octets ≤ 1) ⌝ }
+    ensures { λ r. ⌜ (r .numbers ≤ mostNumbers) × (r .octets ≤ 1) ⌝ }
 {
     let base = row * ROW;
     After {
@@ -73,7 +74,7 @@ pub fn after_name(t: &[u8], row: usize) -> After
 // Whether a row has this name and so many words after it.
 fn is_row(t: &[u8], row: usize, word: &[u8], after: usize) -> bool
     requires { ⌜ Lists (now t) ⌝ }
-    requires { ⌜ row < 17 ⌝ }
+    requires { ⌜ row < tableRows ⌝ }
     ensures { λ r. ⌜ r ≡ fits (now (word .entry)) after (rowAt row) ⌝ }
 {
     let a = after_name(t, row);
@@ -89,7 +90,7 @@ fn is_row(t: &[u8], row: usize, word: &[u8], after: usize) -> bool
 pub fn row_of(t: &[u8], word: &[u8], after: usize) -> usize
     requires { ⌜ Lists (now t) ⌝ }
     ensures { λ r. ⌜ rowAt r ≡ rowOf (now (word .entry)) after ⌝ }
-    ensures { λ r. ⌜ r < 17 ⌝ }
+    ensures { λ r. ⌜ r < tableRows ⌝ }
 {
     let mut row: usize = 0;
     while row < NO_REQUEST {
@@ -122,6 +123,7 @@ pub fn name_at(row: usize) -> Name
         13 => Name::Next,
         14 => Name::Encode,
         15 => Name::Decode,
+        16 => Name::FoldIn,
         _ => Name::Bad,
     }
 }

@@ -1,7 +1,7 @@
 -- What the reader and the folder refuse. Assumes nothing.
 use Prim.Native.Nat.{ℕ}
 use mathlib.Core.Path.{_≡_, refl, sym, ap, _∙_}
-use mathlib.Core.List.{List}
+use mathlib.Core.List.{List, map}
 use lib.Dec.{ltb}
 use lib.ListN.{length}
 use borrow.Author.Tests.{ltb-true, ltb-false}
@@ -11,7 +11,14 @@ use Rattle.reader.specs.Outcome.{judgeOf, copyOf, recordsOf, Taken, took, write
 use Rattle.reader.specs.declared.Verdict.{Verdict}
 use Rattle.reader.specs.declared.Verdict.the-variants.{Accepted, Refused}
 use Rattle.reader.proofs.ReadLaws.{read-refused, numbers-counted, read-13, read-14}
-use Rattle.folder.specs.Outcome.{foldBy, foldOutcome}
+use Rattle.folder_line.specs.Pieces.{foldedLines}
+use Rattle.folder_style_laws.specs.Capitals.{styled}
+use Rattle.folder_raising.specs.Walk.{written}
+use Rattle.folder_raising.specs.declared.Style.{Style}
+use Rattle.folder_raising.proofs.Kept.{styled-lines}
+use Rattle.folder.specs.Outcome.{foldBy, foldIn}
+use Rattle.folder_style_laws.proofs.RereadLaws.{lines-styled}
+use Rattle.line_parser.specs.Grammar.{render}
 use Rattle.reader_grammar.specs.Inputs.{InputOf}
 use Rattle.reader_grammar.specs.Refusals.{RefusedBy}
 use Rattle.reader_grammar.proofs.Accepted.{lines-law, accepted-law}
@@ -75,13 +82,23 @@ module _ (i : List ℕ) where
 
   -- ---- fold
 
-  module _ (out : List ℕ) where
-    pub fold-form : (k m : ℕ) (h : InputOf i k m) → foldOutcome i out ≡ fillBounded (folded h) out
-    unfolding foldOutcome foldBy
-    fold-form k m h = rw (accepted-law i k m .1 h, lines-law i k m h)
+  module _ (s : Style) (out : List ℕ) where
+    -- the folded form of an input's lines in the style
+    abbrev form : {k m : ℕ} → InputOf i k m → List ℕ
+    form h = foldedLines (map render (map (styled s) (h .lines)))
 
-    fold-told : (n p : ℕ) → foldOutcome i out .answer ≡ Unwritten n p → FoldBy i out n p
-    unfolding foldOutcome foldBy
+    pub fold-form : (k m : ℕ) (h : InputOf i k m) → foldIn s i out ≡ fillBounded (form h) out
+    unfolding foldIn foldBy
+    fold-form k m h =
+        rw (accepted-law i k m .1 h, lines-law i k m h) (ap (λ (ls : List (List ℕ)). fillBounded (foldedLines ls) out) (lines-styled s (h .lines) (h .readable)))
+
+    -- which is as long as read
+    pub form-length : (k m : ℕ) (h : InputOf i k m) → length (form h) ≡ length (folded h)
+    form-length k m h =
+        ap (λ (ls : List (List ℕ)). length (foldedLines ls)) (sym (lines-styled s (h .lines) (h .readable))) ∙ styled-lines s (map render (h .lines))
+
+    fold-told : (n p : ℕ) → foldIn s i out .answer ≡ Unwritten n p → FoldBy i out n p
+    unfolding foldIn foldBy
     fold-told n p e = go (judgeOf i) refl
       where
         go : (v : Verdict) → judgeOf i ≡ v → FoldBy i out n p
@@ -90,13 +107,17 @@ module _ (i : List ℕ) where
             itself (written-tells out) (FoldBy i out) m q n p w (not-read (refused-law i m q .0 v))
         go (Accepted k m) v =
             let h = accepted-law i k m .0 v in
-            bounded-told (FoldBy i out) (folded h) out n p (rw (fold-form k m h) at e) (λ l. fold-over h l) (λ s l. fold-room h s l)
+            let z = form-length k m h in
+            bounded-told (FoldBy i out) (form h) out n p (rw (fold-form k m h) at e) (λ l. fold-over h (rw z at l))
+            (λ a l. rw z (fold-room h (rw z at a) (rw z at l)))
 
-    fold-so : (n p : ℕ) → FoldBy i out n p → foldOutcome i out ≡ refuse n p out
-    unfolding foldOutcome foldBy
+    fold-so : (n p : ℕ) → FoldBy i out n p → foldIn s i out ≡ refuse n p out
+    unfolding foldIn foldBy
     fold-so n p (not-read b) = rw (refused-law i n p .1 b)
-    fold-so n p (fold-over {k} {n = m} h l) = fold-form k m h ∙ over-so (folded h) out l
-    fold-so n p (fold-room {k} {n = m} h s l) = fold-form k m h ∙ within-so (folded h) out s ∙ short-so (folded h) out l
+    fold-so n p (fold-over {k} {n = m} h l) = fold-form k m h ∙ over-so (form h) out (rw (form-length k m h) l)
+    fold-so n p (fold-room {k} {n = m} h a l) =
+        let z = form-length k m h in
+        fold-form k m h ∙ within-so (form h) out (rw z a) ∙ short-so (form h) out (rw z l) ∙ ap (λ (x : ℕ). refuse 15 x out) z
 
-    pub fold-exactly : Filling (foldOutcome i out) out (FoldBy i out)
+    pub fold-exactly : Filling (foldIn s i out) out (FoldBy i out)
     fold-exactly = record { only = fold-told; unchanged = fold-so }

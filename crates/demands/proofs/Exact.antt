@@ -2,7 +2,7 @@
 use Prim.Native.Nat.{ℕ, _*_, _≤_}
 use mathlib.Core.Path.{_≡_, refl, sym, ap, subst, _∙_}
 use mathlib.Core.Bool.{Bool, true, false}
-use mathlib.Core.List.{List, _∷_}
+use mathlib.Core.List.{List, [], _∷_, map}
 use mathlib.Core.Logic.{_↔_}
 use native.Mathlib.Omega.{arith}
 use lib.Dec.{ltb}
@@ -13,40 +13,51 @@ use Rattle.octets.specs.Pick.{pick}
 use Rattle.utf8.specs.Characters.{allowed, firstBad}
 use Rattle.octets.specs.Room.{Filled, filled, refuse, overlay, fill, fillBounded}
 use Rattle.octets.specs.declared.rooms.Written.the-variants.{Wrote}
-use Rattle.utf8_laws.proofs.Utf8.{allowed-only}
 use Rattle.text_escaping.specs.Escaped.{escaped}
 use Rattle.text_unescaping.specs.Unescaped.{firstFault, unescaped}
 use Rattle.text.specs.Outcomes.{checked, faultless, escapeOutcome, unescapeOutcome}
 use Rattle.text_laws.specs.Stands.{Stands, none, itself, escape}
 use Rattle.text_laws.proofs.StandsLaws.{stands-exactly}
 use Rattle.text_laws.proofs.BackLaws.{round-trip}
-use Rattle.line_parser.specs.Grammar.{Line, render}
+use Rattle.line_parser.specs.Grammar.{Line, Each, render}
 use Rattle.reader.specs.Outcome.{judgeOf, copyOf, recordsOf, Taken, took, readOutcome}
 use Rattle.reader.specs.declared.Verdict.{Verdict}
 use Rattle.reader.specs.declared.Verdict.the-variants.{Accepted, Refused}
 use Rattle.reader.proofs.AcceptLaws.{lines-few, lines-counted}
 use Rattle.reader.proofs.ReadLaws.{read-refused, numbers-counted, read-written, read-13, read-14}
-use Rattle.folder_line.specs.Pieces.{pieces, Clean}
-use Rattle.folder.specs.Outcome.{foldOutcome}
+use Rattle.folder_line.specs.Pieces.{pieces, joined, foldedLines}
+use Rattle.folder_style_laws.specs.Capitals.{styled}
+use Rattle.folder_raising.specs.Walk.{written as in-style}
+use Rattle.folder_raising.specs.declared.Style.{Style}
+use Rattle.folder_raising.specs.declared.Style.the-variants.{AsRead, Raised}
+use Rattle.folder_raising.proofs.CleanLaws.{clean-written, pieces-written}
+use Rattle.folder.specs.Outcome.{foldIn, foldOutcome}
 use Rattle.folder_laws.specs.Cuttings.{Cutting}
+use Rattle.folder_laws.specs.Foldings.{Billed}
+use Rattle.folder_laws.specs.Physical.{physical as physicalLines}
 use Rattle.folder_laws.proofs.CuttingLaws.{cutting-law}
+use Rattle.folder_laws.proofs.Shortest.{least-lines}
+use Rattle.folder_laws.proofs.Fewest.{our-lines}
+use Rattle.folder_laws.proofs.Equal.{equal as equal-octets, fewest-written}
 use Rattle.line_folds.specs.Logical.{logicalLines}
 use Rattle.line_laws.specs.Lined.{Lined}
 use Rattle.line_laws.proofs.LinedLaws.{lined-only}
 use Rattle.folder_laws.specs.Written.{Folds}
-use Rattle.folder_laws.proofs.WrittenLaws.{wrote as written, wrote-accepted, fold-written}
+use Rattle.folder_laws.proofs.WrittenLaws.{wrote as written, wrote-accepted, form, fold-written}
 use Rattle.folder_laws.proofs.Again.{read-again}
+use Rattle.folder_style_laws.proofs.CardLaws.{line-clean}
+use Rattle.folder_style_laws.proofs.RereadLaws.{line-styled, lines-styled, again, again-lines, again-answer, again-records, fold-again, fold-as-read}
 use Rattle.firmware.specs.Word.{wordOutcome}
 use Rattle.reader_grammar.specs.Cards.{Readable, card, Cards, none as no-cards, more}
 use Rattle.reader_grammar.specs.Inputs.{InputOf}
-use Rattle.reader_grammar.proofs.Accepted.{accepted-law, one-reading}
+use Rattle.reader_grammar.proofs.Accepted.{accepted-law, lines-law, one-reading}
 use Rattle.reader_grammar.proofs.RecordLaws.{copy-law, records-law}
-use Rattle.demands.specs.Demand1.{folded, Fair}
+use Rattle.demands.specs.Demand1.{copied, folded, Fair}
 use Rattle.desk_ledger.specs.Answers.{counts, told, verdict, wrote as written-as}
 use Rattle.desk_ledger.proofs.AnswerLaws.{verdict-counts, wrote-told}
-use Rattle.demands.specs.Demand2.{Roomy, ReadAs, Writes, Demand2}
+use Rattle.demands.specs.Demand2.{Roomy, ReadAs, Writes, linesIn, ReadAgain, Shortest, Demand2}
 use Rattle.demands.proofs.Texts.{wrote-no, checked-fair, within-so, fault-le}
-use Rattle.demands.proofs.Cards.{accepted-no, fold-form}
+use Rattle.demands.proofs.Cards.{accepted-no, fold-form, form-length}
 
 -- ---- read
 
@@ -105,12 +116,19 @@ fill-so xs out h = rw (le-ltb (length out) (length xs) h)
 pub bounded-so : (xs out : List ℕ) → length xs ≤ 16384 → length xs ≤ length out → fillBounded xs out ≡ wrote xs out
 bounded-so xs out s h = within-so xs out s ∙ fill-so xs out h
 
-line-clean : (x : Line) → Readable x → Clean (render x)
-unfolding Clean
-line-clean x r = allowed-only false (render x) .1 (r .clean .characters, r .clean .octets)
-
 greedy : (x : Line) → Readable x → (p : List ℕ) (ps : List (List ℕ)) → Cutting (render x) p ps ↔ (p ∷ ps ≡ pieces (render x))
 greedy x r p ps = cutting-law (render x) p ps (line-clean x r)
+
+-- no folding of a line is shorter
+shortest : (s : Style) (xs : List Line) → Each Readable xs → Each (Shortest s) xs
+unfolding Each
+shortest s [] r = tt
+shortest s (x ∷ xs) r =
+    let c = line-clean x (r .0) in
+    let l = in-style s (render x) in
+    let e = line-styled s x (r .0) in
+    let n : length (physicalLines (joined (pieces l))) ≡ length (pieces (render x)) = our-lines l (clean-written s (render x) c) ∙ pieces-written s (render x) in
+    (λ t f. omega (arith, rw e at n, least-lines (render x) t c f), shortest s xs (r .1))
 
 -- ---- text
 
@@ -135,8 +153,8 @@ cards-low : (i : List ℕ) (k n : ℕ) → InputOf i k n → k ≤ 16384
 cards-low i k n h = omega (arith, cards-few (h .cards), h .count, lines-counted i k n (accepted-law i k n .1 h), lines-few i, h .short)
 
 fold-low : (i out after : List ℕ) (n : ℕ) → foldOutcome i out ≡ filled (Wrote n) after → n ≤ 16384
-unfolding foldOutcome
-fold-low i out after n e = wrote-accepted (judgeOf i) i out after n (sym e) (λ k m a f. written _ out after n f .bound)
+unfolding foldIn
+fold-low i out after n e = wrote-accepted Raised (judgeOf i) i out after n (sym e) (λ k m a f. written _ out after n f .bound)
 
 stands-low : {t u : List ℕ} → Stands t u → length u ≤ length t
 stands-low none = omega arith
@@ -161,10 +179,39 @@ unescape-low t out after n e =
     let l : length (unescaped t) ≡ n = cc in
     omega (arith, ltb-false 16384 (length t) a, stands-low (stands-exactly t (unescaped t) .1 (z, refl)))))))
 
--- the lines that an input is split into are those that the folder's outcome names
-physical : (i out after : List ℕ) (n : ℕ) → foldOutcome i out ≡ filled (Wrote n) after → (rs ls : List (List ℕ)) → Lined i rs ls → Folds ls (take n after)
-unfolding logicalLines
-physical i out after n e rs ls h = subst (λ (xs : List (List ℕ)). Folds xs (take n after)) (sym (lined-only h .1)) (fold-written i out after n (sym e))
+-- what was written of an input, in the style
+module _ (s : Style) (i out after : List ℕ) (n : ℕ) (e : foldIn s i out ≡ filled (Wrote n) after) where
+  physical : (k m : ℕ) (h : InputOf i k m) → Folds (map render (linesIn s h)) (take n after)
+  physical k m h =
+      subst (λ (ls : List (List ℕ)). Folds ls (take n after))
+      (ap (map (in-style s)) (lines-law i k m h) ∙ lines-styled s (h .lines) (h .readable)) (fold-written s (form s i out after n (sym e)))
+
+  reread : (k m : ℕ) (h : InputOf i k m) → ReadAgain s h (take n after)
+  reread k m h =
+      let f = form s i out after n (sym e) in
+      record {
+        input = again s i (take n after) k m h f;
+        lines = again-lines s i (take n after) k m h f;
+        answer = again-answer s i (take n after) k m h f;
+        records = again-records s i (take n after) k m h f;
+      }
+
+  refolded : (k m : ℕ) (h : InputOf i k m) (room : List ℕ) → (foldIn s (take n after) room ≡ foldIn s i room) × (foldIn AsRead (take n after) room ≡ foldIn s i room)
+  refolded k m h room =
+      let f = form s i out after n (sym e) in
+      (fold-again s i (take n after) k m h f room, fold-as-read s i (take n after) k m h f room)
+
+  fewest : (rs ls : List (List ℕ)) → Lined i rs ls → (t : List ℕ) (ss : List (List ℕ)) → Lined t ss ls → Billed t
+      → length (physicalLines (take n after)) ≤ length (physicalLines t)
+  unfolding logicalLines
+  fewest rs ls h t ss g b =
+      fewest-written s (form s i out after n (sym e)) t ss (subst (λ (xs : List (List ℕ)). Lined t ss xs) (lined-only h .1) g) b
+
+module _ (i j out after room back : List ℕ) (k l m n a b : ℕ) (h : InputOf i k m) (g : InputOf j l n) where
+  equal : foldIn AsRead i out ≡ filled (Wrote a) after → foldIn AsRead j room ≡ filled (Wrote b) back → (take a after ≡ take b back) ↔ (copied h ≡ copied g)
+  equal e f =
+      subst (λ (c : List ℕ). (take a after ≡ take b back) ↔ (c ≡ copied g)) (copy-law i k m h)
+      (subst (λ (c : List ℕ). (take a after ≡ take b back) ↔ (copyOf i ≡ c)) (copy-law j l n g) (equal-octets (form AsRead i out after a (sym e)) (form AsRead j room back b (sym f))))
 
 -- ---- answers in document 01's numbers
 
@@ -187,10 +234,19 @@ demand2 =
       one-reading = one-reading;
       reads = reads;
       only = λ i copy records k n e. only i copy records k n (verdict-counts (readOutcome i copy records .answer) k n e);
-      folds = λ i out k n h s l. writes (fold-form i out k n h ∙ bounded-so (folded h) out s l);
+      folds = λ s i out k n h a l.
+          let z = form-length i s out k n h in
+          writes (fold-form i s out k n h ∙ bounded-so (foldedLines (map render (linesIn s h))) out (rw z a) (rw z l));
       greedy = greedy;
-      physical = λ i out n e. physical i out (foldOutcome i out .room) n (filled-so (foldOutcome i out) n e);
-      read-again = λ i out n e. read-again i out (foldOutcome i out .room) n (sym (filled-so (foldOutcome i out) n e));
+      physical = λ s i out n k m h e. physical s i out (foldIn s i out .room) n (filled-so (foldIn s i out) n e) k m h;
+      read-again = λ s i out n k m h e. reread s i out (foldIn s i out .room) n (filled-so (foldIn s i out) n e) k m h;
+      as-read = λ i out n e. read-again i out (foldIn AsRead i out .room) n (sym (filled-so (foldIn AsRead i out) n e));
+      again = λ s i out n k m h e. refolded s i out (foldIn s i out .room) n (filled-so (foldIn s i out) n e) k m h;
+      shortest = λ s i k n h. shortest s (h .lines) (h .readable);
+      fewest = λ s i out n e. fewest s i out (foldIn s i out .room) n (filled-so (foldIn s i out) n e);
+      equal = λ i j out room k l m n a b h g e f.
+          equal i j out (foldIn AsRead i out .room) room (foldIn AsRead j room .room) k l m n a b h g
+          (filled-so (foldIn AsRead i out) a e) (filled-so (foldIn AsRead j room) b f);
       escapes = λ t out f s h. writes (escapes t out f s h);
       unescapes = λ t u out f s h. writes (unescapes t u out f s h);
       back = λ t out room n e r. writes (round-trip t out (escapeOutcome t out .room) room n (filled-so (escapeOutcome t out) n e) r);

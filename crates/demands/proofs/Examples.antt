@@ -1,5 +1,9 @@
 -- The marked worked examples, proved as one statement over their table: by computing a test of it. Assumes nothing.
-use mathlib.Core.Path.{_≡_, refl}
+use Prim.Native.Nat.{ℕ}
+use mathlib.Core.Path.{_≡_, refl, ap}
+use mathlib.Core.List.{List}
+use native.Mathlib.Omega.{arith}
+use lib.ListN.{getD, replicate}
 use mathlib.Core.Bool.{true}
 use Rattle.octets.specs.Ascii as ascii
 use Rattle.octets.specs.Cases as letters
@@ -29,6 +33,8 @@ use Rattle.reader_walk.specs.Walk as walk
 use Rattle.reader_records.specs.Records as records
 use Rattle.reader.specs.Outcome as reader
 use Rattle.folder_line.specs.Pieces as pieces
+use Rattle.folder_raising.specs.Letters as capitals
+use Rattle.folder_raising.specs.Walk as styles
 use Rattle.folder.specs.Outcome as folder
 use Rattle.desk_pool.specs.Pools as pool
 use Rattle.desk_entries.specs.Search as searches
@@ -36,7 +42,7 @@ use Rattle.desk_slots.specs.Sound as sound
 use Rattle.desk_slots.specs.Slots as slots
 use Rattle.desk.specs.Steps as desk
 use Rattle.desk_ledger.specs.Ledger as ledger
-use Rattle.demands.specs.Examples.{Holds, marked, cardM, foldedM, recordsM}
+use Rattle.demands.specs.Examples.{Holds, marked, cardM, foldedM, recordsM, Merged, smallName, capitalName}
 use Rattle.demands.proofs.Tested.{sameNumbers, sameAnswers, allHold, tested}
 
 -- ---- what the examples compute by: to unfold a name of this part is to unfold what its own line names
@@ -98,8 +104,12 @@ unfolding reader.verdictOf reader.judgeOf reader.ended reader.copyOf reader.reco
 by-reader = tt
 
 by-folder : Unit {0}
-unfolding pieces.over pieces.first pieces.later pieces.pieces pieces.joined pieces.folded pieces.foldedLines folder.foldBy folder.foldOutcome
+unfolding pieces.over pieces.first pieces.later pieces.pieces pieces.joined pieces.folded pieces.foldedLines folder.foldBy folder.foldIn
 by-folder = tt
+
+by-styles : Unit {0}
+unfolding capitals.upper styles.raisedFrom styles.raised
+by-styles = tt
 
 by-desk : Unit {0}
 unfolding pool.patch pool.zeros searches.firstAt searches.allAt searches.among sound.bounds sound.goodAt sound.sound slots.slotOf
@@ -116,8 +126,13 @@ by-examples = tt
 -- ---- the test
 
 all-hold : allHold marked ≡ true
-unfolding by-octets by-scans by-characters by-text by-escapes by-folds by-lines by-rule by-kinds by-shapes by-table by-cards by-judge by-reader by-folder by-desk by-calls by-examples
+unfolding by-octets by-scans by-characters by-text by-escapes by-folds by-lines by-rule by-kinds by-shapes by-table by-cards by-judge by-reader by-folder by-styles by-desk by-calls by-examples
 all-hold = refl
 
 pub examples : Each Holds marked
 examples = tested marked all-hold
+
+-- In the raised style equal octets don't tell equal copies.
+pub merged : Merged smallName capitalName (replicate 160 0)
+unfolding by-octets by-scans by-characters by-text by-escapes by-folds by-lines by-rule by-kinds by-shapes by-table by-cards by-judge by-reader by-folder by-styles by-desk by-calls by-examples
+merged = record { octets = refl; copies = λ e. let z : _≡_ {A = ℕ} 120 88 = ap (λ (l : List ℕ). getD l 32 0) e in omega arith }

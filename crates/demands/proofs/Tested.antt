@@ -11,7 +11,7 @@ use Rattle.line_parser.specs.Grammar.{Each}
 use Rattle.octets.specs.Room.{Filled}
 use Rattle.text.specs.Outcomes.{unescapeOutcome}
 use Rattle.reader.specs.Outcome.{Taken, readOutcome}
-use Rattle.folder.specs.Outcome.{foldOutcome}
+use Rattle.folder.specs.Outcome.{foldIn}
 use Rattle.desk_slots.specs.Sound.{stateAt, bounds}
 use Rattle.desk.specs.Steps.{newStep}
 use Rattle.desk_entries.specs.declared.Session.{Session}
@@ -77,7 +77,7 @@ sameTurns n cs ns i s =
 
 abbrev holds : Example → Bool
 holds (reads i c r a c′ r′) = sameTaken (readOutcome i c r) a c′ r′
-holds (folds i o a o′) = sameFilled (foldOutcome i o) a o′
+holds (folds s i o a o′) = sameFilled (foldIn s i o) a o′
 holds (unescapes t o a o′) = sameFilled (unescapeOutcome t o) a o′
 holds (turns n cs ns i s) = sameTurns n cs ns i s
 
@@ -177,6 +177,6 @@ tested (c ∷ cs) e = let b = both (holds c) (allHold cs) e in (one c (b .0), te
   where
     one : (c : Example) → holds c ≡ true → Holds c
     one (reads i c r a c′ r′) e = same-taken (readOutcome i c r) a c′ r′ e
-    one (folds i o a o′) e = same-filled (foldOutcome i o) a o′ e
+    one (folds s i o a o′) e = same-filled (foldIn s i o) a o′ e
     one (unescapes t o a o′) e = same-filled (unescapeOutcome t o) a o′ e
     one (turns n cs ns i s) e = same-turns n cs ns i s e

@@ -16,6 +16,7 @@ use Rattle.desk_ledger.specs.Answers.{verdict, wrote, said}
 use Rattle.desk_ledger.proofs.AnswerLaws.{verdict-refused, wrote-refused, said-refused}
 use Rattle.firmware.specs.Word.{verdictWord, Low, wordOutcome}
 use Rattle.firmware.proofs.Places.{place-low}
+use Rattle.folder_raising.specs.declared.Style.the-variants.{Raised}
 use Rattle.firmware.proofs.Lows.{low-unescape, low-fold}
 use Rattle.reader_grammar.proofs.Numbers.{refusal-number}
 use Rattle.reader_grammar.specs.Refusals.{RefusedBy}
@@ -85,7 +86,7 @@ demand1 =
       judges = λ i. verdict-exactly (judge-exactly i);
       numbers = refusal-number;
       reads = λ i copy records. reading-exactly (read-exactly i copy records);
-      folds = λ i out. filling-exactly (fold-exactly i out);
+      folds = λ s i out. filling-exactly (fold-exactly i s out);
       escapes = λ t out. filling-exactly (escape-exactly t out);
       unescapes = λ t out. filling-exactly (unescape-exactly t out);
       encodes = λ r t out. filling-exactly (encode-exactly t out r);
@@ -101,6 +102,6 @@ demand1 =
       counted = λ d pool t i s h. ap said (counted d pool t i s h);
       judged = λ d pool t i s h. ap verdict (judged d pool t i s h);
       c-judge = judge-word;
-      c-fold = λ i out n p b. refusal-word _ out n p (fold-exactly i out .unchanged n p b) (low-fold i out);
+      c-fold = λ i out n p b. refusal-word _ out n p (fold-exactly i Raised out .unchanged n p b) (low-fold i out);
       c-unescape = λ t out n p b. refusal-word _ out n p (unescape-exactly t out .unchanged n p b) (low-unescape t out);
     }

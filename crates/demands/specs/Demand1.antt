@@ -23,7 +23,8 @@ use Rattle.label_laws.specs.Reads.{Reads, Sayable, Unsaid}
 use Rattle.line_parser.specs.Grammar.{render}
 use Rattle.reader.specs.Outcome.{judgeOf, ended, Taken, readOutcome}
 use Rattle.folder_line.specs.Pieces.{foldedLines}
-use Rattle.folder.specs.Outcome.{foldOutcome}
+use Rattle.folder_raising.specs.declared.Style.{Style}
+use Rattle.folder.specs.Outcome.{foldIn, foldOutcome}
 use Rattle.desk_slots.specs.Sound.{stateAt}
 use Rattle.desk.specs.Steps.{Sound, Turned, freshDesk, newStep, openStep, addStep, releaseStep, octetsIn, showStep, heldStep, judgeStep}
 use Rattle.desk_entries.specs.declared.Session.{Session}
@@ -57,7 +58,7 @@ pub data ReadBy (i copy records : List ℕ) : ℕ → ℕ → Type 0 where
   record-room : {k n : ℕ} (h : InputOf i k n) → length (copied h) ≤ length copy → length records < n * limit.recordLength
       → ReadBy i copy records refusal.recordRoom (n * limit.recordLength)
 
--- those of the judgement, then 16, 15
+-- those of the judgement, then 16, 15, in either style
 pub data FoldBy (i out : List ℕ) : ℕ → ℕ → Type 0 where
   not-read : {n p : ℕ} → RefusedBy i n p → FoldBy i out n p
   fold-over : {k n : ℕ} (h : InputOf i k n) → limit.octets < length (folded h) → FoldBy i out refusal.formTooLong limit.octets
@@ -184,7 +185,7 @@ pub record Demand1 : Type 0 where
   -- 6 is never given
   pub numbers : {i : List ℕ} {n p : ℕ} → RefusedBy i n p → Judging n
   pub reads : (i copy records : List ℕ) → Reading (readOutcome i copy records) copy records (ReadBy i copy records)
-  pub folds : (i out : List ℕ) → Filling (foldOutcome i out) out (FoldBy i out)
+  pub folds : (s : Style) (i out : List ℕ) → Filling (foldIn s i out) out (FoldBy i out)
   pub escapes : (t out : List ℕ) → Filling (escapeOutcome t out) out (EscapeBy t out)
   pub unescapes : (t out : List ℕ) → Filling (unescapeOutcome t out) out (UnescapeBy t out)
   pub encodes : (r : Rule) (t out : List ℕ) → Filling (encodeOutcome r t out) out (EncodeBy t out r)

@@ -3,7 +3,7 @@
 use Prim.Native.Nat.{ℕ, _*_, _≤_}
 use mathlib.Core.Path.{_≡_}
 use mathlib.Core.Bool.{true, false}
-use mathlib.Core.List.{List, _∷_}
+use mathlib.Core.List.{List, _∷_, map}
 use mathlib.Core.Logic.{_↔_}
 use lib.ListN.{length, take, drop}
 use Rattle.numbers.specs.Limits as limit
@@ -11,12 +11,17 @@ use Rattle.octets.specs.Room.{Filled, overlay}
 use Rattle.text_escaping.specs.Escaped.{escaped}
 use Rattle.text.specs.Outcomes.{escapeOutcome, unescapeOutcome}
 use Rattle.text_laws.specs.Stands.{Stands}
-use Rattle.line_parser.specs.Grammar.{Line, render}
+use Rattle.line_parser.specs.Grammar.{Line, Each, render}
 use Rattle.reader.specs.Outcome.{judgeOf, Taken, readOutcome}
 use Rattle.line_laws.specs.Lined.{Lined}
-use Rattle.folder_line.specs.Pieces.{pieces}
-use Rattle.folder.specs.Outcome.{foldOutcome}
+use Rattle.folder_line.specs.Pieces.{pieces, joined, foldedLines}
+use Rattle.folder_style_laws.specs.Capitals.{styled}
+use Rattle.folder_raising.specs.declared.Style.{Style}
+use Rattle.folder_raising.specs.declared.Style.the-variants.{AsRead}
+use Rattle.folder.specs.Outcome.{foldIn, foldOutcome}
 use Rattle.folder_laws.specs.Cuttings.{Cutting}
+use Rattle.folder_laws.specs.Foldings.{Billed, Folding}
+use Rattle.folder_laws.specs.Physical.{physical as physicalLines}
 use Rattle.folder_laws.specs.Written.{Folds}
 use Rattle.desk_ledger.specs.Answers.{counts as accepted, told, verdict, wrote}
 use Rattle.firmware.specs.Word.{verdictWord, worded, wordOutcome}
@@ -42,6 +47,22 @@ pub record Writes (f : Filled) (xs room : List ℕ) : Type 0 where
   pub count : wrote (f .answer) ≡ told (length xs)
   pub holds : f .room ≡ overlay xs room
 
+-- the lines of an input in a style
+abbrev pub linesIn : Style → {i : List ℕ} {k n : ℕ} → InputOf i k n → List Line
+linesIn s h = map (styled s) (h .lines)
+
+-- octets that are read again with the lines of the input in the style, the same answer and the same records, whatever the rooms; by `reads`, the
+-- copy is these lines, so that it differs from the input's in the case of names alone
+pub record ReadAgain (s : Style) {i : List ℕ} {k n : ℕ} (h : InputOf i k n) (t : List ℕ) : Type 0 where
+  pub input : InputOf t k n
+  pub lines : input .lines ≡ linesIn s h
+  pub answer : (copy records : List ℕ) → readOutcome t copy records .answer ≡ readOutcome i copy records .answer
+  pub records : (copy records : List ℕ) → readOutcome t copy records .records ≡ readOutcome i copy records .records
+
+-- the pieces of the line in the style, joined by folds, have no more physical lines than any folding of the line
+abbrev pub Shortest : Style → Line → Type 0
+Shortest s x = (t : List ℕ) → Folding (render x) t → length (physicalLines (joined (pieces (render (styled s x))))) ≤ length (physicalLines t)
+
 pub record Demand2 : Type 0 where
   -- the reader accepts exactly the cards that REFERENCE draws
   pub accepts : (i : List ℕ) (k n : ℕ) → (verdict (judgeOf i) ≡ accepted k n) ↔ InputOf i k n
@@ -50,16 +71,30 @@ pub record Demand2 : Type 0 where
   -- given room, with counts, copy and records; and without room it accepts nothing
   pub reads : (i copy records : List ℕ) (k n : ℕ) (h : InputOf i k n) → Roomy h copy records → ReadAs h copy records (readOutcome i copy records)
   pub only : (i copy records : List ℕ) (k n : ℕ) → verdict (readOutcome i copy records .answer) ≡ accepted k n → (h : InputOf i k n) × Roomy h copy records
-  -- the folder writes the folded form, which is made of each line's greedy cutting
-  pub folds : (i out : List ℕ) (k n : ℕ) (h : InputOf i k n) → length (folded h) ≤ limit.octets → length (folded h) ≤ length out
-      → Writes (foldOutcome i out) (folded h) out
+  -- the folder writes the folded form of the lines in the style, which is made of each line's greedy cutting
+  pub folds : (s : Style) (i out : List ℕ) (k n : ℕ) (h : InputOf i k n) → length (folded h) ≤ limit.octets → length (folded h) ≤ length out
+      → Writes (foldIn s i out) (foldedLines (map render (linesIn s h))) out
   pub greedy : (x : Line) → Readable x → (p : List ℕ) (ps : List (List ℕ)) → Cutting (render x) p ps ↔ (p ∷ ps ≡ pieces (render x))
   -- what it wrote has physical lines of at most 75 octets, with no character split,
-  pub physical : (i out : List ℕ) (n : ℕ) → wrote (foldOutcome i out .answer) ≡ told n
-      → (rs ls : List (List ℕ)) → Lined i rs ls → Folds ls (take n (foldOutcome i out .room))
-  -- and read again gives the same answer, copy and records
-  pub read-again : (i out : List ℕ) (n : ℕ) → wrote (foldOutcome i out .answer) ≡ told n
-      → (copy records : List ℕ) → readOutcome (take n (foldOutcome i out .room)) copy records ≡ readOutcome i copy records
+  pub physical : (s : Style) (i out : List ℕ) (n k m : ℕ) (h : InputOf i k m) → wrote (foldIn s i out .answer) ≡ told n
+      → Folds (map render (linesIn s h)) (take n (foldIn s i out .room))
+  -- and read again gives the same answer and records, and a copy that differs in the case of names alone; as read, the same copy too
+  pub read-again : (s : Style) (i out : List ℕ) (n k m : ℕ) (h : InputOf i k m) → wrote (foldIn s i out .answer) ≡ told n
+      → ReadAgain s h (take n (foldIn s i out .room))
+  pub as-read : (i out : List ℕ) (n : ℕ) → wrote (foldIn AsRead i out .answer) ≡ told n
+      → (copy records : List ℕ) → readOutcome (take n (foldIn AsRead i out .room)) copy records ≡ readOutcome i copy records
+  -- folded again in the same style, or as read, it is as it was
+  pub again : (s : Style) (i out : List ℕ) (n k m : ℕ) (h : InputOf i k m) → wrote (foldIn s i out .answer) ≡ told n
+      → (room : List ℕ) → (foldIn s (take n (foldIn s i out .room)) room ≡ foldIn s i room) × (foldIn AsRead (take n (foldIn s i out .room)) room ≡ foldIn s i room)
+  -- no folding of a line of an accepted card has fewer physical lines than what is written for it,
+  pub shortest : (s : Style) (i : List ℕ) (k n : ℕ) (h : InputOf i k n) → Each (Shortest s) (h .lines)
+  -- and no octets with the same logical lines have fewer than all that was written
+  pub fewest : (s : Style) (i out : List ℕ) (n : ℕ) → wrote (foldIn s i out .answer) ≡ told n → (rs ls : List (List ℕ)) → Lined i rs ls
+      → (t : List ℕ) (ss : List (List ℕ)) → Lined t ss ls → Billed t → length (physicalLines (take n (foldIn s i out .room))) ≤ length (physicalLines t)
+  -- as read, two accepted inputs are written to equal octets exactly when their copies are equal
+  pub equal : (i j out room : List ℕ) (k l m n a b : ℕ) (h : InputOf i k m) (g : InputOf j l n) → wrote (foldIn AsRead i out .answer) ≡ told a
+      → wrote (foldIn AsRead j room .answer) ≡ told b
+      → (take a (foldIn AsRead i out .room) ≡ take b (foldIn AsRead j room .room)) ↔ (copied h ≡ copied g)
   -- escape writes the escaped form of a text; unescape writes what a text stands for
   pub escapes : (t out : List ℕ) → Fair true t → length (escaped t) ≤ limit.octets → length (escaped t) ≤ length out
       → Writes (escapeOutcome t out) (escaped t) out

@@ -5,10 +5,12 @@ use mathlib.Core.Path.{_≡_}
 use mathlib.Core.List.{List, [], _∷_, _++_, map}
 use lib.ListN.{replicate}
 use Rattle.octets.specs.Room.{Filled}
-use Rattle.folder.specs.Outcome.{foldOutcome}
+use Rattle.folder_raising.specs.declared.Style.{Style}
+use Rattle.folder_raising.specs.declared.Style.the-variants.{AsRead, Raised}
+use Rattle.folder.specs.Outcome.{foldIn}
 use Rattle.text.specs.Outcomes.{unescapeOutcome}
 use Rattle.octets.specs.Ascii.{octets}
-use Rattle.reader.specs.Outcome.{Taken, readOutcome}
+use Rattle.reader.specs.Outcome.{Taken, copyOf, readOutcome}
 use Rattle.desk_slots.specs.Sound.{stateAt}
 use Rattle.desk.specs.Steps.{newStep}
 use Rattle.desk_entries.specs.declared.Session.{Session}
@@ -53,7 +55,7 @@ fullName = "N:Public;John;Quinlan;Mr.;Esq."
 -- number that answers each, and which session then stands in which slot
 pub data Example : Type 0 where
   reads : (input copy records : List ℕ) → Reply → (copy′ records′ : List ℕ) → Example
-  folds : (input room : List ℕ) → Reply → (room′ : List ℕ) → Example
+  folds : (style : Style) (input room : List ℕ) → Reply → (room′ : List ℕ) → Example
   unescapes : (text room : List ℕ) → Reply → (room′ : List ℕ) → Example
   turns : (slots : ℕ) (calls : List Call) (numbers : List ℕ) (slot : ℕ) (session : Session) → Example
 
@@ -76,7 +78,7 @@ pub record Reads (t : Taken) (a : Reply) (c r : List ℕ) : Type 0 where
 -- the outcome that the entry's contract names is the one expected
 abbrev pub Holds : Example → Type 0
 Holds (reads i c r a c′ r′) = Reads (readOutcome i c r) a c′ r′
-Holds (folds i o a o′) = Fills (foldOutcome i o) a o′
+Holds (folds s i o a o′) = Fills (foldIn s i o) a o′
 Holds (unescapes t o a o′) = Fills (unescapeOutcome t o) a o′
 Holds (turns n cs ns i s) = Turns n cs ns i s
 
@@ -94,11 +96,11 @@ asM i =
 abbrev note : ℕ → List ℕ → List ℕ
 note n more = cardWith (octets "NOTE:" ++ (replicate (n - 5) 97 ++ more))
 
--- a card is folded into a room of 160 octets to another, of n octets
-abbrev pub folding : List ℕ → ℕ → List ℕ → Example
-folding i n o = folds i (replicate 160 0) (told n) (o ++ replicate (160 - n) 0)
+-- a card is folded in a style into a room of 160 octets to another, of n octets
+abbrev pub folding : Style → List ℕ → ℕ → List ℕ → Example
+folding s i n o = folds s i (replicate 160 0) (told n) (o ++ replicate (160 - n) 0)
 
--- all of them
+-- all of them, and two of request 8
 abbrev pub marked : List Example
 marked =
     asM cardM ∷
@@ -109,11 +111,24 @@ marked =
     refuses (octets "BEGIN:VCARD" ++ (10 ∷ (line "VERSION:4.0" ++ (line "FN:A" ++ line "END:VCARD")))) 3 11 ∷
     refuses (cardWith (line fullName ++ line fullName)) 10 64 ∷
     refuses (cardWith (line "N:Doe;J")) 7 32 ∷
-    folding (note 75 end) 120 (note 75 end) ∷
-    folding (note 76 end) 124 (note 75 (end ++ 32 ∷ 97 ∷ end)) ∷
-    folding (note 74 (195 ∷ 169 ∷ end)) 124 (note 74 (end ++ 32 ∷ 195 ∷ 169 ∷ end)) ∷
+    folding AsRead (note 75 end) 120 (note 75 end) ∷
+    folding AsRead (note 76 end) 124 (note 75 (end ++ 32 ∷ 97 ∷ end)) ∷
+    folding AsRead (note 74 (195 ∷ 169 ∷ end)) 124 (note 74 (end ++ 32 ∷ 195 ∷ 169 ∷ end)) ∷
+    folding Raised (note 76 end) 124 (note 75 (end ++ 32 ∷ 97 ∷ end)) ∷
+    folding Raised (cardWith (line "g.fn;type=\"x:y\";q=a:a")) 66 (cardWith (line "G.FN;TYPE=\"x:y\";Q=a:a")) ∷
     unescapes (octets "a\\,b") (replicate 8 0) (told 3) (octets "a,b" ++ replicate 5 0) ∷
     unescapes (octets "\\N") (replicate 8 0) (told 1) (10 ∷ replicate 7 0) ∷
     unescapes (octets "a,b") (replicate 8 0) (refused 30 1) (replicate 8 0) ∷
     turns 2 (opens 0 ∷ opens 0 ∷ on 1 releases ∷ opens 0 ∷ []) (1 ∷ 2 ∷ 0 ∷ 3 ∷ []) 0 (record { ticket = 3; tram = 0; held = 0 }) ∷
     []
+
+-- raised, two inputs whose copies differ are written to equal octets
+pub record Merged (i j room : List ℕ) : Type 0 where
+  pub octets : foldIn Raised i room ≡ foldIn Raised j room
+  pub copies : copyOf i ≡ copyOf j → ⊥
+
+abbrev pub smallName : List ℕ
+smallName = cardWith (line "x:1")
+
+abbrev pub capitalName : List ℕ
+capitalName = cardWith (line "X:1")

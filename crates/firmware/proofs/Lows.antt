@@ -1,7 +1,7 @@
 -- The places of what fold and unescape refuse: each fits its half of a word. Assumes nothing.
 use mathlib.Core.Path.{_≡_, refl, ap, _∙_}
 use mathlib.Core.Bool.{Bool, true, false}
-use mathlib.Core.List.{List, [], _∷_}
+use mathlib.Core.List.{List, [], _∷_, map}
 use Prim.Native.Nat.{ℕ, zero, suc, pred, _≤_}
 use native.Mathlib.Omega.{arith}
 use lib.Dec.{ltb}
@@ -16,7 +16,9 @@ use Rattle.octets.specs.declared.rooms.Written.the-variants.{Wrote}
 use Rattle.text_unescaping.specs.Unescaped.{firstFault, passed, standing, unescaped}
 use Rattle.text.specs.Outcomes.{checked, faultless, unescapeOutcome}
 use Rattle.folder_line.specs.Pieces.{foldedLines}
-use Rattle.folder.specs.Outcome.{foldBy, foldOutcome}
+use Rattle.folder_raising.specs.Walk.{written}
+use Rattle.folder_raising.specs.declared.Style.the-variants.{Raised}
+use Rattle.folder.specs.Outcome.{foldBy, foldIn, foldOutcome}
 use Rattle.reader.specs.Outcome.{judgeOf}
 use Rattle.line_folds.specs.Logical.{logicalLines}
 use Rattle.reader.specs.declared.Verdict.{Verdict}
@@ -73,11 +75,11 @@ low-unescape t room =
     low-refused 30 (firstFault t) (length t) room _ h (low-fill _ room (omega (arith, shorter t 0))))
 
 pub low-fold : (i room : List ℕ) → Low (foldOutcome i room .answer)
-unfolding foldOutcome foldBy
+unfolding foldIn foldBy
 low-fold i room = by (judgeOf i) refl
   where
-    by : (v : Verdict) → judgeOf i ≡ v → Low (foldBy v i room .answer)
-    by (Accepted k n) e = low-bounded (foldedLines (logicalLines i)) room
+    by : (v : Verdict) → judgeOf i ≡ v → Low (foldBy Raised v i room .answer)
+    by (Accepted k n) e = low-bounded (foldedLines (map (written Raised) (logicalLines i))) room
     by (Rejected n p) e = omega (arith, place-low i n p e)
 
 -- what the entry answered, and the word of it

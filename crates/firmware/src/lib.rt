@@ -41,7 +41,7 @@ fn pack_written(w: Written) -> u64
     }
 }
 
-// Folds an input into a room: the count of octets written, or the refusal; the room is as the folder leaves it.
+// Folds an input into a room, its names in capitals: the count of octets written, or the refusal; the room is as the folder leaves it.
 #[no_mangle]
 pub extern "C" fn fold(input: &[u8], out: &mut [u8]) -> u64
     ensures { λ r. ⌜ worded r (now (out .exit)) ≡ wordOutcome (foldOutcome (now (input .entry)) (now (out .entry))) ⌝ }

@@ -8,7 +8,11 @@ ghost use Rattle.octets.specs.Pick.{pick};
 ghost use Rattle.octets.specs.Room.{filled, fillBounded, overlay};
 ghost use Rattle.line_folds.specs.Folds.{unfolded};
 ghost use Rattle.line_folds.specs.Logical.{logicalLines};
+ghost use mathlib.Core.List.{_++_, map};
+ghost use lib.ListN.{take, drop};
 ghost use Rattle.folder_line.specs.Pieces.{folded, foldedLines, Clean, All};
+ghost use Rattle.folder_raising.specs.Walk.{raised, written};
+use folder_raising::Style;
 use numbers::limit;
 use numbers::refusal;
 
@@ -40,6 +44,31 @@ fn write_line(s: &[u8], folds: bool, scratch: &mut [u8], d: &mut [u8]) -> usize
     folder_line::folding::fold_line(&scratch[..n], d)
 }
 
+// Raises the names of the line that stands in the first n octets of d.
+fn raise_start(d: &mut [u8], n: usize)
+    requires { ⌜ n ≤ length (now d) ⌝ }
+    ensures { λ _. ⌜ now (d .exit) ≡ raised (take n (now (d .entry))) ++ drop n (now (d .entry)) ⌝ }
+{
+    folder_raising::raise(&mut d[..n]);
+}
+
+// Writes the logical line s in a style, folded anew, to the start of d, and answers how many octets that are.
+pub fn write_styled(style: Style, s: &[u8], folds: bool, scratch: &mut [u8], d: &mut [u8]) -> usize
+    requires { ⌜ Clean (unfolded (now s)) × (length (now s) ≤ length (now scratch)) × (length (folded (unfolded (now s))) ≤ length (now d)) ⌝ }
+    requires { ⌜ (folds ≡ false → unfolded (now s) ≡ now s) ⌝ }
+    ensures { λ r. ⌜ (r ≡ length (folded (written style (unfolded (now (s .entry)))))) × (now (d .exit) ≡ overlay (folded (written style (unfolded (now (s .entry))))) (now (d .entry))) ⌝ }
+    ensures { λ _. ⌜ now (scratch .exit) ≡ pick folds (overlay (unfolded (now (s .entry))) (now (scratch .entry))) (now (scratch .entry)) ⌝ }
+{
+    let n = write_line(s, folds, scratch, d);
+    match style {
+        Style::AsRead => n,
+        Style::Raised => {
+            raise_start(d, n);
+            n
+        }
+    }
+}
+
 // How many octets the logical lines of a text have when they are folded.
 pub fn text_length(s: &[u8]) -> usize
     requires { ⌜ All Clean (logicalLines (now s)) × (length (now s) ≤ limit.octets) ⌝ }
@@ -58,10 +87,11 @@ pub fn text_length(s: &[u8]) -> usize
     n
 }
 
-// Writes them to the start of out, which has room for them, and answers how many octets that are.
-pub fn write_text(s: &[u8], out: &mut [u8]) -> usize
+// Writes them in a style to the start of out, which has room for them, and answers how many octets that are.
+pub fn write_text(style: Style, s: &[u8], out: &mut [u8]) -> usize
     requires { ⌜ All Clean (logicalLines (now s)) × (length (now s) ≤ limit.octets) × (length (foldedLines (logicalLines (now s))) ≤ length (now out)) ⌝ }
-    ensures { λ r. ⌜ (r ≡ length (foldedLines (logicalLines (now (s .entry))))) × (now (out .exit) ≡ overlay (foldedLines (logicalLines (now (s .entry)))) (now (out .entry))) ⌝ }
+    ensures { λ r. ⌜ r ≡ length (foldedLines (map (written style) (logicalLines (now (s .entry))))) ⌝ }
+    ensures { λ _. ⌜ now (out .exit) ≡ overlay (foldedLines (map (written style) (logicalLines (now (s .entry))))) (now (out .entry)) ⌝ }
 {
     let mut scratch = [0u8; limit::OCTETS];
     let mut at: usize = 0;
@@ -70,16 +100,16 @@ pub fn write_text(s: &[u8], out: &mut [u8]) -> usize
         let span = line_folds::spans::line_at(s, at);
         let end = span.end;
         let folds = span.cr != end;
-        w += write_line(&s[at..end], folds, &mut scratch, &mut out[w..]);
+        w += write_styled(style, &s[at..end], folds, &mut scratch, &mut out[w..]);
         at = end + 2;
     }
     w
 }
 
-// Folds a text: 16 where the folded form is over 16,384 octets, 15 where out is too small for it, else the octets written.
-pub fn fold_text(s: &[u8], out: &mut [u8]) -> octets::rooms::Written
+// Folds a text in a style: 16 where the folded form is over 16,384 octets, 15 where out is too small for it, else the octets written.
+pub fn fold_text(style: Style, s: &[u8], out: &mut [u8]) -> octets::rooms::Written
     requires { ⌜ All Clean (logicalLines (now s)) × (length (now s) ≤ limit.octets) ⌝ }
-    ensures { λ r. ⌜ filled r (now (out .exit)) ≡ fillBounded (foldedLines (logicalLines (now (s .entry)))) (now (out .entry)) ⌝ }
+    ensures { λ r. ⌜ filled r (now (out .exit)) ≡ fillBounded (foldedLines (map (written style) (logicalLines (now (s .entry))))) (now (out .entry)) ⌝ }
 {
     let n = text_length(s);
     if limit::OCTETS < n {
@@ -88,6 +118,6 @@ pub fn fold_text(s: &[u8], out: &mut [u8]) -> octets::rooms::Written
     if out.len() < n {
         return octets::rooms::Written::Refused(refusal::ROOM, n);
     }
-    let w = write_text(s, out);
+    let w = write_text(style, s, out);
     octets::rooms::Written::Wrote(w)
 }

@@ -1,12 +1,12 @@
--- The octets that folding has written, read again and folded again: the outcomes are those of the input. Assumes nothing.
+-- Folded text passes 3 and 4; and what was written as read, read again, is as the input. Assumes nothing.
 use mathlib.Core.Path.{_≡_, sym, ap, _∙_}
 use mathlib.Core.Bool.{true}
-use mathlib.Core.List.{List, [], _∷_}
+use mathlib.Core.List.{List, [], _∷_, map}
 use Prim.Native.Nat.{ℕ, _≤_}
 use native.Mathlib.Omega.{arith}
 use lib.ListN.{length, take, length-append}
 use Rattle.octets.specs.Scan.{scan}
-use Rattle.octets.specs.Room.{filled, fillBounded}
+use Rattle.octets.specs.Room.{filled}
 use Rattle.octets.specs.declared.rooms.Written.the-variants.{Wrote}
 use Rattle.utf8.proofs.Chains.{no-end}
 use Rattle.line_breaks.specs.Lone.{loneStep, firstLone, endsCrLf}
@@ -18,11 +18,14 @@ use Rattle.reader.proofs.AcceptLaws.{accepting}
 use Rattle.reader_laws.proofs.SameLines.{same-lines, same-copy, same-records}
 use Rattle.reader_laws.proofs.CopyAgain.{lone-run, ends-lines, lines-some}
 use Rattle.folder_line.specs.Pieces.{foldedLines, Clean, All}
-use Rattle.folder.specs.Outcome.{foldBy, foldOutcome}
+use Rattle.folder.specs.Outcome.{foldIn}
+use Rattle.folder_raising.specs.Walk.{written}
+use Rattle.folder_raising.specs.declared.Style.the-variants.{AsRead}
 use Rattle.folder_line.proofs.Turns.{clean-chars}
 use Rattle.folder.proofs.Accepted.{accepted}
 use Rattle.folder_laws.proofs.PhysicalLaws.{physicalOf, lines-ended, clean-lines}
-use Rattle.folder_laws.proofs.WrittenLaws.{wrote, wrote-accepted, fold-lines}
+use Rattle.folder_laws.proofs.StyleLaws.{as-read}
+use Rattle.folder_laws.proofs.WrittenLaws.{InRoom, wrote, wrote-accepted, form, fold-lines}
 
 -- folded text passes 3 and 4
 unlone : (ps : List (List ℕ)) → All Clean ps → firstLone (ended ps) ≡ length (ended ps)
@@ -37,31 +40,29 @@ physical-some [] h e = h e
 physical-some (l ∷ ls) h e = omega arith
 
 module _ (ls : List (List ℕ)) where
-  folded-unlone : All Clean ls → firstLone (foldedLines ls) ≡ length (foldedLines ls)
+  pub folded-unlone : All Clean ls → firstLone (foldedLines ls) ≡ length (foldedLines ls)
   folded-unlone c = rw (lines-ended ls) (unlone (physicalOf ls) (clean-lines ls c))
 
-  folded-ends : (length ls ≡ 0 → ⊥) → endsCrLf (foldedLines ls) ≡ true
+  pub folded-ends : (length ls ≡ 0 → ⊥) → endsCrLf (foldedLines ls) ≡ true
   folded-ends h = rw (lines-ended ls) (ends-lines (physicalOf ls) (physical-some ls h))
 
-module _ (i room after : List ℕ) (n : ℕ) (e : filled (Wrote n) after ≡ foldOutcome i room) where
-  -- what was written has the lines of the input
+-- As read: what was written is accepted as the input is, and has its lines.
+module _ (i room after : List ℕ) (n : ℕ) (e : filled (Wrote n) after ≡ foldIn AsRead i room) where
   lines-kept : logicalLines (take n after) ≡ logicalLines i
-  unfolding logicalLines
-  lines-kept = fold-lines i room after n e
+  lines-kept = fold-lines AsRead (form AsRead i room after n e) ∙ as-read (logicalLines i)
 
-  -- and it is accepted as the input is
   kept : {A : Type 0} → ((k m : ℕ) → judgeOf i ≡ Accepted k m → judgeOf (take n after) ≡ Accepted k m → A) → A
-  unfolding foldOutcome
+  unfolding foldIn
   kept f =
-      wrote-accepted (judgeOf i) i room after n e
-      (λ k m a w. f k m a (judged k m a w ∙ a))
+      wrote-accepted AsRead (judgeOf i) i room after n e
+      (λ k m a w. f k m a (judged k m a (wrote (foldedLines (map (written AsRead) (logicalLines i))) room after n w) ∙ a))
     where
-      judged : (k m : ℕ) → judgeOf i ≡ Accepted k m → filled (Wrote n) after ≡ fillBounded (foldedLines (logicalLines i)) room → judgeOf (take n after) ≡ judgeOf i
-      judged k m a w =
-          let p = wrote (foldedLines (logicalLines i)) room after n w in
+      judged : (k m : ℕ) → judgeOf i ≡ Accepted k m → InRoom (foldedLines (map (written AsRead) (logicalLines i))) room after n → judgeOf (take n after) ≡ judgeOf i
+      judged k m a p =
           let c = accepted i k m a .0 in
-          let s : length (foldedLines (logicalLines i)) ≤ 16384 = omega (arith, p .count, p .bound) in
-          let t = p .written in
+          let q = ap foldedLines (as-read (logicalLines i)) in
+          let s : length (foldedLines (logicalLines i)) ≤ 16384 = omega (arith, p .count, p .bound, ap length q) in
+          let t = p .written ∙ q in
           same-lines i (take n after) k m a lines-kept (rw t s) (rw t (folded-unlone (logicalLines i) c))
           (rw t (folded-ends (logicalLines i) (lines-some i (accepting i k m a .some))))
 
@@ -74,12 +75,3 @@ module _ (i room after : List ℕ) (n : ℕ) (e : filled (Wrote n) after ≡ fol
       ∙ ap (λ (xs : List ℕ). writeOutcome (Accepted k m) xs (recordsOf (take n after)) copy records) (same-copy i (take n after) lines-kept)
       ∙ ap (λ (rs : List ℕ). writeOutcome (Accepted k m) (copyOf i) rs copy records) (same-records i (take n after) lines-kept)
       ∙ sym (ap (λ (v : Verdict). outcomeBy v i copy records) a))
-
-  -- Folded again, it gives the same octets, whatever the room.
-  pub fold-again : (room′ : List ℕ) → foldOutcome (take n after) room′ ≡ foldOutcome i room′
-  unfolding foldOutcome foldBy
-  fold-again room′ =
-      kept (λ k m a b.
-      ap (λ (v : Verdict). foldBy v (take n after) room′) b
-      ∙ ap (λ (ls : List (List ℕ)). fillBounded (foldedLines ls) room′) lines-kept
-      ∙ sym (ap (λ (v : Verdict). foldBy v i room′) a))

@@ -129,7 +129,7 @@ unfolding Unbroken
 unbroken none = tt
 unbroken (more a b n) = ((a, b), unbroken n)
 
-whole-line : (l : List ℕ) → Folded l (joined (pieces l))
+pub whole-line : (l : List ℕ) → Folded l (joined (pieces l))
 unfolding pieces flatten
 whole-line l = subst (λ (m : List ℕ). Folded m (joined (first l 75 ∷ later l 75))) (rejoin l 75) (folded-joined (first l 75) (later l 75))
 

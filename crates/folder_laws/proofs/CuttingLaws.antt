@@ -42,12 +42,12 @@ full-tights [] f = tt
 full-tights (p ∷ ps) f = (full-tight 74 p ps (f .0), full-tights ps (f .1))
 
 -- allowed octets of two lists that are joined
-each-left : (f : ℕ → Bool) (xs ys : List ℕ) → Each f (xs ++ ys) → Each f xs
+pub each-left : (f : ℕ → Bool) (xs ys : List ℕ) → Each f (xs ++ ys) → Each f xs
 unfolding Each
 each-left f [] ys h = tt
 each-left f (x ∷ xs) ys h = (h .0, each-left f xs ys (h .1))
 
-each-right : (f : ℕ → Bool) (xs ys : List ℕ) → Each f (xs ++ ys) → Each f ys
+pub each-right : (f : ℕ → Bool) (xs ys : List ℕ) → Each f (xs ++ ys) → Each f ys
 unfolding Each
 each-right f [] ys h = h
 each-right f (x ∷ xs) ys h = each-right f xs ys (h .1)
@@ -58,6 +58,10 @@ unfolding All Clean flatten
 all-clean [] c h = tt
 all-clean (p ∷ ps) c h =
     (allowed-only false p .1 (c .0, each-left (allowed false) p (flatten ps) h), all-clean ps (c .1) (each-right (allowed false) p (flatten ps) h))
+
+pub parts-clean : (l : List ℕ) (ps : List (List ℕ)) → Clean l → flatten ps ≡ l → All Characters ps → All Clean ps
+unfolding Clean
+parts-clean l ps c e a = all-clean ps a (subst (Each (allowed false)) (sym e) (allowed-only false l .0 c .1))
 
 pub all-characters : (ps : List (List ℕ)) → All Clean ps → All Characters ps
 unfolding All Clean
@@ -76,10 +80,9 @@ module _ (l p : List ℕ) (ps : List (List ℕ)) (clean : Clean l) where
   }
 
   cutting-cut : Cutting l p ps → Cut l p ps
-  unfolding Clean
   cutting-cut c = record {
     whole = c .whole;
-    clean = all-clean (p ∷ ps) (c .characters) (subst (Each (allowed false)) (sym (c .whole)) (allowed-only false l .0 clean .1));
+    clean = parts-clean l (p ∷ ps) clean (c .whole) (c .characters);
     start = c .start;
     others = c .others;
     full = full-tight 75 p ps (c .full);

@@ -6,6 +6,11 @@ pub mod CuttingLaws
 pub mod CopyLaws
 pub mod BackLaws
 pub mod PhysicalLaws
+pub mod Least
+pub mod Shortest
+pub mod Fewest
+pub mod StyleLaws
 pub mod WrittenLaws
 pub mod Again
+pub mod Equal
 pub mod Cases

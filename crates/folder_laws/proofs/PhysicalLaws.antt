@@ -79,7 +79,7 @@ unfolding upto
 upto-run none t = refl
 upto-run (more {x} {xs} a b n) t = simp (ne-eqb x 13 a) (ap (λ (r : List ℕ). x ∷ r) (upto-run n t))
 
-behind-run : {p : List ℕ} → NoEnd p → (t : List ℕ) → behind (p ++ (13 ∷ 10 ∷ t)) ≡ physical t
+pub behind-run : {p : List ℕ} → NoEnd p → (t : List ℕ) → behind (p ++ (13 ∷ 10 ∷ t)) ≡ physical t
 unfolding behind physical
 behind-run none t = refl
 behind-run (more {x} {xs} a b n) t = simp (ne-eqb x 10 b) (behind-run n t)

@@ -16,12 +16,13 @@ use Rattle.card_state.specs.declared.Card.{Card}
 use Rattle.card_state.specs.declared.Step.the-variants.{Next}
 use Rattle.card_judge.proofs.CardLaws.{line-clean}
 use Rattle.reader.specs.Outcome.{judgeOf}
-use Rattle.line_folds.specs.Folds.{unfolded}
-use Rattle.line_folds.specs.Logical.{rawLines, logicalLines}
+use Rattle.line_folds.specs.Logical.{logicalLines}
 use Rattle.reader.specs.declared.Verdict.{Verdict}
 use Rattle.reader.specs.declared.Verdict.the-variants.{Accepted, Refused as Denied}
 use Rattle.folder_line.specs.Pieces.{foldedLines, Clean, All}
-use Rattle.folder.specs.Outcome.{foldBy, foldOutcome}
+use Rattle.folder.specs.Outcome.{foldBy, foldIn}
+use Rattle.folder_raising.specs.Walk.{written}
+use Rattle.folder_raising.specs.declared.Style.{Style}
 use Rattle.folder.proofs.Accepted.{all-lines, accepted}
 use Rattle.line_laws.specs.Lined.{Unled}
 use Rattle.folder_laws.specs.Physical.{physical}
@@ -29,6 +30,7 @@ use Rattle.folder_laws.specs.Written.{Folds}
 use Rattle.folder_laws.proofs.BackLaws.{lined-back, lines-back}
 use Rattle.folder_laws.proofs.CuttingLaws.{all-characters}
 use Rattle.folder_laws.proofs.PhysicalLaws.{short-lines, whole-lines}
+use Rattle.folder_laws.proofs.StyleLaws.{clean-styled, unled-styled}
 
 -- The folded form of clean lines, none led by a space or tab.
 pub folds : (ls : List (List ℕ)) → All Clean ls → All Unled ls → Folds ls (foldedLines ls)
@@ -67,27 +69,44 @@ module _ (t room after : List ℕ) where
   wrote n e = wrote-by n (ltb 16384 (length t)) (ltb (length room) (length t)) refl e
 
 -- where octets were written, the input was accepted
-pub wrote-accepted : {A : Type 0} (v : Verdict) (i room after : List ℕ) (n : ℕ) → filled (Wrote n) after ≡ foldBy v i room
-    → ((k m : ℕ) → v ≡ Accepted k m → filled (Wrote n) after ≡ fillBounded (foldedLines (logicalLines i)) room → A) → A
+pub wrote-accepted : {A : Type 0} (s : Style) (v : Verdict) (i room after : List ℕ) (n : ℕ) → filled (Wrote n) after ≡ foldBy s v i room
+    → ((k m : ℕ) → v ≡ Accepted k m → filled (Wrote n) after ≡ fillBounded (foldedLines (map (written s) (logicalLines i))) room → A) → A
 unfolding foldBy
-wrote-accepted (Accepted k m) i room after n e f = f k m refl e
-wrote-accepted (Denied k p) i room after n e f = absurd (never n k p (ap (λ (x : Filled). x .answer) e))
+wrote-accepted s (Accepted k m) i room after n e f = f k m refl e
+wrote-accepted s (Denied k p) i room after n e f = absurd (never n k p (ap (λ (x : Filled). x .answer) e))
 
 line-unled : (c c′ : Card) (p : ℕ) (l : List ℕ) → judgeLine c p l ≡ Next c′ → Unled l
 unfolding Unled
 line-unled c c′ p l e = let w = line-clean c c′ p l e in (w .1, w .2)
 
--- The octets that folding an input has written, read off the room: they are short physical lines of whole characters, read again they
--- have the same logical lines, and folded again they are the same octets.
-pub fold-written : (i room after : List ℕ) (n : ℕ) → filled (Wrote n) after ≡ foldOutcome i room → Folds (logicalLines i) (take n after)
-unfolding foldOutcome
-fold-written i room after n e =
-    wrote-accepted (judgeOf i) i room after n e
-    (λ k m a f. rw (wrote (foldedLines (logicalLines i)) room after n f .written) (folds (logicalLines i) (accepted i k m a .0) (all-lines Unled line-unled i k m a)))
+-- What was written: the folded form of the input's lines in the style, which are clean and led by no space or tab.
+pub record Form (s : Style) (i t : List ℕ) : Type 0 where
+  pub octets : t ≡ foldedLines (map (written s) (logicalLines i))
+  pub short : length t ≤ 16384
+  pub clean : All Clean (logicalLines i)
+  pub unled : All Unled (logicalLines i)
 
--- and the walk finds the same logical lines in them
-pub fold-lines : (i room after : List ℕ) (n : ℕ) → filled (Wrote n) after ≡ foldOutcome i room → map unfolded (rawLines (take n after)) ≡ logicalLines i
-unfolding foldOutcome
-fold-lines i room after n e =
-    wrote-accepted (judgeOf i) i room after n e
-    (λ k m a f. rw (wrote (foldedLines (logicalLines i)) room after n f .written) (lines-back (logicalLines i) (accepted i k m a .0) (all-lines Unled line-unled i k m a)))
+pub form : (s : Style) (i room after : List ℕ) (n : ℕ) → filled (Wrote n) after ≡ foldIn s i room → Form s i (take n after)
+unfolding foldIn
+form s i room after n e =
+    wrote-accepted s (judgeOf i) i room after n e
+    (λ k m a f.
+    let p = wrote (foldedLines (map (written s) (logicalLines i))) room after n f in
+    record {
+      octets = p .written;
+      short = omega (arith, p .count, p .bound, ap length (p .written));
+      clean = accepted i k m a .0;
+      unled = all-lines Unled line-unled i k m a;
+    })
+
+-- The octets that folding an input has written: they are short physical lines of whole characters, read again they have the same logical
+-- lines in the style, and folded again they are the same octets.
+pub fold-written : (s : Style) {i t : List ℕ} → Form s i t → Folds (map (written s) (logicalLines i)) t
+fold-written s {i} f =
+    rw (f .octets) (folds (map (written s) (logicalLines i)) (clean-styled s (logicalLines i) (f .clean)) (unled-styled s (logicalLines i) (f .unled)))
+
+-- and the walk finds these lines in them
+pub fold-lines : (s : Style) {i t : List ℕ} → Form s i t → logicalLines t ≡ map (written s) (logicalLines i)
+unfolding logicalLines
+fold-lines s {i} f =
+    rw (f .octets) (lines-back (map (written s) (logicalLines i)) (clean-styled s (logicalLines i) (f .clean)) (unled-styled s (logicalLines i) (f .unled)))

@@ -1,4 +1,5 @@
 -- The definitions that the laws of folding cite. Assumes nothing.
 pub mod Cuttings
+pub mod Foldings
 pub mod Physical
 pub mod Written

@@ -58,7 +58,7 @@ module _ (x : Line) (w : WellFormed x) where
   unfolding linePartsOf
   group-length = let f = parts-fit (render x) _ (ap linePartsBy parsed) in omega (arith, f .0, f .2)
 
-  numbers : (at : ℕ) → recordOf at (render x)
+  pub numbers : (at : ℕ) → recordOf at (render x)
       ≡ rowOfLine x ∷ at ∷ length (render x) ∷ length (x .group) ∷ length (x .name) ∷ length (x .params) ∷ (at + length (front x)) ∷ kindOfLine x ∷ []
   unfolding recordOf linePartsOf recordBy
   numbers at =

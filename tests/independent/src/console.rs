@@ -20,7 +20,7 @@
 use std::io::{self, BufRead, BufReader, Read, Write};
 
 use crate::desk::Desk;
-use crate::folder::fold;
+use crate::folder::{fold, fold_in};
 use crate::hex::word_of;
 use crate::labels::{decode, encode};
 use crate::reader::{judge, read, Counts, RECORD_NUMBERS};
@@ -71,6 +71,7 @@ impl Console {
             Request::Judge { octets } => verdict_line(judge(&octets)),
             Request::Read { copy_room, record_room, octets } => read_answer(copy_room, record_room, &octets),
             Request::Fold { room, octets } => room_answer(fold, room, &octets),
+            Request::FoldIn { style, room, octets } => room_answer(|input, out| fold_in(style, input, out), room, &octets),
             Request::Escape { room, octets } => room_answer(escape, room, &octets),
             Request::Unescape { room, octets } => room_answer(unescape, room, &octets),
             Request::Encode { rule, room, octets } => {

@@ -1,5 +1,7 @@
 // Knows the line rule: how a logical line splits into group, name, parameters and value.
 
+use std::ops::Range;
+
 /// A parameter's name and its values, quotes taken off.
 #[derive(Clone, Debug, PartialEq, Eq)]
 pub struct Parameter {
@@ -7,9 +9,10 @@ pub struct Parameter {
     pub values: Vec<Vec<u8>>,
 }
 
-/// The parts of a line that keeps the line rule; the value is the rest from `value_start`.
+/// The parts of a line that keeps the line rule; the value is the rest from `value_start`. `names` are the places of group, name and parameter names.
 #[derive(Clone, Debug, PartialEq, Eq)]
 pub struct ContentLine {
+    pub names: Vec<Range<usize>>,
     pub group: Option<Vec<u8>>,
     pub name: Vec<u8>,
     pub parameters: Vec<Parameter>,
@@ -20,7 +23,7 @@ pub struct ContentLine {
 /// The parts of the line, or nothing if it breaks the line rule:
 /// `[group "."] name *(";" parameter) ":" value`.
 pub fn parse(line: &[u8]) -> Option<ContentLine> {
-    let mut cursor = Cursor { line, at: 0 };
+    let mut cursor = Cursor { line, at: 0, names: Vec::new() };
     let first = cursor.name()?;
     let (group, name) = match cursor.takes(b'.') {
         true => (Some(first), cursor.name()?),
@@ -34,13 +37,14 @@ pub fn parse(line: &[u8]) -> Option<ContentLine> {
         return None;
     }
     let value = line[cursor.at..].to_vec();
-    Some(ContentLine { group, name, parameters, value, value_start: cursor.at })
+    Some(ContentLine { names: cursor.names, group, name, parameters, value, value_start: cursor.at })
 }
 
-/// A line and how far it has been read.
+/// A line, how far it has been read, and where names stood.
 struct Cursor<'a> {
     line: &'a [u8],
     at: usize,
+    names: Vec<Range<usize>>,
 }
 
 impl Cursor<'_> {
@@ -62,7 +66,9 @@ impl Cursor<'_> {
 
     /// One or more letters, digits or hyphens.
     fn name(&mut self) -> Option<Vec<u8>> {
+        let start = self.at;
         let name = self.run(|octet| octet.is_ascii_alphanumeric() || octet == b'-');
+        self.names.push(start..self.at);
         Some(name).filter(|name| !name.is_empty())
     }
 

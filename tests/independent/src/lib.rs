@@ -1,6 +1,7 @@
 // Knows which parts the independent program has; each part is written from documents 01 and 02 alone.
 
 pub mod beside;
+pub mod billing;
 pub mod card;
 pub mod characters;
 pub mod compare;

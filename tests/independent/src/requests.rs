@@ -1,5 +1,6 @@
 // Knows the console's requests: taking a line apart into a request, and writing one as a line.
 
+use crate::folder::{Style, STYLES};
 use crate::hex::{octets_of, word_of};
 use crate::labels::{Rule, RULES};
 
@@ -18,6 +19,7 @@ pub enum Request {
     Judge { octets: Vec<u8> },
     Read { copy_room: usize, record_room: usize, octets: Vec<u8> },
     Fold { room: usize, octets: Vec<u8> },
+    FoldIn { style: Style, room: usize, octets: Vec<u8> },
     Escape { room: usize, octets: Vec<u8> },
     Unescape { room: usize, octets: Vec<u8> },
     Encode { rule: Rule, room: usize, octets: Vec<u8> },
@@ -52,6 +54,11 @@ fn entry_request(words: &[&[u8]]) -> Option<Request> {
             record_room: size_of(records, MOST_ROOM)?,
             octets: octets_of(octets)?,
         }),
+        [b"fold-in", edition, style, room, octets] => {
+            number_of(edition, 1).filter(|&edition| edition == 1)?;
+            let style = *STYLES.get(size_of(style, STYLES.len())?)?;
+            Some(Request::FoldIn { style, room: size_of(room, MOST_ROOM)?, octets: octets_of(octets)? })
+        }
         [word @ (b"encode" | b"decode"), rule, room, octets] => {
             let rule = *RULES.get(size_of(rule, RULES.len())?)?;
             let room = size_of(room, MOST_ROOM)?;
@@ -134,6 +141,11 @@ pub fn room_line(word: &str, room: usize, octets: &[u8]) -> String {
 /// The line `WORD RULE ROOM OCTETS`, for encode and decode.
 pub fn label_line(word: &str, rule: Rule, room: usize, octets: &[u8]) -> String {
     format!("{word} {} {room} {}", rule as usize, word_of(octets))
+}
+
+/// The line `fold-in 1 STYLE ROOM OCTETS`.
+pub fn fold_in_line(style: usize, room: usize, octets: &[u8]) -> String {
+    format!("fold-in 1 {style} {room} {}", word_of(octets))
 }
 
 /// The line `add TICKET OCTETS`.

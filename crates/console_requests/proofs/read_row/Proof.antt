@@ -3,7 +3,7 @@ use mathlib.Core.Path.{sym, ap, _∙_}
 use denote.Ref.{now}
 use Rattle.console_requests.specs.Names.{rowAt}
 use Rattle.console_requests.specs.Requests.{requested}
-use Rattle.console_requests.proofs.RequestLaws.{first-bad, second-bad, all-read}
+use Rattle.console_requests.proofs.RequestLaws.{first-bad, second-bad, third-bad, all-read}
 use borrow.Author.Needs.{needs}
 use Rattle.console_requests.proofs.read_row.Statement.{statement}
 use Rattle.console_requests.proofs.read_row.Tie as tie
@@ -51,6 +51,29 @@ returns-2 c =
     rw (c .none2 .ensures)
     (sym (second-bad (rowAt (a .row)) (a .line .now) (a .out .now) (r .result .numbers) (r .ensures .0 .0) (x .result) (x .ensures) (y .result) (y .ensures) _ (c .before .before .before .before .before .first .given .1) (c .before .enum-told2 .given .1)))
 
+number-requires-3 : tie.Need-number-requires-3
+number-requires-3 c κs = search needs
+
+enum-known-third : tie.Need-enum-known-third
+enum-known-third c = search needs
+
+enum-told-3 : tie.Need-enum-told-3
+enum-told-3 c = search needs
+
+none-requires-3 : tie.Need-none-requires-3
+none-requires-3 c κs = search needs
+
+returns-3 : tie.Need-returns-3
+returns-3 c =
+    let a = c .before .before .before .before .before .before .before .before .before .before .before .before .before .before .before .before .args in
+    let r = c .before .before .before .before .before .before .before .before .before .before .before .before .after-name in
+    let x = c .before .before .before .before .before .before .before .before .before .before .before .number in
+    let y = c .before .before .before .before .before .before .before .number2 in
+    let v = c .before .before .before .number3 in
+    rw (c .none3 .ensures)
+    (sym (third-bad (rowAt (a .row)) (a .line .now) (a .out .now) (r .result .numbers) (r .ensures .0 .0) (x .result) (x .ensures) (y .result) (y .ensures) _ (c .before .before .before .before .before .before .before .before .before .first .given .1)
+    (v .result) (v .ensures) _ (c .before .before .before .before .before .second .given .1) (c .before .enum-told3 .given .1)))
+
 last-requires : tie.Need-last-requires
 last-requires c κs = search needs
 
@@ -63,16 +86,17 @@ make-request-requires c κs = search needs
 same-length : tie.Need-same-length
 same-length c = search needs
 
-returns-3 : tie.Need-returns-3
-returns-3 c =
-    let a = c .before .before .before .before .before .before .before .before .before .before .before .before .before .before .before .before .before .before .args in
-    let r = c .before .before .before .before .before .before .before .before .before .before .before .before .before .before .after-name in
-    let x = c .before .before .before .before .before .before .before .before .before .before .before .before .before .number in
-    let y = c .before .before .before .before .before .before .before .before .before .number2 in
+returns-4 : tie.Need-returns-4
+returns-4 c =
+    let a = c .before .before .before .before .before .before .before .before .before .before .before .before .before .before .before .before .before .before .before .before .before .before .args in
+    let r = c .before .before .before .before .before .before .before .before .before .before .before .before .before .before .before .before .before .before .after-name in
+    let x = c .before .before .before .before .before .before .before .before .before .before .before .before .before .before .before .before .before .number in
+    let y = c .before .before .before .before .before .before .before .before .before .before .before .before .before .number2 in
+    let v = c .before .before .before .before .before .before .before .before .before .number3 in
     let z = c .before .before .before .before .last in
     rw (c .make-request .ensures, c .before .name-at .ensures)
-    (sym (all-read (rowAt (a .row)) (a .line .now) (a .out .now) (r .result .numbers) (r .ensures .0 .0) (x .result) (x .ensures) (y .result) (y .ensures) _ (c .before .before .before .before .before .before .before .before .before .before .before .first .given .1)
-    _ (r .result .octets) (c .before .before .before .before .before .before .before .second .given .1) (r .ensures .0 .1) (z .result) _ (z .ensures)))
+    (sym (all-read (rowAt (a .row)) (a .line .now) (a .out .now) (r .result .numbers) (r .ensures .0 .0) (x .result) (x .ensures) (y .result) (y .ensures) _ (c .before .before .before .before .before .before .before .before .before .before .before .before .before .before .before .first .given .1)
+    (v .result) (v .ensures) _ (c .before .before .before .before .before .before .before .before .before .before .before .second .given .1) _ (r .result .octets) (c .before .before .before .before .before .before .before .third .given .1) (r .ensures .0 .1) (z .result) _ (z .ensures)))
 
 pub read-row-spec : {M : Type 1} → statement M
 read-row-spec =
@@ -89,8 +113,13 @@ read-row-spec =
     enum-told-2
     none-requires-2
     returns-2
+    number-requires-3
+    enum-known-third
+    enum-told-3
+    none-requires-3
+    returns-3
     last-requires
     name-at-requires
     make-request-requires
     same-length
-    returns-3)
+    returns-4)

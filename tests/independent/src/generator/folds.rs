@@ -3,7 +3,7 @@
 use crate::dice::Dice;
 use crate::examples::{folder_examples, m_with};
 use crate::generator::grammar::{book, character, folded, push};
-use crate::generator::rooms::fold_request;
+use crate::generator::rooms::{fold_in_request, fold_request};
 use crate::generator::{input_by_chance, mixed, requests_of, source_inputs};
 use crate::refusal::MOST_OCTETS;
 use crate::requests::room_line;
@@ -21,7 +21,7 @@ const CUTS: [usize; 3] = [75, 149, 223];
 pub fn folds(seed: u64) -> impl Iterator<Item = String> {
     let sources = source_inputs();
     let inputs = mixed(seed, by_hand(), 1, move |dice| fold_input_by_chance(dice, &sources));
-    let requests = inputs.enumerate().map(|(index, input)| fold_request(&input, index));
+    let requests = inputs.enumerate().flat_map(|(index, input)| [fold_request(&input, index), fold_in_request(&input, index)]);
     requests_of(folder_examples()).into_iter().chain(large_forms()).chain(requests)
 }
 

@@ -25,6 +25,9 @@ const LINES: &[&str] = &[
     "encode 00 2 22", "encode 1 2 22", "encode 01 1 22", "encode -1 1 -", "encode 1 70001 -", "encode 1 1 6",
     "encode 1 1 - -", "decode", "decode 0 -", "decode 0 1 -", "decode 1 1 5e6e", "decode 0 1 5e6e",
     "decode 2 1 5e6e", "decode 1 70001 -", "decode 18446744073709551617 1 5e6e", "decode 1 1 22",
+    "fold-in", "fold-in 1 0 1", "fold-in 1 0 1 -", "fold-in 01 1 1 -", "fold-in 2 0 1 -", "fold-in 0 0 1 -",
+    "fold-in 1 2 1 -", "fold-in 1 0 70001 -", "fold-in 1 0 70000 -", "fold-in -1 0 1 -", "fold-in 1 0 1 - -",
+    "fold-in 1 00 1 6",
 ];
 
 /// All protocol lines.

@@ -1,9 +1,9 @@
 // Knows which rooms to ask for: none, one short, exact, one over, and large.
 
-use crate::folder::fold;
+use crate::folder::{fold, fold_in, STYLES};
 use crate::reader::{accepted_lines, copy_of, records_of};
 use crate::refusal::{Refusal, MOST_OCTETS};
-use crate::requests::{read_line, room_line};
+use crate::requests::{fold_in_line, read_line, room_line};
 
 /// Room for every copy and for the records of the most lines an input can have.
 const LARGE_COPY: usize = 20_000;
@@ -39,6 +39,12 @@ pub fn octets_needed(entry: impl Fn(&[u8], &mut [u8]) -> Result<usize, Refusal>,
 /// A fold request whose room goes round with the turn.
 pub fn fold_request(input: &[u8], turn: usize) -> String {
     room_request("fold", fold, input, turn)
+}
+
+/// A fold request in either style, by turns, whose room goes round with the turn.
+pub fn fold_in_request(input: &[u8], turn: usize) -> String {
+    let style = turn % 2;
+    fold_in_line(style, room_around(|input, out| fold_in(STYLES[style], input, out), input, turn / 2), input)
 }
 
 /// A request with one short, exact, one over, no or large room, as the turn says.

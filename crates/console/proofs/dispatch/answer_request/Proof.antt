@@ -2,7 +2,7 @@
 use denote.Ref.{now}
 use mathlib.Core.Path.{ap}
 use borrow.Author.Needs.{needs}
-use Rattle.console_entries.specs.Entries.{judgeAnswer, readAnswer, writeAnswer, ruleAnswer}
+use Rattle.console_entries.specs.Entries.{judgeAnswer, readAnswer, writeAnswer, chosenAnswer, foldAnswer}
 use Rattle.label_carets.specs.declared.Rule.the-variants.{Rfc6350, Rfc6868}
 use Rattle.console_desk.specs.DeskAnswers.{State, withPool}
 use Rattle.console_entries.specs.declared.entries.Writer.the-variants.{Fold, Escape, Unescape, Encode, Decode}
@@ -113,8 +113,8 @@ answer-next-requires c κs = search needs
 enum-told-15 : tie.Need-enum-told-15
 enum-told-15 c = search needs
 
-put-rule-answer-requires : tie.Need-put-rule-answer-requires
-put-rule-answer-requires c κs = search needs
+put-chosen-answer-requires : tie.Need-put-chosen-answer-requires
+put-chosen-answer-requires c κs = search needs
 
 with-output-requires-6 : tie.Need-with-output-requires-6
 with-output-requires-6 c κs = search needs
@@ -122,14 +122,23 @@ with-output-requires-6 c κs = search needs
 enum-told-16 : tie.Need-enum-told-16
 enum-told-16 c = search needs
 
-put-rule-answer-requires-2 : tie.Need-put-rule-answer-requires-2
-put-rule-answer-requires-2 c κs = search needs
+put-chosen-answer-requires-2 : tie.Need-put-chosen-answer-requires-2
+put-chosen-answer-requires-2 c κs = search needs
 
 with-output-requires-7 : tie.Need-with-output-requires-7
 with-output-requires-7 c κs = search needs
 
 enum-told-17 : tie.Need-enum-told-17
 enum-told-17 c = search needs
+
+put-fold-answer-requires : tie.Need-put-fold-answer-requires
+put-fold-answer-requires c κs = search needs
+
+with-output-requires-8 : tie.Need-with-output-requires-8
+with-output-requires-8 c κs = search needs
+
+enum-told-18 : tie.Need-enum-told-18
+enum-told-18 c = search needs
 
 answer-bad-requires : tie.Need-answer-bad-requires
 answer-bad-requires c κs = search needs
@@ -273,7 +282,7 @@ returns-15 : tie.Need-returns-15
 unfolding answerBy
 returns-15 c =
     let a = c .before .before .before .before .before .before .before .before .before .before .args in
-    rw (c .before .before .before .before .before .enum-told15 .given .1) (said (a .c) (now (a .pool)) (now (a .out)) (ruleAnswer (Encode Rfc6350) (Encode Rfc6868) (a .q .first) (a .q .second) (now (a .sent))) (c .with-output6 .ensures) (c .before .before .before .put-rule-answer .ensures))
+    rw (c .before .before .before .before .before .enum-told15 .given .1) (said (a .c) (now (a .pool)) (now (a .out)) (chosenAnswer (Encode Rfc6350) (Encode Rfc6868) (a .q .first) (a .q .second) (now (a .sent))) (c .with-output6 .ensures) (c .before .before .before .put-chosen-answer .ensures))
 
 same-length-24 : tie.Need-same-length-24
 same-length-24 c = search needs
@@ -282,14 +291,23 @@ returns-16 : tie.Need-returns-16
 unfolding answerBy
 returns-16 c =
     let a = c .before .before .before .before .before .before .before .before .before .before .args in
-    rw (c .before .before .before .before .before .enum-told16 .given .1) (said (a .c) (now (a .pool)) (now (a .out)) (ruleAnswer (Decode Rfc6350) (Decode Rfc6868) (a .q .first) (a .q .second) (now (a .sent))) (c .with-output7 .ensures) (c .before .before .before .put-rule-answer2 .ensures))
+    rw (c .before .before .before .before .before .enum-told16 .given .1) (said (a .c) (now (a .pool)) (now (a .out)) (chosenAnswer (Decode Rfc6350) (Decode Rfc6868) (a .q .first) (a .q .second) (now (a .sent))) (c .with-output7 .ensures) (c .before .before .before .put-chosen-answer2 .ensures))
 
 same-length-25 : tie.Need-same-length-25
 same-length-25 c = search needs
 
 returns-17 : tie.Need-returns-17
 unfolding answerBy
-returns-17 c = rw (c .before .before .before .before .enum-told17 .given .1) (ap (λ (x : State). withPool x (now (c .before .before .before .before .before .before .before .before .before .args .pool))) (c .before .before .answer-bad .ensures))
+returns-17 c =
+    let a = c .before .before .before .before .before .before .before .before .before .before .args in
+    rw (c .before .before .before .before .before .enum-told17 .given .1) (said (a .c) (now (a .pool)) (now (a .out)) (foldAnswer (a .q .first) (a .q .second) (a .q .third) (now (a .sent))) (c .with-output8 .ensures) (c .before .before .before .put-fold-answer .ensures))
+
+same-length-26 : tie.Need-same-length-26
+same-length-26 c = search needs
+
+returns-18 : tie.Need-returns-18
+unfolding answerBy
+returns-18 c = rw (c .before .before .before .before .enum-told18 .given .1) (ap (λ (x : State). withPool x (now (c .before .before .before .before .before .before .before .before .before .args .pool))) (c .before .before .answer-bad .ensures))
 
 pub answer-request-spec : {M : Type 1} → statement M
 answer-request-spec =
@@ -329,12 +347,15 @@ answer-request-spec =
     enum-told-14
     answer-next-requires
     enum-told-15
-    put-rule-answer-requires
+    put-chosen-answer-requires
     with-output-requires-6
     enum-told-16
-    put-rule-answer-requires-2
+    put-chosen-answer-requires-2
     with-output-requires-7
     enum-told-17
+    put-fold-answer-requires
+    with-output-requires-8
+    enum-told-18
     answer-bad-requires
     same-length
     returns
@@ -377,4 +398,6 @@ answer-request-spec =
     same-length-24
     returns-16
     same-length-25
-    returns-17)
+    returns-17
+    same-length-26
+    returns-18)

@@ -33,6 +33,12 @@ enum-known-entry-2 c = search needs
 decode-requires : tie.Need-decode-requires
 decode-requires c κs = search needs
 
+enum-known-entry-3 : tie.Need-enum-known-entry-3
+enum-known-entry-3 c = search needs
+
+fold-styled-requires : tie.Need-fold-styled-requires
+fold-styled-requires c κs = search needs
+
 same-length : tie.Need-same-length
 same-length c = search needs
 
@@ -63,6 +69,12 @@ same-length-5 c = search needs
 returns-5 : tie.Need-returns-5
 returns-5 c = rw (c .before .before .before .before .before .entry2 .given .1) (c .before .before .decode .ensures)
 
+same-length-6 : tie.Need-same-length-6
+same-length-6 c = search needs
+
+returns-6 : tie.Need-returns-6
+returns-6 c = rw (c .before .before .before .before .before .entry3 .given .1) (c .before .before .fold-styled .ensures)
+
 pub call-spec : {M : Type 1} → statement M
 call-spec =
     tie.close
@@ -77,6 +89,8 @@ call-spec =
     encode-requires
     enum-known-entry-2
     decode-requires
+    enum-known-entry-3
+    fold-styled-requires
     same-length
     returns
     same-length-2
@@ -86,4 +100,6 @@ call-spec =
     same-length-4
     returns-4
     same-length-5
-    returns-5)
+    returns-5
+    same-length-6
+    returns-6)

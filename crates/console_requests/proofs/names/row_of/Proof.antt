@@ -3,18 +3,18 @@ use borrow.Author.Needs.{needs}
 use mathlib.Core.Path.{_≡_, sym, ap, _∙_}
 use Prim.Native.Nat.{_-_, _≤_}
 use native.Mathlib.Omega.{arith}
-use Rattle.console_requests.specs.Names.{rowAt, rowOf}
+use Rattle.console_requests.specs.Names.{requests, rowAt, rowOf}
 use Rattle.console_requests.proofs.NameLaws.{searchFrom, search-start, search-found, search-next, search-none}
 use Rattle.console_requests.proofs.names.row_of.Statement.{statement}
 use Rattle.console_requests.proofs.names.row_of.Tie as tie
 
 abbrev Inv-loop : tie.InvT-loop
 Inv-loop t word after row₀ row =
-    (row ≤ 16) × (rowOf word after ≡ searchFrom word after row)
+    (row ≤ requests) × (rowOf word after ≡ searchFrom word after row)
 
 abbrev μ-loop : tie.MeasureT-loop
 μ-loop t word after row₀ row =
-    16 - row
+    requests - row
 
 loop-holds : tie.Need-loop-holds Inv-loop μ-loop
 loop-holds c =
@@ -46,7 +46,7 @@ returns-2 : tie.Need-returns-2 Inv-loop μ-loop
 returns-2 c =
     let a = c .before .before .before .before .args in
     let l = c .before .loop in
-    let e : l .row ≡ 16 = omega arith in
+    let e : l .row ≡ requests = omega arith in
     (sym (l .inv .1 ∙ ap (searchFrom (a .word .now) (a .after)) e ∙ search-none (a .word .now) (a .after) ∙ ap rowAt (sym e)), omega arith)
 
 pub row-of-spec : {M : Type 1} → statement M

@@ -1,14 +1,15 @@
 -- `crate::text::text_length` meets its contract. Assumes nothing.
 use borrow.Author.Needs.{needs}
 use mathlib.Core.Path.{_≡_, ap}
-use Prim.Native.Nat.{_+_, _-_, _*_, _≤_}
+use mathlib.Core.List.{List}
+use Prim.Native.Nat.{ℕ, _+_, _-_, _*_, _≤_}
 use native.Mathlib.Omega.{arith}
 use lib.ListN.{length, take, drop, length-replicate}
 use Rattle.line_folds.specs.Folds.{unfolded}
 use Rattle.line_folds.specs.Logical.{logicalLines}
 use Rattle.line_folds.proofs.SpanLaws.{whole, part-length}
 use Rattle.folder_line.specs.Pieces.{foldedLines, Clean, All}
-use Rattle.folder.proofs.TextLaws.{fold-length, clean-turn, none-left}
+use Rattle.folder.proofs.TextLaws.{fold-length, clean-turn, none-left, nothing}
 use Rattle.folder.proofs.text.text_length.Statement.{statement}
 use Rattle.folder.proofs.text.text_length.Tie as tie
 
@@ -82,7 +83,8 @@ loop-again c =
 returns : tie.Need-returns Inv-loop μ-loop
 returns c =
     let l = c .before in
-    omega (arith, ap length (none-left (l .before .before .args .s .now) (l .loop .at) (c .loop-test .left)))
+    let e = none-left (l .before .before .args .s .now) (l .loop .at) (c .loop-test .left) in
+    omega (arith, ap (λ (ls : List (List ℕ)). length (foldedLines ls)) e, ap length nothing)
 
 pub text-length-spec : {M : Type 1} → statement M
 text-length-spec =

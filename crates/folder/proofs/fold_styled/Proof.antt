@@ -1,11 +1,11 @@
--- `folder::fold` meets its contract. Assumes nothing.
+-- `folder::fold_styled` meets its contract. Assumes nothing.
 use mathlib.Core.Path.{sym, ap, _∙_}
 use Rattle.reader.specs.declared.Verdict.{Verdict}
-use Rattle.folder.specs.Outcome.{foldBy, foldOutcome}
+use Rattle.folder.specs.Outcome.{foldBy, foldIn}
 use Rattle.folder.proofs.Accepted.{accepted}
 use borrow.Author.Needs.{needs}
-use Rattle.folder.proofs.fold.Statement.{statement}
-use Rattle.folder.proofs.fold.Tie as tie
+use Rattle.folder.proofs.fold_styled.Statement.{statement}
+use Rattle.folder.proofs.fold_styled.Tie as tie
 
 judge-requires : tie.Need-judge-requires
 judge-requires c κs = search needs
@@ -24,22 +24,22 @@ same-length : tie.Need-same-length
 same-length c = search needs
 
 returns : tie.Need-returns
-unfolding foldOutcome foldBy
+unfolding foldIn foldBy
 returns c =
     let v = c .before .before .before .before .before .before .before .judge in
     let a = c .before .before .before .before .before .before .before .before .before .before .args in
     c .before .before .fold-text .ensures
-    ∙ sym (ap (λ (r : Verdict). foldBy r (a .input .now) (a .out .now)) (sym (v .ensures) ∙ c .before .before .before .before .before .v .given .1))
+    ∙ sym (ap (λ (r : Verdict). foldBy (a .style) r (a .input .now) (a .out .now)) (sym (v .ensures) ∙ c .before .before .before .before .before .v .given .1))
 
 returns-2 : tie.Need-returns-2
-unfolding foldOutcome foldBy
+unfolding foldIn foldBy
 returns-2 c =
     let v = c .before .before .before .judge in
     let a = c .before .before .before .before .before .before .args in
-    sym (ap (λ (r : Verdict). foldBy r (a .input .now) (a .out .now)) (sym (v .ensures) ∙ c .before .v2 .given .1))
+    sym (ap (λ (r : Verdict). foldBy (a .style) r (a .input .now) (a .out .now)) (sym (v .ensures) ∙ c .before .v2 .given .1))
 
-pub fold-spec : {M : Type 1} → statement M
-fold-spec =
+pub fold-styled-spec : {M : Type 1} → statement M
+fold-styled-spec =
     tie.close
     (tie.spec
     judge-requires

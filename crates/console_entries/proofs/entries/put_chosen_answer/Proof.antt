@@ -1,9 +1,9 @@
--- `console_entries::entries::put_rule_answer` meets its contract. Assumes nothing.
+-- `console_entries::entries::put_chosen_answer` meets its contract. Assumes nothing.
 use borrow.Author.Tests.{eq-eqb, ne-eqb}
-use Rattle.console_entries.specs.Entries.{ruleAnswer}
+use Rattle.console_entries.specs.Entries.{chosenAnswer}
 use borrow.Author.Needs.{needs}
-use Rattle.console_entries.proofs.entries.put_rule_answer.Statement.{statement}
-use Rattle.console_entries.proofs.entries.put_rule_answer.Tie as tie
+use Rattle.console_entries.proofs.entries.put_chosen_answer.Statement.{statement}
+use Rattle.console_entries.proofs.entries.put_chosen_answer.Tie as tie
 
 put-write-answer-requires : tie.Need-put-write-answer-requires
 put-write-answer-requires c κs = search needs
@@ -12,7 +12,7 @@ same-length : tie.Need-same-length
 same-length c = search needs
 
 returns : tie.Need-returns
-unfolding ruleAnswer
+unfolding chosenAnswer
 returns c =
     let t = c .before .before in
     rw (eq-eqb _ _ (t .before .before .if1 .taken)) (t .put-write-answer .ensures)
@@ -24,7 +24,7 @@ same-length-2 : tie.Need-same-length-2
 same-length-2 c = search needs
 
 returns-2 : tie.Need-returns-2
-unfolding ruleAnswer
+unfolding chosenAnswer
 returns-2 c =
     let t = c .before .before in
     rw (ne-eqb _ _ (t .before .before .before .if1 .left), eq-eqb _ _ (t .before .before .if2 .taken)) (t .put-write-answer2 .ensures)
@@ -36,13 +36,13 @@ same-length-3 : tie.Need-same-length-3
 same-length-3 c = search needs
 
 returns-3 : tie.Need-returns-3
-unfolding ruleAnswer
+unfolding chosenAnswer
 returns-3 c =
     let t = c .before .before in
     rw (ne-eqb _ _ (t .before .before .before .if1 .left), ne-eqb _ _ (t .before .before .if2 .left)) (t .put-bad .ensures)
 
-pub put-rule-answer-spec : {M : Type 1} → statement M
-put-rule-answer-spec =
+pub put-chosen-answer-spec : {M : Type 1} → statement M
+put-chosen-answer-spec =
     tie.close
     (tie.spec
     put-write-answer-requires

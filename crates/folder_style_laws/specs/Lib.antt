@@ -1,0 +1,2 @@
+-- The definitions that the laws of lines in a style cite. Assumes nothing.
+pub mod Capitals
