@@ -114,6 +114,10 @@ quote = 42
 abbrev pub noColon : ℕ
 noColon = 43
 
+-- a count of a report would pass 4,294,967,295; at 0
+abbrev pub reportFull : ℕ
+reportFull = 80
+
 -- ---- a replay's own: no reader, desk or C routine answers them
 
 -- a call of a script that is unknown or cut off; at its first octet
@@ -137,4 +141,5 @@ refusals =
     ++ noFreeSlot ∷ ticketsUsedUp ∷ notOpen ∷ slotFull ∷ poolLength ∷ unsound ∷ slotCount ∷ []
     ++ escape ∷ textOctet ∷ []
     ++ name ∷ parameter ∷ quote ∷ noColon ∷ []
+    ++ reportFull ∷ []
     ++ replayCall ∷ replayPool ∷ replayLog ∷ []

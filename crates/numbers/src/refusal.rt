@@ -84,6 +84,9 @@ pub const QUOTE: u32 = 42;
 // A line with no colon.
 pub const NO_COLON: u32 = 43;
 
+// A count of a report would pass 4,294,967,295; at 0.
+pub const REPORT_FULL: u32 = 80;
+
 // A replay's own refusals: no reader, desk or C routine answers them.
 
 // A call of a script that is unknown or cut off; at its first octet.

@@ -14,6 +14,7 @@ fn small() -> Plan {
         texts: 1_000,
         lists: 60,
         desks: 0,
+        reports: 40,
         seed: 5,
     }
 }
@@ -71,7 +72,7 @@ fn a_console_that_ends_early_or_says_too_much_or_ends_badly_differs() {
 #[test]
 fn families_that_the_console_does_not_know_can_be_left_out() {
     let only_readers =
-        Plan { protocol: 0, readers: 500, line_faults: 0, folds: 0, texts: 0, lists: 0, desks: 0, seed: 1 };
+        Plan { protocol: 0, readers: 500, line_faults: 0, folds: 0, texts: 0, lists: 0, desks: 0, reports: 0, seed: 1 };
     let script = "\"$0\" console | sed 's/^ok \\([0-9]*\\)$/gone/'";
     assert_eq!(compare_shell(script, only_readers), Ok("same answers: readers 500".to_string()));
     assert!(compare_shell(script, Plan { lists: 1, ..only_readers }).is_err());

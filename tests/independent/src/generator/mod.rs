@@ -9,6 +9,7 @@ pub mod line_faults;
 pub mod lists;
 pub mod mutation;
 pub mod protocol;
+pub mod reports;
 pub mod rooms;
 pub mod texts;
 
