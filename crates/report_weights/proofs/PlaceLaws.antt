@@ -1,10 +1,12 @@
 -- Which count stands at which place: by one computed test of all places. Assumes nothing.
-use mathlib.Core.Path.{_≡_, refl, ap, _∙_}
-use mathlib.Core.List.{List, [], _∷_, map}
-use Prim.Native.Nat.{ℕ, zero, suc, _-_, _<_, _≤_}
+use mathlib.Core.Path.{_≡_, refl, sym, ap, _∙_}
+use mathlib.Core.List.{List, [], _∷_, _++_, map, append-nil}
+use Prim.Native.Nat.{ℕ, zero, suc, _+_, _-_, _<_, _≤_}
 use native.Mathlib.Omega.{arith}
-use lib.ListN.{length, getD}
+use lib.ListN.{length, getD, take, drop, set, replicate, length-replicate, drop-of-length-le}
+use lib.Seq.{take-all}
 use borrow.Author.Tests.{lt-ltb, le-ltb}
+use Rattle.octets.proofs.Copies.{copy-step}
 use Rattle.octets.proofs.Upto.{upto, alike}
 use Rattle.report_lines.specs.Rows.{numbersFrom}
 use Rattle.report_weights.specs.Counts.{Count, uploads, refusedWith, linesOf, counts, refusalAt, totalAt, countAt}
@@ -36,6 +38,19 @@ module _ (f : Count → ℕ) where
 
   pub each-at : (p : ℕ) → p < 59 → getD (map f counts) p 0 ≡ f (countAt p)
   each-at p h = map-at f counts p (omega (arith, counts-length)) ∙ ap f (count-at p h)
+
+  -- the numbers of the first p counts, and then zeros
+  abbrev pub upTo : ℕ → List ℕ
+  upTo p = take p (map f counts) ++ drop p (replicate 59 0)
+
+  pub each-next : (w : List ℕ) (p v : ℕ) → p < 59 → v ≡ f (countAt p) → w ≡ upTo p → set w p v ≡ upTo (p + 1)
+  each-next w p v h e q =
+      ap (set w p) (e ∙ sym (each-at p h))
+      ∙ copy-step (replicate 59 0) (map f counts) w p (rw (length-replicate {A = ℕ} 59 0) h) (rw each-length h) q
+
+  pub each-done : (w : List ℕ) (p : ℕ) → 59 ≤ p → w ≡ upTo p → w ≡ map f counts
+  each-done w p h q =
+      q ∙ rw (take-all p (map f counts) (rw each-length h), drop-of-length-le {A = ℕ} (replicate 59 0) {i = p} (omega (arith, length-replicate {A = ℕ} 59 0))) (append-nil (map f counts))
 
 pub at-total : (p : ℕ) → p < 5 → countAt p ≡ totalAt p
 unfolding countAt
