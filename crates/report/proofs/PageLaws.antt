@@ -5,9 +5,9 @@ use Prim.Native.Nat.{ℕ, suc, _+_, _<_, _≤_}
 use native.Mathlib.Nat.{add-zero}
 use native.Mathlib.Numerals.{add-one}
 use native.Mathlib.Omega.{arith}
-use lib.ListN.{length, take, drop, set, length-set, take-append-drop}
-use lib.Seq.{take-suc-set, drop-set-lt}
-use Rattle.program_output.specs.Pages.{page, one, added}
+use lib.ListN.{length, take, drop, set, length-set, length-append, take-append-drop}
+use lib.Seq.{take-at, take-suc-set, drop-set-lt}
+use Rattle.program_output.specs.Pages.{Page, page, one, added}
 use Rattle.program_output.proofs.PageLaws.{one-fits}
 
 -- t from n on
@@ -27,3 +27,20 @@ pub added-front : (t room : List ℕ) → length t ≤ length room → added t (
 added-front t room h =
     let n : 0 + length t ≡ length t = omega arith in
     rw n at (added-fits t 0 room (omega arith))
+
+-- what a page holds to whose start a text was added
+pub record Holds (t : List ℕ) (n : ℕ) (room : List ℕ) : Type 0 where
+  pub count : n ≡ length t
+  pub fits : n ≤ length room
+  pub octets : take n room ≡ t
+
+pub holds : (t : List ℕ) (n : ℕ) (room page₀ : List ℕ) → page n room ≡ added t (page 0 page₀) → length t ≤ length page₀ → Holds t n room
+holds t n room page₀ e h =
+    let q = e ∙ added-front t page₀ h in
+    let used : n ≡ length t = ap (λ (p : Page). p .used) q in
+    let all : room ≡ t ++ drop (length t) page₀ = ap (λ (p : Page). p .octets) q in
+    record {
+      count = used;
+      fits = omega (arith, ap length all, length-append t (drop (length t) page₀));
+      octets = ap (take n) all ∙ take-at t (drop (length t) page₀) n (sym used);
+    }

@@ -3,6 +3,7 @@ use Prim.Native.Nat.{ℕ}
 use mathlib.Core.Bool.{Bool, true, false, not, _||_}
 use mathlib.Core.List.{List, [], _∷_, _++_}
 use lib.Dec.{eqb}
+use lib.ListN.{getD, drop}
 use Rattle.octets.specs.Ascii as ascii
 use Rattle.octets.specs.Pick.{pick}
 use Rattle.program_output.specs.Digits.{decimal}
@@ -33,13 +34,17 @@ always (linesOf m) = false
 unfoldable pub row : Count → ℕ → List ℕ
 row c n = name c ++ (ascii.space ∷ (decimal n ++ (ascii.lf ∷ [])))
 
-unfoldable pub shown : Count → ℕ → List ℕ
-shown c n = pick (always c || not (eqb n 0)) (row c n) []
+-- a count that is n has a row: the first five always, any other where it is not 0
+unfoldable pub has : Count → ℕ → Bool
+has c n = always c || not (eqb n 0)
 
+unfoldable pub shown : Count → ℕ → List ℕ
+shown c n = pick (has c n) (row c n) []
+
+-- the rows of the counts cs, which are the numbers ns in order
 unfoldable pub rowsOf : List Count → List ℕ → List ℕ
 rowsOf [] ns = []
-rowsOf (c ∷ cs) [] = []
-rowsOf (c ∷ cs) (n ∷ ns) = shown c n ++ rowsOf cs ns
+rowsOf (c ∷ cs) ns = shown c (getD ns 0 0) ++ rowsOf cs (drop 1 ns)
 
 unfoldable pub reportText : Report → List ℕ
 reportText r = rowsOf counts (r .counts)

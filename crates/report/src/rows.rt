@@ -5,7 +5,7 @@ ghost use lib.ListN.{length};
 ghost use Rattle.numbers.specs.Counts as places;
 ghost use Rattle.program_output.specs.Pages.{page, added};
 ghost use Rattle.report_weights.specs.Counts.{countAt, counts};
-ghost use Rattle.report.specs.Text.{name, shown, rowsOf};
+ghost use Rattle.report.specs.Text.{name, has, shown, rowsOf};
 use crate::Counts;
 use numbers::count;
 use octets::indices::wide_number;
@@ -52,15 +52,23 @@ fn put_name(room: &mut [u8], at: usize, place: usize) -> usize
     put_number(room, next, place - count::PROPERTIES)
 }
 
-// Adds the row of the count at a place, which is n: nothing where it is 0 and none of the first five.
+// Whether the count at a place, which is n, has a row: the first five always, any other where it is not 0.
+fn is_shown(place: usize, n: usize) -> bool
+    ensures { λ r. ⌜ r ≡ has (countAt place) n ⌝ }
+{
+    if place < count::REFUSALS {
+        return true;
+    }
+    n != 0
+}
+
+// Adds the row of the count at a place, which is n, where it has one.
 fn put_row(room: &mut [u8], at: usize, place: usize, n: usize) -> usize
     requires { ⌜ place < places.all ⌝ }
     ensures { λ r. ⌜ page r (now (room .exit)) ≡ added (shown (countAt place) n) (page at (now (room .entry))) ⌝ }
 {
-    if n == 0 {
-        if count::REFUSALS <= place {
-            return at;
-        }
+    if !is_shown(place, n) {
+        return at;
     }
     let named = put_name(room, at, place);
     let spaced = put(room, named, b' ');
@@ -69,13 +77,13 @@ fn put_row(room: &mut [u8], at: usize, place: usize, n: usize) -> usize
 }
 
 // Adds the rows of all counts.
-pub fn put_rows(room: &mut [u8], counts: &Counts) -> usize
-    ensures { λ r. ⌜ page r (now (room .exit)) ≡ added (rowsOf counts (now (counts .entry))) (page 0 (now (room .entry))) ⌝ }
+pub fn put_rows(room: &mut [u8], values: &Counts) -> usize
+    ensures { λ r. ⌜ page r (now (room .exit)) ≡ added (rowsOf counts (now (values .entry))) (page 0 (now (room .entry))) ⌝ }
 {
     let mut at: usize = 0;
     let mut place: usize = 0;
     while place < count::ALL {
-        at = put_row(room, at, place, wide_number(counts[place]));
+        at = put_row(room, at, place, wide_number(values[place]));
         place += 1;
     }
     at

@@ -61,12 +61,12 @@ module _ (s : List ℕ) (at e : ℕ) (lt : at < length s) (he : e ≡ at + lineL
       }
 
 -- the numbers from i on
-from-length : (i n : ℕ) → length (numbersFrom i n) ≡ n
+pub from-length : (i n : ℕ) → length (numbersFrom i n) ≡ n
 unfolding numbersFrom
 from-length i zero = refl
 from-length i (suc n) = ap suc (from-length (suc i) n)
 
-from-at : (f : ℕ → ℕ) (i n k : ℕ) → k < n → getD (map f (numbersFrom i n)) k 0 ≡ f (i + k)
+pub from-at : (f : ℕ → ℕ) (i n k : ℕ) → k < n → getD (map f (numbersFrom i n)) k 0 ≡ f (i + k)
 unfolding numbersFrom
 from-at f i zero k h = absurd (omega arith)
 from-at f i (suc n) zero h = rw (add-zero i)
@@ -74,7 +74,7 @@ from-at f i (suc n) (suc k) h =
     let there : suc i + k ≡ i + suc k = omega arith in
     from-at f (suc i) n k (omega arith) ∙ ap f there
 
-map-length : (f : ℕ → ℕ) (l : List ℕ) → length (map f l) ≡ length l
+pub map-length : (f : ℕ → ℕ) (l : List ℕ) → length (map f l) ≡ length l
 map-length f [] = refl
 map-length f (x ∷ xs) = ap suc (map-length f xs)
 
