@@ -1,9 +1,10 @@
--- The three demands, what a granted call does, the claim of demand 3 of a program that makes the calls, and the marked examples, side by
--- side. Assumes nothing.
+-- The three demands, what a granted call does, the claim of demand 3 of a program that makes the calls, the claims of the report, and the
+-- marked examples, side by side. Assumes nothing.
 use Rattle.line_parser.specs.Grammar.{Each}
 use Rattle.desk_laws.specs.Demand.{Demand3}
 use Rattle.desk_laws.specs.Granted.{Granted}
 use Rattle.replay_laws.specs.Replays.{Replays}
+use Rattle.report_laws.specs.Reports.{Reports}
 use Rattle.demands.specs.Examples.{Holds, marked}
 use Rattle.demands.specs.Demand1.{Demand1}
 use Rattle.demands.specs.Demand2.{Demand2}
@@ -14,4 +15,5 @@ pub record Demands : Type 0 where
   pub separate : Demand3
   pub granted : Granted
   pub replays : Replays
+  pub reports : Reports
   pub examples : Each Holds marked

@@ -53,7 +53,7 @@ fn put_name(room: &mut [u8], at: usize, place: usize) -> usize
 }
 
 // Whether the count at a place, which is n, has a row: the first five always, any other where it is not 0.
-fn is_shown(place: usize, n: usize) -> bool
+pub fn is_shown(place: usize, n: usize) -> bool
     ensures { λ r. ⌜ r ≡ has (countAt place) n ⌝ }
 {
     if place < count::REFUSALS {
@@ -63,7 +63,7 @@ fn is_shown(place: usize, n: usize) -> bool
 }
 
 // Adds the row of the count at a place, which is n, where it has one.
-fn put_row(room: &mut [u8], at: usize, place: usize, n: usize) -> usize
+pub fn put_row(room: &mut [u8], at: usize, place: usize, n: usize) -> usize
     requires { ⌜ place < places.all ⌝ }
     ensures { λ r. ⌜ page r (now (room .exit)) ≡ added (shown (countAt place) n) (page at (now (room .entry))) ⌝ }
 {

@@ -114,8 +114,22 @@ module _ (r : Report) (i : List ℕ) where
   over-refused : over (r .counts) (weights i) ≡ true → takeStep r i .answer ≡ Refused 80 0
   over-refused e = sym (ap (λ (t : Taken). t .answer) (refused-take r i (weights i) refl e))
 
+  -- no other refusal is given
+  pub only-full : (n p : ℕ) → takeStep r i .answer ≡ Refused n p → (n ≡ 80) × (p ≡ 0)
+  only-full n p h = by (over (r .counts) (weights i)) refl
+    where
+      by : (t : Bool) → over (r .counts) (weights i) ≡ t → (n ≡ 80) × (p ≡ 0)
+      by true e =
+          let q = over-refused e in
+          let a : n ≡ 80 = cc in
+          let b : p ≡ 0 = cc in
+          (a, b)
+      by false e =
+          let q : takeStep r i .answer ≡ Counted = sym (ap (λ (t : Taken). t .answer) (counted-take r i (weights i) refl e (sums (r .counts) (weights i)) refl)) in
+          clash cc
+
   -- a count that would pass
-  to-count : takeStep r i .answer ≡ Refused 80 0 → (c : Count) × (4294967295 < countIn r c + part c i)
+  pub to-count : takeStep r i .answer ≡ Refused 80 0 → (c : Count) × (placeOf c < 59) × (4294967295 < countIn r c + part c i)
   to-count h =
       let p = passing (r .counts) (weights i) (by-answer (over (r .counts) (weights i)) refl h) in
       let c = countAt (p .0) in
@@ -124,22 +138,24 @@ module _ (r : Report) (i : List ℕ) where
       let w = added-at c i low in
       let same : getD (weights i) (placeOf c) 0 ≡ getD (weights i) (p .0) 0 = ap (λ (k : ℕ). getD (weights i) k 0) e in
       let here : countIn r c ≡ getD (r .counts) (p .0) 0 = ap (λ (k : ℕ). getD (r .counts) k 0) e in
-      (c, omega (arith, p .2, w, same, here))
+      (c, low, omega (arith, p .2, w, same, here))
+
+  pub take-refused : (c : Count) → placeOf c < 59 → 4294967295 < countIn r c + part c i
+      → takeStep r i ≡ record { answer = Refused 80 0; report = r }
+  take-refused c low h = by (over (r .counts) (weights i)) refl
+    where
+      by : (t : Bool) → over (r .counts) (weights i) ≡ t → takeStep r i ≡ record { answer = Refused 80 0; report = r }
+      by true e = sym (refused-take r i (weights i) refl e)
+      by false e = absurd (omega (arith, sum-fits (r .counts) (weights i) e (placeOf c) low, added-at c i low))
 
   from-count : Sized r → (c : Count) → 4294967295 < countIn r c + part c i → takeStep r i .answer ≡ Refused 80 0
-  from-count size c h = by (over (r .counts) (weights i)) refl
+  from-count size c h = by (ltb (placeOf c) 59) refl
     where
-      fits : over (r .counts) (weights i) ≡ false → (t : Bool) → ltb (placeOf c) 59 ≡ t → ⊥
-      fits e true q =
-          let low = ltb-true (placeOf c) 59 q in
-          omega (arith, sum-fits (r .counts) (weights i) e (placeOf c) low, added-at c i low)
-      fits e false q =
+      by : (t : Bool) → ltb (placeOf c) 59 ≡ t → takeStep r i .answer ≡ Refused 80 0
+      by true q = ap (λ (t : Taken). t .answer) (take-refused c (ltb-true (placeOf c) 59 q) h)
+      by false q =
           let high = ltb-false (placeOf c) 59 q in
-          omega (arith, no-other c i high, past (r .counts) (placeOf c) size high)
-
-      by : (t : Bool) → over (r .counts) (weights i) ≡ t → takeStep r i .answer ≡ Refused 80 0
-      by true e = over-refused e
-      by false e = absurd (fits e (ltb (placeOf c) 59) refl)
+          absurd (omega (arith, no-other c i high, past (r .counts) (placeOf c) size high))
 
 -- a report stays one of 59 counts
 pub after-size : (is : List (List ℕ)) (r : Report) → Sized r → Sized (after r is)
@@ -157,6 +173,6 @@ pub full : (is : List (List ℕ)) (i : List ℕ)
     → (takeStep (after freshReport is) i .answer ≡ Refused 80 0) ↔ ((c : Count) × (4294967295 < total c (taken freshReport is) + part c i))
 full is i =
     let r = after freshReport is in (
-      λ h. let d = to-count r i h in (d .0, omega (arith, d .1, counts is (d .0))),
+      λ h. let d = to-count r i h in (d .0, omega (arith, d .2, counts is (d .0))),
       λ d. from-count r i (after-size is freshReport fresh-size) (d .0) (omega (arith, d .1, counts is (d .0))),
     )
