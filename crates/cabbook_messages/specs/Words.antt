@@ -46,6 +46,7 @@ messages =
     message refusal.parameter "parameter without '=', or with a bad name" ∷
     message refusal.quote "quote left open or out of place" ∷
     message refusal.noColon "no colon" ∷
+    message refusal.reportFull "a count of the report would pass 4,294,967,295" ∷
     []
 
 -- the words of a number among messages; none where no message has it

@@ -2,6 +2,7 @@
 pub mod Parts
 pub mod Places
 pub mod Totals
+pub mod Bounds
 pub mod Sums
 pub mod Rows
 pub mod Reports

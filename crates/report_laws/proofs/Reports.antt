@@ -3,6 +3,7 @@ use Rattle.report_laws.specs.Reports.{Reports}
 use Rattle.report_laws.proofs.Parts.{accepts, refuses}
 use Rattle.report_laws.proofs.Places.{no-other}
 use Rattle.report_laws.proofs.Totals.{counts, full, stays}
+use Rattle.report_laws.proofs.Bounds.{never-low}
 use Rattle.report_laws.proofs.Sums.{all-lines, all-uploads}
 use Rattle.report_laws.proofs.Rows.{tells}
 
@@ -13,6 +14,7 @@ reports = record {
   counts = counts;
   full = full;
   stays = stays;
+  never-low = never-low;
   no-other = no-other;
   all-lines = all-lines;
   all-uploads = all-uploads;

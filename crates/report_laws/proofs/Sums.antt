@@ -90,7 +90,7 @@ map-length : (ls : List (List ℕ)) → length (map unfolded ls) ≡ length ls
 map-length [] = refl
 map-length (l ∷ ls) = ap suc (map-length ls)
 
-logical-length : (i : List ℕ) → length (logicalLines i) ≡ length (rawLines i)
+pub logical-length : (i : List ℕ) → length (logicalLines i) ≡ length (rawLines i)
 unfolding logicalLines
 logical-length i = map-length (rawLines i)
 

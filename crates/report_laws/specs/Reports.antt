@@ -52,6 +52,9 @@ pub record Reports : Type 0 where
       → (takeStep (after freshReport is) i .answer ≡ Refused refusal.reportFull 0)
       ↔ ((c : Count) × (limit.largest < total c (taken freshReport is) + part c i))
   pub stays : (r : Report) (i : List ℕ) → takeStep r i .answer ≡ Refused refusal.reportFull 0 → takeStep r i .report ≡ r
+  -- the first 262,143 judgements are never refused
+  pub never-low : (is : List (List ℕ)) (i : List ℕ) → length (taken freshReport is) < 262143
+      → takeStep (after freshReport is) i .answer ≡ Refused refusal.reportFull 0 → ⊥
   -- no judgement moves a count that has no place: no other refusal is given, and no line has another property number
   pub no-other : (c : Count) (i : List ℕ) → places.all ≤ placeOf c → part c i ≡ 0
   -- the sums agree

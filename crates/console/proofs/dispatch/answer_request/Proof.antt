@@ -1,12 +1,13 @@
 -- `console::dispatch::answer_request` meets its contract. Assumes nothing.
 use denote.Ref.{now}
-use mathlib.Core.Path.{ap}
+use mathlib.Core.Path.{ap, _∙_}
 use borrow.Author.Needs.{needs}
 use Rattle.console_entries.specs.Entries.{judgeAnswer, readAnswer, writeAnswer}
 use Rattle.console_desk.specs.DeskAnswers.{State, withPool}
 use Rattle.console_entries.specs.declared.entries.Writer.the-variants.{Fold, Escape, Unescape}
 use Rattle.console.specs.Dispatch.{answerBy}
 use Rattle.console.proofs.Said.{said}
+use Rattle.console.proofs.Others.{none-of-these}
 use Rattle.console.proofs.dispatch.answer_request.Statement.{statement}
 use Rattle.console.proofs.dispatch.answer_request.Tie as tie
 
@@ -108,9 +109,6 @@ enum-told-14 c = search needs
 
 answer-next-requires : tie.Need-answer-next-requires
 answer-next-requires c κs = search needs
-
-enum-told-15 : tie.Need-enum-told-15
-enum-told-15 c = search needs
 
 answer-bad-requires : tie.Need-answer-bad-requires
 answer-bad-requires c κs = search needs
@@ -251,8 +249,10 @@ same-length-23 : tie.Need-same-length-23
 same-length-23 c = search needs
 
 returns-15 : tie.Need-returns-15
-unfolding answerBy
-returns-15 c = rw (c .before .before .before .before .enum-told15 .given .1) (ap (λ (x : State). withPool x (now (c .before .before .before .before .before .before .before .before .before .args .pool))) (c .before .before .answer-bad .ensures))
+returns-15 c =
+    let a = c .before .before .before .before .before .before .before .before .args in
+    ap (λ (x : State). withPool x (now (a .pool))) (c .before .before .answer-bad .ensures)
+    ∙ none-of-these (a .q .name) (a .q .first) (a .q .second) (now (a .sent)) _ (now (a .pool)) (c .before .before .before .before .match .keys15)
 
 pub answer-request-spec : {M : Type 1} → statement M
 answer-request-spec =
@@ -291,7 +291,6 @@ answer-request-spec =
     answer-pool-requires
     enum-told-14
     answer-next-requires
-    enum-told-15
     answer-bad-requires
     same-length
     returns
