@@ -6,7 +6,8 @@ use Prim.Native.Nat.{ℕ, zero, suc, _+_, _-_, _*_, _/_, _<_, _≤_}
 use native.Mathlib.Nat.{div-lt-iff-lt-mul}
 use native.Mathlib.Numerals.{add-one}
 use native.Mathlib.Omega.{arith}
-use lib.ListN.{getD}
+use lib.ListN.{getD, take, drop}
+use Rattle.octets.specs.Ascii as ascii
 use borrow.Author.Tests.{eq-eqb, ne-eqb, le-leb, lt-leb, lt-ltb, le-ltb}
 use Rattle.program_output.specs.Pages.{Page, added}
 use Rattle.report_lines.specs.Rows.{numbersFrom}
@@ -49,3 +50,16 @@ not-barred p n k o e = rw e
 pub is-barred : (p n k : ℕ) → has (countAt p) n ≡ true → cell k ++ shown (countAt p) n ≡ barred p n k
 unfolding barred
 is-barred p n k e = rw e
+
+-- the octets of a bar's cell
+pub cell-text : (k : ℕ) → take (40 - k + 41 - (40 - k)) (drop (40 - k) (ascii.octets "########################################                                         ")) ≡ cell k
+unfolding cell
+cell-text k =
+    let e : 40 - k + 41 - (40 - k) ≡ 41 = omega arith in
+    rw e
+
+-- a part of a whole has at most as many marks
+pub bar-low : (n whole : ℕ) → n < whole → 40 * n / whole ≤ 40
+bar-low n whole h =
+    let q : 40 * n / whole < 41 = div-lt-iff-lt-mul {k = whole} {x = 40 * n} {y = 41} (omega arith) .1 (omega arith) in
+    omega arith
