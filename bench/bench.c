@@ -43,6 +43,9 @@ static const struct row {
     {ESCAPE, "plain", 32},
     {ESCAPE, "plain", 12},
     {ESCAPE, "plain", 4},
+    {TAKE, "book", LIMIT},
+    {TAKE, "dense", LIMIT},
+    {TAKE, "damaged", LIMIT},
     {MEMCPY, "book", LIMIT},
 };
 #define ROWS LENGTH(rows)

@@ -1,4 +1,4 @@
-/* The routines as jobs: the unit's, of which read, escape and the desk's calls are for the benchmark alone, and plain C's. */
+/* The routines as jobs: the unit's, of which read, escape, take and the desk's calls are for the benchmark alone, and plain C's. */
 #include "jobs.h"
 #include "gerstebolk.h"
 #include <stdio.h>
@@ -7,6 +7,7 @@
 
 extern uint64_t timed_escape(const uint8_t *text, size_t len, uint8_t *out, size_t room);
 extern uint64_t timed_read(const uint8_t *input, size_t len, uint8_t *copy, size_t copy_room, uint32_t *records, size_t record_room);
+extern uint64_t timed_take(const uint8_t *input, size_t len);
 extern uint64_t timed_desk(uint8_t *pool, size_t size, const uint8_t *chunk, size_t len, uint32_t opens, size_t adds, uint32_t kind, size_t n);
 
 static struct {
@@ -32,6 +33,7 @@ JOB(unit_read, timed_read(IN, COPY))
 JOB(unit_fold, fold(IN, OUT))
 JOB(unit_unescape, unescape(IN, OUT))
 JOB(unit_escape, timed_escape(IN, OUT))
+JOB(unit_take, timed_take(IN))
 JOB(copy_octets, (uintptr_t)memcpy(rooms.octets, IN))
 JOB(c_judge, plain_judge(IN))
 JOB(c_read, number_of(plain_read(IN, COPY)))
@@ -39,9 +41,9 @@ JOB(c_fold, plain_fold(IN, OUT))
 JOB(c_unescape, plain_unescape(IN, OUT))
 JOB(c_escape, number_of(plain_escape(IN, OUT)))
 
-const char *const routine_names[ROUTINES] = {"judge", "read", "fold", "unescape", "escape", "memcpy"};
-uint64_t (*const unit_jobs[ROUTINES])(const void *) = {unit_judge, unit_read, unit_fold, unit_unescape, unit_escape, copy_octets};
-uint64_t (*const plain_jobs[ROUTINES])(const void *) = {c_judge, c_read, c_fold, c_unescape, c_escape, NULL};
+const char *const routine_names[ROUTINES] = {"judge", "read", "fold", "unescape", "escape", "take", "memcpy"};
+uint64_t (*const unit_jobs[ROUTINES])(const void *) = {unit_judge, unit_read, unit_fold, unit_unescape, unit_escape, unit_take, copy_octets};
+uint64_t (*const plain_jobs[ROUTINES])(const void *) = {c_judge, c_read, c_fold, c_unescape, c_escape, NULL, NULL};
 
 #define DESK_JOB(name, answer)               \
     static uint64_t name(const void *what) { \
