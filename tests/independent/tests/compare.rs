@@ -33,7 +33,7 @@ fn compare_side(side: Side, script: &str, plan: Plan) -> Result<String, String> 
 fn the_own_console_gives_the_same_answers() {
     let counts = compare(Side::Console, SELF, &["console".to_string()], small()).expect("no difference");
     assert!(counts.starts_with(
-        "same answers: protocol 117, readers 2000, line faults 300, folds 500, texts 1000, 60 lists of "
+        "same answers: protocol 134, readers 2000, line faults 300, folds 500, texts 1000, 60 lists of "
     ));
 }
 

@@ -21,7 +21,8 @@ const LINES: &[&str] = &[
     "pool 0 1", "pool 16383 1", "pool 16384 1", "pool 16384 0", "pool 16385 0", "pool 655360 655360",
     "held 18446744073709551617", "desk 18446744073709551617 16384", "read 18446744073709551616 0 -",
     "held 1", "desk 18446744073709551615 16384", "held 1", "next", "next 1 1", "next -", "next 4294967296",
-    "next 0001", "next 0",
+    "next 0001", "next 0", "report 1", "take", "take 0", "take -", "print", "print 70001", "print 46", "print 53", "count 0",
+    "count 5 1", "count 106 1", "count 239 1", "count 0 4294967296", "count 0 7", "count 00 007", "report", "print 46",
 ];
 
 /// All protocol lines.
