@@ -21,6 +21,7 @@ static const struct row {
     {JUDGE, "book", LIMIT},
     {JUDGE, "dense", LIMIT},
     {JUDGE, "small", LIMIT},
+    {JUDGE, "small", 43},
     {JUDGE, "long", LIMIT},
     {JUDGE, "damaged", LIMIT},
     {READ, "book", LIMIT},
@@ -55,6 +56,9 @@ static const struct row {
     {DECODE, "plain", 63},
     {DECODE, "plain", 32},
     {DECODE, "plain", 12},
+    {TAKE, "book", LIMIT},
+    {TAKE, "dense", LIMIT},
+    {TAKE, "damaged", LIMIT},
     {MEMCPY, "book", LIMIT},
 };
 #define ROWS LENGTH(rows)

@@ -29,6 +29,11 @@ pub enum Name {
     Encode,
     Decode,
     FoldIn,
+    Offset,
+    Report,
+    Take,
+    Print,
+    Count,
     Bad,
 }
 

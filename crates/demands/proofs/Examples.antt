@@ -22,6 +22,7 @@ use Rattle.line_parser.specs.Grammar.{Each}
 use Rattle.line_parser.specs.Parse as parse
 use Rattle.line_parser.specs.Rule as rule
 use Rattle.line_parameters.specs.First as parameters
+use Rattle.value_kinds.specs.Dates as dates
 use Rattle.value_kinds.specs.Kinds as kinds
 use Rattle.value_kinds.specs.Octets as sets
 use Rattle.value_kinds.specs.Shapes as shapes
@@ -36,13 +37,21 @@ use Rattle.folder_line.specs.Pieces as pieces
 use Rattle.folder_raising.specs.Letters as capitals
 use Rattle.folder_raising.specs.Walk as styles
 use Rattle.folder.specs.Outcome as folder
+use Rattle.program_output.specs.Digits as digits
+use Rattle.report_lines.specs.Rows as rows
+use Rattle.report_weights.specs.Counts as kinds-of-count
+use Rattle.report_weights.specs.Parts as weights
+use Rattle.report.specs.Steps as report
+use Rattle.report.specs.Text as printed
+use Rattle.report_laws.specs.Totals as totals
+use Rattle.octets.specs.Counts as tests
 use Rattle.desk_pool.specs.Pools as pool
 use Rattle.desk_entries.specs.Search as searches
 use Rattle.desk_slots.specs.Sound as sound
 use Rattle.desk_slots.specs.Slots as slots
 use Rattle.desk.specs.Steps as desk
 use Rattle.desk_ledger.specs.Ledger as ledger
-use Rattle.demands.specs.Examples.{Holds, marked, cardM, foldedM, recordsM, Merged, smallName, capitalName}
+use Rattle.demands.specs.Examples.{Holds, marked, cardM, foldedM, recordsM, rowsM, Merged, smallName, capitalName}
 use Rattle.demands.proofs.Tested.{sameNumbers, sameAnswers, allHold, tested}
 
 -- ---- what the examples compute by: to unfold a name of this part is to unfold what its own line names
@@ -83,12 +92,16 @@ by-kinds : Unit {0}
 unfolding kinds.text kinds.texts kinds.uri kinds.component kinds.parts kinds.components kinds.gender kinds.pidmap kinds.shapeOf kinds.vcard kinds.version
 by-kinds = tt
 
+by-dates : Unit {0}
+unfolding dates.fours dates.others dates.year dates.months dates.month dates.day28 dates.day29 dates.day30 dates.day31 dates.hour dates.minute dates.second dates.lastMinute dates.offset dates.zoned dates.pastMinute dates.pastHour dates.clock dates.lastSecond dates.time dates.timed dates.leapDate dates.commonDate dates.noYear dates.dateAndOrTime dates.fullTime dates.leapFull dates.commonFull dates.timestamp
+by-dates = tt
+
 by-shapes : Unit {0}
-unfolding kinds.lineShape kinds.valueScan sets.holds shapes.nullable shapes.dead shapes.chain shapes.isNever shapes.fork shapes.derivative shapes.faultFrom
+unfolding kinds.lineShape kinds.valueScan sets.among sets.holds shapes.nullable shapes.dead shapes.chain shapes.isNever shapes.fork shapes.derivative shapes.faultFrom
 by-shapes = tt
 
 by-table : Unit {0}
-unfolding table.rows table.search table.rowOf table.rowAt table.kindAt table.takesValue table.kindNamed table.lineKind table.framing table.isGroup table.marks table.onceAt table.single
+unfolding table.rows table.search table.rowOf table.rowAt table.kindAt table.takesValue table.ruleAt table.kindNamed table.says table.valueKind table.dateKind table.zoneKind table.lineKind table.framing table.isGroup table.marks table.onceAt table.single
 by-table = tt
 
 by-cards : Unit {0}
@@ -111,6 +124,14 @@ by-styles : Unit {0}
 unfolding capitals.upper styles.raisedFrom styles.raised
 by-styles = tt
 
+by-report : Unit {0}
+unfolding rows.rowOfName rows.linesWith rows.numbersFrom rows.lineCounts kinds-of-count.counts weights.part weights.weights tests.any report.over report.sums report.takeStep
+by-report = tt
+
+by-print : Unit {0}
+unfolding digits.decimalIn digits.decimal printed.name printed.row printed.has printed.shown printed.rowsOf printed.reportText totals.after
+by-print = tt
+
 by-desk : Unit {0}
 unfolding pool.patch pool.zeros searches.firstAt searches.allAt searches.among sound.bounds sound.goodAt sound.sound slots.slotOf
 by-desk = tt
@@ -120,13 +141,13 @@ unfolding desk.newStep desk.openStep desk.releaseStep ledger.lookup ledger.chang
 by-calls = tt
 
 by-examples : Unit {0}
-unfolding cardM foldedM recordsM sameNumbers sameAnswers allHold
+unfolding cardM foldedM recordsM rowsM sameNumbers sameAnswers allHold
 by-examples = tt
 
 -- ---- the test
 
 all-hold : allHold marked ≡ true
-unfolding by-octets by-scans by-characters by-text by-escapes by-folds by-lines by-rule by-kinds by-shapes by-table by-cards by-judge by-reader by-folder by-styles by-desk by-calls by-examples
+unfolding by-octets by-scans by-characters by-text by-escapes by-folds by-lines by-rule by-kinds by-dates by-shapes by-table by-cards by-judge by-reader by-folder by-styles by-report by-print by-desk by-calls by-examples
 all-hold = refl
 
 pub examples : Each Holds marked
@@ -134,5 +155,5 @@ examples = tested marked all-hold
 
 -- In the raised style equal octets don't tell equal copies.
 pub merged : Merged smallName capitalName (replicate 160 0)
-unfolding by-octets by-scans by-characters by-text by-escapes by-folds by-lines by-rule by-kinds by-shapes by-table by-cards by-judge by-reader by-folder by-styles by-desk by-calls by-examples
+unfolding by-octets by-scans by-characters by-text by-escapes by-folds by-lines by-rule by-kinds by-dates by-shapes by-table by-cards by-judge by-reader by-folder by-styles by-desk by-calls by-examples
 merged = record { octets = refl; copies = λ e. let z : _≡_ {A = ℕ} 120 88 = ap (λ (l : List ℕ). getD l 32 0) e in omega arith }

@@ -5,7 +5,9 @@ pub mod Refusing
 pub mod Texts
 pub mod Cards
 pub mod Desks
+pub mod Reports
 pub mod Exact
 pub mod Labels
+pub mod Dates
 pub mod Total
 pub mod Whole

@@ -3,6 +3,7 @@
 use crate::folder::{Style, STYLES};
 use crate::hex::{octets_of, word_of};
 use crate::labels::{Rule, RULES};
+use crate::report::{count_named, Count};
 
 /// The most octets or numbers of room that can be asked for.
 pub const MOST_ROOM: usize = 70_000;
@@ -24,6 +25,7 @@ pub enum Request {
     Unescape { room: usize, octets: Vec<u8> },
     Encode { rule: Rule, room: usize, octets: Vec<u8> },
     Decode { rule: Rule, room: usize, octets: Vec<u8> },
+    Offset { octets: Vec<u8> },
     Desk { slots: u64, pool: usize },
     Open { tram: u32 },
     Add { ticket: u32, chunk: Vec<u8> },
@@ -33,6 +35,10 @@ pub enum Request {
     Release { ticket: u32 },
     Pool { from: usize, count: usize },
     Next { ticket: u32 },
+    Report,
+    Take { octets: Vec<u8> },
+    Print { room: usize },
+    Count { count: Count, number: u32 },
 }
 
 /// The request of a line without its LF, or nothing for a bad request.
@@ -42,13 +48,14 @@ pub fn request_of(line: &[u8]) -> Option<Request> {
         return None;
     }
     let words: Vec<&[u8]> = line.split(|&octet| octet == b' ').collect();
-    entry_request(&words).or_else(|| desk_request(&words))
+    entry_request(&words).or_else(|| desk_request(&words)).or_else(|| report_request(&words))
 }
 
 /// The requests to reader, folder, text and labels.
 fn entry_request(words: &[&[u8]]) -> Option<Request> {
     match words {
         [b"judge", octets] => Some(Request::Judge { octets: octets_of(octets)? }),
+        [b"offset", octets] => Some(Request::Offset { octets: octets_of(octets)? }),
         [b"read", copy, records, octets] => Some(Request::Read {
             copy_room: size_of(copy, MOST_ROOM)?,
             record_room: size_of(records, MOST_ROOM)?,
@@ -105,6 +112,20 @@ fn desk_request(words: &[&[u8]]) -> Option<Request> {
     }
 }
 
+/// The requests to the report, and the one that sets a count.
+fn report_request(words: &[&[u8]]) -> Option<Request> {
+    match words {
+        [b"report"] => Some(Request::Report),
+        [b"take", octets] => Some(Request::Take { octets: octets_of(octets)? }),
+        [b"print", room] => Some(Request::Print { room: size_of(room, MOST_ROOM)? }),
+        [b"count", which, number] => Some(Request::Count {
+            count: count_named(number_of(which, u64::MAX)?)?,
+            number: number_of(number, u64::from(u32::MAX))? as u32,
+        }),
+        _ => None,
+    }
+}
+
 /// A decimal number up to a limit; leading zeros are allowed, a sign isn't.
 fn number_of(word: &[u8], most: u64) -> Option<u64> {
     if word.is_empty() {
@@ -126,6 +147,11 @@ fn size_of(word: &[u8], most: usize) -> Option<usize> {
 /// The line `judge OCTETS`.
 pub fn judge_line(octets: &[u8]) -> String {
     format!("judge {}", word_of(octets))
+}
+
+/// The line `offset OCTETS`.
+pub fn offset_line(octets: &[u8]) -> String {
+    format!("offset {}", word_of(octets))
 }
 
 /// The line `read COPYROOM RECORDROOM OCTETS`.

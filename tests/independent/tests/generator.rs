@@ -5,6 +5,8 @@ use std::collections::HashSet;
 use independent::beside::{compare_desks, survey_desks};
 use independent::compare::{steps, Plan};
 use independent::generator::{
+    dates,
+    dates::dates,
     desks::desks,
     folds,
     folds::folds,
@@ -14,11 +16,16 @@ use independent::generator::{
     lists,
     lists::lists,
     names::{names, names_by_hand, LONGEST},
-    readers, texts,
+    readers, reports,
+    reports::reports,
+    texts,
     texts::texts,
 };
-use independent::hex::word_of;
+use independent::console::Console;
+use independent::examples::m_with;
+use independent::hex::{octets_of, word_of};
 use independent::properties::row_of;
+use independent::report::{moved, which_of};
 use independent::survey::{survey, Survey};
 
 /// How often a refusal number came.
@@ -34,7 +41,7 @@ fn readers_reach_every_refusal_and_every_kind() {
     for number in (3..=5).chain(7..=14) {
         assert!(times(&survey, number) >= 1_000, "{number}: {survey}");
     }
-    for kind in 0..=8 {
+    for kind in 0..=10 {
         assert!(survey.kinds.get(&kind).is_some_and(|&count| count >= 300), "{kind}: {survey}");
     }
     assert!(survey.accepted >= 20_000 && survey.bad_requests == 0, "{survey}");
@@ -49,6 +56,16 @@ fn line_faults_reach_40_to_43_in_every_request() {
         }
         assert_eq!(times(&survey, 6), 0);
         assert!(survey.accepted >= 500, "{word}: {survey}");
+    }
+}
+
+#[test]
+fn dates_reach_both_sides_of_every_kind() {
+    let survey = survey(dates(1).take(60_000));
+    assert!(survey.refusals.keys().copied().eq([7, 13, 14]), "{survey}");
+    assert!(times(&survey, 7) >= 10_000 && survey.accepted >= 10_000 && survey.bad_requests == 0, "{survey}");
+    for kind in 9..=11 {
+        assert!(survey.kinds.get(&kind).is_some_and(|&count| count >= 500), "{kind}: {survey}");
     }
 }
 
@@ -149,6 +166,50 @@ fn desk_and_ledger_agree_on_desk_values() {
     }
 }
 
+/// The takes of lists of report requests: the count that was set just before, what it was set to, the input and the answer.
+fn takes_after_a_count(lists: impl Iterator<Item = Vec<String>>) -> Vec<(u32, u32, String, String)> {
+    let mut takes = Vec::new();
+    for list in lists {
+        let mut console = Console::default();
+        let mut set = None;
+        for line in list {
+            let answer = console.answer(line.as_bytes());
+            let words: Vec<&str> = line.split(' ').collect();
+            match (words.as_slice(), set.take()) {
+                (["count", which, number], _) => set = Some((which.parse().expect("a count"), number.parse().expect("a number"))),
+                (["take", octets], Some((which, number))) => takes.push((which, number, octets.to_string(), answer)),
+                _ => (),
+            }
+        }
+    }
+    takes
+}
+
+#[test]
+fn reports_reach_15_and_80_and_every_count_on_both_sides_of_its_limit() {
+    let survey = survey(reports(1).take(3_000).flatten());
+    assert_eq!(survey.refusals.keys().copied().collect::<Vec<u32>>(), [15, 80]);
+    assert!(times(&survey, 15) >= 1_000 && times(&survey, 80) >= 1_000 && survey.bad_requests == 0, "{survey}");
+    let takes = takes_after_a_count(reports(1).take(3_000));
+    for which in (0..=4).chain(101..=105).chain(107..=112).chain(140..=143).chain(200..=238) {
+        let sides = |answer: &str, past: u64| {
+            takes.iter().any(|(of, number, octets, given)| {
+                let input = octets_of(octets.as_bytes()).expect("octets");
+                let more = moved(&input).into_iter().find(|(count, _)| which_of(*count) == which).map_or(0, |(_, more)| more);
+                *of == which && given == answer && u64::from(*number) + u64::from(more) == u64::from(u32::MAX) + past
+            })
+        };
+        assert!(sides("ok 0", 0) && sides("no 80 0", 1), "count {which}");
+    }
+}
+
+#[test]
+fn a_usual_run_takes_over_20_000_judgements_after_those_by_hand() {
+    assert!(reports::by_hand().len() < Plan::default().reports);
+    let of_the_gate = reports(1).take(9_000).flatten().filter(|line| line.starts_with("take ")).count();
+    assert!(of_the_gate >= 20_000, "{of_the_gate}");
+}
+
 /// Every number of the papers' tables, and no other.
 #[test]
 fn together_they_reach_every_refusal_of_the_paper() {
@@ -157,7 +218,7 @@ fn together_they_reach_every_refusal_of_the_paper() {
     let desk_values = survey_desks(plan.seed, plan.desks).expect("desk and ledger agree");
     let mut reached = requests.refusals;
     reached.extend(desk_values.refusals);
-    let all = (1..=5).chain(7..=16).chain(20..=26).chain([30, 31]).chain(40..=44);
+    let all = (1..=5).chain(7..=16).chain(20..=26).chain([30, 31]).chain(40..=44).chain([80]);
     assert_eq!(reached.into_keys().collect::<Vec<u32>>(), all.collect::<Vec<u32>>());
 }
 
@@ -171,6 +232,9 @@ fn a_usual_run_has_everything_made_by_hand() {
     let plan = Plan::default();
     let read = last_words(readers(1).take(plan.readers));
     assert!(hand::inputs().iter().all(|input| read.contains(&word_of(input))));
+    let dated = last_words(dates(1).take(plan.dates));
+    assert!(dates::by_hand().iter().all(|line| dated.contains(&word_of(&m_with(line.as_bytes())))));
+    assert!(dates::offsets().iter().all(|value| dated.contains(&word_of(value.as_bytes()))));
     let folded = last_words(folds(1).take(plan.folds));
     assert!(folds::by_hand().iter().all(|input| folded.contains(&word_of(input))));
     let texts = last_words(texts(1).take(plan.texts));
@@ -209,11 +273,13 @@ fn a_family_of_0_is_left_out() {
         readers: 10,
         line_faults: 0,
         names: 0,
+        dates: 0,
         folds: 0,
         texts: 5,
         labels: 0,
         lists: 0,
         desks: 0,
+        reports: 0,
         seed: 1,
     };
     let families: Vec<&str> = steps(plan).map(|step| step.family).collect();
