@@ -157,17 +157,17 @@ pub row-low : (v : List ℕ) → rowOf v < 39
 unfolding rowOf rows
 row-low v = found-low v 1 rows (omega arith)
 
-named-low : (a b : Bool) → pick a 1 (pick b 3 0) < 9
+named-low : (a b : Bool) → pick a 1 (pick b 3 0) < 12
 named-low true b = omega arith
 named-low false true = omega arith
 named-low false false = omega arith
 
-line-kind-low : (n : ℕ) (o : Option (List ℕ)) → n < 39 → lineKind n o < 9
+line-kind-low : (n : ℕ) (o : Option (List ℕ)) → n < 39 → lineKind n o < 12
 unfolding lineKind kindNamed
 line-kind-low n none h = kind-low n h
 line-kind-low n (some v) h = by (takesValue n)
   where
-    by : (t : Bool) → pick t (kindNamed v) (kindAt n) < 9
+    by : (t : Bool) → pick t (kindNamed v) (kindAt n) < 12
     by true = named-low (same v (octets "text")) (same v (octets "uri"))
     by false = kind-low n h
 
@@ -175,7 +175,7 @@ pub row-of-line : (y : Line) → rowOfLine y < 39
 unfolding rowOfLine
 row-of-line y = row-low (y .name)
 
-pub kind-of-line : (y : Line) → kindOfLine y < 9
+pub kind-of-line : (y : Line) → kindOfLine y < 12
 unfolding kindOfLine rowOfLine
 kind-of-line y = line-kind-low (rowOf (y .name)) (paramValue valueName y) (row-low (y .name))
 
@@ -188,7 +188,7 @@ pub record Read (l : List ℕ) (x : Parts) : Type 0 where
   pub params : x .«param_count» ≡ length (parts .params)
   pub kind : x .kind ≡ kindOfLine parts
   pub listed : x .row < 39
-  pub low : x .kind < 9
+  pub low : x .kind < 12
   pub inside : x .«value_start» ≤ length l
   pub value : drop (x .«value_start») l ≡ parts .value
 

@@ -124,9 +124,9 @@ sized-next v n p a f =
     let on = a .here p ∙ search-next v n (a .low) f ∙ ap (searchFrom v) (add-one n) in
     rw (a .long p) (sized-along v (38 - n) (suc n) (omega (arith, a .low)) (omega arith) on)
 
-pub kind-low : (n : ℕ) → n < 39 → kindAt n < 9
+pub kind-low : (n : ℕ) → n < 39 → kindAt n < 12
 unfolding upto kindAt rowAt rows
-kind-low n h = ltb-true _ _ (alike (λ j. ltb (kindAt j) 9) (λ j. true) 39 refl n h)
+kind-low n h = ltb-true _ _ (alike (λ j. ltb (kindAt j) 12) (λ j. true) 39 refl n h)
 
 -- the flags of a card have room for the rows marked *1
 pub once-low : (n : ℕ) → n < 39 → onceAt n ≤ 32

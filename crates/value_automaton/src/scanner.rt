@@ -37,7 +37,10 @@ pub fn start(kind: usize) -> u8
         kind::ADDRESS => states::ADDRESS,
         kind::ORGANIZATION => states::ORGANIZATION,
         kind::GENDER => states::GENDER,
-        _ => states::PIDMAP,
+        kind::PIDMAP => states::PIDMAP,
+        kind::DATE => states::DATE,
+        kind::TIMESTAMP => states::TIMESTAMP,
+        _ => states::OFFSET,
     }
 }
 

@@ -3,4 +3,8 @@ pub mod Places
 pub mod KindLaws
 pub mod Plain
 pub mod Escapes
+pub mod Pairs
+pub mod DayLaws
+pub mod DateWords
+pub mod OffsetLaws
 pub mod RowLaws

@@ -2,12 +2,13 @@
 use borrow.Author.Needs.{needs}
 use Prim.Native.Nat.{_<_}
 use native.Mathlib.Omega.{arith}
+use Rattle.value_automaton.specs.States.{stride}
 use Rattle.value_automaton.proofs.StepLaws.{next}
 use Rattle.value_automaton.proofs.scanner.step.Statement.{statement}
 use Rattle.value_automaton.proofs.scanner.step.Tie as tie
 
 -- the sort of the octet
-low : (w : tie.After-wide3) → w .wide3 .result < 20
+low : (w : tie.After-wide3) → w .wide3 .result < stride
 low w =
     let a = w .before .before .before .before .args in
     let byte : a .x < 256 = omega arith in
