@@ -8,3 +8,4 @@ pub mod DayLaws
 pub mod DateWords
 pub mod OffsetLaws
 pub mod RowLaws
+pub mod ChoiceLaws
