@@ -9,3 +9,4 @@ pub mod DateWords
 pub mod OffsetLaws
 pub mod RowLaws
 pub mod ChoiceLaws
+pub mod LineKindLaws

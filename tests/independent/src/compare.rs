@@ -6,6 +6,7 @@ use std::sync::mpsc::{channel, Receiver, Sender};
 use std::thread;
 
 use crate::console::Console;
+use crate::generator::dates::dates;
 use crate::generator::folds::folds;
 use crate::generator::line_faults::line_faults;
 use crate::generator::lists::lists;
@@ -20,6 +21,7 @@ pub struct Plan {
     pub protocol: usize,
     pub readers: usize,
     pub line_faults: usize,
+    pub dates: usize,
     pub folds: usize,
     pub texts: usize,
     pub lists: usize,
@@ -32,8 +34,9 @@ impl Default for Plan {
     fn default() -> Plan {
         Plan {
             protocol: 1000,
-            readers: 100_000,
+            readers: 160_000,
             line_faults: 30_000,
+            dates: 60_000,
             folds: 10_000,
             texts: 80_000,
             lists: 2_000,
@@ -61,6 +64,7 @@ pub fn steps(plan: Plan) -> impl Iterator<Item = Step> {
     (protocol().into_iter().take(plan.protocol).map(of("protocol")))
         .chain(readers(plan.seed).take(plan.readers).map(of("readers")))
         .chain(line_faults(plan.seed).take(plan.line_faults).map(of("line faults")))
+        .chain(dates(plan.seed).take(plan.dates).map(of("dates")))
         .chain(folds(plan.seed).take(plan.folds).map(of("folds")))
         .chain(texts(plan.seed).take(plan.texts).map(of("texts")))
         .chain(calls)
@@ -98,9 +102,11 @@ fn routine_steps(plan: Plan) -> impl Iterator<Item = Step> {
     let of = |family| move |line| Step { family, begins: false, line };
     let judged = readers(plan.seed).filter(|line| line.starts_with("judge "));
     let faulty = line_faults(plan.seed).filter(|line| !line.starts_with("read "));
+    let dated = dates(plan.seed).filter(|line| line.starts_with("judge "));
     let unescaped = texts(plan.seed).filter(|line| line.starts_with("unescape "));
     (judged.take(plan.readers).map(of("readers")))
         .chain(faulty.take(plan.line_faults).map(of("line faults")))
+        .chain(dated.take(plan.dates).map(of("dates")))
         .chain(folds(plan.seed).take(plan.folds).map(of("folds")))
         .chain(unescaped.take(plan.texts).map(of("texts")))
 }

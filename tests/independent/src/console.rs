@@ -19,6 +19,7 @@
 
 use std::io::{self, BufRead, BufReader, Read, Write};
 
+use crate::dates::minutes;
 use crate::desk::Desk;
 use crate::folder::fold;
 use crate::hex::word_of;
@@ -72,6 +73,7 @@ impl Console {
             Request::Fold { room, octets } => room_answer(fold, room, &octets),
             Request::Escape { room, octets } => room_answer(escape, room, &octets),
             Request::Unescape { room, octets } => room_answer(unescape, room, &octets),
+            Request::Offset { octets } => number_line(minutes(&octets)),
             Request::Desk { slots, pool } => self.new_desk(slots, pool),
             Request::Open { tram } => {
                 let (answer, next) = self.desk.open(&self.pool, tram);

@@ -1,4 +1,4 @@
-// Knows which parts the independent program has; each part is written from document 01 alone.
+// Knows which parts the independent program has; each part is written from the documents alone.
 
 pub mod beside;
 pub mod card;
@@ -6,6 +6,7 @@ pub mod characters;
 pub mod compare;
 pub mod console;
 pub mod content;
+pub mod dates;
 pub mod desk;
 pub mod dice;
 pub mod examples;

@@ -19,6 +19,7 @@ pub enum Request {
     Fold { room: usize, octets: Vec<u8> },
     Escape { room: usize, octets: Vec<u8> },
     Unescape { room: usize, octets: Vec<u8> },
+    Offset { octets: Vec<u8> },
     Desk { slots: u64, pool: usize },
     Open { tram: u32 },
     Add { ticket: u32, chunk: Vec<u8> },
@@ -44,6 +45,7 @@ pub fn request_of(line: &[u8]) -> Option<Request> {
 fn entry_request(words: &[&[u8]]) -> Option<Request> {
     match words {
         [b"judge", octets] => Some(Request::Judge { octets: octets_of(octets)? }),
+        [b"offset", octets] => Some(Request::Offset { octets: octets_of(octets)? }),
         [b"read", copy, records, octets] => Some(Request::Read {
             copy_room: size_of(copy, MOST_ROOM)?,
             record_room: size_of(records, MOST_ROOM)?,
@@ -107,6 +109,11 @@ fn size_of(word: &[u8], most: usize) -> Option<usize> {
 /// The line `judge OCTETS`.
 pub fn judge_line(octets: &[u8]) -> String {
     format!("judge {}", word_of(octets))
+}
+
+/// The line `offset OCTETS`.
+pub fn offset_line(octets: &[u8]) -> String {
+    format!("offset {}", word_of(octets))
 }
 
 /// The line `read COPYROOM RECORDROOM OCTETS`.

@@ -5,9 +5,10 @@ use std::collections::HashSet;
 use independent::beside::{compare_desks, survey_desks};
 use independent::compare::{steps, Plan};
 use independent::generator::{
-    desks::desks, folds, folds::folds, hand, line_faults::line_faults, lists, lists::lists, readers, texts,
+    dates, dates::dates, desks::desks, folds, folds::folds, hand, line_faults::line_faults, lists, lists::lists, readers, texts,
     texts::texts,
 };
+use independent::examples::m_with;
 use independent::hex::word_of;
 use independent::survey::{survey, Survey};
 
@@ -24,7 +25,7 @@ fn readers_reach_every_refusal_and_every_kind() {
     for number in (3..=5).chain(7..=14) {
         assert!(times(&survey, number) >= 1_000, "{number}: {survey}");
     }
-    for kind in 0..=8 {
+    for kind in 0..=10 {
         assert!(survey.kinds.get(&kind).is_some_and(|&count| count >= 300), "{kind}: {survey}");
     }
     assert!(survey.accepted >= 20_000 && survey.bad_requests == 0, "{survey}");
@@ -39,6 +40,16 @@ fn line_faults_reach_40_to_43_in_every_request() {
         }
         assert_eq!(times(&survey, 6), 0);
         assert!(survey.accepted >= 500, "{word}: {survey}");
+    }
+}
+
+#[test]
+fn dates_reach_both_sides_of_every_kind() {
+    let survey = survey(dates(1).take(60_000));
+    assert!(survey.refusals.keys().copied().eq([7, 13, 14]), "{survey}");
+    assert!(times(&survey, 7) >= 10_000 && survey.accepted >= 10_000 && survey.bad_requests == 0, "{survey}");
+    for kind in 9..=11 {
+        assert!(survey.kinds.get(&kind).is_some_and(|&count| count >= 500), "{kind}: {survey}");
     }
 }
 
@@ -121,6 +132,9 @@ fn a_usual_run_has_everything_made_by_hand() {
     let plan = Plan::default();
     let read = last_words(readers(1).take(plan.readers));
     assert!(hand::inputs().iter().all(|input| read.contains(&word_of(input))));
+    let dated = last_words(dates(1).take(plan.dates));
+    assert!(dates::by_hand().iter().all(|line| dated.contains(&word_of(&m_with(line.as_bytes())))));
+    assert!(dates::offsets().iter().all(|value| dated.contains(&word_of(value.as_bytes()))));
     let folded = last_words(folds(1).take(plan.folds));
     assert!(folds::by_hand().iter().all(|input| folded.contains(&word_of(input))));
     let texts = last_words(texts(1).take(plan.texts));
@@ -152,7 +166,7 @@ fn no_line_is_longer_than_the_console_takes() {
 #[test]
 fn a_family_of_0_is_left_out() {
     let plan =
-        Plan { protocol: 0, readers: 10, line_faults: 0, folds: 0, texts: 5, lists: 0, desks: 0, seed: 1 };
+        Plan { protocol: 0, readers: 10, line_faults: 0, dates: 0, folds: 0, texts: 5, lists: 0, desks: 0, seed: 1 };
     let families: Vec<&str> = steps(plan).map(|step| step.family).collect();
     assert_eq!(families, [["readers"; 10].as_slice(), &["texts"; 5]].concat());
 }

@@ -21,7 +21,8 @@ const LINES: &[&str] = &[
     "pool 0 1", "pool 16383 1", "pool 16384 1", "pool 16384 0", "pool 16385 0", "pool 655360 655360",
     "held 18446744073709551617", "desk 18446744073709551617 16384", "read 18446744073709551616 0 -",
     "held 1", "desk 18446744073709551615 16384", "held 1", "next", "next 1 1", "next -", "next 4294967296",
-    "next 0001", "next 0",
+    "next 0001", "next 0", "offset", "offset -", "offset 2d30353030", "offset 2D30353030", "offset 2d3035303",
+    "offset - -", "offset 1 2d3035", "offsets 2d3035", "OFFSET 2d3035", "offset -0500",
 ];
 
 /// All protocol lines.
