@@ -2,7 +2,7 @@
 use mathlib.Core.Path.{_≡_, refl, sym, ap, _∙_}
 use mathlib.Core.Bool.{true}
 use mathlib.Core.List.{List, _∷_}
-use Prim.Native.Nat.{ℕ, _+_, _*_, _/_, _%_, _<_, _≤_}
+use Prim.Native.Nat.{ℕ, _+_, _*_, _-_, _/_, _%_, _<_, _≤_}
 use native.Mathlib.Numerals.{add-one}
 use native.Mathlib.Omega.{arith}
 use lib.Dec.{eqb, leb}
@@ -40,7 +40,16 @@ derivative-alike x y h (a then b) = rw (derivative-alike x y h a, derivative-ali
 derivative-alike x y h (a or b) = rw (derivative-alike x y h a, derivative-alike x y h b)
 derivative-alike x y h (many a) = rw (derivative-alike x y h a)
 
-pub next : (t : List ℕ) (q b : ℕ) → Scanner t → q < stateCount → b < 256 → Next q b (getD t (256 + (q * stride + getD t b 0)) 0)
+-- an entry is its column at least, and less its column the next state
+pub over : (t : List ℕ) (q b : ℕ) → Scanner t → q < stateCount → b < 256 → getD t b 0 ≤ getD t (256 + (q * stride + getD t b 0)) 0
+over t q b h hq hb =
+    let c = getD t b 0 in
+    let low : c < stride = h .sort-low b hb in
+    let k : q * stride + c < stepCount = omega arith in
+    let column : (q * stride + c) % stride ≡ c = omega arith in
+    rw column at (h .step-over (q * stride + c) k)
+
+pub next : (t : List ℕ) (q b : ℕ) → Scanner t → q < stateCount → b < 256 → Next q b (getD t (256 + (q * stride + getD t b 0)) 0 - getD t b 0)
 next t q b h hq hb =
     let c = getD t b 0 in
     let low : c < stride = h .sort-low b hb in
@@ -48,8 +57,8 @@ next t q b h hq hb =
     let row : (q * stride + c) / stride ≡ q = omega arith in
     let column : (q * stride + c) % stride ≡ c = omega arith in
     record {
-      inside = h .step-low (q * stride + c) k;
-      right = h .step (q * stride + c) k ∙ rw (row, column) (sym (derivative-alike b (representative c) (h .sort b hb) (stateShape q)));
+      inside = rw column at (h .step-low (q * stride + c) k);
+      right = (rw (row, column) at (h .step (q * stride + c) k)) ∙ sym (derivative-alike b (representative c) (h .sort b hb) (stateShape q));
     }
 
 module _ (s : List ℕ) (q i : ℕ) where

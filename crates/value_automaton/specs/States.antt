@@ -1,6 +1,6 @@
 -- The states of the automaton: each is a shape, the derivative by what came before, and the table leads from one to the next.
 -- Assumes nothing.
-use Prim.Native.Nat.{ℕ, _+_, _<_, _/_, _%_}
+use Prim.Native.Nat.{ℕ, _+_, _-_, _<_, _≤_, _/_, _%_}
 use mathlib.Core.Path.{_≡_}
 use mathlib.Core.List.{List, [], _∷_}
 use lib.ListN.{getD}
@@ -170,12 +170,17 @@ unfoldable pub representative : ℕ → ℕ
 representative c =
     getD (0 ∷ 33 ∷ 66 ∷ 77 ∷ 78 ∷ 86 ∷ 67 ∷ 65 ∷ 82 ∷ 68 ∷ 48 ∷ 49 ∷ 50 ∷ 51 ∷ 52 ∷ 53 ∷ 54 ∷ 55 ∷ 56 ∷ 57 ∷ 43 ∷ 45 ∷ 46 ∷ 58 ∷ 59 ∷ 44 ∷ 92 ∷ 84 ∷ 90 ∷ []) c 0
 
+-- the state that the table's entry k leads to: the entry less its column, so that neighbours differ and the compiler copies the table whole
+abbrev pub leadsTo : List ℕ → ℕ → ℕ
+leadsTo t k = getD t (256 + k) 0 - k % stride
+
 -- the table gives the sort of each octet, and from 256 on, stride entries a state, the next state for each sort
 pub record Scanner (t : List ℕ) : Type 0 where
   pub sort-low : (b : ℕ) → b < 256 → getD t b 0 < stride
   pub sort : (b : ℕ) → b < 256 → (p : Octets) → holds p b ≡ holds p (representative (getD t b 0))
-  pub step-low : (k : ℕ) → k < stepCount → getD t (256 + k) 0 < stateCount
-  pub step : (k : ℕ) → k < stepCount → stateShape (getD t (256 + k) 0) ≡ derivative (representative (k % stride)) (stateShape (k / stride))
+  pub step-over : (k : ℕ) → k < stepCount → k % stride ≤ getD t (256 + k) 0
+  pub step-low : (k : ℕ) → k < stepCount → leadsTo t k < stateCount
+  pub step : (k : ℕ) → k < stepCount → stateShape (leadsTo t k) ≡ derivative (representative (k % stride)) (stateShape (k / stride))
 
 -- the octet b leads from state q to state n
 pub record Next (q b n : ℕ) : Type 0 where

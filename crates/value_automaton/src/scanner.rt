@@ -51,7 +51,7 @@ fn step(steps: &Transitions, q: u8, x: u8) -> u8
     ensures { λ r. ⌜ Next q x r ⌝ }
 {
     let c = steps[wide(x)];
-    steps[256 + (wide(q) * states::STRIDE + wide(c))]
+    steps[256 + (wide(q) * states::STRIDE + wide(c))] - c
 }
 
 // True only where the step at i led into a URI's last part and all that comes is of it.
