@@ -8,8 +8,8 @@ use Rattle.octets.specs.Slices.{part}
 use Rattle.console_requests.specs.Requests.{Requested, requestOf}
 use Rattle.console_requests.specs.declared.Request.{Request}
 use Rattle.console_requests.specs.declared.Name.{Name}
-use Rattle.console_requests.specs.declared.Name.the-variants.{Judge, Read, Fold, Escape, Unescape, Desk, Open, Add, Check, Show, Held, Release, Pool, Next, Bad}
-use Rattle.console_entries.specs.Entries.{judgeAnswer, readAnswer, writeAnswer}
+use Rattle.console_requests.specs.declared.Name.the-variants.{Judge, Read, Fold, Escape, Unescape, Desk, Open, Add, Check, Show, Held, Release, Pool, Next, Offset, Bad}
+use Rattle.console_entries.specs.Entries.{judgeAnswer, offsetAnswer, readAnswer, writeAnswer}
 use Rattle.console_desk.specs.DeskAnswers.{State, WithPool, withPool, says, saysBad, deskAnswer, nextAnswer, changeAnswer, lookAnswer, poolAnswer}
 use Rattle.console_entries.specs.declared.entries.Writer.the-variants.{Fold as toFold, Escape as toEscape, Unescape as toUnescape}
 use Rattle.console_desk.specs.declared.Change.the-variants.{Open as toOpen, Add as toAdd, Release as toRelease}
@@ -31,6 +31,7 @@ answerBy Held n k sent t pool = withPool (lookAnswer toHeld n t pool) pool
 answerBy Release n k sent t pool = changeAnswer toRelease n sent t pool
 answerBy Pool n k sent t pool = withPool (poolAnswer n k t pool) pool
 answerBy Next n k sent t pool = withPool (nextAnswer n t) pool
+answerBy Offset n k sent t pool = withPool (says (offsetAnswer sent) t) pool
 answerBy Bad n k sent t pool = withPool (saysBad t) pool
 
 abbrev pub answerTo : Request → List ℕ → State → List ℕ → WithPool

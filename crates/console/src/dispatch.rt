@@ -50,6 +50,7 @@ fn answer_request(q: Request, c: Console, sent: &[u8], pool: &mut [u8], out: &mu
         Name::Release => console_desk::answer_change(Change::Release, c, n, sent, pool, out),
         Name::Pool => console_desk::answer_pool(c, n, k, pool, out),
         Name::Next => console_desk::answer_next(c, n, out),
+        Name::Offset => c.with_output(entries::put_offset_answer(sent, out, c.at)),
         Name::Bad => c.answer_bad(out),
     }
 }

@@ -1,10 +1,10 @@
-// The calls of reader, folder and text.
+// The calls of reader, folder, text and offsets.
 ghost use mathlib.Core.Path.{_≡_};
 ghost use Prim.Native.Nat.{_+_, _≤_};
 ghost use Rattle.octets.specs.Room.{filled};
 ghost use Rattle.program_output.specs.Pages.{page, added};
 ghost use Rattle.console_entries.specs.Rooms.{mostRoom, octetRoom, numberRoom};
-ghost use Rattle.console_entries.specs.Entries.{lineEndLength, linesOf, count, numbersOf, copyLength, takenText, roomsText, readText, outcomeOf, writeText, judgeAnswer, readAnswer, writeAnswer};
+ghost use Rattle.console_entries.specs.Entries.{lineEndLength, linesOf, count, numbersOf, copyLength, takenText, roomsText, readText, outcomeOf, writeText, judgeAnswer, offsetAnswer, readAnswer, writeAnswer};
 use crate::rooms;
 use numbers::field;
 use numbers::limit;
@@ -29,6 +29,14 @@ pub fn put_judge_answer(input: &[u8], out: &mut [u8], at: usize) -> usize
     ensures { λ r. ⌜ page r (now (out .exit)) ≡ added (judgeAnswer (now (input .entry))) (page at (now (out .entry))) ⌝ }
 {
     let end = console_answers::put_verdict(out, at, reader::judge(input));
+    console_answers::put_end(out, end)
+}
+
+// Adds the answer to `offset OCTETS`.
+pub fn put_offset_answer(value: &[u8], out: &mut [u8], at: usize) -> usize
+    ensures { λ r. ⌜ page r (now (out .exit)) ≡ added (offsetAnswer (now (value .entry))) (page at (now (out .entry))) ⌝ }
+{
+    let end = console_answers::put_offset(out, at, value_offsets::minutes(value));
     console_answers::put_end(out, end)
 }
 

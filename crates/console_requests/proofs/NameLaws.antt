@@ -25,23 +25,23 @@ pub search-start : (w : List ℕ) (k : ℕ) → rowOf w k ≡ searchFrom w k 0
 unfolding rowOf searchFrom
 search-start w k = refl
 
-search-at : (w : List ℕ) (k n : ℕ) → n < 14 → searchFrom w k n ≡ pick (fits w k (rowAt n)) (rowAt n) (searchFrom w k (n + 1))
+search-at : (w : List ℕ) (k n : ℕ) → n < 15 → searchFrom w k n ≡ pick (fits w k (rowAt n)) (rowAt n) (searchFrom w k (n + 1))
 unfolding searchFrom search rowAt rows
 search-at w k n h = rw (add-one n) (ap (search w k) (drop-cons rows n noRow h))
 
-pub search-found : (w : List ℕ) (k n : ℕ) → n < 14 → fits w k (rowAt n) ≡ true → searchFrom w k n ≡ rowAt n
+pub search-found : (w : List ℕ) (k n : ℕ) → n < 15 → fits w k (rowAt n) ≡ true → searchFrom w k n ≡ rowAt n
 search-found w k n h e = rw (search-at w k n h, e)
 
-pub search-next : (w : List ℕ) (k n : ℕ) → n < 14 → fits w k (rowAt n) ≡ false → searchFrom w k n ≡ searchFrom w k (n + 1)
+pub search-next : (w : List ℕ) (k n : ℕ) → n < 15 → fits w k (rowAt n) ≡ false → searchFrom w k n ≡ searchFrom w k (n + 1)
 search-next w k n h e = rw (search-at w k n h, e)
 
-pub search-none : (w : List ℕ) (k : ℕ) → searchFrom w k 14 ≡ rowAt 14
+pub search-none : (w : List ℕ) (k : ℕ) → searchFrom w k 15 ≡ rowAt 15
 unfolding searchFrom search rowAt rows
 search-none w k = refl
 
 -- a test that passes at each of the fifteen rows
-each-row : (f : ℕ → Bool) → upto f 0 15 ≡ upto (λ (n : ℕ). true) 0 15 → (n : ℕ) → n < 15 → f n ≡ true
-each-row f t n h = same-upto f (λ (k : ℕ). true) 15 t n h
+each-row : (f : ℕ → Bool) → upto f 0 16 ≡ upto (λ (n : ℕ). true) 0 16 → (n : ℕ) → n < 16 → f n ≡ true
+each-row f t n h = same-upto f (λ (k : ℕ). true) 16 t n h
 
 true-T : (b : Bool) → b ≡ true → T b
 true-T b e = rw e tt
@@ -56,14 +56,14 @@ pub record Listed (t : List ℕ) (n : ℕ) : Type 0 where
   pub octets : getD t (n * 11 + 10) 0 ≡ rowAt n .octets
   pub once : rowAt n .octets ≤ 1
 
-row-length : (n : ℕ) → n < 15 → length (entries n) ≡ 11
+row-length : (n : ℕ) → n < 16 → length (entries n) ≡ 11
 unfolding entries rowAt rows octets upto
-row-length n h = same-upto (λ j. length (entries j)) (λ j. 11) 15 refl n h
+row-length n h = same-upto (λ j. length (entries j)) (λ j. 11) 16 refl n h
 
-module _ (t : List ℕ) (table : Lists t) (n : ℕ) (h : n < 15) where
+module _ (t : List ℕ) (table : Lists t) (n : ℕ) (h : n < 16) where
   at : (i : ℕ) → i < 11 → getD t (n * 11 + i) 0 ≡ getD (entries n) i 0
   unfolding Lists
-  at i l = entry-at entries 11 15 row-length t table n h i l
+  at i l = entry-at entries 11 16 row-length t table n h i l
 
   short-name : length (rowAt n .spelling) ≤ 8
   unfolding rowAt rows octets upto
@@ -71,22 +71,22 @@ module _ (t : List ℕ) (table : Lists t) (n : ℕ) (h : n < 15) where
 
   spelt-at : take (length (rowAt n .spelling)) (drop (n * 11) t) ≡ take (length (rowAt n .spelling)) (entries n)
   unfolding Lists
-  spelt-at = front-at entries 11 15 row-length t table n h (length (rowAt n .spelling)) (omega (arith, short-name))
+  spelt-at = front-at entries 11 16 row-length t table n h (length (rowAt n .spelling)) (omega (arith, short-name))
 
   pub listed : Listed t n
   unfolding entries rowAt rows octets upto
   listed =
       record {
-        spelt = spelt-at ∙ same-upto (λ j. take (length (rowAt j .spelling)) (entries j)) (λ j. rowAt j .spelling) 15 refl n h;
-        long = at 8 (omega arith) ∙ same-upto (λ j. getD (entries j) 8 0) (λ j. length (rowAt j .spelling)) 15 refl n h;
+        spelt = spelt-at ∙ same-upto (λ j. take (length (rowAt j .spelling)) (entries j)) (λ j. rowAt j .spelling) 16 refl n h;
+        long = at 8 (omega arith) ∙ same-upto (λ j. getD (entries j) 8 0) (λ j. length (rowAt j .spelling)) 16 refl n h;
         short = short-name;
-        numbers = at 9 (omega arith) ∙ same-upto (λ j. getD (entries j) 9 0) (λ j. rowAt j .numbers) 15 refl n h;
+        numbers = at 9 (omega arith) ∙ same-upto (λ j. getD (entries j) 9 0) (λ j. rowAt j .numbers) 16 refl n h;
         few = leb→le _ _ (true-T _ (each-row (λ j. leb (rowAt j .numbers) 2) refl n h));
-        octets = at 10 (omega arith) ∙ same-upto (λ j. getD (entries j) 10 0) (λ j. rowAt j .octets) 15 refl n h;
+        octets = at 10 (omega arith) ∙ same-upto (λ j. getD (entries j) 10 0) (λ j. rowAt j .octets) 16 refl n h;
         once = leb→le _ _ (true-T _ (each-row (λ j. leb (rowAt j .octets) 1) refl n h));
       }
 
-pub listed-length : (t : List ℕ) → Lists t → length t ≡ 165
+pub listed-length : (t : List ℕ) → Lists t → length t ≡ 176
 unfolding Lists TableOf entriesFrom entries rowAt rows octets
 listed-length t e = ap length e
 
@@ -107,7 +107,7 @@ module _ (w : List ℕ) (k : ℕ) (r : Row) (n o : ℕ) (p : n ≡ r .numbers) (
   fits-name h = rw (eq-eqb (r .numbers + r .octets) k (omega arith))
 
 -- past the rows there is no request
-pub no-row : (n : ℕ) → 14 ≤ n → rowAt n ≡ noRow
+pub no-row : (n : ℕ) → 15 ≤ n → rowAt n ≡ noRow
 unfolding rowAt rows
 no-row n h = List·getD-eq-default rows noRow h
 

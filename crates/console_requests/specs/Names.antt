@@ -11,7 +11,7 @@ use Rattle.octets.specs.Ascii.{octets}
 use Rattle.octets.specs.Tables.{TableOf}
 use Rattle.program_numbers.specs.Alike.{alike}
 use Rattle.console_requests.specs.declared.Name.{Name}
-use Rattle.console_requests.specs.declared.Name.the-variants.{Judge, Read, Fold, Escape, Unescape, Desk, Open, Add, Check, Show, Held, Release, Pool, Next, Bad}
+use Rattle.console_requests.specs.declared.Name.the-variants.{Judge, Read, Fold, Escape, Unescape, Desk, Open, Add, Check, Show, Held, Release, Pool, Next, Offset, Bad}
 
 pub record Row : Type 0 where
   pub name : Name
@@ -45,6 +45,7 @@ rows =
     row Release "release" 1 alone ∷
     row Pool "pool" 2 alone ∷
     row Next "next" 1 alone ∷
+    row Offset "offset" 0 withOctets ∷
     []
 
 -- no request: it has neither numbers nor octets
@@ -73,4 +74,4 @@ entries n = take 8 (rowAt n .spelling ++ octets "........") ++ length (rowAt n .
 
 -- a list is the table of requests, with a last row for none
 unfoldable pub Lists : List ℕ → Type 0
-Lists t = TableOf entries 15 t
+Lists t = TableOf entries 16 t

@@ -26,6 +26,7 @@ pub enum Name {
     Release,
     Pool,
     Next,
+    Offset,
     Bad,
 }
 
@@ -88,7 +89,7 @@ fn make_request(name: Name, first: usize, second: usize, octets: Octets) -> Requ
 // What a line says that starts with this row's name, with its octets at the front of out.
 fn read_row(t: &[u8], row: usize, line: &[u8], out: &mut [u8]) -> Request
     requires { ⌜ Lists (now t) ⌝ }
-    requires { ⌜ row < 15 ⌝ }
+    requires { ⌜ row < 16 ⌝ }
     ensures { λ r. ⌜ requested r (now (out .exit)) ≡ read (rowAt row) (now (line .entry)) (now (out .entry)) ⌝ }
 {
     let after = names::after_name(t, row);

@@ -18,10 +18,10 @@ const NUMBERS: usize = 9;
 const OCTETS: usize = 10;
 
 // The entries of the table.
-const TABLE: usize = 165;
+const TABLE: usize = 176;
 
 // The row of no request, after those of the requests.
-const NO_REQUEST: usize = 14;
+const NO_REQUEST: usize = 15;
 
 // Eleven entries for each row, and a last row for no request: name, its length, how many numbers stand after it, 1 where octets do.
 const ROWS: [u8; TABLE] = *b"\
@@ -39,6 +39,7 @@ const ROWS: [u8; TABLE] = *b"\
     release.\x07\x01\x00\
     pool....\x04\x02\x00\
     next....\x04\x01\x00\
+    offset..\x06\x00\x01\
     ........\x00\x00\x00";
 
 // The table as a value, which its users are lent.
@@ -57,7 +58,7 @@ pub struct After {
 // What stands after a row's name.
 pub fn after_name(t: &[u8], row: usize) -> After
     requires { ⌜ Lists (now t) ⌝ }
-    requires { ⌜ row < 15 ⌝ }
+    requires { ⌜ row < 16 ⌝ }
     ensures { λ r. ⌜ (r .numbers ≡ rowAt row .numbers) × (r .octets ≡ rowAt row .octets) ⌝ }
     ensures { λ r. ⌜ (r .numbers ≤ 2) × (r .octets ≤ 1) ⌝ }
 {
@@ -71,7 +72,7 @@ pub fn after_name(t: &[u8], row: usize) -> After
 // Whether a row has this name and so many words after it.
 fn is_row(t: &[u8], row: usize, word: &[u8], after: usize) -> bool
     requires { ⌜ Lists (now t) ⌝ }
-    requires { ⌜ row < 15 ⌝ }
+    requires { ⌜ row < 16 ⌝ }
     ensures { λ r. ⌜ r ≡ fits (now (word .entry)) after (rowAt row) ⌝ }
 {
     let a = after_name(t, row);
@@ -87,7 +88,7 @@ fn is_row(t: &[u8], row: usize, word: &[u8], after: usize) -> bool
 pub fn row_of(t: &[u8], word: &[u8], after: usize) -> usize
     requires { ⌜ Lists (now t) ⌝ }
     ensures { λ r. ⌜ rowAt r ≡ rowOf (now (word .entry)) after ⌝ }
-    ensures { λ r. ⌜ r < 15 ⌝ }
+    ensures { λ r. ⌜ r < 16 ⌝ }
 {
     let mut row: usize = 0;
     while row < NO_REQUEST {
@@ -118,6 +119,7 @@ pub fn name_at(row: usize) -> Name
         11 => Name::Release,
         12 => Name::Pool,
         13 => Name::Next,
+        14 => Name::Offset,
         _ => Name::Bad,
     }
 }

@@ -1,9 +1,9 @@
 -- The minutes that an offset's octets give, or its refusal. Assumes nothing.
-use Prim.Native.Nat.{ℕ, _+_, _*_, _-_}
+use Prim.Native.Nat.{ℕ, _+_, _*_, _-_, _≤_}
 use mathlib.Core.Bool.{Bool, true, false}
 use mathlib.Core.List.{List}
 use lib.Dec.{eqb}
-use lib.IntN.{ℤ, pos, negℤ}
+use lib.IntN.{ℤ, pos, negℤ, natAbs}
 use lib.ListN.{getD}
 use Rattle.numbers.specs.Kinds as kind
 use Rattle.numbers.specs.Refusals as refusal
@@ -33,6 +33,15 @@ isBehind v = eqb (getD v 0 0) hyphen
 unfoldable pub signed : Bool → ℕ → ℤ
 signed true n = negℤ (pos n)
 signed false n = pos n
+
+-- the most minutes that four octets give as digits, 255 less 48 each at most, and more
+abbrev pub mostMinutes : ℕ
+mostMinutes = 171105
+
+-- an answer that fits 32 bits with either sign
+abbrev pub Bounded : Offset → Type 0
+Bounded (Minutes z) = natAbs z ≤ mostMinutes
+Bounded (Refused n p) = Unit {0}
 
 -- 7 where the value is no offset
 abbrev pub minutesBy : Fault → List ℕ → Offset

@@ -1,7 +1,7 @@
 // The minutes that an offset from UTC stands for.
 ghost use mathlib.Core.Path.{_≡_};
 ghost use Prim.Native.Nat.{_≤_};
-ghost use Rattle.value_offsets.specs.Minutes.{digitAt, pairAt, timeOf, isBehind, signed, minutesOf};
+ghost use Rattle.value_offsets.specs.Minutes.{digitAt, pairAt, timeOf, isBehind, signed, mostMinutes, Bounded, minutesOf};
 use numbers::kind;
 use numbers::refusal;
 use value_kinds::Fault;
@@ -41,7 +41,7 @@ fn pair_at(s: &[u8], i: usize) -> u32
 // How many minutes the hours and minutes after the sign are.
 fn time_of(s: &[u8]) -> u32
     ensures { λ r. ⌜ r ≡ timeOf (now (s .entry)) ⌝ }
-    ensures { λ r. ⌜ r ≤ 171105 ⌝ }
+    ensures { λ r. ⌜ r ≤ mostMinutes ⌝ }
 {
     let hours = pair_at(s, 1);
     let minutes = pair_at(s, 3);
@@ -60,7 +60,7 @@ fn is_behind(s: &[u8]) -> bool
 
 // A number of minutes, below 0 where it is behind.
 fn signed(behind: bool, n: u32) -> i32
-    requires { ⌜ n ≤ 171105 ⌝ }
+    requires { ⌜ n ≤ mostMinutes ⌝ }
     ensures { λ r. ⌜ r ≡ signed behind n ⌝ }
 {
     let z = n as i32;
@@ -73,6 +73,7 @@ fn signed(behind: bool, n: u32) -> i32
 // The minutes that the octets of an offset stand for, or that they are none.
 pub fn minutes(value: &[u8]) -> Offset
     ensures { λ r. ⌜ r ≡ minutesOf (now (value .entry)) ⌝ }
+    ensures { λ r. ⌜ Bounded r ⌝ }
 {
     let steps = value_automaton::scanner::table();
     let f = value_automaton::value_fault(&steps, kind::OFFSET, value);

@@ -2,7 +2,7 @@
 use denote.Ref.{now}
 use mathlib.Core.Path.{ap}
 use borrow.Author.Needs.{needs}
-use Rattle.console_entries.specs.Entries.{judgeAnswer, readAnswer, writeAnswer}
+use Rattle.console_entries.specs.Entries.{judgeAnswer, offsetAnswer, readAnswer, writeAnswer}
 use Rattle.console_desk.specs.DeskAnswers.{State, withPool}
 use Rattle.console_entries.specs.declared.entries.Writer.the-variants.{Fold, Escape, Unescape}
 use Rattle.console.specs.Dispatch.{answerBy}
@@ -111,6 +111,15 @@ answer-next-requires c κs = search needs
 
 enum-told-15 : tie.Need-enum-told-15
 enum-told-15 c = search needs
+
+put-offset-answer-requires : tie.Need-put-offset-answer-requires
+put-offset-answer-requires c κs = search needs
+
+with-output-requires-6 : tie.Need-with-output-requires-6
+with-output-requires-6 c κs = search needs
+
+enum-told-16 : tie.Need-enum-told-16
+enum-told-16 c = search needs
 
 answer-bad-requires : tie.Need-answer-bad-requires
 answer-bad-requires c κs = search needs
@@ -252,7 +261,16 @@ same-length-23 c = search needs
 
 returns-15 : tie.Need-returns-15
 unfolding answerBy
-returns-15 c = rw (c .before .before .before .before .enum-told15 .given .1) (ap (λ (x : State). withPool x (now (c .before .before .before .before .before .before .before .before .before .args .pool))) (c .before .before .answer-bad .ensures))
+returns-15 c =
+    let a = c .before .before .before .before .before .before .before .before .before .before .args in
+    rw (c .before .before .before .before .before .enum-told15 .given .1) (said (a .c) (now (a .pool)) (now (a .out)) (offsetAnswer (now (a .sent))) (c .with-output6 .ensures) (c .before .before .before .put-offset-answer .ensures))
+
+same-length-24 : tie.Need-same-length-24
+same-length-24 c = search needs
+
+returns-16 : tie.Need-returns-16
+unfolding answerBy
+returns-16 c = rw (c .before .before .before .before .enum-told16 .given .1) (ap (λ (x : State). withPool x (now (c .before .before .before .before .before .before .before .before .before .args .pool))) (c .before .before .answer-bad .ensures))
 
 pub answer-request-spec : {M : Type 1} → statement M
 answer-request-spec =
@@ -292,6 +310,9 @@ answer-request-spec =
     enum-told-14
     answer-next-requires
     enum-told-15
+    put-offset-answer-requires
+    with-output-requires-6
+    enum-told-16
     answer-bad-requires
     same-length
     returns
@@ -330,4 +351,6 @@ answer-request-spec =
     same-length-22
     returns-14
     same-length-23
-    returns-15)
+    returns-15
+    same-length-24
+    returns-16)

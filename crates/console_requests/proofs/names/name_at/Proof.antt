@@ -76,10 +76,15 @@ returns-14 c =
     rw (c .match .keys14)
 
 returns-15 : tie.Need-returns-15
+unfolding rowAt rows
 returns-15 c =
+    rw (c .match .keys15)
+
+returns-16 : tie.Need-returns-16
+returns-16 c =
     let row = c .before .args .row in
     let r = c .match .rest in
-    rw (no-row row (passed row 13 (passed row 12 (passed row 11 (passed row 10 (passed row 9 (passed row 8 (passed row 7 (passed row 6 (passed row 5 (passed row 4 (passed row 3 (passed row 2 (passed row 1 (passed row 0 (omega arith) (r .0 .0 .0 .0 .0 .0 .0 .0 .0 .0 .0 .0 .0 .1)) (r .0 .0 .0 .0 .0 .0 .0 .0 .0 .0 .0 .0 .1)) (r .0 .0 .0 .0 .0 .0 .0 .0 .0 .0 .0 .1)) (r .0 .0 .0 .0 .0 .0 .0 .0 .0 .0 .1)) (r .0 .0 .0 .0 .0 .0 .0 .0 .0 .1)) (r .0 .0 .0 .0 .0 .0 .0 .0 .1)) (r .0 .0 .0 .0 .0 .0 .0 .1)) (r .0 .0 .0 .0 .0 .0 .1)) (r .0 .0 .0 .0 .0 .1)) (r .0 .0 .0 .0 .1)) (r .0 .0 .0 .1)) (r .0 .0 .1)) (r .0 .1)) (r .1)))
+    rw (no-row row (passed row 14 (passed row 13 (passed row 12 (passed row 11 (passed row 10 (passed row 9 (passed row 8 (passed row 7 (passed row 6 (passed row 5 (passed row 4 (passed row 3 (passed row 2 (passed row 1 (passed row 0 (omega arith) (r .0 .0 .0 .0 .0 .0 .0 .0 .0 .0 .0 .0 .0 .0 .1)) (r .0 .0 .0 .0 .0 .0 .0 .0 .0 .0 .0 .0 .0 .1)) (r .0 .0 .0 .0 .0 .0 .0 .0 .0 .0 .0 .0 .1)) (r .0 .0 .0 .0 .0 .0 .0 .0 .0 .0 .0 .1)) (r .0 .0 .0 .0 .0 .0 .0 .0 .0 .0 .1)) (r .0 .0 .0 .0 .0 .0 .0 .0 .0 .1)) (r .0 .0 .0 .0 .0 .0 .0 .0 .1)) (r .0 .0 .0 .0 .0 .0 .0 .1)) (r .0 .0 .0 .0 .0 .0 .1)) (r .0 .0 .0 .0 .0 .1)) (r .0 .0 .0 .0 .1)) (r .0 .0 .0 .1)) (r .0 .0 .1)) (r .0 .1)) (r .1)))
 
 pub name-at-spec : {M : Type 1} → statement M
 name-at-spec =
@@ -99,4 +104,5 @@ name-at-spec =
     returns-12
     returns-13
     returns-14
-    returns-15)
+    returns-15
+    returns-16)

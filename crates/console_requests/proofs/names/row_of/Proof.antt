@@ -10,11 +10,11 @@ use Rattle.console_requests.proofs.names.row_of.Tie as tie
 
 abbrev Inv-loop : tie.InvT-loop
 Inv-loop t word after row₀ row =
-    (row ≤ 14) × (rowOf word after ≡ searchFrom word after row)
+    (row ≤ 15) × (rowOf word after ≡ searchFrom word after row)
 
 abbrev μ-loop : tie.MeasureT-loop
 μ-loop t word after row₀ row =
-    14 - row
+    15 - row
 
 loop-holds : tie.Need-loop-holds Inv-loop μ-loop
 loop-holds c =
@@ -46,7 +46,7 @@ returns-2 : tie.Need-returns-2 Inv-loop μ-loop
 returns-2 c =
     let a = c .before .before .before .before .args in
     let l = c .before .loop in
-    let e : l .row ≡ 14 = omega arith in
+    let e : l .row ≡ 15 = omega arith in
     (sym (l .inv .1 ∙ ap (searchFrom (a .word .now) (a .after)) e ∙ search-none (a .word .now) (a .after) ∙ ap rowAt (sym e)), omega arith)
 
 pub row-of-spec : {M : Type 1} → statement M
