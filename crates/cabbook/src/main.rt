@@ -1,5 +1,6 @@
 // cabbook: the workshop's command-line tool over the reader, the folder, text and the desk.
 mod checking;
+mod dates;
 mod printing;
 mod table;
 mod usage;

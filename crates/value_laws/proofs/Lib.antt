@@ -7,6 +7,7 @@ pub mod Pairs
 pub mod DayLaws
 pub mod DateWords
 pub mod OffsetLaws
+pub mod DateTable
 pub mod RowLaws
 pub mod ChoiceLaws
 pub mod LineKindLaws

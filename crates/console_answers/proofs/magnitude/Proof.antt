@@ -1,47 +1,15 @@
 -- `console_answers::magnitude` meets its contract. Assumes nothing.
-use mathlib.Core.Path.{_≡_, refl, sym, ap, subst, _∙_}
-use mathlib.Core.Bool.{true, false, false≢true}
-use Prim.Native.Nat.{ℕ, zero, suc, _<_, _≤_}
+use mathlib.Core.Path.{_≡_, sym, ap, subst, _∙_}
+use mathlib.Core.Bool.{true, false}
 use native.Mathlib.Omega.{arith}
 use lib.Dec.{T}
-use lib.IntN.{ℤ, pos, negsuc, negℤ, natAbs, _-ℤ_, +ℤ-idl}
+use lib.IntN.{ℤ, pos, negℤ, natAbs}
 use lib.Signed.{ltZ, nonNeg}
-use borrow.Author.Tests.{ltb-true}
 use mir.Syntax.{w32}
-use mir.Val.{toZ, ofZ, SFits, Fits}
-use mir.ValLaws.{toZ-ofZ}
-use Rattle.value_offsets.specs.Minutes.{mostMinutes}
+use mir.Val.{SFits, Fits}
+use Rattle.console_answers.proofs.SignedLaws.{fits, back, abs-neg, small-neg, less, less-back, below, above}
 use Rattle.console_answers.proofs.magnitude.Statement.{statement}
 use Rattle.console_answers.proofs.magnitude.Tie as tie
-
-fits : (z : ℤ) → natAbs z ≤ mostMinutes → SFits w32 z
-fits (pos n) h = record { sfits = omega arith }
-fits (negsuc n) h = record { sfits = omega arith }
-
-back : (z : ℤ) → natAbs z ≤ mostMinutes → toZ w32 (ofZ w32 z) ≡ z
-back z h = toZ-ofZ w32 z (fits z h)
-
-abs-neg : (z : ℤ) → natAbs (negℤ z) ≡ natAbs z
-abs-neg (pos zero) = refl
-abs-neg (pos (suc n)) = refl
-abs-neg (negsuc n) = refl
-
-small-neg : (z : ℤ) → natAbs z ≤ mostMinutes → natAbs (negℤ z) ≤ mostMinutes
-small-neg z h = rw (abs-neg z) h
-
-less : (z : ℤ) → natAbs z ≤ mostMinutes → pos 0 -ℤ toZ w32 (ofZ w32 z) ≡ negℤ z
-less z h = ap (λ (y : ℤ). pos 0 -ℤ y) (back z h) ∙ +ℤ-idl (negℤ z)
-
-less-back : (z : ℤ) → natAbs z ≤ mostMinutes → toZ w32 (ofZ w32 (pos 0 -ℤ toZ w32 (ofZ w32 z))) ≡ negℤ z
-less-back z h = ap (λ (y : ℤ). toZ w32 (ofZ w32 y)) (less z h) ∙ back (negℤ z) (small-neg z h)
-
-below : (z : ℤ) → ltZ z (pos 0) ≡ true → T (nonNeg (negℤ z))
-below (pos n) e = absurd (omega (arith, ltb-true n 0 e))
-below (negsuc n) e = tt
-
-above : (z : ℤ) → ltZ z (pos 0) ≡ false → T (nonNeg z)
-above (pos n) e = tt
-above (negsuc n) e = absurd (false≢true (sym e))
 
 sub-result : tie.Need-sub-result
 sub-result c =
