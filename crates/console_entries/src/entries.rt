@@ -36,8 +36,8 @@ pub fn put_judge_answer(input: &[u8], out: &mut [u8], at: usize) -> usize
 pub fn put_offset_answer(value: &[u8], out: &mut [u8], at: usize) -> usize
     ensures { λ r. ⌜ page r (now (out .exit)) ≡ added (offsetAnswer (now (value .entry))) (page at (now (out .entry))) ⌝ }
 {
-    let end = console_answers::put_offset(out, at, value_offsets::minutes(value));
-    console_answers::put_end(out, end)
+    let next = console_answers::put_offset(out, at, value_offsets::minutes(value));
+    console_answers::put_end(out, next)
 }
 
 // How many lines the reader accepted; 0 on a refusal.

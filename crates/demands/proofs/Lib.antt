@@ -7,4 +7,5 @@ pub mod Cards
 pub mod Desks
 pub mod Total
 pub mod Exact
+pub mod Dates
 pub mod Whole

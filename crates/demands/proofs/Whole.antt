@@ -6,6 +6,7 @@ use Rattle.demands.specs.Demands.{Demands}
 use Rattle.demands.proofs.Examples.{examples}
 use Rattle.demands.proofs.Total.{demand1}
 use Rattle.demands.proofs.Exact.{demand2}
+use Rattle.demands.proofs.Dates.{demand4}
 
 pub demands : Demands
-demands = record { total = demand1; exact = demand2; separate = demand3; granted = grants; replays = replays; examples = examples }
+demands = record { total = demand1; exact = demand2; separate = demand3; dated = demand4; granted = grants; replays = replays; examples = examples }

@@ -1,4 +1,4 @@
--- The three demands, what a granted call does, the claim of demand 3 of a program that makes the calls, and the marked examples, side by
+-- The three demands, dates, what a granted call does, the claim of demand 3 of a program that makes the calls, and the marked examples, side by
 -- side. Assumes nothing.
 use Rattle.line_parser.specs.Grammar.{Each}
 use Rattle.desk_laws.specs.Demand.{Demand3}
@@ -7,11 +7,13 @@ use Rattle.replay_laws.specs.Replays.{Replays}
 use Rattle.demands.specs.Examples.{Holds, marked}
 use Rattle.demands.specs.Demand1.{Demand1}
 use Rattle.demands.specs.Demand2.{Demand2}
+use Rattle.demands.specs.Demand4.{Demand4}
 
 pub record Demands : Type 0 where
   pub total : Demand1
   pub exact : Demand2
   pub separate : Demand3
+  pub dated : Demand4
   pub granted : Granted
   pub replays : Replays
   pub examples : Each Holds marked

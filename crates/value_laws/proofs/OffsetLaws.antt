@@ -12,7 +12,7 @@ use Rattle.value_kinds.specs.declared.Fault.{Fault}
 use Rattle.value_kinds.specs.declared.Fault.the-variants.{Fits as fitting, Breaks as breaking}
 use Rattle.value_offsets.specs.Minutes.{digitAt, pairAt, timeOf, isBehind, signed, minutesBy, minutesOf}
 use Rattle.value_offsets.specs.declared.Offset.the-variants.{Minutes, Refused}
-use Rattle.value_laws.specs.Calendar.{two, Offset, offset-hours, offset-minutes, StandsFor, hours-ahead, minutes-ahead, hours-behind, minutes-behind}
+use Rattle.value_laws.specs.Calendar.{two, Offset, offset-hours, offset-minutes, StandsFor, hours-ahead, minutes-ahead, hours-behind, minutes-behind, Within}
 use Rattle.value_laws.proofs.DateWords.{kind-11}
 
 time-hours : (s h : ℕ) → timeOf (s ∷ two h) ≡ h * 60
@@ -66,10 +66,6 @@ minutes-law v z = (minutes-to v z, minutes-from v z)
 -- octets stand for one number of minutes at most
 pub one-meaning : (v : List ℕ) (y z : ℤ) → StandsFor y v → StandsFor z v → y ≡ z
 one-meaning v y z g h = sym (stands-gives g) ∙ stands-gives h
-
--- so many minutes, ahead or behind
-abbrev pub Within : ℕ → ℤ → Type 0
-Within most z = (n : ℕ) × (n ≤ most) × ((z ≡ pos n) ⊎ (z ≡ negℤ (pos n)))
 
 pub range-law : {z : ℤ} {v : List ℕ} → StandsFor z v → Within 1439 z
 range-law (hours-ahead {h = h} l) = (h * 60, omega arith, inl refl)

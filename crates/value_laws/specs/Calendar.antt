@@ -54,6 +54,10 @@ pub data StandsFor : ℤ → List ℕ → Type 0 where
   hours-behind : {h : ℕ} → h < 24 → StandsFor (negℤ (pos (h * 60))) (hyphen ∷ two h)
   minutes-behind : {h m : ℕ} → h < 24 → m < 60 → StandsFor (negℤ (pos (h * 60 + m))) (hyphen ∷ (two h ++ two m))
 
+-- at most so many minutes, ahead or behind
+abbrev pub Within : ℕ → ℤ → Type 0
+Within most z = (n : ℕ) × (n ≤ most) × ((z ≡ pos n) ⊎ (z ≡ negℤ (pos n)))
+
 -- [zone], zone = "Z" / utc-offset
 pub data Zone : List ℕ → Type 0 where
   no-zone : Zone []

@@ -1,4 +1,4 @@
--- Which kind a line's value has, to be held beside REFERENCE, The kind of a line. Assumes nothing.
+-- Which kind a line's value has, to be held beside REFERENCE, The VALUE rule. Assumes nothing.
 use Prim.Native.Nat.{ℕ, _<_}
 use mathlib.Core.Path.{_≡_}
 use mathlib.Core.Bool.{true, false}
