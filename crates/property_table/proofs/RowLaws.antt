@@ -123,8 +123,8 @@ pub none-starts : (l c : ℕ) → (0 < l → l < 13 → within 97 122 c ≡ true
 unfolding choiceFrom
 none-starts l c f =
     unlike (startsAs l c) 38 1 refl (λ k g h e.
-      let b = start-both l c (rowAt k) e in
-      f (omega (arith, b .0, name-some k g h)) (omega (arith, b .0, name-short k h)) (rw (b .1) at (name-letter k g h)))
+    let b = start-both l c (rowAt k) e in
+    f (omega (arith, b .0, name-some k g h)) (omega (arith, b .0, name-short k h)) (rw (b .1) at (name-letter k g h)))
 
 pub first-none : (l c : ℕ) → (0 < l → l < 13 → within 97 122 c ≡ true → ⊥) → firstOf l c ≡ 0
 unfolding firstOf
@@ -160,8 +160,8 @@ onward v (suc d) n h p e =
     by (agrees v (rowAt n))
     (λ q. rw (choice-in (agrees v) n low q) (record { on = record { low = low; over = λ z. absurd (omega arith); here = λ g. e; agree = λ g. q }; after = λ g. omega arith }))
     (λ q.
-      let s = onward v d (n + 1) (omega arith) (omega arith) (e ∙ search-other v n low q) in
-      rw (choice-out (agrees v) n low q) (record { on = s .on; after = λ g. omega (arith, s .after g) }))
+    let s = onward v d (n + 1) (omega arith) (omega arith) (e ∙ search-other v n low q) in
+    rw (choice-out (agrees v) n low q) (record { on = s .on; after = λ g. omega (arith, s .after g) }))
 
 pub along-first : (v : List ℕ) → Along v (firstOf (length v) (initial v))
 unfolding firstOf firstFrom choiceFrom agrees
@@ -213,36 +213,38 @@ module _ (t : List ℕ) (table : Lists t) (n : ℕ) (h : n < 39) where
   listed =
       record {
         spelt = λ i l.
-          at i (omega (arith, name-short n h))
-          ∙ sym (getD-take (length (rowAt n .name)) (entries n) i 0 l)
-          ∙ ap (λ (s : List ℕ). getD s i 0) (name-front n h);
+            at i (omega (arith, name-short n h))
+            ∙ sym (getD-take (length (rowAt n .name)) (entries n) i 0 l)
+            ∙ ap (λ (s : List ℕ). getD s i 0) (name-front n h);
         mark = at 12 (omega arith) ∙ alike (λ j. getD (entries j) 12 0) onceAt 39 refl n h;
         sort = at 13 (omega arith) ∙ alike (λ j. getD (entries j) 13 0) kindAt 39 refl n h;
         link = at 14 (omega arith) ∙ alike (λ j. getD (entries j) 14 0) nextOf 39 refl n h;
         rule = at 15 (omega arith) ∙ alike (λ j. getD (entries j) 15 0) ruleAt 39 refl n h;
       }
 
-firsts-at : (l c k i : ℕ) → i < k → getD (firsts l c k) i 0 ≡ firstOf l (c + i)
+firsts-at : (c l k i : ℕ) → i < k → getD (firsts c l k) i 0 ≡ firstOf (l + i) c
 unfolding firsts
-firsts-at l c zero i h = absurd (omega arith)
-firsts-at l c (suc k) zero h = ap (firstOf l) (omega arith)
-firsts-at l c (suc k) (suc i) h = firsts-at l (suc c) k i (omega arith) ∙ ap (firstOf l) (omega arith)
+firsts-at c l zero i h = absurd (omega arith)
+firsts-at c l (suc k) zero h = ap (λ (n : ℕ). firstOf n c) (omega arith)
+firsts-at c l (suc k) (suc i) h = firsts-at c (suc l) k i (omega arith) ∙ ap (λ (n : ℕ). firstOf n c) (omega arith)
 
-firsts-length : (l c k : ℕ) → length (firsts l c k) ≡ k
+firsts-length : (c l k : ℕ) → length (firsts c l k) ≡ k
 unfolding firsts
-firsts-length l c zero = refl
-firsts-length l c (suc k) = ap suc (firsts-length l (suc c) k)
+firsts-length c l zero = refl
+firsts-length c l (suc k) = ap suc (firsts-length c (suc l) k)
 
-index-length : (n : ℕ) → n < 12 → length (indexEntries n) ≡ 32
+index-length : (n : ℕ) → n < 26 → length (indexEntries n) ≡ 16
 unfolding indexEntries
-index-length n h = firsts-length (suc n) 97 32
+index-length n h = firsts-length (97 + n) 0 16
 
--- the index's entry for names of n + 1 octets and a letter
-pub index-at : (t : List ℕ) → Lists t → (n i : ℕ) → n < 12 → i < 32 → getD t (624 + n * 32 + i) 0 ≡ firstOf (suc n) (97 + i)
+-- the index's entry for a letter and names of l octets
+pub index-at : (t : List ℕ) → Lists t → (n l : ℕ) → n < 26 → l < 16 → getD t (624 + n * 16 + l) 0 ≡ firstOf l (97 + n)
 unfolding indexEntries
-index-at t table n i g h =
-    let there : 624 + n * 32 + i ≡ 624 + (n * 32 + i) = omega arith in
+index-at t table n l g h =
+    let there : 624 + n * 16 + l ≡ 624 + (n * 16 + l) = omega arith in
+    let size : 0 + l ≡ l = omega arith in
     ap (λ (j : ℕ). getD t j 0) there
-    ∙ sym (getD-drop 624 t (n * 32 + i) 0)
-    ∙ entry-at indexEntries 32 12 index-length (drop 624 t) (table .index) n g i h
-    ∙ firsts-at (suc n) 97 32 i h
+    ∙ sym (getD-drop 624 t (n * 16 + l) 0)
+    ∙ entry-at indexEntries 16 26 index-length (drop 624 t) (table .index) n g l h
+    ∙ firsts-at (97 + n) 0 16 l h
+    ∙ ap (λ (j : ℕ). firstOf j (97 + n)) size

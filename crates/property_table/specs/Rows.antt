@@ -1,5 +1,5 @@
 -- The property table, by REFERENCE, The property table, the row of a name, and the kind of a line. Assumes nothing.
-use Prim.Native.Nat.{ℕ, zero, suc}
+use Prim.Native.Nat.{ℕ, zero, suc, _+_}
 use Prim.Native.String.{String}
 use mathlib.Core.Bool.{Bool, true, false, not, _&&_, _||_}
 use mathlib.Core.List.{List, [], _∷_, _++_}
@@ -217,28 +217,27 @@ nameEntries n = take longestName (rowAt n .name ++ octets "............")
 unfoldable pub entries : ℕ → List ℕ
 entries n = nameEntries n ++ onceAt n ∷ kindAt n ∷ nextOf n ∷ ruleAt n ∷ []
 
--- for names of l octets, the first row for each of k letters from c on
+-- for names that start with c, the first row for each of k lengths from l on
 unfoldable pub firsts : ℕ → ℕ → ℕ → List ℕ
-firsts l c zero = []
-firsts l c (suc k) = firstOf l c ∷ firsts l (suc c) k
+firsts c l zero = []
+firsts c l (suc k) = firstOf l c ∷ firsts c (suc l) k
 
--- how many entries the index has for a length: those of the 26 letters, and six without a row
-abbrev pub indexWidth : ℕ
-indexWidth = 32
+-- how many letters there are, and the first of them
+abbrev pub letterCount : ℕ
+letterCount = 26
 
--- the letter a, of the index's first entries
 abbrev pub firstLetter : ℕ
 firstLetter = 97
 
--- the index's entries for names of n + 1 octets
+-- the index's entries for names that start with the letter of this number, counted from 0: the first row for each length from 0 to 15
 unfoldable pub indexEntries : ℕ → List ℕ
-indexEntries n = firsts (suc n) firstLetter indexWidth
+indexEntries n = firsts (firstLetter + n) 0 rowLength
 
 -- where the index starts: behind the rows
 abbrev pub indexStart : ℕ
 indexStart = 624
 
--- a list is the property table: the rows, and behind them the index by length and letter
+-- a list is the property table: the rows, and behind them the index by letter and length
 pub record Lists (t : List ℕ) : Type 0 where
   pub lines : TableOf entries property.count (take indexStart t)
-  pub index : TableOf indexEntries longestName (drop indexStart t)
+  pub index : TableOf indexEntries letterCount (drop indexStart t)

@@ -47,11 +47,11 @@ pub const BY_CALENDAR: usize = 2;
 // The rule of TZ, whose kind VALUE sets, an offset too.
 pub const BY_ZONE: usize = 3;
 
-// Where the index starts: behind the rows.
-const INDEX: usize = property::COUNT * ROW;
+// The letter a, which the index starts with.
+const FIRST_LETTER: usize = 97;
 
-// How many entries the index has for a length of names, one for each letter from a on.
-const LETTERS: usize = 32;
+// Where the index starts, behind the rows; it has as many entries as a row for each letter, one for each length.
+const INDEX: usize = property::COUNT * ROW;
 
 // The table as a value, which its users are lent: a use of the constant in a loop would build it there at each turn.
 pub fn table() -> PropertyTable
@@ -86,7 +86,7 @@ fn first_chosen(rows: &PropertyTable, name: &[u8]) -> usize
     if b'z' < letter {
         return 0;
     }
-    wide(rows[INDEX + (name.len() - 1) * LETTERS + wide(letter - b'a')])
+    wide(rows[INDEX + (wide(letter) - FIRST_LETTER) * ROW + name.len()])
 }
 
 // The next row that agrees with this one's name in length and first letter, 0 for none.

@@ -29,7 +29,7 @@ module _ (p : Row → Bool) where
   in-choice (suc d) m n e h =
       let low : m < 39 = omega arith in
       let later : List·Memᴰ n (choiceFrom p (m + 1)) → (m ≤ n) × (n < 39) × (p (rowAt n) ≡ true) =
-        λ k. let r = in-choice d (m + 1) n (omega arith) k in (omega (arith, r .0), r .1, r .2) in
+      λ k. let r = in-choice d (m + 1) n (omega arith) k in (omega (arith, r .0), r .1, r .2) in
       by (p (rowAt m)) (λ q. first low q later (List·Memᴰ·cases-cons (rw (choice-in p m low q) at h))) (λ q. later (rw (choice-out p m low q) at h))
     where
       first : {m n : ℕ} → m < 39 → p (rowAt m) ≡ true → (List·Memᴰ n (choiceFrom p (m + 1)) → (m ≤ n) × (n < 39) × (p (rowAt n) ≡ true))
@@ -74,7 +74,7 @@ among-from v (suc d) m e =
     let rest = among-from v d (m + 1) (omega arith) in
     by (agrees v (rowAt m))
     (λ q. rw (choice-in (agrees v) m low q)
-      (by (same v (rowAt m .name)) (λ s. rw s (sym (search-found v m low s))) (λ s. rw s (rest ∙ sym (search-next v m low s)))))
+    (by (same v (rowAt m .name)) (λ s. rw s (sym (search-found v m low s))) (λ s. rw s (rest ∙ sym (search-next v m low s)))))
     (λ q. rw (choice-out (agrees v) m low q) (rest ∙ sym (search-other v m low q)))
 
 -- the row after row n that agrees with a name that row n agrees with
@@ -93,8 +93,8 @@ next-pair n m h p e =
     by (eqb n 17)
     (λ q. inl (eqb-true n 17 q, sym e ∙ (rw q at row)))
     (λ q. by (eqb n 31)
-      (λ r. inr (eqb-true n 31 r, sym e ∙ (rw (q, r) at row)))
-      (λ r. let none : nextOf n ≡ 0 = rw (q, r) at row in absurd (omega arith)))
+    (λ r. inr (eqb-true n 31 r, sym e ∙ (rw (q, r) at row)))
+    (λ r. let none : nextOf n ≡ 0 = rw (q, r) at row in absurd (omega arith)))
 
 module _ (v : List ℕ) where
   abbrev on : ℕ → List ℕ

@@ -1,7 +1,7 @@
 -- `property_table::first_chosen` meets its contract. Assumes nothing.
 use borrow.Author.Needs.{needs}
 use mathlib.Core.Path.{_≡_, sym, ap, _∙_}
-use Prim.Native.Nat.{ℕ, suc, _+_, _-_, _<_}
+use Prim.Native.Nat.{_+_, _-_, _<_}
 use native.Mathlib.Omega.{arith}
 use lib.Bits.{bitOr}
 use lib.ListN.{length, getD}
@@ -38,6 +38,9 @@ returns-4 c =
     let octet : getD v 0 0 < 256 = omega (arith, c .before .before .shared-slice-known2 .given 0) in
     sym (first-none (length v) (initial v) (λ g h l. omega (arith, letter-bounds (getD v 0 0) octet l .1)))
 
+wide-requires : tie.Need-wide-requires
+wide-requires c κs = search needs
+
 sub-wide : tie.Need-sub-wide
 sub-wide c = search needs
 
@@ -46,9 +49,6 @@ mul-wide c = search needs
 
 add-wide : tie.Need-add-wide
 add-wide c = search needs
-
-wide-requires : tie.Need-wide-requires
-wide-requires c κs = search needs
 
 add-wide-2 : tie.Need-add-wide-2
 add-wide-2 c = search needs
@@ -68,11 +68,9 @@ returns-5 c =
     let v = s .args .name .now in
     let octet : getD v 0 0 < 256 = omega (arith, k .shared-slice-known2 .given 0) in
     let small = letter-small (getD v 0 0) octet (omega arith) (omega arith) in
-    let long : suc (length v - 1) ≡ length v = omega arith in
-    let there : 97 + w .wide .result ≡ bitOr (getD v 0 0) 32 = omega arith in
+    let there : 97 + (w .wide .result - 97) ≡ bitOr (getD v 0 0) 32 = omega arith in
     c .wide2 .ensures
-    ∙ index-at (s .args .rows .now) (s .pre) (length v - 1) (w .wide .result) (omega arith) (omega arith)
-    ∙ ap (λ (n : ℕ). firstOf n (97 + w .wide .result)) long
+    ∙ index-at (s .args .rows .now) (s .pre) (w .wide .result - 97) (length v) (omega arith) (omega arith)
     ∙ ap (firstOf (length v)) (there ∙ small)
 
 pub first-chosen-spec : {M : Type 1} → statement M
@@ -84,10 +82,10 @@ first-chosen-spec =
     shared-slice-read-letter
     returns-3
     returns-4
+    wide-requires
     sub-wide
     mul-wide
     add-wide
-    wide-requires
     add-wide-2
     element-copy-out-wide
     wide-requires-2
