@@ -59,7 +59,14 @@ fn fault_of(p: Part) -> u32
 }
 
 // Whether the first value of the line's first parameter of that name is the text in any case; `missing` where it has none.
-fn param_says(t: &ClassTable, s: &[u8], name_end: usize, name: &[u8], text: &[u8], missing: bool) -> bool
+fn param_says(
+    t: &ClassTable,
+    s: &[u8],
+    name_end: usize,
+    name: &[u8],
+    text: &[u8],
+    missing: bool,
+) -> bool
     requires { ⌜ Classes (now t) ⌝ }
     requires { ⌜ Accepted (now s) «name_end» ⌝ }
     ensures { λ r. ⌜ r ≡ says (now (text .entry)) missing (firstValue (now (name .entry)) (now (s .entry))) ⌝ }

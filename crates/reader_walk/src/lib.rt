@@ -48,7 +48,13 @@ fn judge_span(
 const SHORT: usize = 1024;
 
 // Judges the lines one after the other, up to the first refusal, with a scratch that holds them all.
-fn walk_in(t: &ClassTable, rows: &PropertyTable, steps: &Transitions, s: &[u8], scratch: &mut [u8]) -> Step
+fn walk_in(
+    t: &ClassTable,
+    rows: &PropertyTable,
+    steps: &Transitions,
+    s: &[u8],
+    scratch: &mut [u8],
+) -> Step
     requires { ⌜ Tables (now t) (now rows) (now steps) ⌝ }
     requires { ⌜ length (now s) ≤ limit.octets ⌝ }
     requires { ⌜ length (now s) ≤ length (now scratch) ⌝ }

@@ -319,7 +319,7 @@ stamp-rest y m d w l f k =
     let b = minute-full .to (a .1) (a .5) in
     let c = second-zoned .to (b .1) (b .5) in
     let whole : w ≡ 84 ∷ (two (a .0) ++ (two (b .0) ++ (two (c .0) ++ c .1))) =
-        x .1 ∙ ap (λ (v : List ℕ). 84 ∷ v) (a .4 ∙ ap (λ (v : List ℕ). two (a .0) ++ v) (b .4 ∙ ap (λ (v : List ℕ). two (b .0) ++ v) (c .4))) in
+    x .1 ∙ ap (λ (v : List ℕ). 84 ∷ v) (a .4 ∙ ap (λ (v : List ℕ). two (a .0) ++ v) (b .4 ∙ ap (λ (v : List ℕ). two (b .0) ++ v) (c .4))) in
     subst (λ (v : List ℕ). Timestamp (four y ++ (two m ++ (two d ++ v)))) (sym whole)
     (stamp l f (low 24 (a .0) (a .3)) (low 60 (b .0) (b .3)) (over 60 (c .0) (c .3)) (zone-to (c .1) (c .5)))
 

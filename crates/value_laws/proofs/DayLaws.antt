@@ -97,16 +97,18 @@ abbrev pub monthly : ℕ → Shape → ℕ → Shape
 monthly feb r m = pick (inMonth 12 m) (dayOf (days feb m) r) never
 
 module _ where
-
   pub d28 : Tested (day28 timed) (inMonth 28) timed
   unfolding upto starts led figured nullable derivative chain fork isNever holds isDigit among day28 timed clock hour
   d28 = tested _ _ _ (pair (day28 timed) (λ n. pick (inMonth 28 n) timed never) refl refl refl)
+
   pub d29 : Tested (day29 timed) (inMonth 29) timed
   unfolding upto starts led figured nullable derivative chain fork isNever holds isDigit among day29 timed clock hour
   d29 = tested _ _ _ (pair (day29 timed) (λ n. pick (inMonth 29 n) timed never) refl refl refl)
+
   pub d30 : Tested (day30 timed) (inMonth 30) timed
   unfolding upto starts led figured nullable derivative chain fork isNever holds isDigit among day30 timed clock hour
   d30 = tested _ _ _ (pair (day30 timed) (λ n. pick (inMonth 30 n) timed never) refl refl refl)
+
   pub d31 : Tested (day31 timed) (inMonth 31) timed
   unfolding upto starts led figured nullable derivative chain fork isNever holds isDigit among day31 timed clock hour
   d31 = tested _ _ _ (pair (day31 timed) (λ n. pick (inMonth 31 n) timed never) refl refl refl)
@@ -114,12 +116,15 @@ module _ where
   pub f28 : Tested (day28 fullTime) (inMonth 28) fullTime
   unfolding upto starts led figured nullable derivative chain fork isNever holds isDigit among day28 fullTime
   f28 = tested _ _ _ (pair (day28 fullTime) (λ n. pick (inMonth 28 n) fullTime never) refl refl refl)
+
   pub f29 : Tested (day29 fullTime) (inMonth 29) fullTime
   unfolding upto starts led figured nullable derivative chain fork isNever holds isDigit among day29 fullTime
   f29 = tested _ _ _ (pair (day29 fullTime) (λ n. pick (inMonth 29 n) fullTime never) refl refl refl)
+
   pub f30 : Tested (day30 fullTime) (inMonth 30) fullTime
   unfolding upto starts led figured nullable derivative chain fork isNever holds isDigit among day30 fullTime
   f30 = tested _ _ _ (pair (day30 fullTime) (λ n. pick (inMonth 30 n) fullTime never) refl refl refl)
+
   pub f31 : Tested (day31 fullTime) (inMonth 31) fullTime
   unfolding upto starts led figured nullable derivative chain fork isNever holds isDigit among day31 fullTime
   f31 = tested _ _ _ (pair (day31 fullTime) (λ n. pick (inMonth 31 n) fullTime never) refl refl refl)
@@ -128,15 +133,19 @@ module _ where
   pub leap-months : Pair (months (day29 timed) (day30 timed) (day31 timed)) (monthly 29 timed)
   unfolding upto starts led figured nullable derivative chain fork isNever holds isDigit among months day28 day29 day30 day31 timed clock hour days
   leap-months = pair (months (day29 timed) (day30 timed) (day31 timed)) (monthly 29 timed) refl refl refl
+
   pub common-months : Pair (months (day28 timed) (day30 timed) (day31 timed)) (monthly 28 timed)
   unfolding upto starts led figured nullable derivative chain fork isNever holds isDigit among months day28 day29 day30 day31 timed clock hour days
   common-months = pair (months (day28 timed) (day30 timed) (day31 timed)) (monthly 28 timed) refl refl refl
+
   pub leap-full : Pair leapFull (monthly 29 fullTime)
   unfolding upto starts led figured nullable derivative chain fork isNever holds isDigit among leapFull months day28 day29 day30 day31 fullTime days
   leap-full = pair leapFull (monthly 29 fullTime) refl refl refl
+
   pub common-full : Pair commonFull (monthly 28 fullTime)
   unfolding upto starts led figured nullable derivative chain fork isNever holds isDigit among commonFull months day28 day29 day30 day31 fullTime days
   common-full = pair commonFull (monthly 28 fullTime) refl refl refl
+
   pub loose-months : Pair (months (day29 timed or empty) (day30 timed or empty) (day31 timed or empty)) (λ m. pick (inMonth 12 m) (dayOf (days 29 m) timed or empty) never)
   unfolding upto starts led figured nullable derivative chain fork isNever holds isDigit among months day28 day29 day30 day31 timed clock hour days
   loose-months = pair (months (day29 timed or empty) (day30 timed or empty) (day31 timed or empty)) (λ m. pick (inMonth 12 m) (dayOf (days 29 m) timed or empty) never) refl refl refl

@@ -143,7 +143,7 @@ module _ (n : ℕ) (value calscale : Option (List ℕ)) (low : n < 39) where
       by-value t (λ e j. one-text value (octets "text") (octets "utc-offset") text-no-offset i j) ∙ rw (i .1, i .2)
   kind-from (uri t i) =
       let no : same (i .0) (octets "text") ≡ false =
-          by (same (i .0) (octets "text")) (λ e. absurd (one-text value (octets "text") (octets "uri") text-no-uri (i .0, i .1, e) i)) (λ e. e) in
+      by (same (i .0) (octets "text")) (λ e. absurd (one-text value (octets "text") (octets "uri") text-no-uri (i .0, i .1, e) i)) (λ e. e) in
       by-value t (λ e j. one-text value (octets "uri") (octets "utc-offset") uri-no-offset i j) ∙ rw (i .1, no, i .2)
   kind-from (other t f a b) =
       let same-value : b .0 ≡ a .0 = cc (a .1, b .1) in

@@ -146,8 +146,8 @@ pair r next e f g = record { to = to; from = from }
         let units : n % 10 ≡ b = omega (arith, x .2, y .2) in
         let low : n < 100 = omega (arith, x .2, y .2) in
         let shape : derivative (48 + b) (derivative (48 + a) r) ≡ next n =
-            sym (ap (λ (k : ℕ). derivative (48 + k) (derivative (48 + n / 10) r)) units ∙ ap (λ (k : ℕ). derivative (48 + b) (derivative (48 + k) r)) tens)
-            ∙ alike (λ k. derivative (48 + k % 10) (derivative (48 + k / 10) r)) next 100 g n low in
+        sym (ap (λ (k : ℕ). derivative (48 + k) (derivative (48 + n / 10) r)) units ∙ ap (λ (k : ℕ). derivative (48 + b) (derivative (48 + k) r)) tens)
+        ∙ alike (λ k. derivative (48 + k % 10) (derivative (48 + k / 10) r)) next 100 g n low in
         (n, y .1, low, x .3 ∙ rw (tens, units) (ap (λ (l : List ℕ). (48 + a) ∷ l) (y .3)), subst (λ (s : Shape). Matches s (y .1)) shape (y .4))
 
     from : (n : ℕ) (w : List ℕ) → n < 100 → Matches (next n) w → Matches r (two n ++ w)

@@ -45,10 +45,9 @@ returns-2 c =
     let e = b .before in
     let fits = subst (SFits w32) (sym (c .signed .ensures)) (signed-fits (b .is-behind .result) (t .time-of .result) (t .time-of .ensures .1)) in
     let back = toZ-ofZ w32 (c .signed .result) fits in
-    let size = ap natAbs (c .signed .ensures) ∙ signed-size (b .is-behind .result) (t .time-of .result) in
-    (
+    let size = ap natAbs (c .signed .ensures) ∙ signed-size (b .is-behind .result) (t .time-of .result) in (
       ap Minutes back
-      ∙ rw (c .signed .ensures, b .is-behind .ensures, t .time-of .ensures .0, sym (e .before .before .value-fault .ensures) ∙ e .enum-told .given .1),
+          ∙ rw (c .signed .ensures, b .is-behind .ensures, t .time-of .ensures .0, sym (e .before .before .value-fault .ensures) ∙ e .enum-told .given .1),
       subst (λ (z : ℤ). natAbs z ≤ mostMinutes) (sym back) (rw size (t .time-of .ensures .1)),
     )
 
