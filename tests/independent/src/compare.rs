@@ -6,6 +6,7 @@ use std::sync::mpsc::{channel, Receiver, Sender};
 use std::thread;
 
 use crate::console::Console;
+use crate::generator::alternatives::alternatives;
 use crate::generator::folds::folds;
 use crate::generator::line_faults::line_faults;
 use crate::generator::lists::lists;
@@ -22,6 +23,7 @@ pub struct Plan {
     pub readers: usize,
     pub line_faults: usize,
     pub names: usize,
+    pub alternatives: usize,
     pub folds: usize,
     pub texts: usize,
     pub lists: usize,
@@ -37,6 +39,7 @@ impl Default for Plan {
             readers: 100_000,
             line_faults: 30_000,
             names: 30_000,
+            alternatives: 30_000,
             folds: 10_000,
             texts: 80_000,
             lists: 2_000,
@@ -65,6 +68,7 @@ pub fn steps(plan: Plan) -> impl Iterator<Item = Step> {
         .chain(readers(plan.seed).take(plan.readers).map(of("readers")))
         .chain(line_faults(plan.seed).take(plan.line_faults).map(of("line faults")))
         .chain(names(plan.seed).take(plan.names).map(of("names")))
+        .chain(alternatives(plan.seed).take(plan.alternatives).map(of("alternatives")))
         .chain(folds(plan.seed).take(plan.folds).map(of("folds")))
         .chain(texts(plan.seed).take(plan.texts).map(of("texts")))
         .chain(calls)
@@ -103,10 +107,12 @@ fn routine_steps(plan: Plan) -> impl Iterator<Item = Step> {
     let judged = readers(plan.seed).filter(|line| line.starts_with("judge "));
     let faulty = line_faults(plan.seed).filter(|line| !line.starts_with("read "));
     let named = names(plan.seed).filter(|line| line.starts_with("judge "));
+    let tagged = alternatives(plan.seed).filter(|line| !line.starts_with("read "));
     let unescaped = texts(plan.seed).filter(|line| line.starts_with("unescape "));
     (judged.take(plan.readers).map(of("readers")))
         .chain(faulty.take(plan.line_faults).map(of("line faults")))
         .chain(named.take(plan.names).map(of("names")))
+        .chain(tagged.take(plan.alternatives).map(of("alternatives")))
         .chain(folds(plan.seed).take(plan.folds).map(of("folds")))
         .chain(unescaped.take(plan.texts).map(of("texts")))
 }
