@@ -55,6 +55,9 @@ static const struct row {
     {DECODE, "plain", 63},
     {DECODE, "plain", 32},
     {DECODE, "plain", 12},
+    {TAKE, "book", LIMIT},
+    {TAKE, "dense", LIMIT},
+    {TAKE, "damaged", LIMIT},
     {MEMCPY, "book", LIMIT},
 };
 #define ROWS LENGTH(rows)

@@ -1,4 +1,4 @@
-/* The routines as jobs: the unit's, of which read, escape, encode, decode and the desk's calls are for the benchmark alone, and plain C's. */
+/* The routines as jobs: the unit's, of which read, escape, encode, decode, take and the desk's calls are for the benchmark alone, and plain C's. */
 #include "jobs.h"
 #include "gerstebolk.h"
 #include <stdio.h>
@@ -9,6 +9,7 @@ extern uint64_t timed_escape(const uint8_t *text, size_t len, uint8_t *out, size
 extern uint64_t timed_encode(const uint8_t *value, size_t len, uint8_t *out, size_t room);
 extern uint64_t timed_decode(const uint8_t *label, size_t len, uint8_t *out, size_t room);
 extern uint64_t timed_read(const uint8_t *input, size_t len, uint8_t *copy, size_t copy_room, uint32_t *records, size_t record_room);
+extern uint64_t timed_take(const uint8_t *input, size_t len);
 extern uint64_t timed_desk(uint8_t *pool, size_t size, const uint8_t *chunk, size_t len, uint32_t opens, size_t adds, uint32_t kind, size_t n);
 
 static struct {
@@ -36,6 +37,7 @@ JOB(unit_unescape, unescape(IN, OUT))
 JOB(unit_escape, timed_escape(IN, OUT))
 JOB(unit_encode, timed_encode(IN, OUT))
 JOB(unit_decode, timed_decode(IN, OUT))
+JOB(unit_take, timed_take(IN))
 JOB(copy_octets, (uintptr_t)memcpy(rooms.octets, IN))
 JOB(c_judge, plain_judge(IN))
 JOB(c_read, number_of(plain_read(IN, COPY)))
@@ -45,9 +47,9 @@ JOB(c_escape, number_of(plain_escape(IN, OUT)))
 JOB(c_encode, number_of(plain_encode(IN, OUT)))
 JOB(c_decode, number_of(plain_decode(IN, OUT)))
 
-const char *const routine_names[ROUTINES] = {"judge", "read", "fold", "unescape", "escape", "encode", "decode", "memcpy"};
-uint64_t (*const unit_jobs[ROUTINES])(const void *) = {unit_judge, unit_read, unit_fold, unit_unescape, unit_escape, unit_encode, unit_decode, copy_octets};
-uint64_t (*const plain_jobs[ROUTINES])(const void *) = {c_judge, c_read, c_fold, c_unescape, c_escape, c_encode, c_decode, NULL};
+const char *const routine_names[ROUTINES] = {"judge", "read", "fold", "unescape", "escape", "encode", "decode", "take", "memcpy"};
+uint64_t (*const unit_jobs[ROUTINES])(const void *) = {unit_judge, unit_read, unit_fold, unit_unescape, unit_escape, unit_encode, unit_decode, unit_take, copy_octets};
+uint64_t (*const plain_jobs[ROUTINES])(const void *) = {c_judge, c_read, c_fold, c_unescape, c_escape, c_encode, c_decode, NULL, NULL};
 
 #define DESK_JOB(name, answer)               \
     static uint64_t name(const void *what) { \

@@ -4,12 +4,12 @@
 #include "plain.h"
 #include "timing.h"
 
-enum routine { JUDGE, READ, FOLD, UNESCAPE, ESCAPE, ENCODE, DECODE, MEMCPY, ROUTINES };
+enum routine { JUDGE, READ, FOLD, UNESCAPE, ESCAPE, ENCODE, DECODE, TAKE, MEMCPY, ROUTINES };
 
 extern const char *const routine_names[ROUTINES];
 /* The unit's routines, for MEMCPY the C library's. */
 extern uint64_t (*const unit_jobs[ROUTINES])(const void *input);
-/* Plain C's, none for MEMCPY. */
+/* Plain C's, none for TAKE and MEMCPY. */
 extern uint64_t (*const plain_jobs[ROUTINES])(const void *input);
 
 /* Calls to a fresh desk of 40 slots: openings, additions of the chunk, and then n calls of a kind. */

@@ -1,6 +1,7 @@
 // cabbook: the workshop's command-line tool over the reader, the folder, text, labels and the desk.
 mod checking;
 mod printing;
+mod reporting;
 mod table;
 mod usage;
 mod values;
@@ -92,6 +93,24 @@ fn check_all(count: usize) -> u8
     status
 }
 
+// Prints the report of the files that the arguments from the second on name; `--bars` may stand anywhere among them.
+fn report_all(count: usize) -> u8
+    ensures { λ r. ⌜ Status r ⌝ }
+{
+    let mut bars: usize = 0;
+    let mut i: usize = FIRST_FILE;
+    while i < count {
+        if reporting::is_option(i, b"--bars") {
+            bars = 1;
+        }
+        i += 1;
+    }
+    if count <= FIRST_FILE + bars {
+        return usage::print_usage(b"report needs a FILE");
+    }
+    reporting::report_files(FIRST_FILE, count, bars == 1)
+}
+
 // Does the command with the file that the argument `first` names, which is the last.
 fn apply_to_one(command: Command, first: usize, count: usize) -> u8
     requires { ⌜ first ≤ 3 ⌝ }
@@ -146,6 +165,14 @@ fn fold_one(count: usize) -> u8 {
     )
 }
 
+// The argument that names a morning's first file.
+fn first_upload() -> usize {
+    if reporting::is_option(FIRST_FILE, b"--chunk") {
+        return FIRST_FILE + 2;
+    }
+    FIRST_FILE
+}
+
 // Runs a morning of uploads, or says what its options lack.
 fn run_morning(count: usize) -> u8
     ensures { λ r. ⌜ Status r ⌝ }
@@ -154,7 +181,10 @@ fn run_morning(count: usize) -> u8
     match p {
         Ending::NoSize => usage::print_usage(b"--chunk takes a number from 1 to 16,384"),
         Ending::NoFile => usage::print_usage(b"morning needs a FILE"),
-        Ending::Played(status) => status,
+        Ending::Played(status) => {
+            reporting::print_after(first_upload(), count);
+            status
+        }
     }
 }
 
@@ -191,6 +221,9 @@ fn run(name: &[u8], count: usize) -> u8 {
     }
     if same_name(name, b"morning") {
         return run_morning(count);
+    }
+    if same_name(name, b"report") {
+        return report_all(count);
     }
     if same_name(name, b"help") || same_name(name, b"--help") {
         return usage::print_help();

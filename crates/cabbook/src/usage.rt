@@ -39,6 +39,10 @@ fn print_commands(to: i32) {
         to,
         b"  cabbook morning [--chunk N] FILE..  forty uploads at a time on one desk\n",
     );
+    io::write_all(
+        to,
+        b"  cabbook report [--bars] FILE..      the counts of the files' judgements\n",
+    );
     io::write_all(to, b"  cabbook help                        this\n");
 }
 

@@ -47,6 +47,7 @@ messages =
     message refusal.quote "quote left open or out of place" ∷
     message refusal.noColon "no colon" ∷
     message refusal.noLabel "newline or quote mark, which RFC 6350 can't write" ∷
+    message refusal.reportFull "a count of the report would pass 4,294,967,295" ∷
     []
 
 -- the words of a number among messages; none where no message has it

@@ -8,7 +8,7 @@ use octets::indices::wide;
 const HEAD: usize = 2;
 
 // tools/messages makes the table from here on.
-const SIZE: usize = 956;
+const SIZE: usize = 1004;
 
 const MESSAGES: [u8; SIZE] = *b"\
     \x01\x18input over 16,384 octets\
@@ -39,7 +39,8 @@ const MESSAGES: [u8; SIZE] = *b"\
     \x29\x29parameter without '=', or with a bad name\
     \x2a\x1fquote left open or out of place\
     \x2b\x08no colon\
-    \x2c\x31newline or quote mark, which RFC 6350 can't write";
+    \x2c\x31newline or quote mark, which RFC 6350 can't write\
+    \x50\x2ea count of the report would pass 4,294,967,295";
 
 // The table as a value.
 fn table() -> [u8; SIZE]

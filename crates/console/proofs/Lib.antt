@@ -1,2 +1,3 @@
 -- The law that the proof of the answers cites. Assumes nothing.
 mod Said
+pub mod Others

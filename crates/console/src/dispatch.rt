@@ -1,12 +1,13 @@
 // The answer to a line: its request, handed to the call that it names.
 ghost use mathlib.Core.Path.{_≡_};
 ghost use Rattle.console_desk.specs.DeskAnswers.{stateOf, withPool};
-ghost use Rattle.console.specs.Dispatch.{answerTo, answerIn, answerLine};
+ghost use Rattle.console.specs.Dispatch.{answerBy, wholeOf, answerTo, answerIn, answerLine};
 use console_desk::Change;
 use console_desk::Console;
 use console_desk::Look;
 use console_entries::entries;
 use console_entries::entries::Writer;
+use console_report::Kept;
 use console_requests::Name;
 use console_requests::Request;
 use label_carets::Rule;
@@ -17,9 +18,9 @@ const LINE: usize = 140000;
 // The most octets that such a line can send.
 const OCTETS: usize = 70000;
 
-// Answers a request.
+// Answers a request to an entry or the desk; any other is none.
 fn answer_request(q: Request, c: Console, sent: &[u8], pool: &mut [u8], out: &mut [u8]) -> Console
-    ensures { λ r. ⌜ withPool (stateOf r (now (out .exit))) (now (pool .exit)) ≡ answerTo q (now (sent .entry)) (stateOf c (now (out .entry))) (now (pool .entry)) ⌝ }
+    ensures { λ r. ⌜ withPool (stateOf r (now (out .exit))) (now (pool .exit)) ≡ answerBy (q .name) (q .first) (q .second) (q .third) (now (sent .entry)) (stateOf c (now (out .entry))) (now (pool .entry)) ⌝ }
 {
     let name = q.name;
     let n = q.first;
@@ -71,25 +72,40 @@ fn answer_request(q: Request, c: Console, sent: &[u8], pool: &mut [u8], out: &mu
             c.at,
         )),
         Name::FoldIn => c.with_output(entries::put_fold_answer(n, k, m, sent, out, c.at)),
-        Name::Bad => c.answer_bad(out),
+        _ => c.answer_bad(out),
+    }
+}
+
+// Answers a request, of the report too.
+fn answer_any(q: Request, k: Kept, sent: &[u8], pool: &mut [u8], out: &mut [u8]) -> Kept
+    ensures { λ r. ⌜ wholeOf r (now (out .exit)) (now (pool .exit)) ≡ answerTo q (now (sent .entry)) (wholeOf k (now (out .entry)) (now (pool .entry))) ⌝ }
+{
+    let name = q.name;
+    match name {
+        Name::Report => console_report::answer_fresh(k, out),
+        Name::Take => console_report::answer_take(k, sent, out),
+        Name::Print => console_report::answer_print(k, q.first, out),
+        Name::Count => console_report::answer_count(k, q.first, q.second, out),
+        _ => k.with_console(answer_request(q, k.console, sent, pool, out)),
     }
 }
 
 // Answers a line, with room for the octets that it sends.
-fn answer_in(c: Console, line: &[u8], room: &mut [u8], pool: &mut [u8], out: &mut [u8]) -> Console
-    ensures { λ r. ⌜ withPool (stateOf r (now (out .exit))) (now (pool .exit)) ≡ answerIn (now (line .entry)) (now (room .entry)) (stateOf c (now (out .entry))) (now (pool .entry)) ⌝ }
+fn answer_in(k: Kept, line: &[u8], room: &mut [u8], pool: &mut [u8], out: &mut [u8]) -> Kept
+    ensures { λ r. ⌜ wholeOf r (now (out .exit)) (now (pool .exit)) ≡ answerIn (now (line .entry)) (now (room .entry)) (wholeOf k (now (out .entry)) (now (pool .entry))) ⌝ }
 {
     let q = console_requests::request_of(line, room);
-    answer_request(q, c, octets::slices::part(room, 0, q.count), pool, out)
+    answer_any(q, k, octets::slices::part(room, 0, q.count), pool, out)
 }
 
 // Answers a line without its end.
-pub fn answer_line(c: Console, line: &[u8], pool: &mut [u8], out: &mut [u8]) -> Console
-    ensures { λ r. ⌜ withPool (stateOf r (now (out .exit))) (now (pool .exit)) ≡ answerLine (now (line .entry)) (stateOf c (now (out .entry))) (now (pool .entry)) ⌝ }
+pub fn answer_line(k: Kept, line: &[u8], pool: &mut [u8], out: &mut [u8]) -> Kept
+    ensures { λ r. ⌜ wholeOf r (now (out .exit)) (now (pool .exit)) ≡ answerLine (now (line .entry)) (wholeOf k (now (out .entry)) (now (pool .entry))) ⌝ }
 {
     if line.len() > LINE {
-        return c.answer_bad(out);
+        let c = k.console;
+        return k.with_console(c.answer_bad(out));
     }
     let mut room = [0u8; OCTETS];
-    answer_in(c, line, &mut room, pool, out)
+    answer_in(k, line, &mut room, pool, out)
 }

@@ -2,7 +2,7 @@
 mod dispatch;
 mod input;
 
-use console_desk::Console;
+use console_report::Kept;
 use input::Input;
 use input::Line;
 use libc::STDIN_FILENO;
@@ -25,32 +25,28 @@ fn send(out: &[u8], at: usize) -> usize {
 }
 
 // Makes room for an answer: what waits is sent on where there is less.
-fn make_room(c: Console, out: &[u8]) -> Console {
+fn make_room(k: Kept, out: &[u8]) -> Kept {
+    let c = k.console;
     let at = c.at;
     if at > out.len() {
-        return c.with_output(0);
+        return k.with_console(c.with_output(0));
     }
     if out.len() - at < ANSWER {
-        return c.with_output(send(out, at));
+        return k.with_console(c.with_output(send(out, at)));
     }
-    c
+    k
 }
 
 // Answers a line, or one that is too long; where there is no line the output is sent on.
-fn answer(
-    c: Console,
-    line: Line,
-    long: bool,
-    buffer: &[u8],
-    pool: &mut [u8],
-    out: &mut [u8],
-) -> Console {
+fn answer(k: Kept, line: Line, long: bool, buffer: &[u8], pool: &mut [u8], out: &mut [u8]) -> Kept {
     if !line.found {
-        return c.with_output(send(out, c.at));
+        let c = k.console;
+        return k.with_console(c.with_output(send(out, c.at)));
     }
-    let ready = make_room(c, out);
+    let ready = make_room(k, out);
     if long {
-        return ready.answer_bad(out);
+        let c = ready.console;
+        return ready.with_console(c.answer_bad(out));
     }
     let text = console_words::without_cr(octets::slices::part(buffer, line.from, line.to));
     dispatch::answer_line(ready, text, pool, out)
@@ -114,12 +110,13 @@ fn advance(buffer: &mut [u8], i: Input, line: Line) -> Input {
 // Answers line after line; the count of turns only shows that this ends.
 fn serve(buffer: &mut [u8], pool: &mut [u8], out: &mut [u8]) {
     let mut i = Input::new();
-    let mut c = Console::new();
+    let mut k = Kept::new();
     let mut turns = u64::MAX;
     while turns > 0 {
         let line = input::line_of(buffer, i);
-        c = answer(c, line, i.long, buffer, pool, out);
+        k = answer(k, line, i.long, buffer, pool, out);
         if line.last {
+            let c = k.console;
             send(out, c.at);
             return;
         }

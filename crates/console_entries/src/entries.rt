@@ -148,7 +148,7 @@ fn call(entry: Writer, input: &[u8], room: &mut [u8]) -> Written
 }
 
 // How many octets an entry wrote; 0 on a refusal.
-fn count_of(w: Written) -> usize
+pub fn count_of(w: Written) -> usize
     ensures { λ r. ⌜ r ≡ count w ⌝ }
 {
     match w {

@@ -29,6 +29,10 @@ pub enum Name {
     Encode,
     Decode,
     FoldIn,
+    Report,
+    Take,
+    Print,
+    Count,
     Bad,
 }
 

@@ -53,6 +53,7 @@ use Rattle.reader_grammar.specs.Inputs.{InputOf}
 use Rattle.reader_grammar.proofs.Accepted.{accepted-law, lines-law, one-reading}
 use Rattle.reader_grammar.proofs.RecordLaws.{copy-law, records-law}
 use Rattle.demands.specs.Demand1.{copied, folded, Fair}
+use Rattle.report.specs.Text.{reportText}
 use Rattle.desk_ledger.specs.Answers.{counts, told, verdict, wrote as written-as}
 use Rattle.desk_ledger.proofs.AnswerLaws.{verdict-counts, wrote-told}
 use Rattle.demands.specs.Demand2.{Roomy, ReadAs, Writes, linesIn, ReadAgain, Shortest, Demand2}
@@ -250,6 +251,7 @@ demand2 =
       escapes = λ t out f s h. writes (escapes t out f s h);
       unescapes = λ t u out f s h. writes (unescapes t u out f s h);
       back = λ t out room n e r. writes (round-trip t out (escapeOutcome t out .room) room n (filled-so (escapeOutcome t out) n e) r);
+      prints = λ r out h. writes (fill-so (reportText r) out h);
       c-judge = λ i k n h. (rw (accepted-law i k n .1 h), cards-low i k n h);
       c-fold = λ i out n e. let f = filled-so (foldOutcome i out) n e in (ap wordOutcome f, fold-low i out (foldOutcome i out .room) n f);
       c-unescape = λ t out n e. let f = filled-so (unescapeOutcome t out) n e in (ap wordOutcome f, unescape-low t out (unescapeOutcome t out .room) n f);

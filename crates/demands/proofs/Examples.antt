@@ -36,13 +36,21 @@ use Rattle.folder_line.specs.Pieces as pieces
 use Rattle.folder_raising.specs.Letters as capitals
 use Rattle.folder_raising.specs.Walk as styles
 use Rattle.folder.specs.Outcome as folder
+use Rattle.program_output.specs.Digits as digits
+use Rattle.report_lines.specs.Rows as rows
+use Rattle.report_weights.specs.Counts as kinds-of-count
+use Rattle.report_weights.specs.Parts as weights
+use Rattle.report.specs.Steps as report
+use Rattle.report.specs.Text as printed
+use Rattle.report_laws.specs.Totals as totals
+use Rattle.octets.specs.Counts as tests
 use Rattle.desk_pool.specs.Pools as pool
 use Rattle.desk_entries.specs.Search as searches
 use Rattle.desk_slots.specs.Sound as sound
 use Rattle.desk_slots.specs.Slots as slots
 use Rattle.desk.specs.Steps as desk
 use Rattle.desk_ledger.specs.Ledger as ledger
-use Rattle.demands.specs.Examples.{Holds, marked, cardM, foldedM, recordsM, Merged, smallName, capitalName}
+use Rattle.demands.specs.Examples.{Holds, marked, cardM, foldedM, recordsM, rowsM, Merged, smallName, capitalName}
 use Rattle.demands.proofs.Tested.{sameNumbers, sameAnswers, allHold, tested}
 
 -- ---- what the examples compute by: to unfold a name of this part is to unfold what its own line names
@@ -111,6 +119,14 @@ by-styles : Unit {0}
 unfolding capitals.upper styles.raisedFrom styles.raised
 by-styles = tt
 
+by-report : Unit {0}
+unfolding rows.rowOfName rows.linesWith rows.numbersFrom rows.lineCounts kinds-of-count.counts weights.part weights.weights tests.any report.over report.sums report.takeStep
+by-report = tt
+
+by-print : Unit {0}
+unfolding digits.decimalIn digits.decimal printed.name printed.row printed.has printed.shown printed.rowsOf printed.reportText totals.after
+by-print = tt
+
 by-desk : Unit {0}
 unfolding pool.patch pool.zeros searches.firstAt searches.allAt searches.among sound.bounds sound.goodAt sound.sound slots.slotOf
 by-desk = tt
@@ -120,13 +136,13 @@ unfolding desk.newStep desk.openStep desk.releaseStep ledger.lookup ledger.chang
 by-calls = tt
 
 by-examples : Unit {0}
-unfolding cardM foldedM recordsM sameNumbers sameAnswers allHold
+unfolding cardM foldedM recordsM rowsM sameNumbers sameAnswers allHold
 by-examples = tt
 
 -- ---- the test
 
 all-hold : allHold marked ≡ true
-unfolding by-octets by-scans by-characters by-text by-escapes by-folds by-lines by-rule by-kinds by-shapes by-table by-cards by-judge by-reader by-folder by-styles by-desk by-calls by-examples
+unfolding by-octets by-scans by-characters by-text by-escapes by-folds by-lines by-rule by-kinds by-shapes by-table by-cards by-judge by-reader by-folder by-styles by-report by-print by-desk by-calls by-examples
 all-hold = refl
 
 pub examples : Each Holds marked

@@ -5,6 +5,7 @@ pub mod Refusing
 pub mod Texts
 pub mod Cards
 pub mod Desks
+pub mod Reports
 pub mod Exact
 pub mod Labels
 pub mod Total

@@ -8,7 +8,10 @@ use lib.Dec.{eqb, leb}
 use lib.ListN.{replicate, length-replicate}
 use borrow.Author.Tests.{eqb-true, leb-true}
 use Rattle.line_parser.specs.Grammar.{Each}
-use Rattle.octets.specs.Room.{Filled}
+use Rattle.octets.specs.Room.{Filled, fill}
+use Rattle.report.specs.Steps.{freshReport}
+use Rattle.report.specs.Text.{reportText}
+use Rattle.report_laws.specs.Totals.{after}
 use Rattle.text.specs.Outcomes.{unescapeOutcome}
 use Rattle.reader.specs.Outcome.{Taken, readOutcome}
 use Rattle.folder.specs.Outcome.{foldIn}
@@ -22,7 +25,7 @@ use Rattle.desk_ledger.specs.Ledger.{Call, ledgerStep, freshLedger, run}
 use Rattle.desk_ledger.specs.Desks.{Proper, world}
 use Rattle.desk_laws.proofs.Demand.{demand3}
 use Rattle.desk_laws.proofs.PoolNoninterference.{same-desk}
-use Rattle.demands.specs.Examples.{Example, reads, folds, unescapes, turns, Turns, Fills, Reads, Holds}
+use Rattle.demands.specs.Examples.{Example, reads, folds, unescapes, reports, turns, Turns, Fills, Reads, Holds}
 
 -- ---- the tests
 
@@ -79,6 +82,7 @@ abbrev holds : Example → Bool
 holds (reads i c r a c′ r′) = sameTaken (readOutcome i c r) a c′ r′
 holds (folds s i o a o′) = sameFilled (foldIn s i o) a o′
 holds (unescapes t o a o′) = sameFilled (unescapeOutcome t o) a o′
+holds (reports is o a o′) = sameFilled (fill (reportText (after freshReport is)) o) a o′
 holds (turns n cs ns i s) = sameTurns n cs ns i s
 
 unfoldable pub allHold : List Example → Bool
@@ -179,4 +183,5 @@ tested (c ∷ cs) e = let b = both (holds c) (allHold cs) e in (one c (b .0), te
     one (reads i c r a c′ r′) e = same-taken (readOutcome i c r) a c′ r′ e
     one (folds s i o a o′) e = same-filled (foldIn s i o) a o′ e
     one (unescapes t o a o′) e = same-filled (unescapeOutcome t o) a o′ e
+    one (reports is o a o′) e = same-filled (fill (reportText (after freshReport is)) o) a o′ e
     one (turns n cs ns i s) e = same-turns n cs ns i s e

@@ -12,7 +12,7 @@ use Rattle.desk.specs.declared.Answer.{Answer}
 use Rattle.desk.specs.declared.Answer.the-variants.{Refused}
 use Rattle.desk.specs.declared.Desk.{Desk}
 use Rattle.desk.specs.declared.Turn.{Turn}
-use Rattle.desk_ledger.specs.Answers.{verdict, wrote, said}
+use Rattle.desk_ledger.specs.Answers.{refused, verdict, wrote, said}
 use Rattle.desk_ledger.proofs.AnswerLaws.{verdict-refused, wrote-refused, said-refused}
 use Rattle.firmware.specs.Word.{verdictWord, Low, wordOutcome}
 use Rattle.firmware.proofs.Places.{place-low}
@@ -21,11 +21,16 @@ use Rattle.firmware.proofs.Lows.{low-unescape, low-fold}
 use Rattle.reader_grammar.proofs.Numbers.{refusal-number}
 use Rattle.reader_grammar.specs.Refusals.{RefusedBy}
 use Rattle.reader_grammar.proofs.Refused.{refused-law}
-use Rattle.demands.specs.Demand1.{Exactly, Answering, Reading, Filling, Turning, Halves, Demand1}
+use Rattle.demands.specs.Demand1.{Exactly, Answering, Reading, Filling, Turning, counted as counted-as, Counting, Halves, Demand1}
 use Rattle.demands.proofs.Refusing.{ByCase, FillingByCase, TurningByCase}
 use Rattle.demands.proofs.Texts.{escape-exactly, unescape-exactly}
 use Rattle.demands.proofs.Labels.{encode-exactly, decode-exactly}
 use Rattle.demands.proofs.Cards.{judge-exactly, read-exactly, fold-exactly}
+use Rattle.report.specs.declared.Report.{Report}
+use Rattle.report.specs.declared.Answer.{Answer as TakingAnswer}
+use Rattle.report.specs.declared.Answer.the-variants.{Counted, Refused as Uncounted}
+use Rattle.report.specs.declared.Taken.{Taken as TakenIn}
+use Rattle.demands.proofs.Reports.{take-exactly, print-exactly}
 use Rattle.demands.proofs.Desks.{new-exactly, open-exactly, add-exactly, release-exactly, held-exactly, judge-held-exactly, shows-none, shows, counted, judged}
 
 judge-word : (i : List ℕ) (n p : ℕ) → RefusedBy i n p → Halves (verdictWord (judgeOf i)) n p
@@ -38,6 +43,13 @@ refusal-word : (f : Filled) (out : List ℕ) (n p : ℕ) → f ≡ refuse n p ou
 refusal-word f out n p e l = (record { word = rw e; low = rw e at l }, rw e)
 
 -- ---- answers in document 01's numbers
+
+counted-refused : (a : TakingAnswer) (n p : ℕ) → counted-as a ≡ refused n p → a ≡ Uncounted n p
+counted-refused Counted n p e = let z : _≡_ {A = ℕ} 0 1 = cc in absurd (omega arith)
+counted-refused (Uncounted m q) n p e =
+    let a : m ≡ n = cc in
+    let b : q ≡ p = cc in
+    rw (a, b)
 
 module _ {By : ℕ → ℕ → Type 0} where
   verdict-exactly : {v : Verdict} → ByCase (λ (v : Verdict). v) v Unread By → Answering (verdict v) By
@@ -72,6 +84,14 @@ module _ {By : ℕ → ℕ → Type 0} where
         unchanged = λ n p b. (ap (λ (r : Turned). r .desk) (e .unchanged n p b), ap (λ (r : Turned). r .pool) (e .unchanged n p b));
       }
 
+  counting-exactly : {t : TakenIn} {r : Report} → ByCase (λ (t : TakenIn). t .answer) t (λ n p. record { answer = Uncounted n p; report = r }) By → Counting t r By
+  counting-exactly {t} {r} e =
+      record {
+        only = λ n p f. e .only n p (counted-refused (t .answer) n p f);
+        answers = λ n p b. ap (λ (t : TakenIn). counted-as (t .answer)) (e .unchanged n p b);
+        unchanged = λ n p b. ap (λ (t : TakenIn). t .report) (e .unchanged n p b);
+      }
+
   starting-exactly : {r : Turn} → ByCase (λ (r : Turn). r .answer) r (λ n p. refuseNew (freshDesk 0) n p) By → Exactly (said (r .answer)) (r .desk ≡ freshDesk 0) By
   starting-exactly {r} e =
       record {
@@ -101,6 +121,8 @@ demand1 =
       shows = shows;
       counted = λ d pool t i s h. ap said (counted d pool t i s h);
       judged = λ d pool t i s h. ap verdict (judged d pool t i s h);
+      takes = λ r i. counting-exactly (take-exactly r i);
+      prints = λ r out. filling-exactly (print-exactly r out);
       c-judge = judge-word;
       c-fold = λ i out n p b. refusal-word _ out n p (fold-exactly i Raised out .unchanged n p b) (low-fold i out);
       c-unescape = λ t out n p b. refusal-word _ out n p (unescape-exactly t out .unchanged n p b) (low-unescape t out);

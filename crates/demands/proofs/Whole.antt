@@ -3,6 +3,7 @@ use Rattle.value_laws.proofs.ChoiceLaws.{choosing}
 use Rattle.desk_laws.proofs.Demand.{demand3}
 use Rattle.desk_laws.proofs.Granted.{grants}
 use Rattle.replay_laws.proofs.Replays.{replays}
+use Rattle.report_laws.proofs.Reports.{reports}
 use Rattle.demands.specs.Demands.{Demands}
 use Rattle.demands.proofs.Examples.{examples}
 use Rattle.demands.proofs.Total.{demand1}
@@ -10,4 +11,4 @@ use Rattle.demands.proofs.Exact.{demand2}
 use Rattle.demands.proofs.Labels.{labels}
 
 pub demands : Demands
-demands = record { total = demand1; exact = demand2; labels = labels; separate = demand3; granted = grants; replays = replays; choosing = choosing; examples = examples }
+demands = record { total = demand1; exact = demand2; labels = labels; separate = demand3; granted = grants; replays = replays; reports = reports; choosing = choosing; examples = examples }

@@ -6,11 +6,12 @@ use mathlib.Core.Bool.{Bool, true, false}
 use mathlib.Core.List.{List, [], map}
 use mathlib.Core.Logic.{_⊎_}
 use lib.ListN.{length, take, drop}
+use Rattle.numbers.specs.Counts as places
 use Rattle.numbers.specs.Limits as limit
 use Rattle.numbers.specs.Refusals as refusal
 use Rattle.utf8.specs.Characters.{allowed}
 use Rattle.octets.specs.Classes.{quoted}
-use Rattle.octets.specs.Room.{Filled}
+use Rattle.octets.specs.Room.{Filled, fill}
 use Rattle.utf8_laws.specs.Texts.{Text, Stops}
 use Rattle.text_escaping.specs.Escaped.{escaped}
 use Rattle.text.specs.Outcomes.{escapeOutcome, unescapeOutcome}
@@ -33,6 +34,15 @@ use Rattle.desk.specs.declared.Desk.{Desk}
 use Rattle.firmware.specs.Word.{verdictWord, wordOutcome}
 use Rattle.desk_ledger.specs.Answers.{Reply, refused, told, verdict, wrote, said}
 use Rattle.desk_laws.specs.Demand.{OpenOn}
+use Rattle.report_weights.specs.Counts.{Count}
+use Rattle.report_weights.specs.Parts.{part}
+use Rattle.report.specs.Steps.{takeStep}
+use Rattle.report.specs.Text.{reportText}
+use Rattle.report.specs.declared.Report.{Report}
+use Rattle.report.specs.declared.Answer.{Answer}
+use Rattle.report.specs.declared.Answer.the-variants.{Counted, Refused as Uncounted}
+use Rattle.report.specs.declared.Taken.{Taken as TakenIn}
+use Rattle.report_laws.specs.Totals.{placeOf, countIn}
 use Rattle.reader_grammar.specs.Inputs.{InputOf}
 use Rattle.reader_grammar.specs.Refusals.{RefusedBy, Judging}
 
@@ -160,6 +170,21 @@ pub data JudgeBy (d : Desk) (p : List ℕ) (t : ℕ) : ℕ → ℕ → Type 0 wh
   nothing : {n q : ℕ} → TicketBy d p t n q → JudgeBy d p t n q
   octets : {i n q : ℕ} {s : Session} → Holds d p t i s → RefusedBy (octetsIn p i s) n q → JudgeBy d p t n q
 
+-- ---- report
+
+-- 80: a count that the report has would pass
+pub data TakeBy (r : Report) (i : List ℕ) : ℕ → ℕ → Type 0 where
+  passes : (c : Count) → placeOf c < places.all → limit.largest < countIn r c + part c i → TakeBy r i refusal.reportFull 0
+
+-- 15
+pub data PrintBy (r : Report) (out : List ℕ) : ℕ → ℕ → Type 0 where
+  print-room : length out < length (reportText r) → PrintBy r out refusal.room (length (reportText r))
+
+-- a judgement that is counted answers 0
+abbrev pub counted : Answer → Reply
+counted Counted = told 0
+counted (Uncounted number place) = refused number place
+
 -- ---- the whole
 
 -- outcomes that are answers alone, and those that have lent memory or a desk beside the answer, which a refusal leaves as they were
@@ -174,6 +199,9 @@ Filling outcome room By = Exactly (wrote (outcome .answer)) (outcome .room ≡ r
 
 abbrev pub Turning : Turned → Desk → List ℕ → (ℕ → ℕ → Type 0) → Type 0
 Turning outcome d pool By = Exactly (said (outcome .answer)) ((outcome .desk ≡ d) × (outcome .pool ≡ pool)) By
+
+abbrev pub Counting : TakenIn → Report → (ℕ → ℕ → Type 0) → Type 0
+Counting outcome r By = Exactly (counted (outcome .answer)) (outcome .report ≡ r) By
 
 -- a word whose halves are a refusal's number and place
 pub record Halves (r n p : ℕ) : Type 0 where
@@ -203,6 +231,8 @@ pub record Demand1 : Type 0 where
   -- the octets held are counted, and judged as the reader judges them
   pub counted : (d : Desk) (pool : List ℕ) (t i : ℕ) (s : Session) → Holds d pool t i s → said (heldStep d pool t) ≡ told (s .held)
   pub judged : (d : Desk) (pool : List ℕ) (t i : ℕ) (s : Session) → Holds d pool t i s → verdict (judgeStep d pool t) ≡ verdict (judgeOf (octetsIn pool i s))
+  pub takes : (r : Report) (i : List ℕ) → Counting (takeStep r i) r (TakeBy r i)
+  pub prints : (r : Report) (out : List ℕ) → Filling (fill (reportText r) out) out (PrintBy r out)
   -- the routines for C answer a refusal as one word, and leave the room as it was
   pub c-judge : (i : List ℕ) (n p : ℕ) → RefusedBy i n p → Halves (verdictWord (judgeOf i)) n p
   pub c-fold : (i out : List ℕ) (n p : ℕ) → FoldBy i out n p

@@ -7,7 +7,7 @@ use mathlib.Core.List.{List, _∷_, map}
 use mathlib.Core.Logic.{_↔_}
 use lib.ListN.{length, take, drop}
 use Rattle.numbers.specs.Limits as limit
-use Rattle.octets.specs.Room.{Filled, overlay}
+use Rattle.octets.specs.Room.{Filled, fill, overlay}
 use Rattle.text_escaping.specs.Escaped.{escaped}
 use Rattle.text.specs.Outcomes.{escapeOutcome, unescapeOutcome}
 use Rattle.text_laws.specs.Stands.{Stands}
@@ -25,6 +25,8 @@ use Rattle.folder_laws.specs.Physical.{physical as physicalLines}
 use Rattle.folder_laws.specs.Written.{Folds}
 use Rattle.desk_ledger.specs.Answers.{counts as accepted, told, verdict, wrote}
 use Rattle.firmware.specs.Word.{verdictWord, worded, wordOutcome}
+use Rattle.report.specs.Text.{reportText}
+use Rattle.report.specs.declared.Report.{Report}
 use Rattle.reader_grammar.specs.Cards.{Readable}
 use Rattle.reader_grammar.specs.Inputs.{InputOf}
 use Rattle.reader_grammar.specs.Records.{Records}
@@ -102,6 +104,8 @@ pub record Demand2 : Type 0 where
   -- text escaped, then unescaped, comes back the same
   pub back : (t out room : List ℕ) (n : ℕ) → wrote (escapeOutcome t out .answer) ≡ told n → length t ≤ length room
       → Writes (unescapeOutcome (take n (escapeOutcome t out .room)) room) t room
+  -- the report is printed whole
+  pub prints : (r : Report) (out : List ℕ) → length (reportText r) ≤ length out → Writes (fill (reportText r) out) (reportText r) out
   -- the routines for C answer the count alone, which is no refusal's word, and leave the room as the entry does
   pub c-judge : (i : List ℕ) (k n : ℕ) → InputOf i k n → (verdictWord (judgeOf i) ≡ k) × (k ≤ limit.octets)
   pub c-fold : (i out : List ℕ) (n : ℕ) → wrote (foldOutcome i out .answer) ≡ told n

@@ -1,5 +1,5 @@
--- The three demands, labels, what a granted call does, the claim of demand 3 of a program that makes the calls, the rows that a name is
--- compared with, and the marked examples, side by side. Assumes nothing.
+-- The three demands, labels, what a granted call does, the claim of demand 3 of a program that makes the calls, the claims of the report, the
+-- rows that a name is compared with, and the marked examples, side by side. Assumes nothing.
 use Prim.Native.Nat.{ℕ}
 use mathlib.Core.List.{List}
 use Rattle.line_parser.specs.Grammar.{Each}
@@ -7,6 +7,7 @@ use Rattle.value_laws.specs.Choice.{Choosing}
 use Rattle.desk_laws.specs.Demand.{Demand3}
 use Rattle.desk_laws.specs.Granted.{Granted}
 use Rattle.replay_laws.specs.Replays.{Replays}
+use Rattle.report_laws.specs.Reports.{Reports}
 use Rattle.demands.specs.Examples.{Holds, marked}
 use Rattle.demands.specs.Demand1.{Demand1}
 use Rattle.demands.specs.Demand2.{Demand2}
@@ -19,5 +20,6 @@ pub record Demands : Type 0 where
   pub separate : Demand3
   pub granted : Granted
   pub replays : Replays
+  pub reports : Reports
   pub choosing : (v : List ℕ) → Choosing v
   pub examples : Each Holds marked

@@ -4,13 +4,16 @@ use Prim.Native.String.{String}
 use mathlib.Core.Path.{_≡_}
 use mathlib.Core.List.{List, [], _∷_, _++_, map}
 use lib.ListN.{replicate}
-use Rattle.octets.specs.Room.{Filled}
+use Rattle.octets.specs.Room.{Filled, fill}
 use Rattle.folder_raising.specs.declared.Style.{Style}
 use Rattle.folder_raising.specs.declared.Style.the-variants.{AsRead, Raised}
 use Rattle.folder.specs.Outcome.{foldIn}
 use Rattle.text.specs.Outcomes.{unescapeOutcome}
 use Rattle.octets.specs.Ascii.{octets}
 use Rattle.reader.specs.Outcome.{Taken, copyOf, readOutcome}
+use Rattle.report.specs.Steps.{freshReport}
+use Rattle.report.specs.Text.{reportText}
+use Rattle.report_laws.specs.Totals.{after}
 use Rattle.desk_slots.specs.Sound.{stateAt}
 use Rattle.desk.specs.Steps.{newStep}
 use Rattle.desk_entries.specs.declared.Session.{Session}
@@ -26,6 +29,10 @@ end = 13 ∷ 10 ∷ []
 -- a line with its end
 abbrev line : String → List ℕ
 line s = octets s ++ end
+
+-- a row of a report with its end
+abbrev row : String → List ℕ
+row s = octets s ++ 10 ∷ []
 
 -- card M, up to its END, with what stands between FN and END
 abbrev pub start : List ℕ
@@ -51,12 +58,19 @@ recordsM =
 abbrev fullName : String
 fullName = "N:Public;John;Quinlan;Mr.;Esq."
 
+-- the report after card M alone
+unfoldable pub rowsM : List ℕ
+rowsM =
+    row "uploads 1" ++ (row "accepted 1" ++ (row "cards 1" ++ (row "lines 4" ++ (row "octets 43"
+    ++ (row "p1 1" ++ (row "p2 1" ++ (row "p6 1" ++ row "p34 1")))))))
+
 -- an example: what is read, folded or unescaped, the rooms, the answer, and what the rooms hold then; or the calls on a fresh desk, the
--- number that answers each, and which session then stands in which slot
+-- number that answers each, and which session then stands in which slot; or judgements taken since a fresh report, and its print
 pub data Example : Type 0 where
   reads : (input copy records : List ℕ) → Reply → (copy′ records′ : List ℕ) → Example
   folds : (style : Style) (input room : List ℕ) → Reply → (room′ : List ℕ) → Example
   unescapes : (text room : List ℕ) → Reply → (room′ : List ℕ) → Example
+  reports : (inputs : List (List ℕ)) (room : List ℕ) → Reply → (room′ : List ℕ) → Example
   turns : (slots : ℕ) (calls : List Call) (numbers : List ℕ) (slot : ℕ) (session : Session) → Example
 
 -- such a desk is granted; and with its proper pool, whatever this holds, the steps of the desk's contracts answer and end so
@@ -80,6 +94,7 @@ abbrev pub Holds : Example → Type 0
 Holds (reads i c r a c′ r′) = Reads (readOutcome i c r) a c′ r′
 Holds (folds s i o a o′) = Fills (foldIn s i o) a o′
 Holds (unescapes t o a o′) = Fills (unescapeOutcome t o) a o′
+Holds (reports is o a o′) = Fills (fill (reportText (after freshReport is)) o) a o′
 Holds (turns n cs ns i s) = Turns n cs ns i s
 
 -- refused: both rooms stay
@@ -119,6 +134,7 @@ marked =
     unescapes (octets "a\\,b") (replicate 8 0) (told 3) (octets "a,b" ++ replicate 5 0) ∷
     unescapes (octets "\\N") (replicate 8 0) (told 1) (10 ∷ replicate 7 0) ∷
     unescapes (octets "a,b") (replicate 8 0) (refused 30 1) (replicate 8 0) ∷
+    reports (cardM ∷ []) (replicate 70 0) (told 68) (rowsM ++ replicate 2 0) ∷
     turns 2 (opens 0 ∷ opens 0 ∷ on 1 releases ∷ opens 0 ∷ []) (1 ∷ 2 ∷ 0 ∷ 3 ∷ []) 0 (record { ticket = 3; tram = 0; held = 0 }) ∷
     []
 

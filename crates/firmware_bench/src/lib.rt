@@ -1,12 +1,20 @@
-// For the benchmark alone: escape, labels, read and the desk's calls, for C to time; a refusal is answered by its number alone.
+// For the benchmark alone: escape, labels, read, take of a report and the desk's calls, for C to time; a refusal is its number alone.
 use desk::Answer;
 use desk::Desk;
 use label_carets::Rule;
+use numbers::count;
 use numbers::limit;
+use numbers::property;
 use octets::rooms::Written;
 use reader::Verdict;
+use report::Report;
 ghost use mathlib.Core.Path.{_≡_};
+ghost use Prim.Native.Nat.{_+_};
+ghost use lib.ListN.{getD};
+ghost use Rattle.numbers.specs.Counts as places;
+ghost use Rattle.numbers.specs.Properties as property;
 ghost use Rattle.reader.specs.Outcome.{readOutcome};
+ghost use Rattle.report.specs.Steps.{freshReport, takeStep};
 ghost use Rattle.text.specs.Outcomes.{escapeOutcome};
 ghost use Rattle.label.specs.Outcomes.{encodeOutcome, decodeOutcome};
 ghost use Rattle.label_carets.specs.declared.Rule.the-variants.{Rfc6868};
@@ -73,6 +81,18 @@ pub extern "C" fn timed_read(input: &[u8], copy: &mut [u8], records: &mut [u32])
         Verdict::Accepted(cards, _) => cards as u64,
         Verdict::Refused(n, _) => pack_refusal(n),
     }
+}
+
+// Takes the judgement of an input into a fresh report, and answers how many BEGIN lines it then has.
+#[no_mangle]
+pub extern "C" fn timed_take(input: &[u8]) -> u64
+    ensures { λ r. ⌜ r ≡ getD (takeStep freshReport (now (input .entry)) .report .counts) (places.properties + property.begin) 0 ⌝ }
+{
+    let fresh = Report::new();
+    let t = fresh.take(input);
+    let next = t.report;
+    let counts = next.counts;
+    counts[count::PROPERTIES + property::BEGIN] as u64
 }
 
 // Makes n calls of a kind to a desk of 40 slots, after so many openings and additions of the chunk, and answers as the last of them does.

@@ -149,7 +149,7 @@ fn read_params(t: &ClassTable, s: &[u8], from: usize) -> Part
 }
 
 // Reads the group and its dot, if there is one, and the name.
-fn read_head(t: &ClassTable, s: &[u8]) -> Part
+pub fn read_head(t: &ClassTable, s: &[u8]) -> Part
     requires { ⌜ Classes (now t) ⌝ }
     ensures { λ r. ⌜ r ≡ headed (head (now (s .entry))) ⌝ }
 {

@@ -118,6 +118,10 @@ noColon = 43
 abbrev pub noLabel : ℕ
 noLabel = 44
 
+-- a count of a report would pass 4,294,967,295; at 0
+abbrev pub reportFull : ℕ
+reportFull = 80
+
 -- ---- a replay's own: no reader, desk or C routine answers them
 
 -- a call of a script that is unknown or cut off; at its first octet
@@ -141,4 +145,5 @@ refusals =
     ++ noFreeSlot ∷ ticketsUsedUp ∷ notOpen ∷ slotFull ∷ poolLength ∷ unsound ∷ slotCount ∷ []
     ++ escape ∷ textOctet ∷ []
     ++ name ∷ parameter ∷ quote ∷ noColon ∷ noLabel ∷ []
+    ++ reportFull ∷ []
     ++ replayCall ∷ replayPool ∷ replayLog ∷ []

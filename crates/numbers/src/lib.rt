@@ -1,4 +1,5 @@
-// The numbers with names: limits, refusals, properties, kinds of value and fields of a record.
+// The numbers with names: limits, refusals, properties, kinds of value, fields of a record and counts of a report.
+pub mod count;
 pub mod field;
 pub mod kind;
 pub mod limit;

@@ -87,6 +87,9 @@ pub const NO_COLON: u32 = 43;
 // A value with a newline or a quote mark, which RFC 6350's labels can't hold; at the first such octet.
 pub const NO_LABEL: u32 = 44;
 
+// A count of a report would pass 4,294,967,295; at 0.
+pub const REPORT_FULL: u32 = 80;
+
 // A replay's own refusals: no reader, desk or C routine answers them.
 
 // A call of a script that is unknown or cut off; at its first octet.

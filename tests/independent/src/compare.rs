@@ -1,5 +1,6 @@
 // Knows how to compare another console, or the C routines, with this program, request by request, to the first difference.
 
+use std::collections::BTreeMap;
 use std::io::{BufRead, BufReader, BufWriter, Write};
 use std::process::{Child, ChildStdin, ChildStdout, Command, Stdio};
 use std::sync::mpsc::{channel, Receiver, Sender};
@@ -13,6 +14,7 @@ use crate::generator::lists::lists;
 use crate::generator::names::names;
 use crate::generator::protocol::protocol;
 use crate::generator::readers;
+use crate::generator::reports::reports;
 use crate::generator::texts::texts;
 use crate::ledger_console::LedgerConsole;
 
@@ -28,6 +30,7 @@ pub struct Plan {
     pub labels: usize,
     pub lists: usize,
     pub desks: usize,
+    pub reports: usize,
     pub seed: u64,
 }
 
@@ -44,12 +47,13 @@ impl Default for Plan {
             labels: 50_000,
             lists: 2_000,
             desks: 3_000,
+            reports: 3_000,
             seed: 1,
         }
     }
 }
 
-/// A request line with the family it comes from; `begins` marks the first line of a call list.
+/// A request line with the family it comes from; `begins` marks the first line of a list.
 #[derive(Clone, Debug, PartialEq, Eq)]
 pub struct Step {
     pub family: &'static str,
@@ -60,10 +64,8 @@ pub struct Step {
 /// All steps of a plan, in order. Protocol comes first, for it tries a console at its start.
 pub fn steps(plan: Plan) -> impl Iterator<Item = Step> {
     let of = |family| move |line| Step { family, begins: false, line };
-    let calls = lists(plan.seed).take(plan.lists).flat_map(|list| {
-        let numbered = list.into_iter().enumerate();
-        numbered.map(|(index, line)| Step { family: "lists", begins: index == 0, line })
-    });
+    let calls = listed("lists", lists(plan.seed).take(plan.lists));
+    let mornings = listed("reports", reports(plan.seed).take(plan.reports));
     (protocol().into_iter().take(plan.protocol).map(of("protocol")))
         .chain(readers(plan.seed).take(plan.readers).map(of("readers")))
         .chain(line_faults(plan.seed).take(plan.line_faults).map(of("line faults")))
@@ -72,6 +74,15 @@ pub fn steps(plan: Plan) -> impl Iterator<Item = Step> {
         .chain(texts(plan.seed).take(plan.texts).map(of("texts")))
         .chain(labels(plan.seed).take(plan.labels).map(of("labels")))
         .chain(calls)
+        .chain(mornings)
+}
+
+/// The steps of lists whose requests belong together.
+fn listed(family: &'static str, lists: impl Iterator<Item = Vec<String>>) -> impl Iterator<Item = Step> {
+    lists.flat_map(move |list| {
+        let numbered = list.into_iter().enumerate();
+        numbered.map(move |(index, line)| Step { family, begins: index == 0, line })
+    })
 }
 
 /// What speaks on the other side.
@@ -192,7 +203,7 @@ struct Own {
     ledger: LedgerConsole,
     list: Vec<String>,
     counts: Vec<(&'static str, usize)>,
-    lists: usize,
+    lists: BTreeMap<&'static str, usize>,
 }
 
 impl Own {
@@ -222,10 +233,10 @@ impl Own {
             _ => self.counts.push((step.family, 1)),
         }
         if step.begins {
-            self.lists += 1;
+            *self.lists.entry(step.family).or_default() += 1;
             self.list.clear();
         }
-        if step.family == "lists" {
+        if self.lists.contains_key(step.family) {
             self.list.push(step.line.clone());
         }
     }
@@ -245,9 +256,9 @@ impl Own {
     fn counts(&self) -> String {
         let mut line = "same answers:".to_string();
         for (family, count) in &self.counts {
-            line += &match *family {
-                "lists" => format!(" {} lists of {count} requests", self.lists),
-                _ => format!(" {family} {count},"),
+            line += &match self.lists.get(family) {
+                Some(lists) => format!(" {lists} {family} of {count} requests,"),
+                None => format!(" {family} {count},"),
             };
         }
         line.trim_end_matches(',').to_string()

@@ -25,6 +25,7 @@ use crate::hex::word_of;
 use crate::labels::{decode, encode};
 use crate::reader::{judge, read, Counts, RECORD_NUMBERS};
 use crate::refusal::Refusal;
+use crate::report::Report;
 use crate::requests::{request_of, Request};
 use crate::text::{escape, unescape};
 
@@ -37,24 +38,25 @@ const ROOM_NUMBER: u32 = 2_779_096_485;
 /// The answer to a line that is no request.
 pub const BAD_REQUEST: &str = "bad request";
 
-/// The desk and the pool that the console keeps from request to request.
+/// The desk, the pool and the report that the console keeps from request to request.
 #[derive(Clone, Debug, PartialEq, Eq)]
 pub struct Console {
     desk: Desk,
     pool: Vec<u8>,
+    report: Report,
 }
 
 impl Default for Console {
     /// Before the first `desk` there is a refused desk and an empty pool.
     fn default() -> Console {
-        Console { desk: Desk::new(0).1, pool: Vec::new() }
+        Console { desk: Desk::new(0).1, pool: Vec::new(), report: Report::default() }
     }
 }
 
 impl Console {
     /// A console that begins with this desk value and this pool.
     pub fn at(desk: Desk, pool: Vec<u8>) -> Console {
-        Console { desk, pool }
+        Console { desk, pool, report: Report::default() }
     }
 
     /// The answer to one line, given without its LF.
@@ -104,13 +106,27 @@ impl Console {
                 self.desk.next_ticket = ticket;
                 format!("ok {ticket}")
             }
+            Request::Report => {
+                self.report = Report::default();
+                "ok 0".to_string()
+            }
+            Request::Take { octets } => {
+                let (answer, next) = self.report.take(&octets);
+                self.report = next;
+                number_line(answer)
+            }
+            Request::Print { room } => room_answer(|_, out| self.report.print(out), room, &[]),
+            Request::Count { count, number } => {
+                self.report.set(count, number);
+                format!("ok {number}")
+            }
         }
     }
 
     /// A new desk, refused or not, and a new pool.
     fn new_desk(&mut self, slots: u64, pool: usize) -> String {
         let (answer, desk) = Desk::new(slots);
-        *self = Console { desk, pool: vec![ROOM_OCTET; pool] };
+        (self.desk, self.pool) = (desk, vec![ROOM_OCTET; pool]);
         number_line(answer)
     }
 

@@ -22,6 +22,7 @@ pub mod lines;
 pub mod properties;
 pub mod reader;
 pub mod refusal;
+pub mod report;
 pub mod requests;
 pub mod survey;
 pub mod text;

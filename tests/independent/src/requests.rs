@@ -3,6 +3,7 @@
 use crate::folder::{Style, STYLES};
 use crate::hex::{octets_of, word_of};
 use crate::labels::{Rule, RULES};
+use crate::report::{count_named, Count};
 
 /// The most octets or numbers of room that can be asked for.
 pub const MOST_ROOM: usize = 70_000;
@@ -33,6 +34,10 @@ pub enum Request {
     Release { ticket: u32 },
     Pool { from: usize, count: usize },
     Next { ticket: u32 },
+    Report,
+    Take { octets: Vec<u8> },
+    Print { room: usize },
+    Count { count: Count, number: u32 },
 }
 
 /// The request of a line without its LF, or nothing for a bad request.
@@ -42,7 +47,7 @@ pub fn request_of(line: &[u8]) -> Option<Request> {
         return None;
     }
     let words: Vec<&[u8]> = line.split(|&octet| octet == b' ').collect();
-    entry_request(&words).or_else(|| desk_request(&words))
+    entry_request(&words).or_else(|| desk_request(&words)).or_else(|| report_request(&words))
 }
 
 /// The requests to reader, folder, text and labels.
@@ -101,6 +106,20 @@ fn desk_request(words: &[&[u8]]) -> Option<Request> {
             Some(Request::Pool { from: size_of(from, MOST_POOL)?, count: size_of(count, MOST_POOL)? })
         }
         [b"next", ticket] => Some(Request::Next { ticket: ticket_of(ticket)? }),
+        _ => None,
+    }
+}
+
+/// The requests to the report, and the one that sets a count.
+fn report_request(words: &[&[u8]]) -> Option<Request> {
+    match words {
+        [b"report"] => Some(Request::Report),
+        [b"take", octets] => Some(Request::Take { octets: octets_of(octets)? }),
+        [b"print", room] => Some(Request::Print { room: size_of(room, MOST_ROOM)? }),
+        [b"count", which, number] => Some(Request::Count {
+            count: count_named(number_of(which, u64::MAX)?)?,
+            number: number_of(number, u64::from(u32::MAX))? as u32,
+        }),
         _ => None,
     }
 }

@@ -15,6 +15,7 @@ const NOTHING: Plan = Plan {
     labels: 0,
     lists: 0,
     desks: 0,
+    reports: 0,
     seed: 1,
 };
 
@@ -30,6 +31,7 @@ fn small() -> Plan {
         labels: 1_000,
         lists: 60,
         desks: 0,
+        reports: 40,
         seed: 5,
     }
 }

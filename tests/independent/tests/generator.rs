@@ -14,11 +14,15 @@ use independent::generator::{
     lists,
     lists::lists,
     names::{names, names_by_hand, LONGEST},
-    readers, texts,
+    readers, reports,
+    reports::reports,
+    texts,
     texts::texts,
 };
-use independent::hex::word_of;
+use independent::console::Console;
+use independent::hex::{octets_of, word_of};
 use independent::properties::row_of;
+use independent::report::{moved, which_of};
 use independent::survey::{survey, Survey};
 
 /// How often a refusal number came.
@@ -149,6 +153,50 @@ fn desk_and_ledger_agree_on_desk_values() {
     }
 }
 
+/// The takes of lists of report requests: the count that was set just before, what it was set to, the input and the answer.
+fn takes_after_a_count(lists: impl Iterator<Item = Vec<String>>) -> Vec<(u32, u32, String, String)> {
+    let mut takes = Vec::new();
+    for list in lists {
+        let mut console = Console::default();
+        let mut set = None;
+        for line in list {
+            let answer = console.answer(line.as_bytes());
+            let words: Vec<&str> = line.split(' ').collect();
+            match (words.as_slice(), set.take()) {
+                (["count", which, number], _) => set = Some((which.parse().expect("a count"), number.parse().expect("a number"))),
+                (["take", octets], Some((which, number))) => takes.push((which, number, octets.to_string(), answer)),
+                _ => (),
+            }
+        }
+    }
+    takes
+}
+
+#[test]
+fn reports_reach_15_and_80_and_every_count_on_both_sides_of_its_limit() {
+    let survey = survey(reports(1).take(3_000).flatten());
+    assert_eq!(survey.refusals.keys().copied().collect::<Vec<u32>>(), [15, 80]);
+    assert!(times(&survey, 15) >= 1_000 && times(&survey, 80) >= 1_000 && survey.bad_requests == 0, "{survey}");
+    let takes = takes_after_a_count(reports(1).take(3_000));
+    for which in (0..=4).chain(101..=105).chain(107..=112).chain(140..=143).chain(200..=238) {
+        let sides = |answer: &str, past: u64| {
+            takes.iter().any(|(of, number, octets, given)| {
+                let input = octets_of(octets.as_bytes()).expect("octets");
+                let more = moved(&input).into_iter().find(|(count, _)| which_of(*count) == which).map_or(0, |(_, more)| more);
+                *of == which && given == answer && u64::from(*number) + u64::from(more) == u64::from(u32::MAX) + past
+            })
+        };
+        assert!(sides("ok 0", 0) && sides("no 80 0", 1), "count {which}");
+    }
+}
+
+#[test]
+fn a_usual_run_takes_over_20_000_judgements_after_those_by_hand() {
+    assert!(reports::by_hand().len() < Plan::default().reports);
+    let of_the_gate = reports(1).take(9_000).flatten().filter(|line| line.starts_with("take ")).count();
+    assert!(of_the_gate >= 20_000, "{of_the_gate}");
+}
+
 /// Every number of the papers' tables, and no other.
 #[test]
 fn together_they_reach_every_refusal_of_the_paper() {
@@ -157,7 +205,7 @@ fn together_they_reach_every_refusal_of_the_paper() {
     let desk_values = survey_desks(plan.seed, plan.desks).expect("desk and ledger agree");
     let mut reached = requests.refusals;
     reached.extend(desk_values.refusals);
-    let all = (1..=5).chain(7..=16).chain(20..=26).chain([30, 31]).chain(40..=44);
+    let all = (1..=5).chain(7..=16).chain(20..=26).chain([30, 31]).chain(40..=44).chain([80]);
     assert_eq!(reached.into_keys().collect::<Vec<u32>>(), all.collect::<Vec<u32>>());
 }
 
@@ -214,6 +262,7 @@ fn a_family_of_0_is_left_out() {
         labels: 0,
         lists: 0,
         desks: 0,
+        reports: 0,
         seed: 1,
     };
     let families: Vec<&str> = steps(plan).map(|step| step.family).collect();

@@ -27,6 +27,12 @@ print-usage-requires-2 c κs = search needs
 enum-known-p : tie.Need-enum-known-p
 enum-known-p c = search needs
 
+first-upload-requires : tie.Need-first-upload-requires
+first-upload-requires c κs = search needs
+
+print-after-requires : tie.Need-print-after-requires
+print-after-requires c κs = search needs
+
 returns : tie.Need-returns
 returns c = search needs
 
@@ -34,7 +40,7 @@ returns-2 : tie.Need-returns-2
 returns-2 c = search needs
 
 returns-3 : tie.Need-returns-3
-returns-3 c = rw (c .before .p .given .1) at (c .before .before .before .play .ensures)
+returns-3 c = rw (c .before .before .before .p .given .1) at (c .before .before .before .before .before .play .ensures)
 
 pub run-morning-spec : {M : Type 1} → statement M
 run-morning-spec =
@@ -48,6 +54,8 @@ run-morning-spec =
     slice-aggregate-print-usage-2
     print-usage-requires-2
     enum-known-p
+    first-upload-requires
+    print-after-requires
     returns
     returns-2
     returns-3)

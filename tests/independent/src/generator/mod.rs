@@ -11,6 +11,7 @@ pub mod lists;
 pub mod mutation;
 pub mod names;
 pub mod protocol;
+pub mod reports;
 pub mod rooms;
 pub mod texts;
 

@@ -28,6 +28,8 @@ const LINES: &[&str] = &[
     "fold-in", "fold-in 1 0 1", "fold-in 1 0 1 -", "fold-in 01 1 1 -", "fold-in 2 0 1 -", "fold-in 0 0 1 -",
     "fold-in 1 2 1 -", "fold-in 1 0 70001 -", "fold-in 1 0 70000 -", "fold-in -1 0 1 -", "fold-in 1 0 1 - -",
     "fold-in 1 00 1 6",
+    "report 1", "take", "take 0", "take -", "print", "print 70001", "print 46", "print 53", "count 0",
+    "count 5 1", "count 106 1", "count 239 1", "count 0 4294967296", "count 0 7", "count 00 007", "report", "print 46",
 ];
 
 /// All protocol lines.

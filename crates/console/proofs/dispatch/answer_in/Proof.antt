@@ -4,9 +4,8 @@ use mathlib.Core.Path.{ap, _∙_}
 use mathlib.Core.List.{List}
 use Prim.Native.Nat.{ℕ}
 use borrow.Author.Needs.{needs}
-use Rattle.console_desk.specs.DeskAnswers.{stateOf}
 use Rattle.console_requests.specs.Requests.{Requested}
-use Rattle.console.specs.Dispatch.{answerTo, answerFrom, answerIn}
+use Rattle.console.specs.Dispatch.{wholeOf, answerTo, answerFrom, answerIn}
 use Rattle.console.proofs.dispatch.answer_in.Statement.{statement}
 use Rattle.console.proofs.dispatch.answer_in.Tie as tie
 
@@ -16,8 +15,8 @@ request-of-requires c κs = search needs
 part-requires : tie.Need-part-requires
 part-requires c κs = search needs
 
-answer-request-requires : tie.Need-answer-request-requires
-answer-request-requires c κs = search needs
+answer-any-requires : tie.Need-answer-any-requires
+answer-any-requires c κs = search needs
 
 same-length : tie.Need-same-length
 same-length c = search needs
@@ -34,11 +33,10 @@ returns c =
     let part = c .before .before .before .before .before .before .before .part in
     let request-of = c .before .before .before .before .before .before .before .before .before .before .before .request-of in
     let a = c .before .before .before .before .before .before .before .before .before .before .before .before .before .before .before .before .before .args in
-    let t = stateOf (a .c) (now (a .out)) in
-    let p = now (a .pool) in
-    c .before .before .before .before .answer-request .ensures
-    ∙ ap (λ (l : List ℕ). answerTo (request-of .result) l t p) (part .ensures)
-    ∙ ap (λ (x : Requested). answerFrom x t p) (request-of .ensures)
+    let w = wholeOf (a .k) (now (a .out)) (now (a .pool)) in
+    c .before .before .before .before .answer-any .ensures
+    ∙ ap (λ (l : List ℕ). answerTo (request-of .result) l w) (part .ensures)
+    ∙ ap (λ (x : Requested). answerFrom x w) (request-of .ensures)
 
 pub answer-in-spec : {M : Type 1} → statement M
 answer-in-spec =
@@ -46,7 +44,7 @@ answer-in-spec =
     (tie.spec
     request-of-requires
     part-requires
-    answer-request-requires
+    answer-any-requires
     same-length
     same-length-2
     same-length-3

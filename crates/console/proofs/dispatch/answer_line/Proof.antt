@@ -1,22 +1,31 @@
 -- `console::dispatch::answer_line` meets its contract. Assumes nothing.
 use denote.Ref.{now}
-use mathlib.Core.Path.{ap}
+use mathlib.Core.Path.{ap, _∙_}
 use borrow.Author.Needs.{needs}
 use borrow.Author.Tests.{lt-ltb, le-ltb}
-use Rattle.console_desk.specs.DeskAnswers.{State, withPool}
-use Rattle.console.specs.Dispatch.{answerLine}
+use Rattle.console_desk.specs.DeskAnswers.{State}
+use Rattle.console_report.specs.ReportAnswers.{kept}
+use Rattle.console_report.specs.declared.Kept.{Kept}
+use Rattle.console.specs.Dispatch.{whole, wholeOf, answerLine}
 use Rattle.console.proofs.dispatch.answer_line.Statement.{statement}
 use Rattle.console.proofs.dispatch.answer_line.Tie as tie
 
 answer-bad-requires : tie.Need-answer-bad-requires
 answer-bad-requires c κs = search needs
 
+with-console-requires : tie.Need-with-console-requires
+with-console-requires c κs = search needs
+
 same-length : tie.Need-same-length
 same-length c = search needs
 
 returns : tie.Need-returns
 unfolding answerLine
-returns c = rw (lt-ltb _ _ (c .before .before .before .before .if1 .taken)) (ap (λ (x : State). withPool x (now (c .before .before .before .before .before .before .before .before .args .pool))) (c .before .before .answer-bad .ensures))
+returns c =
+    let a = c .before .before .before .before .before .before .before .before .before .before .args in
+    rw (lt-ltb _ _ (c .before .before .before .before .before .before .if1 .taken))
+    (ap (λ (x : Kept). wholeOf x (c .before .before .before .answer-bad .last .1 .0) (now (a .pool))) (c .with-console .ensures)
+    ∙ ap (λ (x : State). whole (kept x (a .k .report)) (now (a .pool))) (c .before .before .before .answer-bad .ensures))
 
 slice-aggregate-answer-in : tie.Need-slice-aggregate-answer-in
 slice-aggregate-answer-in c = search needs
@@ -39,6 +48,7 @@ answer-line-spec =
     tie.close
     (tie.spec
     answer-bad-requires
+    with-console-requires
     same-length
     returns
     slice-aggregate-answer-in

@@ -1,6 +1,6 @@
 -- `console::dispatch::answer_request` meets its contract. Assumes nothing.
 use denote.Ref.{now}
-use mathlib.Core.Path.{ap}
+use mathlib.Core.Path.{ap, _∙_}
 use borrow.Author.Needs.{needs}
 use Rattle.console_entries.specs.Entries.{judgeAnswer, readAnswer, writeAnswer, chosenAnswer, foldAnswer}
 use Rattle.label_carets.specs.declared.Rule.the-variants.{Rfc6350, Rfc6868}
@@ -8,6 +8,7 @@ use Rattle.console_desk.specs.DeskAnswers.{State, withPool}
 use Rattle.console_entries.specs.declared.entries.Writer.the-variants.{Fold, Escape, Unescape, Encode, Decode}
 use Rattle.console.specs.Dispatch.{answerBy}
 use Rattle.console.proofs.Said.{said}
+use Rattle.console.proofs.Others.{none-of-these}
 use Rattle.console.proofs.dispatch.answer_request.Statement.{statement}
 use Rattle.console.proofs.dispatch.answer_request.Tie as tie
 
@@ -136,9 +137,6 @@ put-fold-answer-requires c κs = search needs
 
 with-output-requires-8 : tie.Need-with-output-requires-8
 with-output-requires-8 c κs = search needs
-
-enum-told-18 : tie.Need-enum-told-18
-enum-told-18 c = search needs
 
 answer-bad-requires : tie.Need-answer-bad-requires
 answer-bad-requires c κs = search needs
@@ -306,8 +304,10 @@ same-length-26 : tie.Need-same-length-26
 same-length-26 c = search needs
 
 returns-18 : tie.Need-returns-18
-unfolding answerBy
-returns-18 c = rw (c .before .before .before .before .enum-told18 .given .1) (ap (λ (x : State). withPool x (now (c .before .before .before .before .before .before .before .before .before .args .pool))) (c .before .before .answer-bad .ensures))
+returns-18 c =
+    let a = c .before .before .before .before .before .before .before .before .args in
+    ap (λ (x : State). withPool x (now (a .pool))) (c .before .before .answer-bad .ensures)
+    ∙ none-of-these (a .q .name) (a .q .first) (a .q .second) (a .q .third) (now (a .sent)) _ (now (a .pool)) (c .before .before .before .before .match .keys18)
 
 pub answer-request-spec : {M : Type 1} → statement M
 answer-request-spec =
@@ -355,7 +355,6 @@ answer-request-spec =
     enum-told-17
     put-fold-answer-requires
     with-output-requires-8
-    enum-told-18
     answer-bad-requires
     same-length
     returns

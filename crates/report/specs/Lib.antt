@@ -1,0 +1,3 @@
+-- The definitions that the contracts of `report` cite. Assumes nothing.
+pub mod Steps
+pub mod Text

@@ -1,0 +1,2 @@
+-- The definitions that the contracts of `report_lines` cite. Assumes nothing.
+pub mod Rows
