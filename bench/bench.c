@@ -21,6 +21,7 @@ static const struct row {
     {JUDGE, "book", LIMIT},
     {JUDGE, "dense", LIMIT},
     {JUDGE, "small", LIMIT},
+    {JUDGE, "small", 43},
     {JUDGE, "long", LIMIT},
     {JUDGE, "damaged", LIMIT},
     {READ, "book", LIMIT},

@@ -13,10 +13,10 @@ struct row {
 
 static const struct row rows[] = {
     {"", 0, 0},        {"BEGIN", 0, 0},   {"END", 0, 0},         {"SOURCE", 3, 0},       {"KIND", 1, 1},     {"XML", 0, 0},
-    {"FN", 1, 0},      {"N", 4, 1},       {"NICKNAME", 2, 0},    {"PHOTO", 3, 0},        {"BDAY", 0, 1},     {"ANNIVERSARY", 0, 1},
+    {"FN", 1, 0},      {"N", 4, 1},       {"NICKNAME", 2, 0},    {"PHOTO", 3, 0},        {"BDAY", 9, 1},     {"ANNIVERSARY", 9, 1},
     {"GENDER", 7, 1},  {"ADR", 5, 0},     {"TEL", 1, 0},         {"EMAIL", 1, 0},        {"IMPP", 3, 0},     {"LANG", 0, 0},
     {"TZ", 1, 0},      {"GEO", 3, 0},     {"TITLE", 1, 0},       {"ROLE", 1, 0},         {"LOGO", 3, 0},     {"ORG", 6, 0},
-    {"MEMBER", 3, 0},  {"RELATED", 3, 0}, {"CATEGORIES", 2, 0},  {"NOTE", 1, 0},         {"PRODID", 1, 1},   {"REV", 0, 1},
+    {"MEMBER", 3, 0},  {"RELATED", 3, 0}, {"CATEGORIES", 2, 0},  {"NOTE", 1, 0},         {"PRODID", 1, 1},   {"REV", 10, 1},
     {"SOUND", 3, 0},   {"UID", 3, 1},     {"CLIENTPIDMAP", 8, 0}, {"URL", 3, 0},         {"VERSION", 0, 0},  {"KEY", 3, 0},
     {"FBURL", 3, 0},   {"CALADRURI", 3, 0}, {"CALURI", 3, 0},
 };
@@ -62,7 +62,8 @@ static size_t first_bad(const uint8_t *s, size_t n, int lf) {
 struct line {
     size_t group, name_start, name_end, params, value;
     size_t over, over_len; /* first value of the first VALUE parameter */
-    int has_over;
+    size_t scale, scale_len; /* first value of the first CALSCALE parameter */
+    int has_over, has_scale;
 };
 
 /* The line rule. */
@@ -82,11 +83,13 @@ static int parse(const uint8_t *s, size_t n, struct line *l) {
     l->name_end = i;
     l->params = 0;
     l->has_over = 0;
+    l->has_scale = 0;
     while (i < n && s[i] == ';') {
         size_t p = ++i;
         while (i < n && is_named(s[i])) i++;
         if (i == p || i >= n || s[i] != '=') return 0;
         int is_value = i - p == 5 && strncasecmp((const char *)s + p, "VALUE", 5) == 0;
+        int is_scale = i - p == 8 && strncasecmp((const char *)s + p, "CALSCALE", 8) == 0;
         int first = 1;
         do {
             i++;
@@ -104,6 +107,11 @@ static int parse(const uint8_t *s, size_t n, struct line *l) {
                 l->has_over = 1;
                 l->over = a;
                 l->over_len = e - a;
+            }
+            if (first && is_scale && !l->has_scale) {
+                l->has_scale = 1;
+                l->scale = a;
+                l->scale_len = e - a;
             }
             first = 0;
         } while (i < n && s[i] == ',');
@@ -147,6 +155,74 @@ static int is_text(const uint8_t *s, size_t n, int commas, size_t *semis) {
     return 1;
 }
 
+/* The number that the two digits at i make, -1 where none stand there. */
+static int two(const uint8_t *s, size_t n, size_t i) {
+    if (i + 2 > n || !is_digit(s[i]) || !is_digit(s[i + 1])) return -1;
+    return (s[i] - '0') * 10 + (s[i + 1] - '0');
+}
+
+static int in(int x, int low, int high) { return x >= low && x <= high; }
+
+/* Whether the month has the day; year -1 for none. */
+static int is_day(int year, int month, int day) {
+    static const int days[] = {31, 29, 31, 30, 31, 30, 31, 31, 30, 31, 30, 31};
+    if (!in(month, 1, 12) || !in(day, 1, days[month - 1])) return 0;
+    if (month != 2 || day < 29 || year < 0) return 1;
+    return year % 4 == 0 && (year % 100 != 0 || year % 400 == 0);
+}
+
+static int is_offset(const uint8_t *s, size_t n) {
+    if ((n != 3 && n != 5) || (s[0] != '+' && s[0] != '-')) return 0;
+    return in(two(s, n, 1), 0, 23) && (n == 3 || in(two(s, n, 3), 0, 59));
+}
+
+static int is_zone(const uint8_t *s, size_t n) { return n == 0 || (n == 1 && s[0] == 'Z') || is_offset(s, n); }
+
+/* Hour, minute or none, second or none, zone or none; all of them where full. */
+static int is_clock(const uint8_t *s, size_t n, int full) {
+    size_t i = 2;
+    if (!in(two(s, n, 0), 0, 23)) return 0;
+    if (i < n && is_digit(s[i])) {
+        if (!in(two(s, n, i), 0, 59)) return 0;
+        i = 4;
+        if (i < n && is_digit(s[i])) {
+            if (!in(two(s, n, i), 0, 60)) return 0;
+            i = 6;
+        }
+    }
+    return (!full || i == 6) && is_zone(s + i, n - i);
+}
+
+static int is_stamp(const uint8_t *s, size_t n) {
+    int c = two(s, n, 0), y = two(s, n, 2);
+    return c >= 0 && y >= 0 && is_day(c * 100 + y, two(s, n, 4), two(s, n, 6)) && n > 8 && s[8] == 'T' && is_clock(s + 9, n - 9, 1);
+}
+
+static int is_date(const uint8_t *s, size_t n) {
+    size_t day; /* how long a date down to the day is */
+    if (n > 0 && s[0] == 'T') {
+        if (n > 2 && s[1] == '-' && s[2] == '-') return n == 5 && in(two(s, n, 3), 0, 60);
+        if (n > 1 && s[1] == '-') return in(two(s, n, 2), 0, 59) && (n == 4 || (n == 6 && in(two(s, n, 4), 0, 60)));
+        return is_clock(s + 1, n - 1, 0);
+    }
+    if (n > 2 && s[0] == '-' && s[1] == '-' && s[2] == '-') {
+        if (!in(two(s, n, 3), 1, 31)) return 0;
+        day = 5;
+    } else if (n > 1 && s[0] == '-' && s[1] == '-') {
+        if (n == 4) return in(two(s, n, 2), 1, 12);
+        if (!is_day(-1, two(s, n, 2), two(s, n, 4))) return 0;
+        day = 6;
+    } else {
+        int c = two(s, n, 0), y = two(s, n, 2);
+        if (c < 0 || y < 0) return 0;
+        if (n == 4) return 1;
+        if (s[4] == '-') return n == 7 && in(two(s, n, 5), 1, 12);
+        if (!is_day(c * 100 + y, two(s, n, 4), two(s, n, 6))) return 0;
+        day = 8;
+    }
+    return n == day || (s[day] == 'T' && is_clock(s + day + 1, n - day - 1, 0));
+}
+
 static int fits(const uint8_t *s, size_t n, int kind) {
     size_t semis, i = 0;
     switch (kind) {
@@ -165,15 +241,25 @@ static int fits(const uint8_t *s, size_t n, int kind) {
     case 8:
         while (i < n && is_digit(s[i])) i++;
         return i > 0 && i < n && s[i] == ';' && is_uri(s + i + 1, n - i - 1);
+    case 9: return is_date(s, n);
+    case 10: return is_stamp(s, n);
+    case 11: return is_offset(s, n);
     default: return 1;
     }
 }
 
+static int says(const uint8_t *s, size_t at, size_t n, const char *text) { return n == strlen(text) && strncasecmp((const char *)s + at, text, n) == 0; }
+
 static int kind_of(const uint8_t *s, const struct line *l, size_t row) {
     int kind = rows[row].kind;
+    if (kind == 9) {
+        if (l->has_over && says(s, l->over, l->over_len, "text")) return 1;
+        return l->has_scale && !says(s, l->scale, l->scale_len, "gregorian") ? 0 : 9;
+    }
+    if (row == 18 && l->has_over && says(s, l->over, l->over_len, "utc-offset")) return 11;
     if (!l->has_over || row < 3 || row == 5 || row == 34 || (kind != 0 && kind != 1 && kind != 3)) return kind;
-    if (l->over_len == 4 && strncasecmp((const char *)s + l->over, "text", 4) == 0) return 1;
-    if (l->over_len == 3 && strncasecmp((const char *)s + l->over, "uri", 3) == 0) return 3;
+    if (says(s, l->over, l->over_len, "text")) return 1;
+    if (says(s, l->over, l->over_len, "uri")) return 3;
     return 0;
 }
 

@@ -8,7 +8,7 @@ import sys
 ROOT = pathlib.Path(__file__).resolve().parent.parent
 TOKEN = re.compile(r'"((?:[^"\\]|\\.)*)"|(0x[0-9A-Fa-f]+|\d+)|([()])|([^\s()"]+)')
 # operators: how close they bind; all of them group to the right
-OPERATORS = {"∷": 4, "||": 5, "or": 5, "&&": 6, "then": 6, "+": 7}
+OPERATORS = {"∷": 4, "||": 5, "or": 5, "&&": 6, "then": 6, "+": 7, "-": 7, "%": 8}
 SKIPPED = ("use ", "abbrev ", "unfoldable ", "pub ", "infixr ", "--")
 
 
@@ -191,7 +191,7 @@ BUILT_IN = {
     "true": True, "false": False, "[]": [],
     "not": lambda a: not a, "&&": lambda a, b: a and b, "||": lambda a, b: a or b,
     "eqb": lambda a, b: a == b, "leb": lambda a, b: a <= b, "ltb": lambda a, b: a < b,
-    "+": lambda a, b: a + b, "suc": lambda a: a + 1, "∷": lambda a, b: [a] + b, "code": ord,
+    "+": lambda a, b: a + b, "-": lambda a, b: max(a - b, 0), "%": lambda a, b: a % b, "suc": lambda a: a + 1, "∷": lambda a, b: [a] + b, "code": ord,
     "getD": lambda items, at, other: items[at] if at < len(items) else other,
 }
 

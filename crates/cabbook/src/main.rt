@@ -1,5 +1,6 @@
 // cabbook: the workshop's command-line tool over the reader, the folder, text, labels and the desk.
 mod checking;
+mod dates;
 mod printing;
 mod reporting;
 mod table;

@@ -1,6 +1,7 @@
-// The values of `show`: text without its escapes, the components of lists, or the value as it stands; and the label of an address.
+// The values of `show`: text without its escapes, the components of lists, dates, or the value as it stands; and the label of an address.
 ghost use lib.ListN.{length};
 ghost use Prim.Native.Nat.{_≤_};
+use crate::dates;
 use crate::printing;
 use cabbook_tables::fields;
 use label_carets::Rule;
@@ -79,13 +80,14 @@ fn print_components(s: &[u8], semicolons: bool) {
     }
 }
 
-// Prints a value by its kind: text, lists of texts, or as it stands.
+// Prints a value by its kind: text, lists of texts, dates, or as it stands.
 pub(crate) fn print_value(s: &[u8], number: u32) {
     let kind = number as usize;
     match kind {
         kind::TEXT => print_text(s),
         kind::TEXTS => print_components(s, false),
         kind::NAME | kind::ADDRESS | kind::ORGANIZATION => print_components(s, true),
+        kind::DATE | kind::TIMESTAMP => dates::print_date(s),
         _ => printing::print_visible(s),
     }
 }

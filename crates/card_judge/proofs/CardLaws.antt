@@ -127,7 +127,7 @@ line-clean c c′ p l e =
 pub record Within (l : List ℕ) (x : Parts) : Type 0 where
   pub places : InLine l (x .«group_length») (x .«name_end») (x .«param_count») (x .«value_start»)
   pub row : x .row < 39
-  pub kind : x .kind < 9
+  pub kind : x .kind < 12
 
 pub parts-within : (l : List ℕ) (x : Parts) → linePartsOf l ≡ line x → Within l x
 unfolding linePartsOf
@@ -152,7 +152,7 @@ group-before g n h = by (eqb g 0) refl h
 
 -- the same as bounds on the numbers
 pub parts-fit : (l : List ℕ) (x : Parts) → linePartsOf l ≡ line x
-    → (x .«name_end» ≤ length l) × (x .«value_start» ≤ length l) × (x .«group_length» ≤ x .«name_end») × (x .«param_count» ≤ length l) × (x .row < 39) × (x .kind < 9)
+    → (x .«name_end» ≤ length l) × (x .«value_start» ≤ length l) × (x .«group_length» ≤ x .«name_end») × (x .«param_count» ≤ length l) × (x .row < 39) × (x .kind < 12)
 parts-fit l x e =
     let w = parts-within l x e in
     let p = w .places in

@@ -5,6 +5,7 @@ use mathlib.Core.Option.{Option, none, some}
 use mathlib.Core.List.{List, [], _∷_}
 use Prim.Native.Nat.{ℕ, zero, suc, _+_, _-_, _<_, _≤_}
 use native.Mathlib.Omega.{arith}
+use lib.Dec.{eqb}
 use lib.ListN.{length, take, drop}
 use borrow.Author.Tests.{ne-eqb}
 use Rattle.line_parser.specs.Parse.{Parse, got, bad}
@@ -28,7 +29,7 @@ use Rattle.line_parameters.proofs.FirstLaw.{first-law}
 use Rattle.octets.specs.Pick.{pick}
 use Rattle.octets.specs.Cases.{same}
 use Rattle.octets.specs.Ascii.{octets}
-use Rattle.property_table.specs.Rows.{Row, rows, search, rowOf, kindAt, takesValue, kindNamed, lineKind, valueName}
+use Rattle.property_table.specs.Rows.{Row, rows, search, rowOf, kindAt, ruleAt, kindNamed, says, valueKind, dateKind, zoneKind, lineKind, valueName, calscaleName}
 use Rattle.property_table.proofs.RowLaws.{kind-low}
 use Rattle.card_line.specs.Parts.{octetsOf, paramValue, rowOfLine, kindOfLine, faultOf, Accepted, firstValue, valueBy, linePartsBy, linePartsOf}
 use Rattle.card_line.specs.declared.Parts.{Parts}
@@ -54,19 +55,22 @@ known l g n c v e =
 pub accepted : (l : List ℕ) (g n c v : ℕ) → Known l g n c v → Accepted l n
 accepted l g n c v k = record { parts = k .parts; start = v; parsed = k .parsed; ends = k .placed .name-end }
 
--- a row that doesn't look at VALUE
-pub no-value : (row : ℕ) (o : Option (List ℕ)) → takesValue row ≡ false → kindAt row ≡ lineKind row o
-unfolding lineKind
-no-value row none e = refl
-no-value row (some v) e = simp e
+-- a parameter that is not there, and one that is
+pub value-none : (k : ℕ) (o : Option (List ℕ)) → o ≡ none → k ≡ valueKind k o
+unfolding valueKind
+value-none k o e = rw e
 
-pub value-none : (row : ℕ) (o : Option (List ℕ)) → o ≡ none → kindAt row ≡ lineKind row o
-unfolding lineKind
-value-none row o e = rw e
+pub value-some : (k : ℕ) (o : Option (List ℕ)) (v : List ℕ) → o ≡ some v → kindNamed v ≡ valueKind k o
+unfolding valueKind
+value-some k o v e = rw e
 
-pub value-some : (row : ℕ) (o : Option (List ℕ)) (v : List ℕ) → o ≡ some v → takesValue row ≡ true → kindNamed v ≡ lineKind row o
-unfolding lineKind
-value-some row o v e t = rw (e, t)
+pub says-none : (t : List ℕ) (m : Bool) (o : Option (List ℕ)) → o ≡ none → m ≡ says t m o
+unfolding says
+says-none t m o e = rw e
+
+pub says-some : (t : List ℕ) (m : Bool) (o : Option (List ℕ)) (v : List ℕ) → o ≡ some v → same v t ≡ says t m o
+unfolding says
+says-some t m o v e = rw e
 
 -- what was found says whether such a parameter stands there
 none-by : (l : List ℕ) (o : Option Value) (r : First) → Found l o r → r ≡ Nothing → octetsOf o ≡ none
@@ -111,12 +115,14 @@ module _ (l : List ℕ) (end : ℕ) (a : Accepted l end) (name : List ℕ) where
 
 -- the parts of a line
 pub parts-by : (l : List ℕ) (g n c v : ℕ) (k : Known l g n c v) (row kind : ℕ) → row ≡ rowOfLine (k .parts)
-    → kind ≡ lineKind row (firstValue valueName l)
+    → kind ≡ lineKind row (firstValue valueName l) (firstValue calscaleName l)
     → line (record { row = row; «group_length» = g; «name_end» = n; «param_count» = c; «value_start» = v; kind = kind }) ≡ linePartsOf l
 unfolding linePartsOf kindOfLine firstValue
 parts-by l g n c v k row kind er ek =
     let t = ap linePartsBy (k .parsed) in
-    let w : kind ≡ lineKind (rowOfLine (k .parts)) (paramValue valueName (k .parts)) = ek ∙ ap (lineKind row) (ap (valueBy valueName) (k .parsed)) ∙ ap (λ (r : ℕ). lineKind r (paramValue valueName (k .parts))) er in
+    let value = ap (valueBy valueName) (k .parsed) in
+    let calscale = ap (valueBy calscaleName) (k .parsed) in
+    let w : kind ≡ lineKind (rowOfLine (k .parts)) (paramValue valueName (k .parts)) (paramValue calscaleName (k .parts)) = cc (ek, value, calscale, er) in
     rw t (cc (er, w, k .placed .group-length, k .placed .name-end, k .placed .count))
 
 -- an answer that is no fault
@@ -143,7 +149,7 @@ group-low l (suc g) n c v i h =
     let k : suc g + 1 < n = rw (ne-eqb (suc g) 0 (λ e. omega arith)) at (i .name) in
     omega (arith, i .params, i .value)
 
--- a row's number is below 39, and a kind's below 9
+-- a row's number is below 39, and a kind's below 12
 found-low : (v : List ℕ) (i : ℕ) (rs : List Row) → 0 < i → search v i rs < i + length rs
 unfolding search
 found-low v i [] h = omega arith
@@ -157,27 +163,35 @@ pub row-low : (v : List ℕ) → rowOf v < 39
 unfolding rowOf rows
 row-low v = found-low v 1 rows (omega arith)
 
-named-low : (a b : Bool) → pick a 1 (pick b 3 0) < 9
-named-low true b = omega arith
-named-low false true = omega arith
-named-low false false = omega arith
+pick-low : (t : Bool) (a b : ℕ) → a < 12 → b < 12 → pick t a b < 12
+pick-low true a b g h = g
+pick-low false a b g h = h
 
-line-kind-low : (n : ℕ) (o : Option (List ℕ)) → n < 39 → lineKind n o < 9
-unfolding lineKind kindNamed
-line-kind-low n none h = kind-low n h
-line-kind-low n (some v) h = by (takesValue n)
-  where
-    by : (t : Bool) → pick t (kindNamed v) (kindAt n) < 9
-    by true = named-low (same v (octets "text")) (same v (octets "uri"))
-    by false = kind-low n h
+named-low : (v : List ℕ) → kindNamed v < 12
+unfolding kindNamed
+named-low v = pick-low (same v (octets "text")) _ _ (omega arith) (pick-low (same v (octets "uri")) _ _ (omega arith) (omega arith))
+
+value-low : (k : ℕ) (o : Option (List ℕ)) → k < 12 → valueKind k o < 12
+unfolding valueKind
+value-low k none h = h
+value-low k (some v) h = named-low v
+
+line-kind-low : (n : ℕ) (o p : Option (List ℕ)) → n < 39 → lineKind n o p < 12
+unfolding lineKind dateKind zoneKind
+line-kind-low n o p h =
+    pick-low (eqb (ruleAt n) 0) _ _ (kind-low n h)
+    (pick-low (eqb (ruleAt n) 1) _ _ (value-low (kindAt n) o (kind-low n h))
+    (pick-low (eqb (ruleAt n) 2) _ _
+    (pick-low (says (octets "text") false o) _ _ (omega arith) (pick-low (says (octets "gregorian") true p) _ _ (omega arith) (omega arith)))
+    (pick-low (says (octets "utc-offset") false o) _ _ (omega arith) (value-low 1 o (omega arith)))))
 
 pub row-of-line : (y : Line) → rowOfLine y < 39
 unfolding rowOfLine
 row-of-line y = row-low (y .name)
 
-pub kind-of-line : (y : Line) → kindOfLine y < 9
+pub kind-of-line : (y : Line) → kindOfLine y < 12
 unfolding kindOfLine rowOfLine
-kind-of-line y = line-kind-low (rowOf (y .name)) (paramValue valueName y) (row-low (y .name))
+kind-of-line y = line-kind-low (rowOf (y .name)) (paramValue valueName y) (paramValue calscaleName y) (row-low (y .name))
 
 -- what is known of a line by its parts
 pub record Read (l : List ℕ) (x : Parts) : Type 0 where
@@ -188,7 +202,7 @@ pub record Read (l : List ℕ) (x : Parts) : Type 0 where
   pub params : x .«param_count» ≡ length (parts .params)
   pub kind : x .kind ≡ kindOfLine parts
   pub listed : x .row < 39
-  pub low : x .kind < 9
+  pub low : x .kind < 12
   pub inside : x .«value_start» ≤ length l
   pub value : drop (x .«value_start») l ≡ parts .value
 

@@ -10,7 +10,7 @@ use Rattle.line_parser.specs.Rule.{parseLine}
 use Rattle.line_parameters.specs.First.{firstNamed, valueOctets}
 use Rattle.line_parser.specs.declared.rule.Part.{Part}
 use Rattle.line_parser.specs.declared.rule.Part.the-variants.{Upto, Named, Listed, Parsed, Fault}
-use Rattle.property_table.specs.Rows.{rowOf, lineKind, valueName}
+use Rattle.property_table.specs.Rows.{rowOf, lineKind, valueName, calscaleName}
 use Rattle.card_line.specs.declared.LineParts.{LineParts}
 use Rattle.card_line.specs.declared.LineParts.the-variants.{Line as line, Fault as fault}
 
@@ -23,12 +23,12 @@ octetsOf (some v) = some (valueOctets v)
 unfoldable pub paramValue : List ℕ → Line → Option (List ℕ)
 paramValue name x = octetsOf (firstNamed name (x .params))
 
--- the row of a line, and the kind of its value by row and VALUE
+-- the row of a line, and the kind of its value by row, VALUE and CALSCALE
 unfoldable pub rowOfLine : Line → ℕ
 rowOfLine x = rowOf (x .name)
 
 unfoldable pub kindOfLine : Line → ℕ
-kindOfLine x = lineKind (rowOfLine x) (paramValue valueName x)
+kindOfLine x = lineKind (rowOfLine x) (paramValue valueName x) (paramValue calscaleName x)
 
 -- the parts by a parse
 abbrev pub linePartsBy : Parse Line → LineParts

@@ -5,11 +5,13 @@ ghost use lib.ListN.{length};
 ghost use Rattle.numbers.specs.Limits as limit;
 ghost use Rattle.numbers.specs.Properties as property;
 ghost use Rattle.octets.specs.Classes.{Classes};
-ghost use Rattle.property_table.specs.Rows.{Lists, lineKind, valueName};
+ghost use Rattle.property_table.specs.Rows.{Lists, says, valueKind, dateKind, zoneKind, lineKind, valueName, calscaleName};
 ghost use Rattle.line_parser.specs.Places.{nameStart};
 ghost use Rattle.card_line.specs.Parts.{faultOf, Accepted, firstValue, linePartsOf};
 use line_parameters::First;
 use line_parser::rule::Part;
+use numbers::kind;
+use octets::cases::same_name;
 use octets::classes::ClassTable;
 use property_table::rows::PropertyTable;
 
@@ -56,23 +58,81 @@ fn fault_of(p: Part) -> u32
     e
 }
 
+// Whether the first value of the line's first parameter of that name is the text in any case; `missing` where it has none.
+fn param_says(
+    t: &ClassTable,
+    s: &[u8],
+    name_end: usize,
+    name: &[u8],
+    text: &[u8],
+    missing: bool,
+) -> bool
+    requires { ⌜ Classes (now t) ⌝ }
+    requires { ⌜ Accepted (now s) «name_end» ⌝ }
+    ensures { λ r. ⌜ r ≡ says (now (text .entry)) missing (firstValue (now (name .entry)) (now (s .entry))) ⌝ }
+{
+    let f = line_parameters::param_first(t, s, name_end, name);
+    let First::Between { start, end } = f else {
+        return missing;
+    };
+    same_name(&s[start..end], text)
+}
+
+// The kind that the line's VALUE names; the row's own where it has none.
+fn kind_by_value(t: &ClassTable, s: &[u8], name_end: usize, own: usize) -> usize
+    requires { ⌜ Classes (now t) ⌝ }
+    requires { ⌜ Accepted (now s) «name_end» ⌝ }
+    ensures { λ r. ⌜ r ≡ valueKind own (firstValue valueName (now (s .entry))) ⌝ }
+{
+    let f = line_parameters::param_first(t, s, name_end, b"VALUE");
+    let First::Between { start, end } = f else {
+        return own;
+    };
+    property_table::kind_named(&s[start..end])
+}
+
+// The kind of the value of a line of a row of dates.
+fn kind_by_calendar(t: &ClassTable, s: &[u8], name_end: usize) -> usize
+    requires { ⌜ Classes (now t) ⌝ }
+    requires { ⌜ Accepted (now s) «name_end» ⌝ }
+    ensures { λ r. ⌜ r ≡ dateKind (firstValue valueName (now (s .entry))) (firstValue calscaleName (now (s .entry))) ⌝ }
+{
+    if param_says(t, s, name_end, b"VALUE", b"text", false) {
+        return kind::TEXT;
+    }
+    if param_says(t, s, name_end, b"CALSCALE", b"gregorian", true) {
+        return kind::DATE;
+    }
+    kind::ANYTHING
+}
+
+// The kind of the value of a line of TZ.
+fn kind_by_zone(t: &ClassTable, s: &[u8], name_end: usize) -> usize
+    requires { ⌜ Classes (now t) ⌝ }
+    requires { ⌜ Accepted (now s) «name_end» ⌝ }
+    ensures { λ r. ⌜ r ≡ zoneKind (firstValue valueName (now (s .entry))) ⌝ }
+{
+    if param_says(t, s, name_end, b"VALUE", b"utc-offset", false) {
+        return kind::OFFSET;
+    }
+    kind_by_value(t, s, name_end, kind::TEXT)
+}
+
 // The kind of the value of a line of the row whose name ends at `name_end`.
 fn kind_at(t: &ClassTable, rows: &PropertyTable, s: &[u8], row: usize, name_end: usize) -> usize
     requires { ⌜ Classes (now t) ⌝ }
     requires { ⌜ Lists (now rows) ⌝ }
     requires { ⌜ row < property.count ⌝ }
     requires { ⌜ Accepted (now s) «name_end» ⌝ }
-    ensures { λ r. ⌜ r ≡ lineKind row (firstValue valueName (now (s .entry))) ⌝ }
+    ensures { λ r. ⌜ r ≡ lineKind row (firstValue valueName (now (s .entry))) (firstValue calscaleName (now (s .entry))) ⌝ }
 {
-    let kind = property_table::kind_of(rows, row);
-    if !property_table::takes_value(rows, row) {
-        return kind;
+    let own = property_table::kind_of(rows, row);
+    match property_table::rule_of(rows, row) {
+        property_table::BY_ROW => own,
+        property_table::BY_VALUE => kind_by_value(t, s, name_end, own),
+        property_table::BY_CALENDAR => kind_by_calendar(t, s, name_end),
+        _ => kind_by_zone(t, s, name_end),
     }
-    let f = line_parameters::param_first(t, s, name_end, b"VALUE");
-    let First::Between { start, end } = f else {
-        return kind;
-    };
-    property_table::kind_named(&s[start..end])
 }
 
 // The parts of a line, or the fault by which it breaks the line rule.

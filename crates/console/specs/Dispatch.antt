@@ -8,9 +8,9 @@ use Rattle.octets.specs.Slices.{part}
 use Rattle.console_requests.specs.Requests.{Requested, requestOf}
 use Rattle.console_requests.specs.declared.Request.{Request}
 use Rattle.console_requests.specs.declared.Name.{Name}
-use Rattle.console_requests.specs.declared.Name.the-variants.{Judge, Read, Fold, Escape, Unescape, Desk, Open, Add, Check, Show, Held, Release, Pool, Next, Encode, Decode, FoldIn, Report, Take, Print, Count, Bad}
+use Rattle.console_requests.specs.declared.Name.the-variants.{Judge, Read, Fold, Escape, Unescape, Desk, Open, Add, Check, Show, Held, Release, Pool, Next, Encode, Decode, FoldIn, Offset, Report, Take, Print, Count, Bad}
 use Rattle.label_carets.specs.declared.Rule.the-variants.{Rfc6350, Rfc6868}
-use Rattle.console_entries.specs.Entries.{judgeAnswer, readAnswer, writeAnswer, chosenAnswer, foldAnswer}
+use Rattle.console_entries.specs.Entries.{judgeAnswer, offsetAnswer, readAnswer, writeAnswer, chosenAnswer, foldAnswer}
 use Rattle.console_desk.specs.DeskAnswers.{State, WithPool, withPool, says, saysBad, deskAnswer, nextAnswer, changeAnswer, lookAnswer, poolAnswer}
 use Rattle.report.specs.declared.Report.{Report as ReportValue}
 use Rattle.console_report.specs.ReportAnswers.{KeptState, kept, keptOf, freshAnswer, takeAnswer, printsAnswer, countAnswer}
@@ -38,6 +38,7 @@ answerBy Next n k m sent t pool = withPool (nextAnswer n t) pool
 answerBy Encode n k m sent t pool = withPool (says (chosenAnswer (toEncode Rfc6350) (toEncode Rfc6868) n k sent) t) pool
 answerBy Decode n k m sent t pool = withPool (says (chosenAnswer (toDecode Rfc6350) (toDecode Rfc6868) n k sent) t) pool
 answerBy FoldIn n k m sent t pool = withPool (says (foldAnswer n k m sent) t) pool
+answerBy Offset n k m sent t pool = withPool (says (offsetAnswer sent) t) pool
 answerBy Report n k m sent t pool = withPool (saysBad t) pool
 answerBy Take n k m sent t pool = withPool (saysBad t) pool
 answerBy Print n k m sent t pool = withPool (saysBad t) pool
@@ -82,6 +83,7 @@ answerAny Next n k m sent w = beside (answerBy Next n k m sent (w .kept .state) 
 answerAny Encode n k m sent w = beside (answerBy Encode n k m sent (w .kept .state) (w .pool)) (w .kept .report)
 answerAny Decode n k m sent w = beside (answerBy Decode n k m sent (w .kept .state) (w .pool)) (w .kept .report)
 answerAny FoldIn n k m sent w = beside (answerBy FoldIn n k m sent (w .kept .state) (w .pool)) (w .kept .report)
+answerAny Offset n k m sent w = beside (answerBy Offset n k m sent (w .kept .state) (w .pool)) (w .kept .report)
 answerAny Bad n k m sent w = beside (answerBy Bad n k m sent (w .kept .state) (w .pool)) (w .kept .report)
 
 abbrev pub answerTo : Request → List ℕ → Whole → Whole

@@ -72,6 +72,7 @@ fn answer_request(q: Request, c: Console, sent: &[u8], pool: &mut [u8], out: &mu
             c.at,
         )),
         Name::FoldIn => c.with_output(entries::put_fold_answer(n, k, m, sent, out, c.at)),
+        Name::Offset => c.with_output(entries::put_offset_answer(sent, out, c.at)),
         _ => c.answer_bad(out),
     }
 }

@@ -2,6 +2,8 @@
 use Prim.Native.Nat.{ℕ}
 use mathlib.Core.Bool.{Bool}
 use mathlib.Core.List.{List, [], _∷_, _++_}
+use lib.IntN.{ℤ, pos, natAbs}
+use lib.Signed.{ltZ}
 use Rattle.octets.specs.Pick.{pick}
 use Rattle.octets.specs.Ascii.{octets}
 use Rattle.octets.specs.declared.rooms.Written.{Written}
@@ -10,6 +12,8 @@ use Rattle.octets.specs.Slices.{part}
 use Rattle.program_output.specs.Digits.{decimal, pair}
 use Rattle.reader.specs.declared.Verdict.{Verdict}
 use Rattle.reader.specs.declared.Verdict.the-variants.{Accepted, Refused}
+use Rattle.value_offsets.specs.declared.Offset.{Offset}
+use Rattle.value_offsets.specs.declared.Offset.the-variants.{Minutes, Refused as NoOffset}
 use Rattle.desk.specs.declared.Answer.{Answer}
 use Rattle.desk.specs.declared.Answer.the-variants.{Done, Refused as Denied}
 
@@ -37,6 +41,10 @@ others (n ∷ ns) = further n ++ others ns
 unfoldable pub joined : List ℕ → List ℕ
 joined [] = []
 joined (n ∷ ns) = decimal n ++ others ns
+
+-- a number with a hyphen before it where it is below 0
+unfoldable pub signedWord : ℤ → List ℕ
+signedWord z = pick (ltZ z (pos 0)) (45 ∷ decimal (natAbs z)) (decimal (natAbs z))
 
 -- a word after another
 abbrev pub spaced : List ℕ → List ℕ
@@ -68,6 +76,11 @@ verdictText (Refused n p) = refusalText n p
 unfoldable pub answerText : Answer → List ℕ
 answerText (Done n) = doneText n
 answerText (Denied n p) = refusalText n p
+
+-- `ok MINUTES`, or the refusal
+unfoldable pub offsetText : Offset → List ℕ
+offsetText (Minutes z) = octets "ok" ++ spaced (signedWord z)
+offsetText (NoOffset n p) = refusalText n p
 
 -- `ok COUNT OCTETS` with the octets written to room, or the refusal
 unfoldable pub writtenText : Written → List ℕ → List ℕ

@@ -1,12 +1,16 @@
 // The console's answers: the words of each, added to the output, which is a lent page.
 ghost use mathlib.Core.Path.{_≡_};
 ghost use mathlib.Core.List.{_∷_};
+ghost use Prim.Native.Nat.{_≤_};
+ghost use lib.IntN.{natAbs};
 ghost use Rattle.program_output.specs.Pages.{page, added};
 ghost use Rattle.program_output.specs.Digits.{decimal};
-ghost use Rattle.console_answers.specs.Texts.{lineEnd, badLine, refusalText, doneText, verdictText, writtenText, answerText, octetsWord, spaced, joined, roomEnd};
+ghost use Rattle.value_offsets.specs.Minutes.{mostMinutes, Bounded};
+ghost use Rattle.console_answers.specs.Texts.{lineEnd, badLine, refusalText, doneText, verdictText, writtenText, answerText, offsetText, signedWord, octetsWord, spaced, joined, roomEnd};
 use desk::Answer;
 use octets::rooms::Written;
 use reader::Verdict;
+use value_offsets::Offset;
 
 pub mod hex;
 
@@ -69,6 +73,43 @@ pub fn put_answer(out: &mut [u8], at: usize, a: Answer) -> usize
     match a {
         Answer::Done(n) => put_done(out, at, n),
         Answer::Refused(number, place) => put_refusal(out, at, number, place),
+    }
+}
+
+// A number without its sign.
+fn magnitude(z: i32) -> u32
+    requires { ⌜ natAbs z ≤ mostMinutes ⌝ }
+    ensures { λ r. ⌜ r ≡ natAbs z ⌝ }
+{
+    if z < 0 {
+        return (-z) as u32;
+    }
+    z as u32
+}
+
+// Adds a number, with a hyphen before it where it is below 0.
+fn put_signed(out: &mut [u8], at: usize, z: i32) -> usize
+    requires { ⌜ natAbs z ≤ mostMinutes ⌝ }
+    ensures { λ r. ⌜ page r (now (out .exit)) ≡ added (signedWord z) (page at (now (out .entry))) ⌝ }
+{
+    let n = magnitude(z) as usize;
+    if z < 0 {
+        return put_after(out, at, b'-', n);
+    }
+    program_output::digits::put_number(out, at, n)
+}
+
+// Adds `ok MINUTES`, or the refusal, of an offset.
+pub fn put_offset(out: &mut [u8], at: usize, o: Offset) -> usize
+    requires { ⌜ Bounded o ⌝ }
+    ensures { λ r. ⌜ page r (now (out .exit)) ≡ added (offsetText o) (page at (now (out .entry))) ⌝ }
+{
+    match o {
+        Offset::Minutes(z) => {
+            let word = program_output::put_all(out, at, b"ok ");
+            put_signed(out, word, z)
+        }
+        Offset::Refused(number, place) => put_refusal(out, at, number, place),
     }
 }
 

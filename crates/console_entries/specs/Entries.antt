@@ -1,4 +1,4 @@
--- What the console answers to a request of reader, folder, text or labels. Assumes nothing.
+-- What the console answers to a request of reader, folder, text, labels or offsets. Assumes nothing.
 use Prim.Native.Nat.{ℕ, _+_, _-_, _*_, min}
 use mathlib.Core.List.{List, [], _++_}
 use lib.Dec.{ltb, eqb}
@@ -17,7 +17,8 @@ use Rattle.folder_raising.specs.declared.Style.the-variants.{AsRead, Raised}
 use Rattle.folder.specs.Outcome.{foldIn, foldOutcome}
 use Rattle.text.specs.Outcomes.{escapeOutcome, unescapeOutcome}
 use Rattle.label.specs.Outcomes.{encodeOutcome, decodeOutcome}
-use Rattle.console_answers.specs.Texts.{lineEnd, badLine, verdictText, writtenText, octetsWord, joined, spaced, roomEnd}
+use Rattle.value_offsets.specs.Minutes.{minutesOf}
+use Rattle.console_answers.specs.Texts.{lineEnd, badLine, verdictText, offsetText, writtenText, octetsWord, joined, spaced, roomEnd}
 use Rattle.console_entries.specs.Rooms.{octetFill, mostRoom, octetRoom, numberRoom, all, bothKept}
 use Rattle.console_entries.specs.declared.entries.Writer.{Writer}
 use Rattle.console_entries.specs.declared.entries.Writer.the-variants.{Fold, Escape, Unescape, Encode, Decode, FoldIn}
@@ -30,6 +31,11 @@ within r t = pick (ltb mostRoom r) badLine t
 
 unfoldable pub judgeAnswer : List ℕ → List ℕ
 judgeAnswer i = verdictText (judgeOf i) ++ lineEnd
+
+-- ---- offset
+
+unfoldable pub offsetAnswer : List ℕ → List ℕ
+offsetAnswer v = offsetText (minutesOf v) ++ lineEnd
 
 -- ---- read
 

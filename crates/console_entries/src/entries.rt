@@ -1,10 +1,10 @@
-// The calls of reader, folder, text and labels.
+// The calls of reader, folder, text, labels and offsets.
 ghost use mathlib.Core.Path.{_≡_};
 ghost use Prim.Native.Nat.{_+_, _≤_};
 ghost use Rattle.octets.specs.Room.{filled};
 ghost use Rattle.program_output.specs.Pages.{page, added};
 ghost use Rattle.console_entries.specs.Rooms.{mostRoom, octetRoom, numberRoom};
-ghost use Rattle.console_entries.specs.Entries.{lineEndLength, linesOf, count, numbersOf, copyLength, takenText, roomsText, readText, outcomeOf, writeText, judgeAnswer, readAnswer, writeAnswer, chosenAnswer, foldAnswer};
+ghost use Rattle.console_entries.specs.Entries.{lineEndLength, linesOf, count, numbersOf, copyLength, takenText, roomsText, readText, outcomeOf, writeText, judgeAnswer, offsetAnswer, readAnswer, writeAnswer, chosenAnswer, foldAnswer};
 use crate::rooms;
 use folder_raising::Style;
 use label_carets::Rule;
@@ -38,6 +38,14 @@ pub fn put_judge_answer(input: &[u8], out: &mut [u8], at: usize) -> usize
 {
     let end = console_answers::put_verdict(out, at, reader::judge(input));
     console_answers::put_end(out, end)
+}
+
+// Adds the answer to `offset OCTETS`.
+pub fn put_offset_answer(value: &[u8], out: &mut [u8], at: usize) -> usize
+    ensures { λ r. ⌜ page r (now (out .exit)) ≡ added (offsetAnswer (now (value .entry))) (page at (now (out .entry))) ⌝ }
+{
+    let next = console_answers::put_offset(out, at, value_offsets::minutes(value));
+    console_answers::put_end(out, next)
 }
 
 // How many lines the reader accepted; 0 on a refusal.

@@ -11,7 +11,7 @@ use Rattle.octets.specs.Ascii.{octets}
 use Rattle.octets.specs.Tables.{TableOf}
 use Rattle.program_numbers.specs.Alike.{alike}
 use Rattle.console_requests.specs.declared.Name.{Name}
-use Rattle.console_requests.specs.declared.Name.the-variants.{Judge, Read, Fold, Escape, Unescape, Desk, Open, Add, Check, Show, Held, Release, Pool, Next, Encode, Decode, FoldIn, Report, Take, Print, Count, Bad}
+use Rattle.console_requests.specs.declared.Name.the-variants.{Judge, Read, Fold, Escape, Unescape, Desk, Open, Add, Check, Show, Held, Release, Pool, Next, Encode, Decode, FoldIn, Offset, Report, Take, Print, Count, Bad}
 
 pub record Row : Type 0 where
   pub name : Name
@@ -48,6 +48,7 @@ rows =
     row Encode "encode" 2 withOctets ∷
     row Decode "decode" 2 withOctets ∷
     row FoldIn "fold-in" 3 withOctets ∷
+    row Offset "offset" 0 withOctets ∷
     row Report "report" 0 alone ∷
     row Take "take" 0 withOctets ∷
     row Print "print" 1 alone ∷
@@ -56,7 +57,7 @@ rows =
 
 -- how many requests there are
 abbrev pub requests : ℕ
-requests = 21
+requests = 22
 
 -- the rows of the table: those of the requests, and a last one for none
 abbrev pub tableRows : ℕ

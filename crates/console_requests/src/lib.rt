@@ -29,6 +29,7 @@ pub enum Name {
     Encode,
     Decode,
     FoldIn,
+    Offset,
     Report,
     Take,
     Print,

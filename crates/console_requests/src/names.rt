@@ -21,7 +21,7 @@ const OCTETS: usize = 10;
 const TABLE: usize = ROW * (NO_REQUEST + 1);
 
 // The row of no request, after those of the requests.
-const NO_REQUEST: usize = 21;
+const NO_REQUEST: usize = 22;
 
 // Eleven entries for each row, and a last row for no request: name, its length, how many numbers stand after it, 1 where octets do.
 const ROWS: [u8; TABLE] = *b"\
@@ -42,6 +42,7 @@ const ROWS: [u8; TABLE] = *b"\
     encode..\x06\x02\x01\
     decode..\x06\x02\x01\
     fold-in.\x07\x03\x01\
+    offset..\x06\x00\x01\
     report..\x06\x00\x00\
     take....\x04\x00\x01\
     print...\x05\x01\x00\
@@ -128,10 +129,11 @@ pub fn name_at(row: usize) -> Name
         14 => Name::Encode,
         15 => Name::Decode,
         16 => Name::FoldIn,
-        17 => Name::Report,
-        18 => Name::Take,
-        19 => Name::Print,
-        20 => Name::Count,
+        17 => Name::Offset,
+        18 => Name::Report,
+        19 => Name::Take,
+        20 => Name::Print,
+        21 => Name::Count,
         _ => Name::Bad,
     }
 }

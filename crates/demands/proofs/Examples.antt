@@ -22,6 +22,7 @@ use Rattle.line_parser.specs.Grammar.{Each}
 use Rattle.line_parser.specs.Parse as parse
 use Rattle.line_parser.specs.Rule as rule
 use Rattle.line_parameters.specs.First as parameters
+use Rattle.value_kinds.specs.Dates as dates
 use Rattle.value_kinds.specs.Kinds as kinds
 use Rattle.value_kinds.specs.Octets as sets
 use Rattle.value_kinds.specs.Shapes as shapes
@@ -91,12 +92,16 @@ by-kinds : Unit {0}
 unfolding kinds.text kinds.texts kinds.uri kinds.component kinds.parts kinds.components kinds.gender kinds.pidmap kinds.shapeOf kinds.vcard kinds.version
 by-kinds = tt
 
+by-dates : Unit {0}
+unfolding dates.fours dates.others dates.year dates.months dates.month dates.day28 dates.day29 dates.day30 dates.day31 dates.hour dates.minute dates.second dates.lastMinute dates.offset dates.zoned dates.pastMinute dates.pastHour dates.clock dates.lastSecond dates.time dates.timed dates.leapDate dates.commonDate dates.noYear dates.dateAndOrTime dates.fullTime dates.leapFull dates.commonFull dates.timestamp
+by-dates = tt
+
 by-shapes : Unit {0}
-unfolding kinds.lineShape kinds.valueScan sets.holds shapes.nullable shapes.dead shapes.chain shapes.isNever shapes.fork shapes.derivative shapes.faultFrom
+unfolding kinds.lineShape kinds.valueScan sets.among sets.holds shapes.nullable shapes.dead shapes.chain shapes.isNever shapes.fork shapes.derivative shapes.faultFrom
 by-shapes = tt
 
 by-table : Unit {0}
-unfolding table.rows table.search table.rowOf table.rowAt table.kindAt table.takesValue table.kindNamed table.lineKind table.framing table.isGroup table.marks table.onceAt table.single
+unfolding table.rows table.search table.rowOf table.rowAt table.kindAt table.takesValue table.ruleAt table.kindNamed table.says table.valueKind table.dateKind table.zoneKind table.lineKind table.framing table.isGroup table.marks table.onceAt table.single
 by-table = tt
 
 by-cards : Unit {0}
@@ -142,7 +147,7 @@ by-examples = tt
 -- ---- the test
 
 all-hold : allHold marked ≡ true
-unfolding by-octets by-scans by-characters by-text by-escapes by-folds by-lines by-rule by-kinds by-shapes by-table by-cards by-judge by-reader by-folder by-styles by-report by-print by-desk by-calls by-examples
+unfolding by-octets by-scans by-characters by-text by-escapes by-folds by-lines by-rule by-kinds by-dates by-shapes by-table by-cards by-judge by-reader by-folder by-styles by-report by-print by-desk by-calls by-examples
 all-hold = refl
 
 pub examples : Each Holds marked
@@ -150,5 +155,5 @@ examples = tested marked all-hold
 
 -- In the raised style equal octets don't tell equal copies.
 pub merged : Merged smallName capitalName (replicate 160 0)
-unfolding by-octets by-scans by-characters by-text by-escapes by-folds by-lines by-rule by-kinds by-shapes by-table by-cards by-judge by-reader by-folder by-styles by-desk by-calls by-examples
+unfolding by-octets by-scans by-characters by-text by-escapes by-folds by-lines by-rule by-kinds by-dates by-shapes by-table by-cards by-judge by-reader by-folder by-styles by-desk by-calls by-examples
 merged = record { octets = refl; copies = λ e. let z : _≡_ {A = ℕ} 120 88 = ap (λ (l : List ℕ). getD l 32 0) e in omega arith }

@@ -8,5 +8,6 @@ pub mod Desks
 pub mod Reports
 pub mod Exact
 pub mod Labels
+pub mod Dates
 pub mod Total
 pub mod Whole

@@ -9,6 +9,19 @@ use Rattle.demands.proofs.Examples.{examples}
 use Rattle.demands.proofs.Total.{demand1}
 use Rattle.demands.proofs.Exact.{demand2}
 use Rattle.demands.proofs.Labels.{labels}
+use Rattle.demands.proofs.Dates.{demand4}
 
 pub demands : Demands
-demands = record { total = demand1; exact = demand2; labels = labels; separate = demand3; granted = grants; replays = replays; reports = reports; choosing = choosing; examples = examples }
+demands =
+    record {
+      total = demand1;
+      exact = demand2;
+      separate = demand3;
+      dated = demand4;
+      labels = labels;
+      granted = grants;
+      replays = replays;
+      reports = reports;
+      choosing = choosing;
+      examples = examples;
+    }

@@ -1,5 +1,5 @@
--- The three demands, labels, what a granted call does, the claim of demand 3 of a program that makes the calls, the claims of the report, the
--- rows that a name is compared with, and the marked examples, side by side. Assumes nothing.
+-- The three demands, dates, labels, what a granted call does, the claim of demand 3 of a program that makes the calls, the claims of the report,
+-- the rows that a name is compared with, and the marked examples, side by side. Assumes nothing.
 use Prim.Native.Nat.{ℕ}
 use mathlib.Core.List.{List}
 use Rattle.line_parser.specs.Grammar.{Each}
@@ -12,12 +12,14 @@ use Rattle.demands.specs.Examples.{Holds, marked}
 use Rattle.demands.specs.Demand1.{Demand1}
 use Rattle.demands.specs.Demand2.{Demand2}
 use Rattle.demands.specs.Labels.{Labels}
+use Rattle.demands.specs.Demand4.{Demand4}
 
 pub record Demands : Type 0 where
   pub total : Demand1
   pub exact : Demand2
   pub labels : Labels
   pub separate : Demand3
+  pub dated : Demand4
   pub granted : Granted
   pub replays : Replays
   pub reports : Reports

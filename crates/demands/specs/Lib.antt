@@ -3,4 +3,5 @@ pub mod Examples
 pub mod Demand1
 pub mod Demand2
 pub mod Labels
+pub mod Demand4
 pub mod Demands

@@ -13,7 +13,7 @@ use Rattle.octets.specs.Classes.{within, letter, named}
 use Rattle.octets.specs.Cases.{lower, same}
 use Rattle.line_parser.specs.Grammar.{Value, Param, Line, Each, Is, Word, GoodParam, WellFormed, front, render}
 use Rattle.line_parameters.specs.First.{firstNamed}
-use Rattle.property_table.specs.Rows.{Row, search, rows, rowOf, lineKind, valueName}
+use Rattle.property_table.specs.Rows.{Row, search, rows, rowOf, lineKind, valueName, calscaleName}
 use Rattle.card_line.specs.Parts.{octetsOf, paramValue, rowOfLine, kindOfLine}
 use Rattle.folder_raising.specs.Letters.{upper}
 use Rattle.folder_style_laws.specs.Capitals.{raisedParam, raisedLine}
@@ -65,7 +65,10 @@ module _ (x : Line) where
 
   pub kind-raised : kindOfLine (raisedLine x) ≡ kindOfLine x
   unfolding kindOfLine
-  kind-raised = ap (λ (n : ℕ). lineKind n (paramValue valueName (raisedLine x))) row-raised ∙ ap (lineKind (rowOfLine x)) (param-raised valueName)
+  kind-raised =
+      ap (λ (n : ℕ). lineKind n (paramValue valueName (raisedLine x)) (paramValue calscaleName (raisedLine x))) row-raised
+      ∙ ap (λ (v : Option (List ℕ)). lineKind (rowOfLine x) v (paramValue calscaleName (raisedLine x))) (param-raised valueName)
+      ∙ ap (lineKind (rowOfLine x) (paramValue valueName x)) (param-raised calscaleName)
 
 -- ---- the line rule
 

@@ -38,10 +38,22 @@ gender = 7
 abbrev pub pidmap : ℕ
 pidmap = 8
 
+-- a date, a time, or both
+abbrev pub date : ℕ
+date = 9
+
+-- a date with its time
+abbrev pub timestamp : ℕ
+timestamp = 10
+
+-- an offset from UTC
+abbrev pub offset : ℕ
+offset = 11
+
 -- how many kinds there are
 abbrev pub count : ℕ
-count = 9
+count = 12
 
 -- all of them
 abbrev pub kinds : List ℕ
-kinds = anything ∷ text ∷ texts ∷ uri ∷ name ∷ address ∷ organization ∷ gender ∷ pidmap ∷ []
+kinds = anything ∷ text ∷ texts ∷ uri ∷ name ∷ address ∷ organization ∷ gender ∷ pidmap ∷ date ∷ timestamp ∷ offset ∷ []

@@ -27,5 +27,14 @@ pub const GENDER: usize = 7;
 // Digits and a URI.
 pub const PIDMAP: usize = 8;
 
+// A date, a time, or both.
+pub const DATE: usize = 9;
+
+// A date with its time.
+pub const TIMESTAMP: usize = 10;
+
+// An offset from UTC.
+pub const OFFSET: usize = 11;
+
 // How many kinds there are.
-pub const COUNT: usize = 9;
+pub const COUNT: usize = 12;

@@ -13,7 +13,7 @@ use Rattle.octets.specs.Pick.{pick}
 use Rattle.octets.specs.Classes.{within}
 use Rattle.octets.specs.Cases.{lower, same}
 use Rattle.octets.specs.Ascii.{octets}
-use Rattle.property_table.specs.Rows.{Row, noRow, rows, search, rowOf, rowAt, initial, startsAs, agrees, choice, firstOf, nextOf, kindAt, single, marks, onceAt, framing, takesValue, nameEntries, entries, firsts, indexEntries, Lists}
+use Rattle.property_table.specs.Rows.{Row, noRow, rows, search, rowOf, rowAt, initial, startsAs, agrees, choice, firstOf, nextOf, kindAt, single, marks, onceAt, framing, takesValue, ruleAt, nameEntries, entries, firsts, indexEntries, Lists}
 use Rattle.octets.proofs.Bools.{by, and-both}
 use Rattle.octets.proofs.Upto.{upto, alike}
 use Rattle.octets.proofs.TableLaws.{entry-at}
@@ -174,9 +174,14 @@ onward-next v n p a f =
     let b = agree-both v (rowAt n) (a .agree p) in
     rw (b .0, b .1) (onward v (38 - n) (suc n) (omega (arith, a .low)) (omega arith) on)
 
-pub kind-low : (n : ℕ) → n < 39 → kindAt n < 9
+pub kind-low : (n : ℕ) → n < 39 → kindAt n < 12
 unfolding upto kindAt rowAt rows
-kind-low n h = ltb-true _ _ (alike (λ j. ltb (kindAt j) 9) (λ j. true) 39 refl n h)
+kind-low n h = ltb-true _ _ (alike (λ j. ltb (kindAt j) 12) (λ j. true) 39 refl n h)
+
+-- a rule is one of the four
+pub rule-low : (n : ℕ) → n < 39 → ruleAt n < 4
+unfolding upto ruleAt takesValue framing kindAt rowAt rows
+rule-low n h = ltb-true _ _ (alike (λ j. ltb (ruleAt j) 4) (λ j. true) 39 refl n h)
 
 -- the flags of a card have room for the rows marked *1
 pub once-low : (n : ℕ) → n < 39 → onceAt n ≤ 32
@@ -189,7 +194,7 @@ pub record Listed (t : List ℕ) (n : ℕ) : Type 0 where
   pub mark : getD t (n * 16 + 12) 0 ≡ onceAt n
   pub sort : getD t (n * 16 + 13) 0 ≡ kindAt n
   pub link : getD t (n * 16 + 14) 0 ≡ nextOf n
-  pub value : eqb (getD t (n * 16 + 15) 0) 1 ≡ takesValue n
+  pub rule : getD t (n * 16 + 15) 0 ≡ ruleAt n
 
 row-length : (n : ℕ) → n < 39 → length (entries n) ≡ 16
 unfolding upto entries nameEntries rowAt rows octets
@@ -204,7 +209,7 @@ module _ (t : List ℕ) (table : Lists t) (n : ℕ) (h : n < 39) where
   at i l = sym (getD-take 624 t (n * 16 + i) 0 (omega arith)) ∙ entry-at entries 16 39 row-length (take 624 t) (table .lines) n h i l
 
   pub listed : Listed t n
-  unfolding upto entries nameEntries rowAt choice agrees startsAs initial lower nextOf kindAt single marks onceAt framing takesValue rows octets
+  unfolding upto entries nameEntries rowAt choice agrees startsAs initial lower nextOf kindAt single marks onceAt framing takesValue ruleAt rows octets
   listed =
       record {
         spelt = λ i l.
@@ -214,7 +219,7 @@ module _ (t : List ℕ) (table : Lists t) (n : ℕ) (h : n < 39) where
         mark = at 12 (omega arith) ∙ alike (λ j. getD (entries j) 12 0) onceAt 39 refl n h;
         sort = at 13 (omega arith) ∙ alike (λ j. getD (entries j) 13 0) kindAt 39 refl n h;
         link = at 14 (omega arith) ∙ alike (λ j. getD (entries j) 14 0) nextOf 39 refl n h;
-        value = ap (λ (k : ℕ). eqb k 1) (at 15 (omega arith)) ∙ alike (λ j. eqb (getD (entries j) 15 0) 1) takesValue 39 refl n h;
+        rule = at 15 (omega arith) ∙ alike (λ j. getD (entries j) 15 0) ruleAt 39 refl n h;
       }
 
 firsts-at : (c l k i : ℕ) → i < k → getD (firsts c l k) i 0 ≡ firstOf (l + i) c

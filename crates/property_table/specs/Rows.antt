@@ -9,7 +9,6 @@ use lib.ListN.{length, getD, take, drop}
 use Rattle.numbers.specs.Properties as property
 use Rattle.numbers.specs.Kinds as kinds
 use Rattle.octets.specs.Pick.{pick}
-use Rattle.octets.specs.Classes.{bit}
 use Rattle.octets.specs.Cases.{lower, same}
 use Rattle.octets.specs.Ascii.{octets}
 use Rattle.octets.specs.Tables.{TableOf}
@@ -37,8 +36,8 @@ rows =
     row "N" 4 once ∷
     row "NICKNAME" 2 often ∷
     row "PHOTO" 3 often ∷
-    row "BDAY" 0 once ∷
-    row "ANNIVERSARY" 0 once ∷
+    row "BDAY" 9 once ∷
+    row "ANNIVERSARY" 9 once ∷
     row "GENDER" 7 once ∷
     row "ADR" 5 often ∷
     row "TEL" 1 often ∷
@@ -56,7 +55,7 @@ rows =
     row "CATEGORIES" 2 often ∷
     row "NOTE" 1 often ∷
     row "PRODID" 1 once ∷
-    row "REV" 0 once ∷
+    row "REV" 10 once ∷
     row "SOUND" 3 often ∷
     row "UID" 3 once ∷
     row "CLIENTPIDMAP" 8 often ∷
@@ -146,18 +145,56 @@ takesValue n =
     (ltb 0 n && ltb n property.count)
     && ((eqb (kindAt n) kinds.anything || (eqb (kindAt n) kinds.text || eqb (kindAt n) kinds.uri)) && not (framing n || eqb n property.xml))
 
+-- how a line's parameters set its kind: they do not; by VALUE; by VALUE and CALSCALE, on rows of dates; by VALUE, on TZ
+abbrev pub byRow : ℕ
+byRow = 0
+
+abbrev pub byValue : ℕ
+byValue = 1
+
+abbrev pub byCalendar : ℕ
+byCalendar = 2
+
+abbrev pub byZone : ℕ
+byZone = 3
+
+unfoldable pub ruleAt : ℕ → ℕ
+ruleAt n = pick (eqb (kindAt n) kinds.date) byCalendar (pick (eqb n property.tz) byZone (pick (takesValue n) byValue byRow))
+
 -- the kind that a VALUE parameter names
 unfoldable pub kindNamed : List ℕ → ℕ
 kindNamed v = pick (same v (octets "text")) kinds.text (pick (same v (octets "uri")) kinds.uri kinds.anything)
 
--- the kind of a line of row n, given the first value of its first VALUE parameter, quotes taken off, where it has one
-unfoldable pub lineKind : ℕ → Option (List ℕ) → ℕ
-lineKind n none = kindAt n
-lineKind n (some v) = pick (takesValue n) (kindNamed v) (kindAt n)
+-- a parameter's first value, where there is one, is the text in any case; missing where there is none
+unfoldable pub says : List ℕ → Bool → Option (List ℕ) → Bool
+says text missing none = missing
+says text missing (some v) = same v text
 
--- the name of the parameter that sets the kind
+-- the kind k, unless VALUE names one
+unfoldable pub valueKind : ℕ → Option (List ℕ) → ℕ
+valueKind k none = k
+valueKind k (some v) = kindNamed v
+
+-- VALUE `text` comes first; a calendar that is not said is the gregorian one
+unfoldable pub dateKind : Option (List ℕ) → Option (List ℕ) → ℕ
+dateKind value calscale = pick (says (octets "text") false value) kinds.text (pick (says (octets "gregorian") true calscale) kinds.date kinds.anything)
+
+unfoldable pub zoneKind : Option (List ℕ) → ℕ
+zoneKind value = pick (says (octets "utc-offset") false value) kinds.offset (valueKind kinds.text value)
+
+-- the kind of a line of row n, given the first value of its first VALUE and of its first CALSCALE parameter, quotes taken off, where it has one
+unfoldable pub lineKind : ℕ → Option (List ℕ) → Option (List ℕ) → ℕ
+lineKind n value calscale =
+    pick (eqb (ruleAt n) byRow) (kindAt n)
+    (pick (eqb (ruleAt n) byValue) (valueKind (kindAt n) value)
+    (pick (eqb (ruleAt n) byCalendar) (dateKind value calscale) (zoneKind value)))
+
+-- the names of the parameters that set the kind
 abbrev pub valueName : List ℕ
 valueName = octets "VALUE"
+
+abbrev pub calscaleName : List ℕ
+calscaleName = octets "CALSCALE"
 
 -- a KIND line's value that lets MEMBER stand in the card
 unfoldable pub isGroup : List ℕ → Bool
@@ -176,9 +213,9 @@ unfoldable pub nameEntries : ℕ → List ℕ
 nameEntries n = take longestName (rowAt n .name ++ octets "............")
 
 -- the sixteen entries that the table has for a row: those of its name, its number among the rows marked *1, its kind, the next row that agrees
--- with its name, and 1 where VALUE sets the kind
+-- with its name, and how parameters set the kind
 unfoldable pub entries : ℕ → List ℕ
-entries n = nameEntries n ++ onceAt n ∷ kindAt n ∷ nextOf n ∷ bit (takesValue n) 1 ∷ []
+entries n = nameEntries n ++ onceAt n ∷ kindAt n ∷ nextOf n ∷ ruleAt n ∷ []
 
 -- for names that start with c, the first row for each of k lengths from l on
 unfoldable pub firsts : ℕ → ℕ → ℕ → List ℕ

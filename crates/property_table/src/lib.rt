@@ -7,7 +7,7 @@ ghost use Rattle.numbers.specs.Limits as limit;
 ghost use Rattle.numbers.specs.Properties as property;
 ghost use Rattle.numbers.specs.Kinds as kinds;
 ghost use Rattle.octets.specs.Cases.{same};
-ghost use Rattle.property_table.specs.Rows.{rowLength, rowOf, rowAt, initial, agrees, firstOf, nextOf, kindAt, onceAt, framing, takesValue, kindNamed, isGroup, Lists};
+ghost use Rattle.property_table.specs.Rows.{rowLength, rowOf, rowAt, initial, agrees, firstOf, nextOf, kindAt, onceAt, framing, ruleAt, kindNamed, isGroup, Lists};
 
 pub mod rows;
 
@@ -32,8 +32,20 @@ const KIND: usize = 13;
 // The column of the next row with a name as long and the same first letter.
 const NEXT: usize = 14;
 
-// The column with 1 where a VALUE parameter sets the kind.
-const VALUE: usize = 15;
+// The column of the rule by which parameters set the kind.
+const RULE: usize = 15;
+
+// The rule of a row whose kind no parameter sets.
+pub const BY_ROW: usize = 0;
+
+// The rule of a row whose kind a VALUE parameter sets.
+pub const BY_VALUE: usize = 1;
+
+// The rule of a row of dates, whose kind VALUE and CALSCALE set.
+pub const BY_CALENDAR: usize = 2;
+
+// The rule of TZ, whose kind VALUE sets, an offset too.
+pub const BY_ZONE: usize = 3;
 
 // The letter a, which the index starts with.
 const FIRST_LETTER: usize = 97;
@@ -141,13 +153,13 @@ pub fn once_of(rows: &PropertyTable, row: usize) -> usize
     entry(rows, row, ONCE)
 }
 
-// Whether a VALUE parameter sets the kind of a row's line.
-pub fn takes_value(rows: &PropertyTable, row: usize) -> bool
+// The rule by which parameters set the kind of a row's line.
+pub fn rule_of(rows: &PropertyTable, row: usize) -> usize
     requires { ⌜ Lists (now rows) ⌝ }
     requires { ⌜ row < property.count ⌝ }
-    ensures { λ r. ⌜ r ≡ takesValue row ⌝ }
+    ensures { λ r. ⌜ r ≡ ruleAt row ⌝ }
 {
-    entry(rows, row, VALUE) == 1
+    entry(rows, row, RULE)
 }
 
 // The kind that a VALUE parameter names.

@@ -4,8 +4,8 @@
 pub type PropertyTable = [u8; 1040];
 
 // A line for each row: its name, filled up by points, its number among the properties that a card has at most once, its kind, the next row
-// with a name as long and the same first letter, and 1 where VALUE sets the kind. The row for no name comes first. Behind the rows stands a
-// line for each letter: the first row whose name starts with it, for each length from 0 on.
+// with a name as long and the same first letter, and how parameters set the kind. The row for no name comes first. Behind the rows stands a line
+// for each letter: the first row whose name starts with it, for each length from 0 on.
 pub const ROWS: PropertyTable = *b"\
     ............\x00\x00\x00\x00\
     BEGIN.......\x00\x00\x00\x00\
@@ -17,15 +17,15 @@ pub const ROWS: PropertyTable = *b"\
     N...........\x02\x04\x00\x00\
     NICKNAME....\x00\x02\x00\x00\
     PHOTO.......\x00\x03\x00\x01\
-    BDAY........\x03\x00\x00\x01\
-    ANNIVERSARY.\x04\x00\x00\x01\
+    BDAY........\x03\x09\x00\x02\
+    ANNIVERSARY.\x04\x09\x00\x02\
     GENDER......\x05\x07\x00\x00\
     ADR.........\x00\x05\x00\x00\
     TEL.........\x00\x01\x00\x01\
     EMAIL.......\x00\x01\x00\x01\
     IMPP........\x00\x03\x00\x01\
     LANG........\x00\x00\x16\x01\
-    TZ..........\x00\x01\x00\x01\
+    TZ..........\x00\x01\x00\x03\
     GEO.........\x00\x03\x00\x01\
     TITLE.......\x00\x01\x00\x01\
     ROLE........\x00\x01\x00\x01\
@@ -36,7 +36,7 @@ pub const ROWS: PropertyTable = *b"\
     CATEGORIES..\x00\x02\x00\x00\
     NOTE........\x00\x01\x00\x01\
     PRODID......\x06\x01\x00\x01\
-    REV.........\x07\x00\x00\x01\
+    REV.........\x07\x0a\x00\x00\
     SOUND.......\x00\x03\x00\x01\
     UID.........\x08\x03\x21\x01\
     CLIENTPIDMAP\x00\x08\x00\x00\

@@ -17,8 +17,9 @@ use Rattle.value_kinds.specs.Shapes.{Matches}
 use Rattle.value_kinds.specs.declared.Fault.the-variants.{Fits}
 use Rattle.octets.proofs.Bools.{by}
 use Rattle.value_laws.proofs.KindLaws.{fits-kind}
+use Rattle.value_laws.proofs.DateWords.{kind-9, kind-10, kind-11}
 use Rattle.value_laws.proofs.Plain.{kind-0, kind-1, kind-2, kind-3, kind-4, kind-5, kind-6, kind-7, kind-8, fixed-begin, fixed-end, fixed-version, by-kind}
-use Rattle.reader_grammar.specs.Values.{OfKind, anything, text, texts, uri, five, seven, components, gender, pidmap, Fitting}
+use Rattle.reader_grammar.specs.Values.{OfKind, anything, text, texts, uri, five, seven, components, gender, pidmap, date, timestamp, offset, Fitting}
 use Rattle.reader_grammar.specs.Cards.{Clean}
 
 kind-to : (k : ℕ) (v : List ℕ) → kindScan k v ≡ Fits → OfKind k v
@@ -32,7 +33,10 @@ kind-to (suc (suc (suc (suc (suc zero))))) v e = seven (kind-5 v .0 e)
 kind-to (suc (suc (suc (suc (suc (suc zero)))))) v e = components (kind-6 v .0 e)
 kind-to (suc (suc (suc (suc (suc (suc (suc zero))))))) v e = gender (kind-7 v .0 e)
 kind-to (suc (suc (suc (suc (suc (suc (suc (suc zero)))))))) v e = pidmap (kind-8 v .0 e)
-kind-to (suc (suc (suc (suc (suc (suc (suc (suc (suc k))))))))) v e = absurd (fits-kind (suc (suc (suc (suc (suc (suc (suc (suc (suc k))))))))) v .0 e)
+kind-to (suc (suc (suc (suc (suc (suc (suc (suc (suc zero))))))))) v e = date (kind-9 v .0 e)
+kind-to (suc (suc (suc (suc (suc (suc (suc (suc (suc (suc zero)))))))))) v e = timestamp (kind-10 v .0 e)
+kind-to (suc (suc (suc (suc (suc (suc (suc (suc (suc (suc (suc zero))))))))))) v e = offset (kind-11 v .0 e)
+kind-to (suc (suc (suc (suc (suc (suc (suc (suc (suc (suc (suc (suc k)))))))))))) v e = absurd (fits-kind (suc (suc (suc (suc (suc (suc (suc (suc (suc (suc (suc (suc k)))))))))))) v .0 e)
 
 kind-from : {k : ℕ} {v : List ℕ} → OfKind k v → kindScan k v ≡ Fits
 kind-from (anything {v = v}) = kind-0 v
@@ -44,6 +48,9 @@ kind-from (seven {v = v} h) = kind-5 v .1 h
 kind-from (components {v = v} h) = kind-6 v .1 h
 kind-from (gender {v = v} h) = kind-7 v .1 h
 kind-from (pidmap {v = v} h) = kind-8 v .1 h
+kind-from (date {v = v} h) = kind-9 v .1 h
+kind-from (timestamp {v = v} h) = kind-10 v .1 h
+kind-from (offset {v = v} h) = kind-11 v .1 h
 
 -- a value fits its kind's scan exactly where it is of the kind
 pub of-kind : (k : ℕ) (v : List ℕ) → (kindScan k v ≡ Fits) ↔ OfKind k v

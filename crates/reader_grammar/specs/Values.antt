@@ -7,6 +7,7 @@ use Rattle.numbers.specs.Properties as property
 use Rattle.octets.specs.Cases.{same}
 use Rattle.numbers.specs.Kinds as kinds
 use Rattle.octets.specs.Ascii.{octets}
+use Rattle.value_laws.specs.Calendar.{DateAndOrTime, Timestamp, Offset}
 use Rattle.value_laws.specs.Words.{Text, Texts, Semicolons, Uri, Gender, Pidmap}
 
 -- "Kinds: 0 anything; 1 text; 2 texts split by bare commas; 3 URI; [..]"
@@ -20,6 +21,9 @@ pub data OfKind : ℕ → List ℕ → Type 0 where
   components : {v : List ℕ} → Text v → OfKind kinds.organization v
   gender : {v : List ℕ} → Gender v → OfKind kinds.gender v
   pidmap : {v : List ℕ} → Pidmap v → OfKind kinds.pidmap v
+  date : {v : List ℕ} → DateAndOrTime v → OfKind kinds.date v
+  timestamp : {v : List ℕ} → Timestamp v → OfKind kinds.timestamp v
+  offset : {v : List ℕ} → Offset v → OfKind kinds.offset v
 
 -- "BEGIN and END have value VCARD in any case"
 abbrev pub Vcard : List ℕ → Type 0

@@ -44,20 +44,29 @@ fn judge_span(
     card_judge::judge::judge_line(t, rows, steps, &scratch[..n], at, c)
 }
 
-// Judges the lines one after the other, up to the first refusal.
-pub fn walk(t: &ClassTable, rows: &PropertyTable, steps: &Transitions, s: &[u8]) -> Step
+// An input of at most so many octets is judged with a scratch of as many, since the scratch is made at each call.
+const SHORT: usize = 1024;
+
+// Judges the lines one after the other, up to the first refusal, with a scratch that holds them all.
+fn walk_in(
+    t: &ClassTable,
+    rows: &PropertyTable,
+    steps: &Transitions,
+    s: &[u8],
+    scratch: &mut [u8],
+) -> Step
     requires { ⌜ Tables (now t) (now rows) (now steps) ⌝ }
     requires { ⌜ length (now s) ≤ limit.octets ⌝ }
+    requires { ⌜ length (now s) ≤ length (now scratch) ⌝ }
     ensures { λ r. ⌜ r ≡ judgeLines (rawLines (now (s .entry))) 0 freshCard ⌝ }
 {
-    let mut scratch = [0u8; limit::OCTETS];
     let mut c = card_state::fresh();
     let mut at: usize = 0;
     while at < s.len() {
         let span = line_folds::spans::line_at(s, at);
         let end = span.end;
         let folded = span.cr != end;
-        let j = judge_span(t, rows, steps, &s[at..end], folded, &mut scratch, at, c);
+        let j = judge_span(t, rows, steps, &s[at..end], folded, scratch, at, c);
         let Step::Next(next) = j else {
             return j;
         };
@@ -65,4 +74,18 @@ pub fn walk(t: &ClassTable, rows: &PropertyTable, steps: &Transitions, s: &[u8])
         at = end + 2;
     }
     Step::Next(c)
+}
+
+// Judges the lines one after the other, up to the first refusal.
+pub fn walk(t: &ClassTable, rows: &PropertyTable, steps: &Transitions, s: &[u8]) -> Step
+    requires { ⌜ Tables (now t) (now rows) (now steps) ⌝ }
+    requires { ⌜ length (now s) ≤ limit.octets ⌝ }
+    ensures { λ r. ⌜ r ≡ judgeLines (rawLines (now (s .entry))) 0 freshCard ⌝ }
+{
+    if s.len() <= SHORT {
+        let mut scratch = [0u8; SHORT];
+        return walk_in(t, rows, steps, s, &mut scratch);
+    }
+    let mut scratch = [0u8; limit::OCTETS];
+    walk_in(t, rows, steps, s, &mut scratch)
 }

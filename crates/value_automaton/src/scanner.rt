@@ -37,7 +37,10 @@ pub fn start(kind: usize) -> u8
         kind::ADDRESS => states::ADDRESS,
         kind::ORGANIZATION => states::ORGANIZATION,
         kind::GENDER => states::GENDER,
-        _ => states::PIDMAP,
+        kind::PIDMAP => states::PIDMAP,
+        kind::DATE => states::DATE,
+        kind::TIMESTAMP => states::TIMESTAMP,
+        _ => states::OFFSET,
     }
 }
 
@@ -48,7 +51,7 @@ fn step(steps: &Transitions, q: u8, x: u8) -> u8
     ensures { λ r. ⌜ Next q x r ⌝ }
 {
     let c = steps[wide(x)];
-    steps[256 + (wide(q) * states::STRIDE + wide(c))]
+    steps[256 + (wide(q) * states::STRIDE + wide(c))] - c
 }
 
 // True only where the step at i led into a URI's last part and all that comes is of it.

@@ -51,7 +51,7 @@ unfolding fork
 fork-to a b v h = pick-to a b v (isNever a) (isNever b) (never-none a v) (never-none b v) h
 
 -- the empty text
-end-to : (r : Shape) → Matches r [] → nullable r ≡ true
+pub end-to : (r : Shape) → Matches r [] → nullable r ≡ true
 unfolding Matches nullable
 end-to never h = absurd h
 end-to empty h = refl

@@ -7,6 +7,7 @@ use Rattle.numbers.specs.Properties as property
 use Rattle.octets.specs.Pick.{pick}
 use Rattle.value_kinds.specs.Octets.{Octets, any, plain, inner, escapee, backslash, comma, semicolon, colon, letter, scheme, graphic, digit, sex, theV, theC, theA, theR, theD, four, point, nought}
 use Rattle.value_kinds.specs.Shapes.{Shape, never, empty, one, _then_, _or_, many, faultFrom}
+use Rattle.value_kinds.specs.Dates.{dateAndOrTime, timestamp, offset}
 use Rattle.value_kinds.specs.declared.Fault.{Fault}
 
 -- one or none
@@ -50,9 +51,9 @@ gender = maybe (one sex) then maybe (one semicolon then text)
 unfoldable pub pidmap : Shape
 pidmap = one digit then many (one digit) then one semicolon then uri
 
--- kinds 0 to 8; no other number is a kind's
+-- kinds 0 to 11; no other number is a kind's
 unfoldable pub shapeOf : ℕ → Shape
-shapeOf k = getD (many (one any) ∷ text ∷ texts ∷ uri ∷ parts 5 ∷ parts 7 ∷ components ∷ gender ∷ pidmap ∷ []) k never
+shapeOf k = getD (many (one any) ∷ text ∷ texts ∷ uri ∷ parts 5 ∷ parts 7 ∷ components ∷ gender ∷ pidmap ∷ dateAndOrTime ∷ timestamp ∷ offset ∷ []) k never
 
 unfoldable pub kindScan : ℕ → List ℕ → Fault
 kindScan k v = faultFrom (shapeOf k) 0 v

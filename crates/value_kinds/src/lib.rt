@@ -76,7 +76,7 @@ fn has_semicolons(s: &[u8], n: usize) -> bool
     lacks(b'\\', b'\\', s)
 }
 
-// Whether a look at each octet by itself shows that s fits; no such look settles kinds 3, 7 and 8.
+// Whether a look at each octet by itself shows that s fits; no such look settles kinds 3 and 7 to 11.
 pub fn fits_at_once(kind: usize, s: &[u8]) -> bool
     ensures { λ r. ⌜ r ≡ fitsAtOnce kind (now (s .entry)) ⌝ }
 {

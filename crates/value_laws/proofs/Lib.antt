@@ -3,5 +3,11 @@ pub mod Places
 pub mod KindLaws
 pub mod Plain
 pub mod Escapes
+pub mod Pairs
+pub mod DayLaws
+pub mod DateWords
+pub mod OffsetLaws
+pub mod DateTable
 pub mod RowLaws
 pub mod ChoiceLaws
+pub mod LineKindLaws

@@ -4,16 +4,16 @@ use mathlib.Core.Path.{_≡_, refl, sym, ap, subst, _∙_}
 use mathlib.Core.Bool.{Bool, true, false, _&&_, _||_, false≢true}
 use mathlib.Core.List.{List, [], _∷_, _++_}
 use mathlib.Core.Logic.{_⊎_, inl, inr, ⊎-elim, _↔_}
-use Prim.Native.Nat.{ℕ, zero, suc, _+_, _<_, _≤_}
+use Prim.Native.Nat.{ℕ, zero, suc, _+_, _-_, _%_, _<_, _≤_}
 use native.Mathlib.Nat.{add-zero, zero-add}
 use native.Mathlib.Omega.{arith}
 use lib.Dec.{ltb}
 use lib.ListN.{length, take}
-use borrow.Author.Tests.{ltb-true, ltb-false}
+use borrow.Author.Tests.{ltb-true, ltb-false, eq-eqb, le-leb}
 use Rattle.octets.specs.Pick.{pick}
 use Rattle.octets.specs.Classes.{letter as isLetter, digit as isDigit}
 use Rattle.octets.specs.Cases.{lower}
-use Rattle.value_kinds.specs.Octets.{Octets, any, plain, inner, escapee, backslash, comma, semicolon, colon, letter, scheme, graphic, digit, sex, theV, theC, theA, theR, theD, four, point, nought, holds}
+use Rattle.value_kinds.specs.Octets.{Octets, any, plain, inner, escapee, backslash, comma, semicolon, colon, letter, scheme, graphic, digit, sex, theV, theC, theA, theR, theD, four, point, nought, theT, theZ, minus, sign, figures, among, holds}
 use Rattle.value_kinds.specs.Shapes.{Shape, never, empty, one, _then_, _or_, many, joined, each, Matches, nullable, dead, chain, isNever, fork, derivative, faultFrom}
 use Rattle.value_kinds.specs.declared.Fault.the-variants.{Fits, Breaks}
 use Rattle.octets.proofs.Bools.{by, and-both, or-some}
@@ -62,6 +62,17 @@ end-from (a then b) e =
 end-from (a or b) e = ⊎-elim (λ h. inl (end-from a h)) (λ h. inr (end-from b h)) (or-some (nullable a) (nullable b) e)
 end-from (many a) e = ([], refl, tt)
 
+-- the first digit of a set of digits
+figure-back : (m : ℕ) → 48 + m - 48 ≡ m
+figure-back m = omega arith
+
+figure-here : (d : ℕ) (ds : List ℕ) → holds (figures d ds) (48 + d % 10) ≡ true
+unfolding holds isDigit among
+figure-here d ds =
+    let m = d % 10 in
+    let low : m < 10 = omega arith in
+    rw (figure-back m, eq-eqb m m refl, le-leb 48 (48 + m) (omega arith), le-leb (48 + m) 57 (omega arith))
+
 -- an octet of each set
 sample : (p : Octets) → (x : ℕ) × (holds p x ≡ true)
 unfolding holds isLetter isDigit lower
@@ -86,6 +97,11 @@ sample theD = (68, refl)
 sample four = (52, refl)
 sample point = (46, refl)
 sample nought = (48, refl)
+sample theT = (84, refl)
+sample theZ = (90, refl)
+sample minus = (45, refl)
+sample sign = (43, refl)
+sample (figures d ds) = (48 + d % 10, figure-here d ds)
 
 -- a shape that is not dead has a text
 dead-some : (r : Shape) → dead r ≡ false → (v : List ℕ) × Matches r v
@@ -121,7 +137,7 @@ module _ (x : ℕ) where
   unfolding Matches joined each
   many-from a v (u, w, e, p, (vs, f, h)) = (u ∷ vs, e ∙ ap (λ (l : List ℕ). u ++ l) f, (p, h))
 
-  derivative-from : (r : Shape) (v : List ℕ) → Matches (derivative x r) v → Matches r (x ∷ v)
+  pub derivative-from : (r : Shape) (v : List ℕ) → Matches (derivative x r) v → Matches r (x ∷ v)
   unfolding Matches derivative
   derivative-from never v h = h
   derivative-from empty v h = absurd h

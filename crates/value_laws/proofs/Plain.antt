@@ -19,7 +19,7 @@ use Rattle.value_laws.specs.Words.{In, All, Text, Texts, Semicolons, Uri
 use Rattle.value_laws.proofs.KindLaws.{fits-kind, fits-line}
 use Rattle.value_laws.proofs.Escapes.{is-text, is-texts, is-five, is-seven, is-components}
 
-abbrev through : {A B C : Type 0} → A ↔ B → B ↔ C → A ↔ C
+abbrev pub through : {A B C : Type 0} → A ↔ B → B ↔ C → A ↔ C
 through f g = (λ a. g .0 (f .0 a), λ c. f .1 (g .1 c))
 
 -- a run of octets of a set
@@ -33,11 +33,11 @@ unfolding Matches
 run p v = (λ h. subst (All p) (sym (h .1)) (run-all p (h .0) (h .2)), run-many (one p) (holds p) (itself p) v)
 
 -- an octet of a set before a text
-head-to : (p : Octets) (a : Shape) (v : List ℕ) → Matches (one p then a) v → (x : ℕ) × (w : List ℕ) × (v ≡ x ∷ w) × In p x × Matches a w
+pub head-to : (p : Octets) (a : Shape) (v : List ℕ) → Matches (one p then a) v → (x : ℕ) × (w : List ℕ) × (v ≡ x ∷ w) × In p x × Matches a w
 unfolding Matches
 head-to p a v (u, w, e, (x, h, f), k) = (x, w, e ∙ ap (λ (l : List ℕ). l ++ w) f, h, k)
 
-head-from : (p : Octets) (a : Shape) (x : ℕ) (v w : List ℕ) → v ≡ x ∷ w → In p x → Matches a w → Matches (one p then a) v
+pub head-from : (p : Octets) (a : Shape) (x : ℕ) (v w : List ℕ) → v ≡ x ∷ w → In p x → Matches a w → Matches (one p then a) v
 unfolding Matches
 head-from p a x v w e h k = (x ∷ [], w, e, (x, h, refl), k)
 

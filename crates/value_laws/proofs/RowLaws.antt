@@ -15,7 +15,7 @@ use Rattle.octets.proofs.Upto.{upto, alike}
 use Rattle.property_table.proofs.RowLaws.{searchFrom, search-start, search-found, search-next, search-none}
 
 -- two names that a third is the same as are the same
-same-both : (a b c : List ℕ) → same a b ≡ true → same a c ≡ true → same b c ≡ true
+pub same-both : (a b c : List ℕ) → same a b ≡ true → same a c ≡ true → same b c ≡ true
 unfolding same
 same-both [] [] c e f = f
 same-both [] (y ∷ b) c e f = absurd (false≢true e)

@@ -7,6 +7,7 @@ use std::sync::mpsc::{channel, Receiver, Sender};
 use std::thread;
 
 use crate::console::Console;
+use crate::generator::dates::dates;
 use crate::generator::folds::folds;
 use crate::generator::labels::labels;
 use crate::generator::line_faults::line_faults;
@@ -25,6 +26,7 @@ pub struct Plan {
     pub readers: usize,
     pub line_faults: usize,
     pub names: usize,
+    pub dates: usize,
     pub folds: usize,
     pub texts: usize,
     pub labels: usize,
@@ -39,9 +41,10 @@ impl Default for Plan {
     fn default() -> Plan {
         Plan {
             protocol: 1000,
-            readers: 100_000,
+            readers: 160_000,
             line_faults: 30_000,
             names: 30_000,
+            dates: 60_000,
             folds: 10_000,
             texts: 80_000,
             labels: 50_000,
@@ -70,6 +73,7 @@ pub fn steps(plan: Plan) -> impl Iterator<Item = Step> {
         .chain(readers(plan.seed).take(plan.readers).map(of("readers")))
         .chain(line_faults(plan.seed).take(plan.line_faults).map(of("line faults")))
         .chain(names(plan.seed).take(plan.names).map(of("names")))
+        .chain(dates(plan.seed).take(plan.dates).map(of("dates")))
         .chain(folds(plan.seed).take(plan.folds).map(of("folds")))
         .chain(texts(plan.seed).take(plan.texts).map(of("texts")))
         .chain(labels(plan.seed).take(plan.labels).map(of("labels")))
@@ -118,10 +122,12 @@ fn routine_steps(plan: Plan) -> impl Iterator<Item = Step> {
     let judged = readers(plan.seed).filter(|line| line.starts_with("judge "));
     let faulty = line_faults(plan.seed).filter(|line| !line.starts_with("read "));
     let named = names(plan.seed).filter(|line| line.starts_with("judge "));
+    let dated = dates(plan.seed).filter(|line| line.starts_with("judge "));
     let unescaped = texts(plan.seed).filter(|line| line.starts_with("unescape "));
     (judged.take(plan.readers).map(of("readers")))
         .chain(faulty.take(plan.line_faults).map(of("line faults")))
         .chain(named.take(plan.names).map(of("names")))
+        .chain(dated.take(plan.dates).map(of("dates")))
         .chain(folds(plan.seed).take(plan.folds).map(of("folds")))
         .chain(unescaped.take(plan.texts).map(of("texts")))
 }

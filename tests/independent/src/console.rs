@@ -19,6 +19,7 @@
 
 use std::io::{self, BufRead, BufReader, Read, Write};
 
+use crate::dates::minutes;
 use crate::desk::Desk;
 use crate::folder::{fold, fold_in};
 use crate::hex::word_of;
@@ -82,6 +83,7 @@ impl Console {
             Request::Decode { rule, room, octets } => {
                 room_answer(|label, out| decode(rule, label, out), room, &octets)
             }
+            Request::Offset { octets } => number_line(minutes(&octets)),
             Request::Desk { slots, pool } => self.new_desk(slots, pool),
             Request::Open { tram } => {
                 let (answer, next) = self.desk.open(&self.pool, tram);

@@ -1,5 +1,6 @@
-// Knows the kinds of value, 0 to 8, and which values fit each.
+// Knows the kinds of value, 0 to 11, and which values fit each.
 
+use crate::dates::{is_date_and_or_time, is_offset, is_timestamp};
 use crate::text::first_bad_escape;
 
 /// Whether the value fits the kind.
@@ -14,7 +15,10 @@ pub fn fits(kind: u32, value: &[u8]) -> bool {
         6 => split_bare(value, b';').into_iter().all(is_text),
         7 => is_gender(value),
         8 => is_client_pid_map(value),
-        _ => unreachable!("document 01 has kinds 0 to 8"),
+        9 => is_date_and_or_time(value),
+        10 => is_timestamp(value),
+        11 => is_offset(value),
+        _ => unreachable!("the documents have kinds 0 to 11"),
     }
 }
 

@@ -7,6 +7,7 @@ pub mod characters;
 pub mod compare;
 pub mod console;
 pub mod content;
+pub mod dates;
 pub mod desk;
 pub mod dice;
 pub mod examples;

@@ -1,4 +1,4 @@
-// Knows the property table: numbers, names, kinds, which are single, and how VALUE sets a kind.
+// Knows the property table: numbers, names, kinds, which are single, and how VALUE and CALSCALE set a kind.
 
 use crate::content::Parameter;
 
@@ -24,6 +24,9 @@ pub const END: u32 = 2;
 pub const KIND: u32 = 4;
 pub const XML: u32 = 5;
 pub const FN: u32 = 6;
+pub const BDAY: u32 = 10;
+pub const ANNIVERSARY: u32 = 11;
+pub const TZ: u32 = 18;
 pub const MEMBER: u32 = 24;
 pub const VERSION: u32 = 34;
 
@@ -38,15 +41,15 @@ pub const ROWS: [Row; 38] = [
     single(7, "N", 4),
     many(8, "NICKNAME", 2),
     many(9, "PHOTO", 3),
-    single(10, "BDAY", 0),
-    single(11, "ANNIVERSARY", 0),
+    single(BDAY, "BDAY", 9),
+    single(ANNIVERSARY, "ANNIVERSARY", 9),
     single(12, "GENDER", 7),
     many(13, "ADR", 5),
     many(14, "TEL", 1),
     many(15, "EMAIL", 1),
     many(16, "IMPP", 3),
     many(17, "LANG", 0),
-    many(18, "TZ", 1),
+    many(TZ, "TZ", 1),
     many(19, "GEO", 3),
     many(20, "TITLE", 1),
     many(21, "ROLE", 1),
@@ -57,7 +60,7 @@ pub const ROWS: [Row; 38] = [
     many(26, "CATEGORIES", 2),
     many(27, "NOTE", 1),
     single(28, "PRODID", 1),
-    single(29, "REV", 0),
+    single(29, "REV", 10),
     many(30, "SOUND", 3),
     single(31, "UID", 3),
     many(32, "CLIENTPIDMAP", 8),
@@ -83,10 +86,16 @@ pub fn is_frame(row: Row) -> bool {
     matches!(row.number, BEGIN | VERSION | END)
 }
 
-/// The kind of a line of this row: the row's, unless a VALUE parameter sets it.
+/// The kind of a line of this row: the row's, unless VALUE or CALSCALE sets it (READINGS-02 R4.1).
 pub fn kind_of(row: Row, parameters: &[Parameter]) -> u32 {
-    match first_value(parameters, "VALUE") {
-        Some(value) if looks_at_value(row) => match value.to_ascii_lowercase().as_slice() {
+    let value = first_value(parameters, "VALUE").map(|value| value.to_ascii_lowercase());
+    let calscale = first_value(parameters, "CALSCALE").map(|value| value.to_ascii_lowercase());
+    match (row.number, value.as_deref()) {
+        (BDAY | ANNIVERSARY, Some(b"text")) => 1,
+        (BDAY | ANNIVERSARY, _) if calscale.as_ref().is_some_and(|calscale| calscale != b"gregorian") => 0,
+        (BDAY | ANNIVERSARY, _) => 9,
+        (TZ, Some(b"utc-offset")) => 11,
+        (_, Some(value)) if looks_at_value(row) => match value {
             b"text" => 1,
             b"uri" => 3,
             _ => 0,

@@ -25,6 +25,7 @@ pub enum Request {
     Unescape { room: usize, octets: Vec<u8> },
     Encode { rule: Rule, room: usize, octets: Vec<u8> },
     Decode { rule: Rule, room: usize, octets: Vec<u8> },
+    Offset { octets: Vec<u8> },
     Desk { slots: u64, pool: usize },
     Open { tram: u32 },
     Add { ticket: u32, chunk: Vec<u8> },
@@ -54,6 +55,7 @@ pub fn request_of(line: &[u8]) -> Option<Request> {
 fn entry_request(words: &[&[u8]]) -> Option<Request> {
     match words {
         [b"judge", octets] => Some(Request::Judge { octets: octets_of(octets)? }),
+        [b"offset", octets] => Some(Request::Offset { octets: octets_of(octets)? }),
         [b"read", copy, records, octets] => Some(Request::Read {
             copy_room: size_of(copy, MOST_ROOM)?,
             record_room: size_of(records, MOST_ROOM)?,
@@ -145,6 +147,11 @@ fn size_of(word: &[u8], most: usize) -> Option<usize> {
 /// The line `judge OCTETS`.
 pub fn judge_line(octets: &[u8]) -> String {
     format!("judge {}", word_of(octets))
+}
+
+/// The line `offset OCTETS`.
+pub fn offset_line(octets: &[u8]) -> String {
+    format!("offset {}", word_of(octets))
 }
 
 /// The line `read COPYROOM RECORDROOM OCTETS`.

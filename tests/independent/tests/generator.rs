@@ -5,6 +5,8 @@ use std::collections::HashSet;
 use independent::beside::{compare_desks, survey_desks};
 use independent::compare::{steps, Plan};
 use independent::generator::{
+    dates,
+    dates::dates,
     desks::desks,
     folds,
     folds::folds,
@@ -20,6 +22,7 @@ use independent::generator::{
     texts::texts,
 };
 use independent::console::Console;
+use independent::examples::m_with;
 use independent::hex::{octets_of, word_of};
 use independent::properties::row_of;
 use independent::report::{moved, which_of};
@@ -38,7 +41,7 @@ fn readers_reach_every_refusal_and_every_kind() {
     for number in (3..=5).chain(7..=14) {
         assert!(times(&survey, number) >= 1_000, "{number}: {survey}");
     }
-    for kind in 0..=8 {
+    for kind in 0..=10 {
         assert!(survey.kinds.get(&kind).is_some_and(|&count| count >= 300), "{kind}: {survey}");
     }
     assert!(survey.accepted >= 20_000 && survey.bad_requests == 0, "{survey}");
@@ -53,6 +56,16 @@ fn line_faults_reach_40_to_43_in_every_request() {
         }
         assert_eq!(times(&survey, 6), 0);
         assert!(survey.accepted >= 500, "{word}: {survey}");
+    }
+}
+
+#[test]
+fn dates_reach_both_sides_of_every_kind() {
+    let survey = survey(dates(1).take(60_000));
+    assert!(survey.refusals.keys().copied().eq([7, 13, 14]), "{survey}");
+    assert!(times(&survey, 7) >= 10_000 && survey.accepted >= 10_000 && survey.bad_requests == 0, "{survey}");
+    for kind in 9..=11 {
+        assert!(survey.kinds.get(&kind).is_some_and(|&count| count >= 500), "{kind}: {survey}");
     }
 }
 
@@ -219,6 +232,9 @@ fn a_usual_run_has_everything_made_by_hand() {
     let plan = Plan::default();
     let read = last_words(readers(1).take(plan.readers));
     assert!(hand::inputs().iter().all(|input| read.contains(&word_of(input))));
+    let dated = last_words(dates(1).take(plan.dates));
+    assert!(dates::by_hand().iter().all(|line| dated.contains(&word_of(&m_with(line.as_bytes())))));
+    assert!(dates::offsets().iter().all(|value| dated.contains(&word_of(value.as_bytes()))));
     let folded = last_words(folds(1).take(plan.folds));
     assert!(folds::by_hand().iter().all(|input| folded.contains(&word_of(input))));
     let texts = last_words(texts(1).take(plan.texts));
@@ -257,6 +273,8 @@ fn a_family_of_0_is_left_out() {
         readers: 10,
         line_faults: 0,
         names: 0,
+        dates: 0,
+        dates: 0,
         folds: 0,
         texts: 5,
         labels: 0,

@@ -108,7 +108,7 @@ fn a_quoted_list_is_one_value() {
 
 #[test]
 fn every_row_has_its_number_and_kind_in_any_case() {
-    let values = ["a", "a", "a,b", "a:b", ";;;;", ";;;;;;", "a;b", "M;a", "1;a:"];
+    let values = ["a", "a", "a,b", "a:b", ";;;;", ";;;;;;", "a;b", "M;a", "1;a:", "1985", "19850412T102200"];
     for row in ROWS.iter().filter(|row| !["BEGIN", "END", "VERSION", "KIND"].contains(&row.name)) {
         for name in [row.name.to_string(), row.name.to_lowercase()] {
             let line = format!("{name}:{}\r\nKIND:group", values[row.kind as usize]);
@@ -128,7 +128,7 @@ fn the_table_has_the_papers_numbers_and_marks() {
     let single: Vec<&str> = ROWS.iter().filter(|row| row.single).map(|row| row.name).collect();
     assert_eq!(single, ["KIND", "N", "BDAY", "ANNIVERSARY", "GENDER", "PRODID", "REV", "UID"]);
     let of_kind = |kind| ROWS.iter().filter(|row| row.kind == kind).count();
-    assert_eq!([0, 1, 2, 3, 4, 5, 6, 7, 8].map(of_kind), [8, 9, 2, 14, 1, 1, 1, 1, 1]);
+    assert_eq!([0, 1, 2, 3, 4, 5, 6, 7, 8, 9, 10, 11].map(of_kind), [5, 9, 2, 14, 1, 1, 1, 1, 1, 2, 1, 0]);
 }
 
 #[test]
@@ -168,7 +168,8 @@ fn frame_lines() {
 
 #[test]
 fn single_properties() {
-    let value = |kind: u32| ["a", "a", "a,b", "a:b", ";;;;", ";;;;;;", "a;b", "M;a", "1;a:"][kind as usize];
+    let values = ["a", "a", "a,b", "a:b", ";;;;", ";;;;;;", "a;b", "M;a", "1;a:", "1985", "19850412T102200"];
+    let value = |kind: u32| values[kind as usize];
     for row in ROWS.iter().filter(|row| !["BEGIN", "END", "VERSION", "MEMBER"].contains(&row.name)) {
         let line = format!("{}:{}", row.name, value(row.kind));
         let second = format!("g.{};ALTID=1:{}", row.name.to_lowercase(), value(row.kind));

@@ -14,7 +14,7 @@ returns : tie.Need-returns
 returns c =
     let s = c .before in
     let e : c .entry .result ≡ kindAt (s .args .row) = c .entry .ensures ∙ listed (s .args .rows .now) (s .pre .0) (s .args .row) (s .pre .1) .sort in
-    (e, subst (λ (k : ℕ). k < 9) (sym e) (kind-low (s .args .row) (s .pre .1)))
+    (e, subst (λ (k : ℕ). k < 12) (sym e) (kind-low (s .args .row) (s .pre .1)))
 
 pub kind-of-spec : {M : Type 1} → statement M
 kind-of-spec = tie.close (tie.spec entry-requires returns)

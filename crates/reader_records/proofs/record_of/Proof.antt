@@ -18,7 +18,7 @@ within : (c : tie.After-parsed)
     × (c .parsed .given .0 .0 .«group_length» ≤ c .parsed .given .0 .0 .«name_end»)
     × (c .parsed .given .0 .0 .«param_count» ≤ length (c .before .before .before .before .args .l .now))
     × (c .parsed .given .0 .0 .row < 39)
-    × (c .parsed .given .0 .0 .kind < 9)
+    × (c .parsed .given .0 .0 .kind < 12)
 within c = parts-fit (c .before .before .before .before .args .l .now) (c .parsed .given .0 .0) (sym (c .before .before .parts-of .ensures) ∙ c .parsed .given .1)
 
 long : (c : tie.After-parsed) → nameStart (c .parsed .given .0 .0 .«group_length») ≤ c .parsed .given .0 .0 .«name_end»

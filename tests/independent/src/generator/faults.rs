@@ -10,10 +10,12 @@ const BROKEN_LINES: [&str; 14] = [
 ];
 
 /// Lines whose value breaks its kind.
-const UNFIT_LINES: [&str; 17] = [
+const UNFIT_LINES: [&str; 27] = [
     "NOTE:a,b", "NOTE:a\\", "NOTE:\\x", "NICKNAME:a,\\x", "URL:a", "URL::a", "URL:1a:b", "URL:a:b c",
     "N:a;b;c;d", "N:a;b;c;d;e;f", "ADR:a;b;c;d;e;f", "ADR:;;;;;;;", "ORG:a,b", "GENDER:X", "GENDER:MM",
-    "CLIENTPIDMAP:;a:b", "TEL;VALUE=uri:1",
+    "CLIENTPIDMAP:;a:b", "TEL;VALUE=uri:1", "BDAY:20230229", "BDAY:1985-04-12", "ANNIVERSARY:--0431", "BDAY:",
+    "REV:19961022", "REV:19961022T240000Z", "REV;VALUE=text:a", "BDAY:T-22Z", "TZ;VALUE=utc-offset:Z",
+    "TZ;VALUE=utc-offset:-2400",
 ];
 
 /// Lines whose octets check 5 refuses.

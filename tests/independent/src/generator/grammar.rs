@@ -2,6 +2,7 @@
 
 use crate::content::parse;
 use crate::dice::Dice;
+use crate::generator::dates;
 use crate::properties::{is_frame, kind_of, row_of, KIND, MEMBER, ROWS};
 
 /// Characters at the borders of each length.
@@ -18,11 +19,13 @@ const UNLISTED_NAMES: [&str; 10] =
 const PARAMETER_NAMES: [&str; 9] =
     ["TYPE", "PREF", "ALTID", "PID", "LANGUAGE", "x-p", "value-", "9", "Sort-As"];
 
-/// Spellings of a VALUE parameter.
-const VALUES: [&str; 14] = [
+/// Spellings of a VALUE or CALSCALE parameter.
+const VALUES: [&str; 22] = [
     "VALUE=text", "VALUE=uri", "value=TEXT", "Value=Uri", "VALUE=\"text\"", "VALUE=\"uri\"",
     "VALUE=text,uri", "VALUE=\"text,uri\"", "VALUE=date", "VALUE=", "VALUE=x;VALUE=text",
-    "VALUE=uri;VALUE=text", "VALUE=\"\"", "VALUE=,text",
+    "VALUE=uri;VALUE=text", "VALUE=\"\"", "VALUE=,text", "VALUE=utc-offset", "value=\"UTC-Offset\"",
+    "VALUE=timestamp", "CALSCALE=gregorian", "Calscale=\"GREGORIAN\"", "CALSCALE=julian", "CALSCALE=",
+    "CALSCALE=x;CALSCALE=gregorian",
 ];
 
 /// A well-formed input of one to three cards, folded somehow.
@@ -187,6 +190,9 @@ pub fn value(dice: &mut Dice, kind: u32) -> Vec<u8> {
         5 => components(dice, 7),
         6 => joined(dice, b';', 4, |dice| text(dice, false)),
         7 => gender(dice),
+        9 => dates::date_and_or_time(dice),
+        10 => dates::timestamp(dice),
+        11 => dates::offset(dice),
         _ => {
             let digits = dice.between(1, 4);
             let number: Vec<u8> = (0..digits).map(|_| *dice.pick(b"0123456789")).collect();

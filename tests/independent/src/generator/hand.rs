@@ -85,6 +85,14 @@ const PLACES: &[(&str, &str)] = &[
     ("CLIENTPIDMAP:1", "a:"),
     ("N:a", ";;;"),
     ("NICKNAME:a", "\\"),
+    ("BDAY:", "9850412"),
+    ("BDAY:1985", ""),
+    ("BDAY:1985041", ""),
+    ("BDAY:19850412", "10"),
+    ("BDAY:19850412T10", ""),
+    ("REV:19961022T14000", "Z"),
+    ("REV:19961022T140000", ""),
+    ("TZ;VALUE=utc-offset:", "0500"),
 ];
 
 /// Each octet at each of these places, alone, before and after card M, and in its frame.
@@ -255,7 +263,8 @@ const VALUES: &[&str] = &[
     ":a", ":", "::", "a::", "1:", "1a:", "a1:", "a+-.:", "+a:", "-a:", ".a:", "a_:", "a b:", "a:b c",
     "a:b\tc", "a:é", "é:a", "a:!", "a:~", "a:\"", "a:\\", "geo:1,2", "geo:1\\,2", "a:b:c", "a,b:c", "M", "f",
     "X", "MM", "M;", "M;a", "m;a;b", "M;a,b", "M;a\\,b", "M;\\", ";it's", ";a,b", "M,", "M:a", "1;a:",
-    "0;a:", "007;a:", ";a:", "1;a", "1;:", "1", "1;", "12345678901234567890;z:",
+    "0;a:", "007;a:", ";a:", "1;a", "1;:", "1", "1;", "12345678901234567890;z:", "19850412", "1985-04", "--0412",
+    "T10", "19961022T140000Z", "-0500", "+05",
 ];
 
 /// Values that fit only kind 8 or sit beside it, and those that refusal 12 asks about.
@@ -283,7 +292,10 @@ const VALUE_PARAMETERS: &[&str] = &[
     ";VALUE=text,uri", ";VALUE=uri,text", ";VALUE=\"text,uri\"", ";VALUE=\"text\",uri", ";VALUE=",
     ";VALUE=\"\"", ";VALUE=,text", ";VALUE=\"\",uri", ";VALUE=x", ";VALUE=date", ";VALUE=x;VALUE=text",
     ";VALUE=text;VALUE=uri", ";TYPE=x;VALUE=uri", ";VALUES=uri", ";X-VALUE=text", ";VALUE= text",
-    ";VALUE=text ", ";VALUE=tex", ";VALUE=urı", ";TYPE=\";VALUE=uri\"",
+    ";VALUE=text ", ";VALUE=tex", ";VALUE=urı", ";TYPE=\";VALUE=uri\"", ";VALUE=utc-offset", ";VALUE=UTC-OFFSET",
+    ";VALUE=timestamp", ";CALSCALE=gregorian", ";CALSCALE=GREGORIAN", ";CALSCALE=\"gregorian\"", ";CALSCALE=julian",
+    ";CALSCALE=", ";CALSCALE=gregorian,julian", ";CALSCALE=julian;CALSCALE=gregorian", ";VALUE=text;CALSCALE=julian",
+    ";CALSCALE=julian;VALUE=text", ";VALUE=uri;CALSCALE=julian", ";VALUE=date;CALSCALE=gregorian",
 ];
 
 /// Each of them on each property, with values that are text, URI, both or neither.
@@ -291,7 +303,7 @@ fn value_parameters() -> Vec<Vec<u8>> {
     let mut inputs = Vec::new();
     for name in ROWS.iter().map(|row| row.name).chain(["X-A"]) {
         for parameter in VALUE_PARAMETERS {
-            for value in ["a,b", "a b", "a:b", "a:b,c", "a;b;c;d;e"] {
+            for value in ["a,b", "a b", "a:b", "a:b,c", "a;b;c;d;e", "19850412", "19961022T140000", "-0500"] {
                 inputs.push(m_with(format!("{name}{parameter}:{value}").as_bytes()));
             }
         }
@@ -301,7 +313,8 @@ fn value_parameters() -> Vec<Vec<u8>> {
 
 /// A value that fits the row.
 fn fitting(kind: u32) -> &'static str {
-    ["a", "a", "a,b", "a:b", ";;;;", ";;;;;;", "a;b", "M;a", "1;a:"][kind as usize]
+    ["a", "a", "a,b", "a:b", ";;;;", ";;;;;;", "a;b", "M;a", "1;a:", "19850412", "19961022T140000", "-05"]
+        [kind as usize]
 }
 
 /// Each property twice: alike, in other case, with group, with parameters, and in two cards.

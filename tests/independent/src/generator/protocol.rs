@@ -30,6 +30,8 @@ const LINES: &[&str] = &[
     "fold-in 1 00 1 6",
     "report 1", "take", "take 0", "take -", "print", "print 70001", "print 46", "print 53", "count 0",
     "count 5 1", "count 106 1", "count 239 1", "count 0 4294967296", "count 0 7", "count 00 007", "report", "print 46",
+    "offset", "offset -", "offset 2d30353030", "offset 2D30353030", "offset 2d3035303",
+    "offset - -", "offset 1 2d3035", "offsets 2d3035", "OFFSET 2d3035", "offset -0500",
 ];
 
 /// All protocol lines.

@@ -2,7 +2,7 @@
 use denote.Ref.{now}
 use mathlib.Core.Path.{ap, _∙_}
 use borrow.Author.Needs.{needs}
-use Rattle.console_entries.specs.Entries.{judgeAnswer, readAnswer, writeAnswer, chosenAnswer, foldAnswer}
+use Rattle.console_entries.specs.Entries.{judgeAnswer, offsetAnswer, readAnswer, writeAnswer, chosenAnswer, foldAnswer}
 use Rattle.label_carets.specs.declared.Rule.the-variants.{Rfc6350, Rfc6868}
 use Rattle.console_desk.specs.DeskAnswers.{State, withPool}
 use Rattle.console_entries.specs.declared.entries.Writer.the-variants.{Fold, Escape, Unescape, Encode, Decode}
@@ -137,6 +137,15 @@ put-fold-answer-requires c κs = search needs
 
 with-output-requires-8 : tie.Need-with-output-requires-8
 with-output-requires-8 c κs = search needs
+
+enum-told-18 : tie.Need-enum-told-18
+enum-told-18 c = search needs
+
+put-offset-answer-requires : tie.Need-put-offset-answer-requires
+put-offset-answer-requires c κs = search needs
+
+with-output-requires-9 : tie.Need-with-output-requires-9
+with-output-requires-9 c κs = search needs
 
 answer-bad-requires : tie.Need-answer-bad-requires
 answer-bad-requires c κs = search needs
@@ -304,10 +313,19 @@ same-length-26 : tie.Need-same-length-26
 same-length-26 c = search needs
 
 returns-18 : tie.Need-returns-18
+unfolding answerBy
 returns-18 c =
+    let a = c .before .before .before .before .before .before .before .before .before .before .args in
+    rw (c .before .before .before .before .before .enum-told18 .given .1) (said (a .c) (now (a .pool)) (now (a .out)) (offsetAnswer (now (a .sent))) (c .with-output9 .ensures) (c .before .before .before .put-offset-answer .ensures))
+
+same-length-27 : tie.Need-same-length-27
+same-length-27 c = search needs
+
+returns-19 : tie.Need-returns-19
+returns-19 c =
     let a = c .before .before .before .before .before .before .before .before .args in
     ap (λ (x : State). withPool x (now (a .pool))) (c .before .before .answer-bad .ensures)
-    ∙ none-of-these (a .q .name) (a .q .first) (a .q .second) (a .q .third) (now (a .sent)) _ (now (a .pool)) (c .before .before .before .before .match .keys18)
+    ∙ none-of-these (a .q .name) (a .q .first) (a .q .second) (a .q .third) (now (a .sent)) _ (now (a .pool)) (c .before .before .before .before .match .keys19)
 
 pub answer-request-spec : {M : Type 1} → statement M
 answer-request-spec =
@@ -355,6 +373,9 @@ answer-request-spec =
     enum-told-17
     put-fold-answer-requires
     with-output-requires-8
+    enum-told-18
+    put-offset-answer-requires
+    with-output-requires-9
     answer-bad-requires
     same-length
     returns
@@ -399,4 +420,6 @@ answer-request-spec =
     same-length-25
     returns-17
     same-length-26
-    returns-18)
+    returns-18
+    same-length-27
+    returns-19)

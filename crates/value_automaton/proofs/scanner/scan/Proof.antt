@@ -5,13 +5,13 @@ use Prim.Native.Nat.{ℕ, _≤_, _<_, _+_, _-_}
 use native.Mathlib.Omega.{arith}
 use lib.ListN.{length, drop}
 use Rattle.value_kinds.specs.Shapes.{faultFrom}
-use Rattle.value_automaton.specs.States.{stateShape}
+use Rattle.value_automaton.specs.States.{stateCount, stateShape}
 use Rattle.value_automaton.proofs.StepLaws.{uri-tail, fault-stop, fault-step, fault-short, fault-none}
 use Rattle.value_automaton.proofs.scanner.scan.Statement.{statement}
 use Rattle.value_automaton.proofs.scanner.scan.Tie as tie
 
 abbrev Inv-loop : tie.InvT-loop
-Inv-loop steps first s q₀ i₀ q i = (i ≤ length s) × (q < 38) × (faultFrom (stateShape first) 0 s ≡ faultFrom (stateShape q) i (drop i s))
+Inv-loop steps first s q₀ i₀ q i = (i ≤ length s) × (q < stateCount) × (faultFrom (stateShape first) 0 s ≡ faultFrom (stateShape q) i (drop i s))
 
 abbrev μ-loop : tie.MeasureT-loop
 μ-loop steps first s q₀ i₀ q i = length s - i

@@ -10,7 +10,7 @@ use Rattle.value_automaton.proofs.scanner.start.Tie as tie
 up : (a k : ℕ) → a ≤ k → (k ≡ a → ⊥) → suc a ≤ k
 up a k h f = omega arith
 
-only : (k : ℕ) → 8 ≤ k → k < 9 → k ≡ 8
+only : (k : ℕ) → 11 ≤ k → k < 12 → k ≡ 11
 only k g h = omega arith
 
 returns : tie.Need-returns
@@ -47,11 +47,23 @@ returns-8 c = (omega arith, rw (c .match .keys8))
 
 returns-9 : tie.Need-returns-9
 unfolding stateShape states shapeOf parts
-returns-9 c =
+returns-9 c = (omega arith, rw (c .match .keys9))
+
+returns-10 : tie.Need-returns-10
+unfolding stateShape states shapeOf parts
+returns-10 c = (omega arith, rw (c .match .keys10))
+
+returns-11 : tie.Need-returns-11
+unfolding stateShape states shapeOf parts
+returns-11 c = (omega arith, rw (c .match .keys11))
+
+returns-12 : tie.Need-returns-12
+unfolding stateShape states shapeOf parts
+returns-12 c =
     let o = c .match .rest in
     let k = c .before .args .kind in
-    let last = only k (up 7 k (up 6 k (up 5 k (up 4 k (up 3 k (up 2 k (up 1 k (up 0 k (omega arith) (o .0 .0 .0 .0 .0 .0 .0 .1)) (o .0 .0 .0 .0 .0 .0 .1)) (o .0 .0 .0 .0 .0 .1)) (o .0 .0 .0 .0 .1)) (o .0 .0 .0 .1)) (o .0 .0 .1)) (o .0 .1)) (o .1)) (c .before .pre) in
+    let last = only k (up 10 k (up 9 k (up 8 k (up 7 k (up 6 k (up 5 k (up 4 k (up 3 k (up 2 k (up 1 k (up 0 k (omega arith) (o .0 .0 .0 .0 .0 .0 .0 .0 .0 .0 .1)) (o .0 .0 .0 .0 .0 .0 .0 .0 .0 .1)) (o .0 .0 .0 .0 .0 .0 .0 .0 .1)) (o .0 .0 .0 .0 .0 .0 .0 .1)) (o .0 .0 .0 .0 .0 .0 .1)) (o .0 .0 .0 .0 .0 .1)) (o .0 .0 .0 .0 .1)) (o .0 .0 .0 .1)) (o .0 .0 .1)) (o .0 .1)) (o .1)) (c .before .pre) in
     (omega arith, rw last)
 
 pub start-spec : {M : Type 1} → statement M
-start-spec = tie.close (tie.spec returns returns-2 returns-3 returns-4 returns-5 returns-6 returns-7 returns-8 returns-9)
+start-spec = tie.close (tie.spec returns returns-2 returns-3 returns-4 returns-5 returns-6 returns-7 returns-8 returns-9 returns-10 returns-11 returns-12)

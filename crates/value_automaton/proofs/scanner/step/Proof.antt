@@ -2,12 +2,13 @@
 use borrow.Author.Needs.{needs}
 use Prim.Native.Nat.{_<_}
 use native.Mathlib.Omega.{arith}
-use Rattle.value_automaton.proofs.StepLaws.{next}
+use Rattle.value_automaton.specs.States.{stride}
+use Rattle.value_automaton.proofs.StepLaws.{over, next}
 use Rattle.value_automaton.proofs.scanner.step.Statement.{statement}
 use Rattle.value_automaton.proofs.scanner.step.Tie as tie
 
 -- the sort of the octet
-low : (w : tie.After-wide3) → w .wide3 .result < 20
+low : (w : tie.After-wide3) → w .wide3 .result < stride
 low w =
     let a = w .before .before .before .before .args in
     let byte : a .x < 256 = omega arith in
@@ -37,6 +38,14 @@ add-result-2 c = omega (arith, low c)
 element-copy-out-result : tie.Need-element-copy-out-result
 element-copy-out-result c = omega (arith, low c)
 
+sub-result : tie.Need-sub-result
+sub-result c =
+    let w = c .before in
+    let s = w .before .before .before .before in
+    let byte : s .args .x < 256 = omega arith in
+    rw (w .before .wide2 .ensures, w .wide3 .ensures, w .before .before .before .wide .ensures)
+    (over (s .args .steps .now) (s .args .q) (s .args .x) (s .pre .0) (s .pre .1) byte)
+
 returns : tie.Need-returns
 returns c =
     let w = c .before in
@@ -57,4 +66,5 @@ step-spec =
     add-result
     add-result-2
     element-copy-out-result
+    sub-result
     returns)

@@ -1,10 +1,10 @@
--- `reader_walk::walk` meets its contract. Assumes nothing.
+-- `reader_walk::walk_in` meets its contract. Assumes nothing.
 use borrow.Author.Needs.{needs}
-use mathlib.Core.Path.{_≡_, sym, ap, _∙_}
+use mathlib.Core.Path.{_≡_, refl, sym, ap, _∙_}
 use mathlib.Core.List.{List}
 use Prim.Native.Nat.{ℕ, _+_, _-_, _≤_}
 use native.Mathlib.Omega.{arith}
-use lib.ListN.{length, take, drop, length-replicate}
+use lib.ListN.{length, take, drop}
 use Rattle.line_folds.specs.Logical.{rawLines}
 use Rattle.line_folds.proofs.FoldLaws.{unfold-shorter}
 use Rattle.line_folds.proofs.LineLaws.{lines-end}
@@ -15,12 +15,12 @@ use Rattle.card_judge.proofs.CardLaws.{one-more}
 use Rattle.reader_walk.specs.Walk.{onward, judgeLines}
 use Rattle.line_folds.proofs.SpanLaws.{whole, part-length}
 use Rattle.reader_walk.proofs.WalkLaws.{judged, handed}
-use Rattle.reader_walk.proofs.walk.Statement.{statement}
-use Rattle.reader_walk.proofs.walk.Tie as tie
+use Rattle.reader_walk.proofs.walk_in.Statement.{statement}
+use Rattle.reader_walk.proofs.walk_in.Tie as tie
 
 abbrev Inv-loop : tie.InvT-loop
 Inv-loop t rows steps s scratch₀ c₀ at₀ scratch c at =
-    (length scratch ≡ 16384) × (c .cards ≤ c .lines) × (c .lines ≤ at) × (judgeLines (rawLines s) 0 freshCard ≡ judgeLines (rawLines (drop at s)) at c)
+    (length scratch ≡ length scratch₀) × (c .cards ≤ c .lines) × (c .lines ≤ at) × (judgeLines (rawLines s) 0 freshCard ≡ judgeLines (rawLines (drop at s)) at c)
 
 abbrev μ-loop : tie.MeasureT-loop
 μ-loop t rows steps s scratch₀ c₀ at₀ scratch c at =
@@ -28,12 +28,12 @@ abbrev μ-loop : tie.MeasureT-loop
 
 -- one turn, judged
 turn : (c : tie.After-judge-span Inv-loop μ-loop)
-    → judgeLines (rawLines (c .before .before .before .before .before .before .before .before .before .args .s .now)) 0 freshCard
-    ≡ onward (c .judge-span .result) (judgeLines (rawLines (drop (c .before .before .before .before .line-at .result .end + 2) (c .before .before .before .before .before .before .before .before .before .args .s .now))) (c .before .before .before .before .line-at .result .end + 2))
+    → judgeLines (rawLines (c .before .before .before .before .before .before .before .before .before .before .args .s .now)) 0 freshCard
+    ≡ onward (c .judge-span .result) (judgeLines (rawLines (drop (c .before .before .before .before .line-at .result .end + 2) (c .before .before .before .before .before .before .before .before .before .before .args .s .now))) (c .before .before .before .before .line-at .result .end + 2))
 turn c =
     let l = c .before .before .before .before .before .before .loop in
     let v = c .before .before .before .before .line-at in
-    let s = c .before .before .before .before .before .before .before .before .before .args .s .now in
+    let s = c .before .before .before .before .before .before .before .before .before .before .args .s .now in
     l .inv .3 ∙ judged s (l .at) (v .result .end) (c .before .before .before .before .before .loop-test .taken) (v .ensures .1) (v .ensures .2) (l .c) (c .judge-span .result) (c .judge-span .ensures .0)
 
 fresh-requires : tie.Need-fresh-requires Inv-loop μ-loop
@@ -44,7 +44,7 @@ loop-holds c =
     let f = c .fresh in
     let k = ap (λ (x : Card). x .cards) (f .ensures) in
     let n = ap (λ (x : Card). x .lines) (f .ensures) in
-    (simp length-replicate, omega arith, omega arith, ap (judgeLines (rawLines (c .before .before .args .s .now)) 0) (sym (f .ensures)))
+    (refl, omega arith, omega arith, ap (judgeLines (rawLines (c .before .before .before .args .s .now)) 0) (sym (f .ensures)))
 
 line-at-requires : tie.Need-line-at-requires Inv-loop μ-loop
 line-at-requires c κs = search needs
@@ -58,24 +58,21 @@ part-judge-span-start c = search needs
 part-judge-span-end : tie.Need-part-judge-span-end Inv-loop μ-loop
 part-judge-span-end c = search needs
 
-slice-aggregate-judge-span : tie.Need-slice-aggregate-judge-span Inv-loop μ-loop
-slice-aggregate-judge-span c = search needs
-
 judge-span-requires : tie.Need-judge-span-requires Inv-loop μ-loop
 judge-span-requires c κs =
-    let a = c .before .before .before .before .before .before .before .before .args in
+    let a = c .before .before .before .before .before .before .before .before .before .args in
     let l = c .before .before .before .before .before .loop in
     let v = c .before .before .before .line-at in
-    let z = c .before .before .before .before .before .before .before .before .pre in
+    let z = c .before .before .before .before .before .before .before .before .before .pre in
     let part = take (v .result .end - l .at) (drop (l .at) (a .s .now)) in
     let n = part-length (a .s .now) (l .at) (v .result .end) (c .before .before .before .before .loop-test .taken) (v .ensures .1) (v .ensures .2) in (
       z .0,
       (
-        (l .inv .1, omega (arith, l .inv .2, z .1)),
+        (l .inv .1, omega (arith, l .inv .2, z .1 .0)),
         (
-          omega (arith, n, z .1),
+          omega (arith, n, z .1 .0),
           (
-            omega (arith, unfold-shorter part, l .inv .0, z .1),
+            omega (arith, unfold-shorter part, l .inv .0, n, z .1 .1),
             whole (a .s .now) (l .at) (v .result .cr) (v .result .end) (v .ensures .0),
           ),
         ),
@@ -88,9 +85,12 @@ enum-known-j c = search needs
 enum-told : tie.Need-enum-told Inv-loop μ-loop
 enum-told c = search needs
 
+same-length : tie.Need-same-length Inv-loop μ-loop
+same-length c = search needs
+
 returns : tie.Need-returns Inv-loop μ-loop
 returns c =
-    sym (turn (c .before .before .before) ∙ handed _ (c .enum-told .given .1))
+    sym (turn (c .before .before .before .before) ∙ handed _ (c .enum-told .given .1))
 
 add-at : tie.Need-add-at Inv-loop μ-loop
 add-at c = search needs
@@ -100,29 +100,32 @@ loop-less c = search needs
 
 loop-again : tie.Need-loop-again Inv-loop μ-loop
 loop-again c =
-    let c4 = c .before .before .before .before in
-    let c8 = c4 .before .before .before .before in
-    let c10 = c8 .before .before in
-    let c13 = c10 .before .before .before in
+    let c5 = c .before .before .before .before .before in
+    let c9 = c5 .before .before .before .before in
+    let c11 = c9 .before .before in
+    let c15 = c11 .before .before .before .before in
     let e = c .before .j .given .1 in
-    let l = c10 .loop in
-    let v = c8 .line-at in
-    let a = c13 .args in
-    let more = one-more (l .c) (c .before .j .given .0 .0) (l .at) _ (sym (c4 .judge-span .ensures .0) ∙ e) in (
-      omega (arith, c4 .judge-span, l .inv .0),
+    let l = c11 .loop in
+    let v = c9 .line-at in
+    let a = c15 .args in
+    let more = one-more (l .c) (c .before .j .given .0 .0) (l .at) _ (sym (c5 .judge-span .ensures .0) ∙ e) in (
+      omega (arith, c5 .judge-span, l .inv .0),
       omega (arith, l .inv .1),
       omega (arith, v .ensures .1, l .inv .2),
-      turn (c4) ∙ ap (λ (r : Step). onward r (judgeLines (rawLines (drop (v .result .end + 2) (a .s .now))) (v .result .end + 2))) e,
+      turn (c5) ∙ ap (λ (r : Step). onward r (judgeLines (rawLines (drop (v .result .end + 2) (a .s .now))) (v .result .end + 2))) e,
     )
+
+same-length-2 : tie.Need-same-length-2 Inv-loop μ-loop
+same-length-2 c = search needs
 
 returns-2 : tie.Need-returns-2 Inv-loop μ-loop
 unfolding judgeLines
 returns-2 c =
     let l = c .before .loop in
-    sym (l .inv .3 ∙ ap (λ (ls : List (List ℕ)). judgeLines ls (l .at) (l .c)) (lines-end (c .before .before .before .before .args .s .now) (l .at) (c .loop-test .left)))
+    sym (l .inv .3 ∙ ap (λ (ls : List (List ℕ)). judgeLines ls (l .at) (l .c)) (lines-end (c .before .before .before .before .before .args .s .now) (l .at) (c .loop-test .left)))
 
-pub walk-spec : {M : Type 1} → statement M
-walk-spec =
+pub walk-in-spec : {M : Type 1} → statement M
+walk-in-spec =
     tie.close
     (tie.spec
     Inv-loop
@@ -133,12 +136,13 @@ walk-spec =
     sub-judge-span
     part-judge-span-start
     part-judge-span-end
-    slice-aggregate-judge-span
     judge-span-requires
     enum-known-j
     enum-told
+    same-length
     returns
     add-at
     loop-less
     loop-again
+    same-length-2
     returns-2)

@@ -1,0 +1,2 @@
+-- The definitions that the contracts of `value_offsets` cite. Assumes nothing.
+pub mod Minutes
