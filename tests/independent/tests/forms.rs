@@ -29,15 +29,15 @@ fn laws_of_folding_on_generated_inputs() {
     let mut dice = Dice::new(7);
     for _ in 0..3_000 {
         let input = grammar::input(&mut dice);
-        let Ok(form) = folded(&input, 16_384) else { continue };
+        let Ok(form) = folded_as_read(&input, 16_384) else { continue };
         assert_eq!(copy_and_records(&form), copy_and_records(&input));
-        assert_eq!(folded(&form, 16_384), Ok(form.clone()));
+        assert_eq!(folded_as_read(&form, 16_384), Ok(form.clone()));
         for line in form.split(|&octet| octet == b'\n') {
             assert!(line.len() <= 76, "75 octets and a CR");
             assert!(std::str::from_utf8(line).is_ok(), "cut at characters");
         }
-        assert_eq!(folded(&input, form.len() - 1), Err((15, form.len())));
-        assert_eq!(folded(&input, form.len()), Ok(form));
+        assert_eq!(folded_as_read(&input, form.len() - 1), Err((15, form.len())));
+        assert_eq!(folded_as_read(&input, form.len()), Ok(form));
     }
 }
 

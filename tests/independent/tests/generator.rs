@@ -274,7 +274,6 @@ fn a_family_of_0_is_left_out() {
         line_faults: 0,
         names: 0,
         dates: 0,
-        dates: 0,
         folds: 0,
         texts: 5,
         labels: 0,

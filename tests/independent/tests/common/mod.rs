@@ -2,7 +2,7 @@
 #![allow(dead_code)]
 
 use independent::examples::m_with;
-use independent::folder::fold;
+use independent::folder::{fold, fold_as_read};
 use independent::labels::{decode, encode, Rule};
 use independent::reader::{judge, read};
 use independent::text::{escape, unescape};
@@ -67,6 +67,11 @@ fn written(
 
 pub fn folded(input: &[u8], room: usize) -> Answer<Vec<u8>> {
     written(fold, input, room)
+}
+
+/// The same as read.
+pub fn folded_as_read(input: &[u8], room: usize) -> Answer<Vec<u8>> {
+    written(fold_as_read, input, room)
 }
 
 pub fn escaped(text: &[u8], room: usize) -> Answer<Vec<u8>> {
