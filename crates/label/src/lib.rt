@@ -4,6 +4,7 @@ ghost use mathlib.Core.Bool.{true, false};
 ghost use Prim.Native.Nat.{_≤_};
 ghost use lib.ListN.{length};
 ghost use Rattle.numbers.specs.Limits as limit;
+ghost use Rattle.octets.specs.Ascii as ascii;
 ghost use Rattle.octets.specs.Classes.{quoted, run};
 ghost use Rattle.octets.specs.Counts.{any};
 ghost use Rattle.octets.specs.Room.{filled, fill, fillBounded};
@@ -22,7 +23,7 @@ use text::Screened;
 
 // The first bad octet of a value, or the length; where nothing amiss was seen there is none.
 fn bad_in_value(value: &[u8], seen: u8) -> usize
-    requires { ⌜ (seen ≡ 0 → any (amiss 10 0) (now value) ≡ false) × (seen ≡ 2 → any (amiss 10 0) (now value) ≡ false) ⌝ }
+    requires { ⌜ (seen ≡ 0 → any (amiss ascii.lf 0) (now value) ≡ false) × (seen ≡ 2 → any (amiss ascii.lf 0) (now value) ≡ false) ⌝ }
     ensures { λ r. ⌜ r ≡ firstBad (allowed true) (now (value .entry)) ⌝ }
 {
     if seen == 0 {
@@ -36,7 +37,7 @@ fn bad_in_value(value: &[u8], seen: u8) -> usize
 
 // The first bad octet of a label, or the length; where nothing amiss was seen there is none.
 fn bad_in_label(label: &[u8], seen: u8) -> usize
-    requires { ⌜ (seen ≡ 0 → any (amiss 94 34) (now label) ≡ false) × (seen ≡ 2 → any (amiss 94 34) (now label) ≡ false) ⌝ }
+    requires { ⌜ (seen ≡ 0 → any (amiss ascii.caret ascii.quote) (now label) ≡ false) × (seen ≡ 2 → any (amiss ascii.caret ascii.quote) (now label) ≡ false) ⌝ }
     ensures { λ r. ⌜ r ≡ firstBad quoted (now (label .entry)) ⌝ }
 {
     if seen == 0 {
