@@ -63,7 +63,8 @@ struct line {
     size_t group, name_start, name_end, params, value;
     size_t over, over_len; /* first value of the first VALUE parameter */
     size_t scale, scale_len; /* first value of the first CALSCALE parameter */
-    int has_over, has_scale;
+    size_t altid, altid_len; /* first value of the first ALTID parameter */
+    int has_over, has_scale, has_altid;
 };
 
 /* The line rule. */
@@ -82,14 +83,14 @@ static int parse(const uint8_t *s, size_t n, struct line *l) {
     }
     l->name_end = i;
     l->params = 0;
-    l->has_over = 0;
-    l->has_scale = 0;
+    l->has_over = l->has_scale = l->has_altid = 0;
     while (i < n && s[i] == ';') {
         size_t p = ++i;
         while (i < n && is_named(s[i])) i++;
         if (i == p || i >= n || s[i] != '=') return 0;
         int is_value = i - p == 5 && strncasecmp((const char *)s + p, "VALUE", 5) == 0;
         int is_scale = i - p == 8 && strncasecmp((const char *)s + p, "CALSCALE", 8) == 0;
+        int is_altid = i - p == 5 && strncasecmp((const char *)s + p, "ALTID", 5) == 0;
         int first = 1;
         do {
             i++;
@@ -112,6 +113,11 @@ static int parse(const uint8_t *s, size_t n, struct line *l) {
                 l->has_scale = 1;
                 l->scale = a;
                 l->scale_len = e - a;
+            }
+            if (first && is_altid && !l->has_altid) {
+                l->has_altid = 1;
+                l->altid = a;
+                l->altid_len = e - a;
             }
             first = 0;
         } while (i < n && s[i] == ',');
@@ -265,12 +271,29 @@ static int kind_of(const uint8_t *s, const struct line *l, size_t row) {
 
 struct card {
     int phase, fn, member, group;
-    uint64_t seen;
+    uint64_t seen, tagged; /* the rows of which a line was seen, and of which the first line had an ALTID */
     size_t cards, lines;
+    size_t used, from[40], len[40]; /* where these ALTIDs stand among those kept */
 };
 
+/* Whether a line of a row that a card has once starts a second instance; the first line's ALTID is kept. */
+static int is_second(const uint8_t *s, const struct line *l, size_t row, struct card *c, uint8_t *kept) {
+    uint64_t bit = 1ull << row;
+    if (c->seen & bit)
+        return !(l->has_altid && (c->tagged & bit) && c->len[row] == l->altid_len && memcmp(kept + c->from[row], s + l->altid, l->altid_len) == 0);
+    c->seen |= bit;
+    if (l->has_altid) {
+        c->tagged |= bit;
+        c->from[row] = c->used;
+        c->len[row] = l->altid_len;
+        memcpy(kept + c->used, s + l->altid, l->altid_len);
+        c->used += l->altid_len;
+    }
+    return 0;
+}
+
 /* 0, or the refusal of one logical line. */
-static int judge_line(const uint8_t *s, size_t n, struct card *c) {
+static int judge_line(const uint8_t *s, size_t n, struct card *c, uint8_t *kept) {
     struct line l;
     if (first_bad(s, n, 0) < n) return 5;
     if (!parse(s, n, &l)) return 6;
@@ -284,16 +307,14 @@ static int judge_line(const uint8_t *s, size_t n, struct card *c) {
     } else if (!fits(v, m, kind_of(s, &l, row))) {
         return 7;
     }
-    if (rows[row].once) {
-        if (c->seen >> row & 1) return 10;
-        c->seen |= 1ull << row;
-    }
+    if (rows[row].once && is_second(s, &l, row, c, kept)) return 10;
     if (row == 2) {
         if (!c->fn) return 11;
         if (c->member && !c->group) return 12;
         c->cards++;
         c->phase = c->fn = c->member = c->group = 0;
-        c->seen = 0;
+        c->seen = c->tagged = 0;
+        c->used = 0;
     } else {
         c->phase = row == 1 ? 1 : 2;
         if (row == 6) c->fn = 1;
@@ -322,7 +343,7 @@ static size_t line_end(const uint8_t *in, size_t len, size_t at, uint8_t *buf, s
 }
 
 static uint64_t judge_all(const uint8_t *in, size_t len, struct card *c) {
-    uint8_t buf[LIMIT];
+    uint8_t buf[LIMIT], kept[LIMIT];
     if (len > LIMIT) return REFUSE(1, LIMIT);
     if (len == 0) return REFUSE(2, 0);
     for (size_t i = 0; i < len; i++) {
@@ -337,7 +358,7 @@ static uint64_t judge_all(const uint8_t *in, size_t len, struct card *c) {
     memset(c, 0, sizeof *c);
     for (size_t at = 0; at < len;) {
         size_t n, end = line_end(in, len, at, buf, &n);
-        int r = judge_line(buf, n, c);
+        int r = judge_line(buf, n, c, kept);
         if (r) return REFUSE(r, at);
         at = end + 2;
     }

@@ -66,6 +66,14 @@ def by_count():
     return files
 
 
+def long_altid(room):
+    """An N line whose ALTID takes half of the room, folded, and N lines with a shorter ALTID until the second instance; then short lines."""
+    half = room // 2
+    tag = b"\r\n ".join([b"a" * 72] * ((half - 20) // 75))
+    first = b"N;ALTID=" + tag + b":;;;;\r\n"
+    return first + b"A:\r\n" * ((room - len(first)) // 4)
+
+
 def odd():
     """Cards that might cost more than others."""
     room = LIMIT - FRAME
@@ -74,6 +82,9 @@ def odd():
         "lines of 4 octets": card(b"A:\r\n" * (room // 4)),
         "lines of 5 octets": card(b"AB:\r\n" * (room // 5)),
         "names almost TEL": card(b"TEK:\r\n" * (room // 6)),
+        "ALTID on 500 N lines": card(b"".join(line(b"N;ALTID=1:;;;;", octets) for octets in shared(room, 500))),
+        "a long folded ALTID and short lines": card(long_altid(room)),
+        "ALTID of folds alone": card(b"N;ALTID=" + b"\r\n " * ((room - 40) // 3) + b":;;;;\r\nN;ALTID=:;;;;\r\n"),
         "cards of 43 octets": small * (LIMIT // len(small)),
         "parameters": card(line(b"A" + b";A=b" * ((room - 4) // 4) + b":", room)),
         "names almost VALUE": card(line(b"A" + b";VALUX=" * ((room - 4) // 7) + b":", room)),

@@ -29,7 +29,7 @@ enum gerstebolk_refusal {
     GERSTEBOLK_VALUE = 7,            /* the value breaks its kind */
     GERSTEBOLK_LADEN = 8,            /* a group or a parameter on BEGIN, VERSION or END */
     GERSTEBOLK_ORDER = 9,            /* a line out of order; or the input ends inside a card, place its length */
-    GERSTEBOLK_SECOND = 10,          /* a second line of a property that may stand once */
+    GERSTEBOLK_SECOND = 10,          /* a second instance of a property that may stand once */
     GERSTEBOLK_NO_FN = 11,           /* no FN in the card; place of its END line */
     GERSTEBOLK_MEMBER = 12,          /* MEMBER without KIND:group; place of the END line */
     GERSTEBOLK_ROOM = 15,            /* the output room is too small; place the octets needed */

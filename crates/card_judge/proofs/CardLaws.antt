@@ -2,6 +2,7 @@
 use mathlib.Core.Path.{_≡_, refl, ap}
 use mathlib.Core.Bool.{Bool, true, false, not, _&&_}
 use mathlib.Core.List.{List}
+use mathlib.Core.Option.{Option}
 use Prim.Native.Nat.{ℕ, _+_, _<_, _≤_}
 use native.Mathlib.Omega.{arith}
 use lib.Dec.{eqb, ltb}
@@ -20,14 +21,11 @@ use Rattle.property_table.specs.Rows.{isGroup}
 use Rattle.value_kinds.specs.Kinds.{valueScan}
 use Rattle.value_kinds.specs.declared.Fault.{Fault}
 use Rattle.value_kinds.specs.declared.Fault.the-variants.{Fits, Breaks}
-use Rattle.card_state.specs.State.{inOrder, onceFlag, isSeen, noted, closed}
-use Rattle.card_line.specs.Parts.{rowOfLine, kindOfLine, linePartsBy, linePartsOf}
+use Rattle.card_state.specs.State.{Card, Step, Next, Refused, inOrder, secondInstance, lineCard, noted, closed}
+use Rattle.card_line.specs.Parts.{rowOfLine, kindOfLine, altidOf, linePartsBy, linePartsOf}
 use Rattle.card_judge.specs.Judge.{laden, entered, fitting, judgeParts, judgeParsed, judgeLine}
 use Rattle.card_line.specs.declared.Parts.{Parts}
 use Rattle.card_line.specs.declared.LineParts.the-variants.{Line as line}
-use Rattle.card_state.specs.declared.Card.{Card}
-use Rattle.card_state.specs.declared.Step.{Step}
-use Rattle.card_state.specs.declared.Step.the-variants.{Next, Refused}
 use Rattle.card_line.proofs.PartLaws.{row-of-line, kind-of-line}
 
 -- a choice that was not refused
@@ -53,10 +51,10 @@ pub record Passed (c : Card) (at : ℕ) (l : List ℕ) (c′ : Card) : Type 0 wh
   pub order : inOrder (c .phase) (rowOfLine parts) ≡ true
   pub unladen : laden (rowOfLine parts) (length (parts .group)) (length (parts .params)) ≡ false
   pub fits : valueScan (rowOfLine parts) (kindOfLine parts) (parts .value) ≡ Fits
-  pub after : entered c at (rowOfLine parts) (parts .value) ≡ Next c′
+  pub after : entered c at (rowOfLine parts) (altidOf parts) (parts .value) ≡ Next c′
 
 with-parts : (c c′ : Card) (at : ℕ) (l : List ℕ) (x : Line) (k : ℕ) → parseLine l ≡ got x k → firstBad (allowed false) l ≡ length l
-    → judgeParts c at (rowOfLine x) (length (x .group)) (length (x .params)) (kindOfLine x) (x .value) ≡ Next c′ → Passed c at l c′
+    → judgeParts c at (rowOfLine x) (length (x .group)) (length (x .params)) (kindOfLine x) (altidOf x) (x .value) ≡ Next c′ → Passed c at l c′
 unfolding judgeParts
 with-parts c c′ at l x k p d q =
     only 9 at (inOrder (c .phase) (rowOfLine x)) _ q (λ o q₁.
@@ -94,25 +92,25 @@ unfolding closed
 closed-counts c c′ at e =
     only 11 at (c .«has_fn») _ e (λ t q. unless 12 at (c .«has_member» && not (c .«is_group»)) _ q (λ u r. of-equal (next-is r) refl (omega arith) (omega arith)))
 
-noted-counts : (c c′ : Card) (at row : ℕ) (group : Bool) → noted c at row group ≡ Next c′ → Counted c c′
-unfolding noted
-noted-counts c c′ at row group e =
-    unless 10 at (isSeen (onceFlag row) (c .seen)) _ e (λ t q. of-equal (next-is q) refl (omega arith) (omega arith))
+noted-counts : (c c′ : Card) (at row : ℕ) (altid : Option (List ℕ)) (group : Bool) → noted c at row altid group ≡ Next c′ → Counted c c′
+unfolding noted lineCard
+noted-counts c c′ at row altid group e =
+    unless 10 at (secondInstance c row altid) _ e (λ t q. of-equal (next-is q) refl (omega arith) (omega arith))
 
-entered-counts : (c c′ : Card) (at row : ℕ) (v : List ℕ) → entered c at row v ≡ Next c′ → Counted c c′
+entered-counts : (c c′ : Card) (at row : ℕ) (altid : Option (List ℕ)) (v : List ℕ) → entered c at row altid v ≡ Next c′ → Counted c c′
 unfolding entered
-entered-counts c c′ at row v e = by (eqb row 2) e
+entered-counts c c′ at row altid v e = by (eqb row 2) e
   where
-    by : (t : Bool) → pick t (closed c at) (noted c at row (isGroup v)) ≡ Next c′ → Counted c c′
+    by : (t : Bool) → pick t (closed c at) (noted c at row altid (isGroup v)) ≡ Next c′ → Counted c c′
     by true q = closed-counts c c′ at q
-    by false q = noted-counts c c′ at row (isGroup v) q
+    by false q = noted-counts c c′ at row altid (isGroup v) q
 
 -- a judged line is one line more, and at most one card more
 pub one-more : (c c′ : Card) (p : ℕ) (l : List ℕ) → judgeLine c p l ≡ Next c′
     → (c′ .lines ≡ c .lines + 1) × (c .cards ≤ c′ .cards) × (c′ .cards ≤ c .cards + 1)
 one-more c c′ p l e =
     let w = passed c c′ p l e in
-    let k = entered-counts c c′ p (rowOfLine (w .parts)) (w .parts .value) (w .after) in
+    let k = entered-counts c c′ p (rowOfLine (w .parts)) (altidOf (w .parts)) (w .parts .value) (w .after) in
     (k .lines, k .kept, k .raised)
 
 -- a line that was passed has whole characters and no control, is not empty, and starts with neither space nor tab

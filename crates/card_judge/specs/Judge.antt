@@ -1,9 +1,12 @@
 -- The judgement of one logical line within its card, by REFERENCE, The order of refusals: 5, 40 to 43, 9, 8, 7, 10 and, at END, 11, 12. Assumes nothing.
-use Prim.Native.Nat.{ℕ}
+use Prim.Native.Nat.{ℕ, _+_, _-_, _≤_}
+use mathlib.Core.Path.{_≡_}
 use mathlib.Core.Bool.{Bool, true, false, not, _&&_, _||_}
-use mathlib.Core.List.{List}
+use mathlib.Core.List.{List, _++_}
+use mathlib.Core.Option.{Option, none, some}
 use lib.Dec.{eqb, ltb}
-use lib.ListN.{length}
+use lib.ListN.{length, take, drop}
+use Rattle.numbers.specs.Limits as limit
 use Rattle.numbers.specs.Refusals as refusal
 use Rattle.numbers.specs.Properties as property
 use Rattle.octets.specs.Pick.{pick}
@@ -17,11 +20,13 @@ use Rattle.value_kinds.specs.Kinds.{valueScan}
 use Rattle.value_automaton.specs.States.{Scanner}
 use Rattle.value_kinds.specs.declared.Fault.{Fault}
 use Rattle.value_kinds.specs.declared.Fault.the-variants.{Fits, Breaks}
-use Rattle.card_state.specs.State.{inOrder, noted, closed}
-use Rattle.card_line.specs.Parts.{rowOfLine, kindOfLine}
-use Rattle.card_state.specs.declared.Card.{Card}
-use Rattle.card_state.specs.declared.Step.{Step}
-use Rattle.card_state.specs.declared.Step.the-variants.{Refused}
+use Rattle.card_state.specs.State.{Card, Step, Refused, inOrder, noted, closed}
+use Rattle.card_state.specs.Kept.{Lies, stepOf, Holds}
+use Rattle.card_state.specs.declared.Card.{Card as Kept}
+use Rattle.card_line.specs.Parts.{rowOfLine, kindOfLine, altidOf}
+use Rattle.line_parameters.specs.declared.First.{First}
+use Rattle.line_parameters.specs.declared.First.the-variants.{Between, Nothing}
+use Rattle.card_judge.specs.declared.judge.Judgement.{Judgement}
 
 -- the lent tables are those of classes, properties and transitions
 abbrev pub Tables : List ℕ → List ℕ → List ℕ → Type 0
@@ -35,9 +40,9 @@ valuePlace at octet = at
 unfoldable pub laden : ℕ → ℕ → ℕ → Bool
 laden row group params = framing row && (not (eqb group 0) || not (eqb params 0))
 
--- a line that fits its place and its kind
-unfoldable pub entered : Card → ℕ → ℕ → List ℕ → Step
-entered c at row value = pick (eqb row property.end) (closed c at) (noted c at row (isGroup value))
+-- a line that fits its place and its kind; altid: its ALTID value, where it has one
+unfoldable pub entered : Card → ℕ → ℕ → Option (List ℕ) → List ℕ → Step
+entered c at row altid value = pick (eqb row property.end) (closed c at) (noted c at row altid (isGroup value))
 
 -- 7: the value breaks its kind
 abbrev pub fitting : ℕ → Fault → Step → Step
@@ -49,17 +54,42 @@ broken Fits = false
 broken (Breaks octet) = true
 
 -- group: the group's length; params: how many parameters
-unfoldable pub judgeParts : Card → ℕ → ℕ → ℕ → ℕ → ℕ → List ℕ → Step
-judgeParts c at row group params kind value =
+unfoldable pub judgeParts : Card → ℕ → ℕ → ℕ → ℕ → ℕ → Option (List ℕ) → List ℕ → Step
+judgeParts c at row group params kind altid value =
     pick (inOrder (c .phase) row)
-    (pick (laden row group params) (Refused refusal.laden at) (fitting at (valueScan row kind value) (entered c at row value)))
+    (pick (laden row group params) (Refused refusal.laden at) (fitting at (valueScan row kind value) (entered c at row altid value)))
     (Refused refusal.order at)
 
 abbrev pub judgeParsed : Card → ℕ → Parse Line → Step
-judgeParsed c at (got x k) = judgeParts c at (rowOfLine x) (length (x .group)) (length (x .params)) (kindOfLine x) (x .value)
+judgeParsed c at (got x k) = judgeParts c at (rowOfLine x) (length (x .group)) (length (x .params)) (kindOfLine x) (altidOf x) (x .value)
 judgeParsed c at (bad e) = Refused e at
 
 -- 5: an octet that is not allowed, or no character; then the fault of the line rule, 40 to 43; then the parts of the line
 unfoldable pub judgeLine : Card → ℕ → List ℕ → Step
 judgeLine c at l =
     pick (ltb (firstBad (allowed false) l) (length l)) (Refused refusal.badOctet at) (judgeParsed c at (parseLine l))
+
+-- the octets between two places of a line
+abbrev pub part : ℕ → ℕ → List ℕ → List ℕ
+part from to l = take (to - from) (drop from l)
+
+-- what a judgement of the line l says: its step, with the store and behind it the octets of the line that are to be kept
+unfoldable pub readBy : Judgement → List ℕ → List ℕ → Step
+readBy j store l = stepOf (store ++ part (j .from) (j .to) l) (j .step)
+
+-- the store has the values that the state keeps, and nothing else; with the line they are no more than an input's octets
+pub record Stored (c : Kept) (store l : List ℕ) : Type 0 where
+  pub lies : Lies c
+  pub all : length store ≡ c .used
+  pub short : c .used + length l ≤ limit.octets
+
+-- the octets to keep lie in the line, and the values of the next state in the store with them
+pub record Keeping (c : Kept) (l : List ℕ) (j : Judgement) : Type 0 where
+  pub order : j .from ≤ j .to
+  pub inside : j .to ≤ length l
+  pub holds : Holds (c .used + (j .to - j .from)) (j .step)
+
+-- what was found in the line l is this value of a parameter, or that it has none
+abbrev pub Spans : First → List ℕ → Option (List ℕ) → Type 0
+Spans (Between a e) l o = (a ≤ e) × (e ≤ length l) × (o ≡ some (part a e l))
+Spans Nothing l o = o ≡ none

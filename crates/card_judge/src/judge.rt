@@ -1,26 +1,41 @@
 // The judgement of one logical line within its card: refusals 5 to 12 in the order of REFERENCE, The order of refusals.
 ghost use mathlib.Core.Path.{_≡_};
 ghost use mathlib.Core.Bool.{false};
-ghost use Prim.Native.Nat.{_≤_, _<_};
+ghost use mathlib.Core.List.{List};
+ghost use mathlib.Core.Option.{none, some};
+ghost use Prim.Native.Nat.{ℕ, _≤_, _<_};
+ghost use lib.Dec.{eqb};
 ghost use lib.ListN.{length};
 ghost use Rattle.numbers.specs.Limits as limit;
 ghost use Rattle.numbers.specs.Properties as property;
 ghost use Rattle.numbers.specs.Kinds as kinds;
-ghost use Rattle.property_table.specs.Rows.{Lists, onceAt};
+ghost use Rattle.octets.specs.Pick.{pick};
+ghost use Rattle.octets.specs.Classes.{Classes};
+ghost use Rattle.property_table.specs.Rows.{onceAt, isGroup};
 ghost use Rattle.value_automaton.specs.States.{Scanner};
 ghost use Rattle.value_kinds.specs.Kinds.{valueScan};
-ghost use Rattle.card_state.specs.State.{Counted, inOrder, onceFlag, isSeen};
-ghost use Rattle.card_judge.specs.Judge.{Tables, laden, broken, entered, judgeParts, judgeLine};
+ghost use Rattle.card_line.specs.Parts.{altidName, firstValue, linePartsOf};
+ghost use Rattle.card_state.specs.State.{Next, Counted, inOrder, onceFlag, isSeen, closed};
+ghost use Rattle.card_state.specs.Kept.{Lies, cardOf, stepOf, Holds, goneOn};
+ghost use Rattle.card_judge.specs.Judge.{Tables, laden, broken, entered, judgeParts, judgeLine, part, readBy, Stored, Keeping, Spans};
 use card_line::LineParts;
 use card_line::Parts;
 use card_state::Card;
 use card_state::Step;
+use line_parameters::First;
 use numbers::property;
 use numbers::refusal;
 use octets::classes::ClassTable;
 use property_table::rows::PropertyTable;
 use value_automaton::states::Transitions;
 use value_kinds::Fault;
+
+// What a line makes of its card, and which octets of the line are to be kept behind those in the store, from `from` to `to`.
+pub struct Judgement {
+    pub step: Step,
+    pub from: usize,
+    pub to: usize,
+}
 
 // Whether a line of the row may stand here.
 fn in_order(phase: u32, row: usize) -> bool
@@ -64,12 +79,40 @@ fn breaks_kind(steps: &Transitions, row: usize, kind: usize, value: &[u8]) -> bo
     false
 }
 
+// Where the ALTID value of a line stands; of a line whose property may stand any number of times it is not looked for.
+fn altid_at(t: &ClassTable, s: &[u8], x: Parts, once: usize) -> First
+    requires { ⌜ Classes (now t) ⌝ }
+    requires { ⌜ LineParts.Line x ≡ linePartsOf (now s) ⌝ }
+    ensures { λ r. ⌜ Spans r (now (s .entry)) (pick (eqb once 0) none (firstValue altidName (now (s .entry)))) ⌝ }
+{
+    if once == 0 {
+        return First::Nothing;
+    }
+    if x.param_count == 0 {
+        return First::Nothing;
+    }
+    let name_end = x.name_end;
+    line_parameters::param_first(t, s, name_end, b"ALTID")
+}
+
+// A judgement by which no octets of the line are to be kept.
+fn unkept(step: Step) -> Judgement
+    ensures { λ r. ⌜ r ≡ record { step = step; from = 0; to = 0 } ⌝ }
+{
+    Judgement {
+        step,
+        from: 0,
+        to: 0,
+    }
+}
+
 // A line that fits: the end of a card, or one more line of it.
 fn enter(c: Card, at: usize, row: usize, once: usize, value: &[u8]) -> Step
-    requires { ⌜ Counted c ⌝ }
+    requires { ⌜ Counted (c .cards) (c .lines) ⌝ }
     requires { ⌜ (once ≡ onceAt row) × (once ≤ limit.flags) ⌝ }
-    requires { ⌜ isSeen (onceFlag row) (c .seen) ≡ false ⌝ }
-    ensures { λ r. ⌜ r ≡ entered c at row (now (value .entry)) ⌝ }
+    requires { ⌜ Lies c ⌝ }
+    ensures { λ r. ⌜ ((store : List ℕ) → stepOf store r ≡ pick (eqb row property.end) (closed (cardOf c store) at) (Next (cardOf (goneOn c row (isGroup (now (value .entry)))) store))) ⌝ }
+    ensures { λ r. ⌜ Holds (c .used) r ⌝ }
 {
     if row == property::END {
         return card_state::close(c, at);
@@ -78,63 +121,133 @@ fn enter(c: Card, at: usize, row: usize, once: usize, value: &[u8]) -> Step
     Step::Next(card_state::note(c, row, once, group))
 }
 
-// The checks of a line whose parts are known: 9, 8, 7, 10, and at END those of the card.
-fn judge_parts(
-    rows: &PropertyTable,
-    steps: &Transitions,
-    x: Parts,
+// A line with an ALTID, from `from` to `to`, of a property that a card has at most once: it is of the first line's instance, starts a
+// second one (10), or is the first line itself, whose value is to be kept.
+fn settle_tagged(
+    s: &[u8],
     value: &[u8],
+    row: usize,
+    once: usize,
+    again: bool,
+    from: usize,
+    to: usize,
+    store: &[u8],
     at: usize,
     c: Card,
-) -> Step
-    requires { ⌜ Lists (now rows) ⌝ }
-    requires { ⌜ Scanner (now steps) ⌝ }
+) -> Judgement
+    requires { ⌜ (from ≤ to) × (to ≤ length (now s)) ⌝ }
+    requires { ⌜ (row < property.count) × ((once ≡ onceAt row) × (once ≤ limit.flags)) ⌝ }
+    requires { ⌜ (0 < once) × (again ≡ isSeen (onceFlag row) (c .seen)) ⌝ }
+    requires { ⌜ Counted (c .cards) (c .lines) ⌝ }
+    requires { ⌜ Stored c (now store) (now s) ⌝ }
+    ensures { λ r. ⌜ readBy r (now (store .entry)) (now (s .entry)) ≡ entered (cardOf c (now (store .entry))) at row (some (part from to (now (s .entry)))) (now (value .entry)) ⌝ }
+    ensures { λ r. ⌜ Keeping c (now (s .entry)) r ⌝ }
+{
+    if !again {
+        let kept = card_state::tags::keep(c, once, to - from);
+        let step = enter(kept, at, row, once, value);
+        return Judgement { step, from, to };
+    }
+    let tags = c.tags;
+    if !card_state::tags::is_kept(tags, once, store, &s[from..to]) {
+        return unkept(Step::Refused(refusal::SECOND, at));
+    }
+    unkept(enter(c, at, row, once, value))
+}
+
+// A line that fits its place and its kind: 10 where it starts a second instance, and at END the checks of the card.
+fn settle(
+    t: &ClassTable,
+    s: &[u8],
+    value: &[u8],
+    x: Parts,
+    once: usize,
+    again: bool,
+    store: &[u8],
+    at: usize,
+    c: Card,
+) -> Judgement
+    requires { ⌜ Classes (now t) ⌝ }
+    requires { ⌜ LineParts.Line x ≡ linePartsOf (now s) ⌝ }
+    requires { ⌜ (x .row < property.count) × ((once ≡ onceAt (x .row)) × (once ≤ limit.flags)) ⌝ }
+    requires { ⌜ again ≡ isSeen (onceFlag (x .row)) (c .seen) ⌝ }
+    requires { ⌜ Counted (c .cards) (c .lines) ⌝ }
+    requires { ⌜ Stored c (now store) (now s) ⌝ }
+    ensures { λ r. ⌜ readBy r (now (store .entry)) (now (s .entry)) ≡ entered (cardOf c (now (store .entry))) at (x .row) (firstValue altidName (now (s .entry))) (now (value .entry)) ⌝ }
+    ensures { λ r. ⌜ Keeping c (now (s .entry)) r ⌝ }
+{
+    let row = x.row;
+    let f = altid_at(t, s, x, once);
+    let First::Between { start, end } = f else {
+        if again {
+            return unkept(Step::Refused(refusal::SECOND, at));
+        }
+        return unkept(enter(c, at, row, once, value));
+    };
+    settle_tagged(s, value, row, once, again, start, end, store, at, c)
+}
+
+// The checks of a line whose parts are known: 9, 8, 7, 10, and at END those of the card.
+fn judge_parts(
+    t: &ClassTable,
+    rows: &PropertyTable,
+    steps: &Transitions,
+    s: &[u8],
+    value: &[u8],
+    x: Parts,
+    store: &[u8],
+    at: usize,
+    c: Card,
+) -> Judgement
+    requires { ⌜ Tables (now t) (now rows) (now steps) ⌝ }
+    requires { ⌜ LineParts.Line x ≡ linePartsOf (now s) ⌝ }
     requires { ⌜ (x .row < property.count) × (x .kind < kinds.count) ⌝ }
-    requires { ⌜ Counted c ⌝ }
-    ensures { λ r. ⌜ r ≡ judgeParts c at (x .row) (x .«group_length») (x .«param_count») (x .kind) (now (value .entry)) ⌝ }
+    requires { ⌜ Counted (c .cards) (c .lines) ⌝ }
+    requires { ⌜ Stored c (now store) (now s) ⌝ }
+    ensures { λ r. ⌜ readBy r (now (store .entry)) (now (s .entry)) ≡ judgeParts (cardOf c (now (store .entry))) at (x .row) (x .«group_length») (x .«param_count») (x .kind) (firstValue altidName (now (s .entry))) (now (value .entry)) ⌝ }
+    ensures { λ r. ⌜ Keeping c (now (s .entry)) r ⌝ }
 {
     let misplaced = !in_order(c.phase, x.row);
     let laden = is_laden(x);
     let broken = breaks_kind(steps, x.row, x.kind, value);
-    let once = property_table::once_of(rows, x.row);
-    let again = card_state::is_again(c.seen, once);
     if misplaced {
-        return Step::Refused(refusal::ORDER, at);
+        return unkept(Step::Refused(refusal::ORDER, at));
     }
     if laden {
-        return Step::Refused(refusal::LADEN, at);
+        return unkept(Step::Refused(refusal::LADEN, at));
     }
     if broken {
-        return Step::Refused(refusal::VALUE, at);
+        return unkept(Step::Refused(refusal::VALUE, at));
     }
-    if again {
-        return Step::Refused(refusal::SECOND, at);
-    }
-    enter(c, at, x.row, once, value)
+    let once = property_table::once_of(rows, x.row);
+    let again = card_state::is_again(c.seen, once);
+    settle(t, s, value, x, once, again, store, at, c)
 }
 
-// Judges the line s, which starts at `at` in the input.
+// Judges the line s, which starts at `at` in the input; the store has the ALTID values that the card's state keeps.
 pub fn judge_line(
     t: &ClassTable,
     rows: &PropertyTable,
     steps: &Transitions,
     s: &[u8],
+    store: &[u8],
     at: usize,
     c: Card,
-) -> Step
+) -> Judgement
     requires { ⌜ Tables (now t) (now rows) (now steps) ⌝ }
-    requires { ⌜ length (now s) ≤ limit.octets ⌝ }
-    requires { ⌜ Counted c ⌝ }
-    ensures { λ r. ⌜ r ≡ judgeLine c at (now (s .entry)) ⌝ }
+    requires { ⌜ Counted (c .cards) (c .lines) ⌝ }
+    requires { ⌜ Stored c (now store) (now s) ⌝ }
+    ensures { λ r. ⌜ readBy r (now (store .entry)) (now (s .entry)) ≡ judgeLine (cardOf c (now (store .entry))) at (now (s .entry)) ⌝ }
+    ensures { λ r. ⌜ Keeping c (now (s .entry)) r ⌝ }
 {
     if utf8_screening::units::first_bad(t, s, false) < s.len() {
-        return Step::Refused(refusal::BAD_OCTET, at);
+        return unkept(Step::Refused(refusal::BAD_OCTET, at));
     }
     match card_line::parts_of(t, rows, s) {
-        LineParts::Fault(e) => Step::Refused(e, at),
+        LineParts::Fault(e) => unkept(Step::Refused(e, at)),
         LineParts::Line(x) => {
             let start = x.value_start;
-            judge_parts(rows, steps, x, &s[start..], at, c)
+            judge_parts(t, rows, steps, s, &s[start..], x, store, at, c)
         }
     }
 }

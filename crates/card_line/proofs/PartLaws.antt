@@ -9,7 +9,7 @@ use lib.Dec.{eqb}
 use lib.ListN.{length, take, drop}
 use borrow.Author.Tests.{ne-eqb}
 use Rattle.line_parser.specs.Parse.{Parse, got, bad}
-use Rattle.line_parser.specs.Grammar.{Value, Line, nameEnd}
+use Rattle.line_parser.specs.Grammar.{Value, Param, Line, nameEnd}
 use Rattle.line_parser.specs.Rule.{parseLine}
 use Rattle.line_parser.specs.Places.{outcome}
 use Rattle.line_parameters.specs.First.{firstNamed, findFirst}
@@ -103,7 +103,7 @@ module _ (l : List ℕ) (end : ℕ) (a : Accepted l end) (name : List ℕ) where
       let w = line-law l (a .parts) (a .start) .0 (a .parsed) in
       rw (a .ends, w .1) (first-law name (a .parts) (w .0))
 
-  value-is : firstValue name l ≡ octetsOf (firstNamed name (a .parts .params))
+  pub value-is : firstValue name l ≡ octetsOf (firstNamed name (a .parts .params))
   unfolding firstValue paramValue
   value-is = ap (valueBy name) (a .parsed)
 
@@ -203,6 +203,7 @@ pub record Read (l : List ℕ) (x : Parts) : Type 0 where
   pub kind : x .kind ≡ kindOfLine parts
   pub listed : x .row < 39
   pub low : x .kind < 12
+  pub ends : x .«name_end» ≡ nameEnd parts
   pub inside : x .«value_start» ≤ length l
   pub value : drop (x .«value_start») l ≡ parts .value
 
@@ -225,6 +226,20 @@ read l x h = by (parseLine l) refl h
           kind = refl;
           listed = row-of-line y;
           low = kind-of-line y;
+          ends = refl;
           inside = w .inside .value;
           value = w .placed .value ∙ ap (λ (z : Line). z .value) same-parts;
         }
+
+-- the line rule accepts a line that has parts
+abbrev pub read-accepted : (l : List ℕ) (x : Parts) → Read l x → Accepted l (x .«name_end»)
+read-accepted l x r = record { parts = r .parts; start = x .«value_start»; parsed = r .parsed; ends = r .ends }
+
+-- a line without parameters has no value of one
+pub no-params : (l : List ℕ) (x : Parts) → (r : Read l x) → (name : List ℕ) → x .«param_count» ≡ 0 → firstValue name l ≡ none
+unfolding firstNamed
+no-params l x r name e = value-is l (x .«name_end») (read-accepted l x r) name ∙ by (r .parts .params) (sym (r .params) ∙ e)
+  where
+    by : (ps : List Param) → length ps ≡ 0 → octetsOf (firstNamed name ps) ≡ none
+    by [] e = refl
+    by (p ∷ ps) e = absurd (omega arith)

@@ -4,6 +4,7 @@ use mathlib.Core.Path.{_≡_}
 use mathlib.Core.List.{List}
 use mathlib.Core.Option.{Option, none, some}
 use lib.ListN.{length}
+use Rattle.octets.specs.Ascii.{octets}
 use Rattle.line_parser.specs.Parse.{Parse, got, bad}
 use Rattle.line_parser.specs.Grammar.{Value, Line, nameEnd}
 use Rattle.line_parser.specs.Rule.{parseLine}
@@ -22,6 +23,13 @@ octetsOf (some v) = some (valueOctets v)
 -- the first value of the first parameter of that name, quotes taken off
 unfoldable pub paramValue : List ℕ → Line → Option (List ℕ)
 paramValue name x = octetsOf (firstNamed name (x .params))
+
+-- the name of the parameter that makes lines one instance, and its value
+abbrev pub altidName : List ℕ
+altidName = octets "ALTID"
+
+unfoldable pub altidOf : Line → Option (List ℕ)
+altidOf x = paramValue altidName x
 
 -- the row of a line, and the kind of its value by row, VALUE and CALSCALE
 unfoldable pub rowOfLine : Line → ℕ

@@ -6,9 +6,15 @@ ghost use Prim.Native.Nat.{ℕ, _<_, _≤_};
 ghost use Rattle.numbers.specs.Limits as limit;
 ghost use Rattle.numbers.specs.Properties as property;
 ghost use Rattle.property_table.specs.Rows.{onceAt};
-ghost use Rattle.card_state.specs.State.{Counted, flagOf, onceFlag, isSeen, phaseAfter, freshCard, closed, noted};
+ghost use Rattle.card_state.specs.State.{Counted, flagOf, isSeen, phaseAfter, closed};
+ghost use mathlib.Core.List.{List};
+ghost use Rattle.card_state.specs.Kept.{freshKept, cardOf, stepOf, Holds, goneOn};
+
+pub mod tags;
+
 use numbers::property;
 use numbers::refusal;
+use tags::Tags;
 
 // The phase of a card: BEGIN has not come.
 pub const BEFORE_BEGIN: u32 = 0;
@@ -25,6 +31,9 @@ pub struct Card {
     pub phase: u32,
     // The flags of the single properties that stand in the card so far.
     pub seen: u32,
+    // Where the ALTID values of their first lines are kept, and how many octets these have together.
+    pub tags: Tags,
+    pub used: usize,
     // An FN line, a MEMBER line, a KIND line with the value group.
     pub has_fn: bool,
     pub has_member: bool,
@@ -42,11 +51,14 @@ pub enum Step {
 
 // Before the first line.
 pub fn fresh() -> Card
-    ensures { λ r. ⌜ r ≡ freshCard ⌝ }
+    ensures { λ r. ⌜ r ≡ freshKept ⌝ }
 {
+    let tags = tags::none();
     Card {
         phase: BEFORE_BEGIN,
         seen: 0,
+        tags,
+        used: 0,
         has_fn: false,
         has_member: false,
         is_group: false,
@@ -110,8 +122,9 @@ fn phase_after(row: usize) -> u32
 
 // The end of a card: 11, 12, or the state before the next card.
 pub fn close(c: Card, at: usize) -> Step
-    requires { ⌜ Counted c ⌝ }
-    ensures { λ r. ⌜ r ≡ closed c at ⌝ }
+    requires { ⌜ Counted (c .cards) (c .lines) ⌝ }
+    ensures { λ r. ⌜ ((store : List ℕ) → stepOf store r ≡ closed (cardOf c store) at) ⌝ }
+    ensures { λ r. ⌜ Holds 0 r ⌝ }
 {
     if !c.has_fn {
         return Step::Refused(refusal::NO_FN, at);
@@ -132,13 +145,15 @@ pub fn close(c: Card, at: usize) -> Step
 pub fn note(c: Card, row: usize, once: usize, group: bool) -> Card
     requires { ⌜ c .lines < limit.octets ⌝ }
     requires { ⌜ (once ≡ onceAt row) × (once ≤ limit.flags) ⌝ }
-    requires { ⌜ isSeen (onceFlag row) (c .seen) ≡ false ⌝ }
-    ensures { λ r. ⌜ ((at : ℕ) → Step.Next r ≡ noted c at row group) ⌝ }
+    ensures { λ r. ⌜ r ≡ goneOn c row group ⌝ }
 {
     let grouped = says_group(row, group);
+    let tags = c.tags;
     Card {
         phase: phase_after(row),
         seen: c.seen | flag_of(once),
+        tags,
+        used: c.used,
         has_fn: either(c.has_fn, row == property::FN),
         has_member: either(c.has_member, row == property::MEMBER),
         is_group: either(c.is_group, grouped),

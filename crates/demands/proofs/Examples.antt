@@ -105,8 +105,12 @@ unfolding table.rows table.search table.rowOf table.rowAt table.kindAt table.tak
 by-table = tt
 
 by-cards : Unit {0}
-unfolding content.paramValue content.rowOfLine content.kindOfLine content.linePartsOf card.inOrder card.flagOf card.onceFlag card.isSeen card.phaseAfter card.noted card.closed
+unfolding content.paramValue content.altidOf content.rowOfLine content.kindOfLine content.linePartsOf card.inOrder card.flagOf card.onceFlag card.isSeen card.phaseAfter card.closed
 by-cards = tt
+
+by-tags : Unit {0}
+unfolding card.equal card.sameTag card.tagOf card.tagged card.secondInstance card.lineCard card.noted
+by-tags = tt
 
 by-judge : Unit {0}
 unfolding judge.laden judge.entered judge.judgeParts judge.judgeLine walk.judgeLines records.recordBy records.recordOf records.recordsFrom
@@ -147,7 +151,7 @@ by-examples = tt
 -- ---- the test
 
 all-hold : allHold marked ≡ true
-unfolding by-octets by-scans by-characters by-text by-escapes by-folds by-lines by-rule by-kinds by-dates by-shapes by-table by-cards by-judge by-reader by-folder by-styles by-report by-print by-desk by-calls by-examples
+unfolding by-octets by-scans by-characters by-text by-escapes by-folds by-lines by-rule by-kinds by-dates by-shapes by-table by-cards by-tags by-judge by-reader by-folder by-styles by-report by-print by-desk by-calls by-examples
 all-hold = refl
 
 pub examples : Each Holds marked
@@ -155,5 +159,5 @@ examples = tested marked all-hold
 
 -- In the raised style equal octets don't tell equal copies.
 pub merged : Merged smallName capitalName (replicate 160 0)
-unfolding by-octets by-scans by-characters by-text by-escapes by-folds by-lines by-rule by-kinds by-dates by-shapes by-table by-cards by-judge by-reader by-folder by-styles by-desk by-calls by-examples
+unfolding by-octets by-scans by-characters by-text by-escapes by-folds by-lines by-rule by-kinds by-dates by-shapes by-table by-cards by-tags by-judge by-reader by-folder by-styles by-desk by-calls by-examples
 merged = record { octets = refl; copies = λ e. let z : _≡_ {A = ℕ} 120 88 = ap (λ (l : List ℕ). getD l 32 0) e in omega arith }

@@ -126,6 +126,8 @@ marked =
     refuses (octets "BEGIN:VCARD" ++ (10 ∷ (line "VERSION:4.0" ++ (line "FN:A" ++ line "END:VCARD")))) 3 11 ∷
     refuses (cardWith (line fullName ++ line fullName)) 10 64 ∷
     refuses (cardWith (line "N:Doe;J")) 7 32 ∷
+    refuses (cardWith (line "N;ALTID=1:;;;;" ++ line "N:;;;;")) 10 48 ∷
+    folding AsRead (cardWith (line "N;ALTID=1:;;;;" ++ line "N;ALTID=1:;;;;")) 75 (cardWith (line "N;ALTID=1:;;;;" ++ line "N;ALTID=1:;;;;")) ∷
     folding AsRead (note 75 end) 120 (note 75 end) ∷
     folding AsRead (note 76 end) 124 (note 75 (end ++ 32 ∷ 97 ∷ end)) ∷
     folding AsRead (note 74 (195 ∷ 169 ∷ end)) 124 (note 74 (end ++ 32 ∷ 195 ∷ 169 ∷ end)) ∷

@@ -1,6 +1,7 @@
 -- The places of the reader's refusals: none is past 16,384, so that each fits its half of a word. Assumes nothing.
 use mathlib.Core.Path.{_≡_, refl}
 use mathlib.Core.Bool.{Bool, true, false, not, _&&_}
+use mathlib.Core.Option.{Option}
 use mathlib.Core.List.{List, [], _∷_}
 use Prim.Native.Nat.{ℕ, zero, suc, _+_, _-_, _≤_, min}
 use native.Mathlib.Omega.{arith}
@@ -17,12 +18,9 @@ use Rattle.line_folds.specs.Logical.{linesBy, rawLines}
 use Rattle.value_kinds.specs.Kinds.{valueScan}
 use Rattle.value_kinds.specs.declared.Fault.{Fault}
 use Rattle.value_kinds.specs.declared.Fault.the-variants.{Fits, Breaks}
-use Rattle.card_state.specs.State.{freshCard, inOrder, onceFlag, isSeen, noted, closed}
-use Rattle.card_line.specs.Parts.{rowOfLine, kindOfLine}
+use Rattle.card_state.specs.State.{Card, Step, Next, Refused as Halted, freshCard, inOrder, secondInstance, noted, closed}
+use Rattle.card_line.specs.Parts.{rowOfLine, kindOfLine, altidOf}
 use Rattle.card_judge.specs.Judge.{laden, entered, fitting, judgeParts, judgeParsed, judgeLine}
-use Rattle.card_state.specs.declared.Card.{Card}
-use Rattle.card_state.specs.declared.Step.{Step}
-use Rattle.card_state.specs.declared.Step.the-variants.{Next, Refused as Halted}
 use Rattle.line_breaks.specs.Lone.{firstLone, endsCrLf}
 use Rattle.reader_walk.specs.Walk.{onward, judgeLines}
 use Rattle.reader.specs.Outcome.{verdictOf, judgeOf}
@@ -42,12 +40,12 @@ at-fitting : (p : ℕ) (f : Fault) (s : Step) → At p s → At p (fitting p f s
 at-fitting p Fits s x = x
 at-fitting p (Breaks n) s x = refl
 
-at-entered : (c : Card) (p row : ℕ) (v : List ℕ) → At p (entered c p row v)
+at-entered : (c : Card) (p row : ℕ) (altid : Option (List ℕ)) (v : List ℕ) → At p (entered c p row altid v)
 unfolding entered closed noted
-at-entered c p row v =
+at-entered c p row altid v =
     at-pick p (eqb row 2) _ _
     (at-pick p (c .«has_fn») _ _ (at-pick p (c .«has_member» && not (c .«is_group»)) _ _ refl tt) refl)
-    (at-pick p (isSeen (onceFlag row) (c .seen)) _ _ refl tt)
+    (at-pick p (secondInstance c row altid) _ _ refl tt)
 
 at-parsed : (c : Card) (p : ℕ) (m : Parse Line) → At p (judgeParsed c p m)
 unfolding judgeParts
@@ -55,7 +53,7 @@ at-parsed c p (bad e) = refl
 at-parsed c p (got x k) =
     at-pick p (inOrder (c .phase) (rowOfLine x)) _ _
     (at-pick p (laden (rowOfLine x) (length (x .group)) (length (x .params))) _ _ refl
-    (at-fitting p (valueScan (rowOfLine x) (kindOfLine x) (x .value)) _ (at-entered c p (rowOfLine x) (x .value))))
+    (at-fitting p (valueScan (rowOfLine x) (kindOfLine x) (x .value)) _ (at-entered c p (rowOfLine x) (altidOf x) (x .value))))
     refl
 
 at-line : (c : Card) (p : ℕ) (l : List ℕ) → At p (judgeLine c p l)

@@ -12,8 +12,7 @@ use Rattle.octets.specs.Pick.{pick}
 use Rattle.octets.specs.Room.{Filled, filled, refuse, overlay, fill, fillBounded}
 use Rattle.octets.specs.declared.rooms.Written.the-variants.{Wrote, Refused}
 use Rattle.card_judge.specs.Judge.{judgeLine}
-use Rattle.card_state.specs.declared.Card.{Card}
-use Rattle.card_state.specs.declared.Step.the-variants.{Next}
+use Rattle.card_state.specs.State.{Card, Next}
 use Rattle.card_judge.proofs.CardLaws.{line-clean}
 use Rattle.reader.specs.Outcome.{judgeOf}
 use Rattle.line_folds.specs.Logical.{logicalLines}

@@ -1,6 +1,6 @@
 -- Cards with the names of their lines raised are cards. Assumes nothing.
 use mathlib.Core.Path.{_≡_, refl, sym, ap, subst, _∙_}
-use mathlib.Core.Bool.{Bool, false, _&&_}
+use mathlib.Core.Bool.{Bool, false, not, _&&_, _||_}
 use mathlib.Core.List.{List, [], _∷_, _++_, map}
 use Prim.Native.Nat.{ℕ, _≤_}
 use lib.Dec.{eqb}
@@ -8,9 +8,9 @@ use Rattle.numbers.specs.Properties as property
 use Rattle.utf8_laws.proofs.Utf8.{allowed-only}
 use Rattle.line_parser.specs.Grammar.{Line, Each, render}
 use Rattle.property_table.specs.Rows.{isGroup}
-use Rattle.card_line.specs.Parts.{rowOfLine, kindOfLine}
+use Rattle.card_line.specs.Parts.{rowOfLine, altidName, altidOf}
 use Rattle.reader_grammar.specs.Values.{OfKind}
-use Rattle.reader_grammar.specs.Cards.{Readable, Frame, Inside, count, counts, ofRow, saysGroup, Body, CardLines, card, Cards, none, more}
+use Rattle.reader_grammar.specs.Cards.{Readable, Frame, Inside, count, counts, ofRow, any, sameInstance, instances, saysGroup, Body, CardLines, card, Cards, none, more}
 use Rattle.folder_line.specs.Pieces.{Clean}
 use Rattle.folder_raising.specs.Letters.{upper}
 use Rattle.folder_style_laws.specs.Capitals.{raisedParam, raisedLine}
@@ -18,7 +18,7 @@ use Rattle.folder_raising.specs.Walk.{raised}
 use Rattle.folder_raising.specs.declared.Style.the-variants.{Raised}
 use Rattle.folder_raising.proofs.CleanLaws.{clean-written}
 use Rattle.folder_style_laws.proofs.ByParts.{raised-render}
-use Rattle.folder_style_laws.proofs.NameLaws.{row-raised, kind-raised, formed-raised}
+use Rattle.folder_style_laws.proofs.NameLaws.{row-raised, param-raised, kind-raised, formed-raised}
 
 pub line-clean : (x : Line) → Readable x → Clean (render x)
 unfolding Clean
@@ -71,19 +71,40 @@ lines-of row xs = count-raised (ofRow row) (λ x. ap (λ (n : ℕ). eqb n row) (
 group-lines : (xs : List Line) → count saysGroup (map raisedLine xs) ≡ count saysGroup xs
 group-lines xs = count-raised saysGroup (λ x. ap (λ (n : ℕ). eqb n property.kind && isGroup (x .value)) (row-raised x)) xs
 
+-- ---- instances
+
+map-join : (xs ys : List Line) → map raisedLine (xs ++ ys) ≡ map raisedLine xs ++ map raisedLine ys
+map-join [] ys = refl
+map-join (x ∷ xs) ys = ap (λ (zs : List Line). raisedLine x ∷ zs) (map-join xs ys)
+
+same-raised : (x y : Line) → sameInstance (raisedLine x) (raisedLine y) ≡ sameInstance x y
+unfolding sameInstance altidOf
+same-raised x y = rw (row-raised x, row-raised y, param-raised x altidName, param-raised y altidName) refl
+
+any-raised : (x : Line) (ys : List Line) → any (sameInstance (raisedLine x)) (map raisedLine ys) ≡ any (sameInstance x) ys
+unfolding any
+any-raised x [] = refl
+any-raised x (y ∷ ys) =
+    ap (λ (b : Bool). b || any (sameInstance (raisedLine x)) (map raisedLine ys)) (same-raised x y) ∙ ap (λ (b : Bool). sameInstance x y || b) (any-raised x ys)
+
+instances-raised : (row : ℕ) (ys xs : List Line) → instances row (map raisedLine ys) (map raisedLine xs) ≡ instances row ys xs
+unfolding instances
+instances-raised row ys [] = refl
+instances-raised row ys (x ∷ xs) =
+    ap (λ (n : ℕ). counts (eqb n row && not (any (sameInstance (raisedLine x)) (map raisedLine ys))) (instances row (map raisedLine ys ++ (raisedLine x ∷ [])) (map raisedLine xs))) (row-raised x)
+    ∙ ap (λ (b : Bool). counts (ofRow row x && not b) (instances row (map raisedLine ys ++ (raisedLine x ∷ [])) (map raisedLine xs))) (any-raised x ys)
+    ∙ ap (λ (zs : List Line). counts (ofRow row x && not (any (sameInstance x) ys)) (instances row zs (map raisedLine xs))) (sym (map-join ys (x ∷ [])))
+    ∙ ap (counts (ofRow row x && not (any (sameInstance x) ys))) (instances-raised row (ys ++ (x ∷ [])) xs)
+
 body-raised : (xs : List Line) → Body xs → Body (map raisedLine xs)
 body-raised xs b =
     record {
-      inner = record { each = each-inside xs (b .inner .each); once = λ row s. rw (lines-of row xs) (b .inner .once row s) };
+      inner = record { each = each-inside xs (b .inner .each); once = λ row s. rw (instances-raised row [] xs) (b .inner .once row s) };
       named = rw (lines-of property.fn xs) (b .named);
       members = λ h. rw (group-lines xs) (b .members (rw (lines-of property.member xs) at h));
     }
 
 -- ---- cards
-
-map-join : (xs ys : List Line) → map raisedLine (xs ++ ys) ≡ map raisedLine xs ++ map raisedLine ys
-map-join [] ys = refl
-map-join (x ∷ xs) ys = ap (λ (zs : List Line). raisedLine x ∷ zs) (map-join xs ys)
 
 card-raised : {xs : List Line} → CardLines xs → CardLines (map raisedLine xs)
 card-raised (card {b = b} {v = v} {e = e} {xs = xs} f g x h) =

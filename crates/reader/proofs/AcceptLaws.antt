@@ -11,10 +11,7 @@ use Rattle.octets.specs.Pick.{pick}
 use Rattle.octets.proofs.Scans.{scan-le}
 use Rattle.line_folds.specs.Folds.{lineLength}
 use Rattle.line_folds.specs.Logical.{linesBy, rawLines}
-use Rattle.card_state.specs.State.{freshCard}
-use Rattle.card_state.specs.declared.Card.{Card}
-use Rattle.card_state.specs.declared.Step.{Step}
-use Rattle.card_state.specs.declared.Step.the-variants.{Next, Refused as Halted}
+use Rattle.card_state.specs.State.{Card, Step, Next, Refused as Halted, freshCard}
 use Rattle.line_breaks.specs.Lone.{loneStep, firstLone, endsCrLf}
 use Rattle.reader_walk.specs.Walk.{judgeLines}
 use Rattle.reader_walk.proofs.WalkLaws.{counted}

@@ -17,10 +17,8 @@ use Rattle.line_folds.specs.Folds.{lineLength, unfolded}
 use Rattle.line_folds.specs.Logical.{rawLines, logicalLines}
 use Rattle.line_folds.proofs.LineLaws.{lines-end}
 use Rattle.line_parser.specs.Grammar.{Each}
-use Rattle.card_state.specs.State.{freshCard}
+use Rattle.card_state.specs.State.{Card, Next, freshCard}
 use Rattle.card_judge.specs.Judge.{judgeLine}
-use Rattle.card_state.specs.declared.Card.{Card}
-use Rattle.card_state.specs.declared.Step.the-variants.{Next}
 use Rattle.card_judge.proofs.CardLaws.{line-clean}
 use Rattle.reader_walk.specs.Walk.{judgeLines}
 use Rattle.reader.specs.Outcome.{judgeOf, ended, copyOf}

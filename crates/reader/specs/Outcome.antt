@@ -10,9 +10,7 @@ use Rattle.octets.specs.Room.{overlay}
 use Rattle.line_folds.specs.Logical.{rawLines, logicalLines}
 use Rattle.reader_walk.specs.Walk.{judgeLines}
 use Rattle.reader_records.specs.Records.{recordsFrom}
-use Rattle.card_state.specs.State.{beforeBegin, freshCard}
-use Rattle.card_state.specs.declared.Step.{Step}
-use Rattle.card_state.specs.declared.Step.the-variants.{Next, Refused as Halted}
+use Rattle.card_state.specs.State.{Step, Next, Refused as Halted, beforeBegin, freshCard}
 use Rattle.line_breaks.specs.Lone.{firstLone, endsCrLf}
 use Rattle.reader.specs.declared.Verdict.{Verdict}
 use Rattle.reader.specs.declared.Verdict.the-variants.{Accepted, Refused}

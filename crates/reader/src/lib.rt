@@ -1,5 +1,8 @@
 // The reader: judges an input of cards, and writes its copy and its records.
 ghost use mathlib.Core.Path.{_≡_};
+ghost use mathlib.Core.List.{List};
+ghost use Prim.Native.Nat.{ℕ};
+ghost use Rattle.card_state.specs.Kept.{stepOf};
 ghost use Rattle.reader.specs.Outcome.{verdictOf, judgeOf, took, readOutcome};
 use card_state::Step;
 use numbers::limit;
@@ -13,7 +16,7 @@ pub enum Verdict {
 
 // What the last line leaves, at the end of an input of n octets: 9 inside a card.
 fn conclude(n: usize, last: Step) -> Verdict
-    ensures { λ r. ⌜ r ≡ verdictOf n last ⌝ }
+    ensures { λ r. ⌜ ((store : List ℕ) → r ≡ verdictOf n (stepOf store last)) ⌝ }
 {
     match last {
         Step::Next(c) => {

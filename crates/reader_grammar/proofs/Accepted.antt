@@ -10,10 +10,7 @@ use Rattle.line_folds.specs.Folds.{unfolded}
 use Rattle.line_folds.specs.Logical.{linesBy, rawLines, logicalLines}
 use Rattle.line_parser.specs.Grammar.{Line, Each, render}
 use Rattle.line_parameters.proofs.Law.{line-unique}
-use Rattle.card_state.specs.State.{freshCard}
-use Rattle.card_state.specs.declared.Card.{Card}
-use Rattle.card_state.specs.declared.Step.{Step}
-use Rattle.card_state.specs.declared.Step.the-variants.{Next}
+use Rattle.card_state.specs.State.{Card, Step, Next, freshCard}
 use Rattle.line_breaks.specs.Lone.{firstLone}
 use Rattle.reader_walk.specs.Walk.{judgeLines}
 use Rattle.reader.specs.Outcome.{verdictOf, judgeOf, ended}

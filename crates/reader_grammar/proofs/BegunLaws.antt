@@ -1,6 +1,6 @@
 -- The lines of a card that has not ended, one line further; and what each of its lines satisfies. Assumes nothing.
 use mathlib.Core.Path.{_≡_, sym, ap, _∙_}
-use mathlib.Core.Bool.{Bool, true, false}
+use mathlib.Core.Bool.{Bool, true, false, not}
 use mathlib.Core.List.{List, [], _∷_, _++_}
 use mathlib.Core.Logic.{inl, inr}
 use Prim.Native.Nat.{ℕ, _≤_}
@@ -12,9 +12,10 @@ use Rattle.property_table.specs.Rows.{single}
 use Rattle.octets.proofs.Bools.{by}
 use Rattle.card_line.specs.Parts.{rowOfLine, kindOfLine}
 use Rattle.reader_grammar.specs.Values.{Fitting}
-use Rattle.reader_grammar.specs.Cards.{Begins, Versions, Ends, Inside, counts, count, ofRow, linesOf, saysGroup, groupLines, Inner, CardLines, card}
+use Rattle.reader_grammar.specs.Cards.{Begins, Versions, Ends, Inside, counts, count, ofRow, linesOf, saysGroup, groupLines, any, sameInstance, instances, Inner, CardLines, card}
 use Rattle.reader_grammar.specs.Refusals.{Begun, nothing, first, within, InPlace, Framing, Unladen}
-use Rattle.reader_grammar.proofs.Known.{count-append}
+use Rattle.reader_grammar.proofs.Known.{any-some, any-none, Joins}
+use Rattle.reader_grammar.proofs.InstanceLaws.{instances-last, instances-few, past-two-any}
 
 module _ {A : Type 0} (P : A → Type 0) where
   pub each-join : (xs ys : List A) → Each P xs → Each P ys → Each P (xs ++ ys)
@@ -95,10 +96,6 @@ pub past-two : (p : Line → Bool) (b v : Line) (ys : List Line) → p b ≡ fal
 unfolding count
 past-two p b v ys e f = rw (e, f)
 
-counts-none : (t : Bool) (n : ℕ) → counts t n ≡ 0 → n ≡ 0
-counts-none true n e = absurd (omega arith)
-counts-none false n e = e
-
 -- BEGIN and VERSION are no lines of another row
 pub frame-rows : (row : ℕ) (b v : Line) (ys : List Line) → (row ≡ 1 → ⊥) → (row ≡ 34 → ⊥) → Begins b → Versions v
     → linesOf row (b ∷ v ∷ ys) ≡ linesOf row ys
@@ -111,33 +108,50 @@ pub frame-groups : (b v : Line) (ys : List Line) → Begins b → Versions v →
 frame-groups b v ys h k = past-two saysGroup b v ys (rw (h .row)) (rw (k .row))
 
 module _ (x : Line) where
-  inner-next : (b v : Line) (ys : List Line) → Inner ys → Inside x → (single (rowOfLine x) ≡ true → linesOf (rowOfLine x) (b ∷ v ∷ ys) ≡ 0)
-      → Inner (ys ++ (x ∷ []))
-  unfolding count Each
-  inner-next b v ys h g f = record {
+  -- BEGIN and VERSION are of no other row's instances
+  pub frame-any : (b v : Line) (ys : List Line) → Begins b → Versions v → Inside x → any (sameInstance x) (b ∷ v ∷ ys) ≡ any (sameInstance x) ys
+  frame-any b v ys h k i = past-two-any x b v ys (λ e. i .begin (sym e ∙ h .row)) (λ e. i .version (sym e ∙ k .row))
+
+  -- a line that starts no second instance after ys
+  once-next : (b v : Line) (ys : List Line) → Begins b → Versions v → Inner ys → Inside x → Joins (b ∷ v ∷ ys) x
+      → (row : ℕ) → single row ≡ true → instances row [] (ys ++ (x ∷ [])) ≤ 1
+  once-next b v ys begins versions h g f row e =
+      rw (instances-last row ys x)
+      (by (ofRow row x)
+      (λ t.
+      let q = eqb-true (rowOfLine x) row t in
+      by (any (ofRow row) ys)
+      (λ o.
+      let some : 1 ≤ linesOf (rowOfLine x) ys = rw q (any-some (ofRow row) ys o) in
+      let all : linesOf (rowOfLine x) (b ∷ v ∷ ys) ≡ linesOf (rowOfLine x) ys = frame-rows (rowOfLine x) b v ys (g .begin) (g .version) begins versions in
+      let m : any (sameInstance x) ys ≡ true = sym (frame-any b v ys begins versions g) ∙ f (ap single q ∙ e) (omega (arith, all)) in
+      rw (t, m) (omega (arith, h .once row e)))
+      (λ o. rw t (omega (arith, instances-few row [] ys, none-lines row ys o, one-more (not (any (sameInstance x) ys))))))
+      (λ t. rw t (omega (arith, h .once row e))))
+    where
+      one-more : (t : Bool) → counts t 0 ≤ 1
+      one-more true = omega arith
+      one-more false = omega arith
+
+      none-lines : (row : ℕ) (ys : List Line) → any (ofRow row) ys ≡ false → linesOf row ys ≡ 0
+      none-lines row ys o = any-none (ofRow row) ys o
+
+  inner-next : (b v : Line) (ys : List Line) → Begins b → Versions v → Inner ys → Inside x → Joins (b ∷ v ∷ ys) x → Inner (ys ++ (x ∷ []))
+  unfolding Each
+  inner-next b v ys begins versions h g f = record {
     each = each-join Inside ys (x ∷ []) (h .each) (g, tt);
-    once = λ row e. by (eqb (rowOfLine x) row)
-        (λ t.
-        let q = eqb-true (rowOfLine x) row t in
-        let y : count (ofRow row) (b ∷ v ∷ ys) ≡ 0 = rw q at (f (ap single q ∙ e)) in
-        let z : count (ofRow row) ys ≡ 0 = counts-none (ofRow row v) (count (ofRow row) ys) (counts-none (ofRow row b) (count (ofRow row) (v ∷ ys)) y) in
-        let o : count (ofRow row) (x ∷ []) ≡ 1 = rw t in
-        omega (arith, count-append (ofRow row) ys (x ∷ [])))
-        (λ t.
-        let o : count (ofRow row) (x ∷ []) ≡ 0 = rw t in
-        omega (arith, count-append (ofRow row) ys (x ∷ []), h .once row e));
+    once = once-next b v ys begins versions h g f;
   }
 
   -- a line that is no END
-  pub begun-next : {ys : List Line} → Begun ys → Stands ys x → (rowOfLine x ≡ 2 → ⊥) → (single (rowOfLine x) ≡ true → linesOf (rowOfLine x) ys ≡ 0)
-      → Begun (ys ++ (x ∷ []))
-  unfolding InPlace Each count
+  pub begun-next : {ys : List Line} → Begun ys → Stands ys x → (rowOfLine x ≡ 2 → ⊥) → Joins ys x → Begun (ys ++ (x ∷ []))
+  unfolding InPlace Each instances
   begun-next nothing s e f = first (record { row = s .place; bare = s .unladen (inl (s .place)); value = s .fits .begin (s .place) })
   begun-next (first h) s e f =
       within {ys = []} h (record { row = s .place; bare = s .unladen (inr (inl (s .place))); value = s .fits .version (s .place) })
       (record { each = tt; once = λ row o. omega arith })
   begun-next (within {b = b} {v = v} {ys = ys} h g i) s e f =
-      within h g (inner-next b v ys i (record {
+      within h g (inner-next b v ys h g i (record {
         begin = s .place .0;
         version = s .place .1;
         end = e;

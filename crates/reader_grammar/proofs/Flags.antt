@@ -1,10 +1,11 @@
 -- The flags of the properties marked *1: each row has its own, and a flag is set exactly after a line of its row. Assumes nothing.
-use mathlib.Core.Path.{_≡_, refl, ap, _∙_}
+use mathlib.Core.Path.{_≡_, refl, sym, ap, _∙_}
 use mathlib.Core.Bool.{Bool, true, false, not, _&&_, _||_}
 use Prim.Native.Nat.{ℕ, zero, suc, _-_, _<_, _/_, _%_, _^_}
 use native.Mathlib.Omega.{arith}
-use lib.Dec.{eqb}
+use lib.Dec.{eqb, ltb}
 use lib.Bits.{bitOr, or-shr, or-mod, or-zero-l}
+use borrow.Author.Tests.{ltb-true, eqb-true, eq-eqb}
 use Rattle.octets.specs.Pick.{pick}
 use Rattle.property_table.specs.Rows.{rows, rowAt, single, marks, onceAt}
 use Rattle.octets.specs.Ascii.{octets}
@@ -56,3 +57,19 @@ module _ (s r q : ℕ) (h : r < 39) (g : q < 39) where
   pub seen-after : isSeen (onceFlag r) (bitOr s (onceFlag q)) ≡ (isSeen (onceFlag r) s || (single r && eqb q r))
   unfolding isSeen
   seen-after = rw (marked r h) (seen-by (single r) refl)
+
+-- a row marked *1 has a number of its own among them
+pub once-some : (row : ℕ) → row < 39 → single row ≡ true → 0 < onceAt row
+unfolding upto single marks rowAt rows octets onceAt
+once-some row h e = ltb-true 0 (onceAt row) (alike (λ j. ltb 0 (onceAt j)) single 39 refl row h ∙ e)
+
+number-own : (r q : ℕ) → r < 39 → q < 39 → (single r && eqb (onceAt r) (onceAt q)) ≡ (single r && eqb r q)
+unfolding upto single marks rowAt rows octets onceAt
+number-own r q h g =
+    alike (λ i. single r && eqb (onceAt r) (onceAt i)) (λ i. single r && eqb r i) 39
+    (alike (λ j. upto (λ i. single j && eqb (onceAt j) (onceAt i)) 0 39) (λ j. upto (λ i. single j && eqb j i) 0 39) 39 refl r h) q g
+
+pub once-own : (r q : ℕ) → r < 39 → q < 39 → single r ≡ true → onceAt r ≡ onceAt q → r ≡ q
+once-own r q h g e f =
+    let t : eqb (onceAt r) (onceAt q) ≡ eqb r q = rw e at (number-own r q h g) in
+    eqb-true r q (sym t ∙ eq-eqb (onceAt r) (onceAt q) f)

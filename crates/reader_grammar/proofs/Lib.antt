@@ -2,6 +2,7 @@
 pub mod ValueLaws
 pub mod Flags
 pub mod Known
+pub mod InstanceLaws
 pub mod LineLaws
 pub mod BegunLaws
 pub mod Runs

@@ -20,16 +20,13 @@ use Rattle.value_kinds.specs.Kinds.{valueScan}
 use Rattle.value_kinds.specs.declared.Fault.{Fault}
 use Rattle.value_kinds.specs.declared.Fault.the-variants.{Fits, Breaks}
 use Rattle.octets.proofs.Bools.{by}
-use Rattle.card_state.specs.State.{inOrder, noted, closed}
-use Rattle.card_line.specs.Parts.{rowOfLine, kindOfLine}
+use Rattle.card_state.specs.State.{Card, Step, Next, Refused, inOrder, noted, closed}
+use Rattle.card_line.specs.Parts.{rowOfLine, kindOfLine, altidOf}
 use Rattle.card_judge.specs.Judge.{laden, entered, fitting, judgeParts, judgeParsed, judgeLine}
-use Rattle.card_state.specs.declared.Card.{Card}
-use Rattle.card_state.specs.declared.Step.{Step}
-use Rattle.card_state.specs.declared.Step.the-variants.{Next, Refused}
-use Rattle.reader_grammar.specs.Cards.{Clean, Bare, ofRow, linesOf, saysGroup, groupLines}
+use Rattle.reader_grammar.specs.Cards.{Clean, Bare, ofRow, linesOf, saysGroup, groupLines, any, sameInstance}
 use Rattle.reader_grammar.specs.Refusals.{Reads, InPlace, Framing, Unladen, Sound, LineRefused, octet, rule, order, laden as heavy, value, second, nameless, no-group}
 use Rattle.reader_grammar.proofs.ValueLaws.{value-fits, clean-law}
-use Rattle.reader_grammar.proofs.Known.{any, any-some, any-none, Known, order-law, lineCard, endCard, note-next, note-second, close-next, close-nameless, close-groupless}
+use Rattle.reader_grammar.proofs.Known.{any-some, any-none, apart-law, Known, Joins, order-law, lineCard, endCard, note-next, note-second, close-next, close-nameless, close-groupless}
 
 -- BEGIN, VERSION and END
 framing-to : (row : ℕ) → Framing row → framing row ≡ true
@@ -78,14 +75,14 @@ end-often = refl
 -- what a judged line leads to, after the card's lines ys: a refusal at its place, another state of the card, or the card's end
 pub data Judged (c : Card) (ys : List Line) (at : ℕ) (l : List ℕ) : Step → Type 0 where
   refused : {n : ℕ} → LineRefused ys l n → Judged c ys at l (Refused n at)
-  goes-on : (x : Line) → Sound ys l x → (rowOfLine x ≡ 2 → ⊥) → (single (rowOfLine x) ≡ true → linesOf (rowOfLine x) ys ≡ 0)
+  goes-on : (x : Line) → Sound ys l x → (rowOfLine x ≡ 2 → ⊥) → Joins ys x
       → Judged c ys at l (Next (lineCard c x))
   ends : (x : Line) → Sound ys l x → rowOfLine x ≡ 2 → 1 ≤ linesOf 6 ys → (1 ≤ linesOf 24 ys → 1 ≤ groupLines ys)
       → Judged c ys at l (Next (endCard c))
 
 module _ (c : Card) (ys : List Line) (k : Known c ys) (at : ℕ) (l : List ℕ) where
   abbrev judgedParts : Line → Step
-  judgedParts x = judgeParts c at (rowOfLine x) (length (x .group)) (length (x .params)) (kindOfLine x) (x .value)
+  judgedParts x = judgeParts c at (rowOfLine x) (length (x .group)) (length (x .params)) (kindOfLine x) (altidOf x) (x .value)
 
   after-clean : Clean l → judgeLine c at l ≡ judgeParsed c at (parseLine l)
   unfolding judgeLine
@@ -99,24 +96,24 @@ module _ (c : Card) (ys : List Line) (k : Known c ys) (at : ℕ) (l : List ℕ) 
   after-order : (x : Line) → Reads l x → InPlace ys x
       → judgeLine c at l
       ≡ pick (laden (rowOfLine x) (length (x .group)) (length (x .params))) (Refused 8 at)
-      (fitting at (valueScan (rowOfLine x) (kindOfLine x) (x .value)) (entered c at (rowOfLine x) (x .value)))
+      (fitting at (valueScan (rowOfLine x) (kindOfLine x) (x .value)) (entered c at (rowOfLine x) (altidOf x) (x .value)))
   unfolding judgeParts
   after-order x r h = after-reads x r ∙ rw (order-law c ys x k .1 h)
 
   after-laden : (x : Line) → Reads l x → InPlace ys x → Unladen x
-      → judgeLine c at l ≡ fitting at (valueScan (rowOfLine x) (kindOfLine x) (x .value)) (entered c at (rowOfLine x) (x .value))
+      → judgeLine c at l ≡ fitting at (valueScan (rowOfLine x) (kindOfLine x) (x .value)) (entered c at (rowOfLine x) (altidOf x) (x .value))
   after-laden x r h u = after-order x r h ∙ rw (unladen-from x u)
 
-  after-value : (x : Line) → Sound ys l x → judgeLine c at l ≡ entered c at (rowOfLine x) (x .value)
+  after-value : (x : Line) → Sound ys l x → judgeLine c at l ≡ entered c at (rowOfLine x) (altidOf x) (x .value)
   after-value x s =
       after-laden x (s .reads) (s .place) (s .unladen)
-      ∙ ap (λ (f : Fault). fitting at f (entered c at (rowOfLine x) (x .value))) (value-fits (rowOfLine x) (kindOfLine x) (x .value) .1 (s .fits))
+      ∙ ap (λ (f : Fault). fitting at f (entered c at (rowOfLine x) (altidOf x) (x .value))) (value-fits (rowOfLine x) (kindOfLine x) (x .value) .1 (s .fits))
 
   at-end : (x : Line) → Sound ys l x → rowOfLine x ≡ 2 → judgeLine c at l ≡ closed c at
   unfolding entered
   at-end x s e = after-value x s ∙ rw (eq-eqb (rowOfLine x) 2 e)
 
-  at-line : (x : Line) → Sound ys l x → (rowOfLine x ≡ 2 → ⊥) → judgeLine c at l ≡ noted c at (rowOfLine x) (isGroup (x .value))
+  at-line : (x : Line) → Sound ys l x → (rowOfLine x ≡ 2 → ⊥) → judgeLine c at l ≡ noted c at (rowOfLine x) (altidOf x) (isGroup (x .value))
   unfolding entered
   at-line x s e = after-value x s ∙ rw (ne-eqb (rowOfLine x) 2 e)
 
@@ -142,8 +139,8 @@ module _ (c : Card) (ys : List Line) (k : Known c ys) (at : ℕ) (l : List ℕ) 
   refusal (value x r h u f) =
       after-laden x r h u
       ∙ broken (valueScan (rowOfLine x) (kindOfLine x) (x .value)) _ (λ e. f (value-fits (rowOfLine x) (kindOfLine x) (x .value) .0 e))
-  refusal (second x s e h) =
-      at-line x s (λ r. false≢true (sym end-often ∙ sym (ap single r) ∙ e)) ∙ note-second c ys k at x e h
+  refusal (second x s e h f) =
+      at-line x s (λ r. false≢true (sym end-often ∙ sym (ap single r) ∙ e)) ∙ note-second c ys k at x e h (apart-law x ys .1 f)
   refusal (nameless x s e h) = at-end x s e ∙ close-nameless c ys k at x h
   refusal (no-group x s e h g f) = at-end x s e ∙ close-groupless c ys k at x h g f
 
@@ -170,9 +167,11 @@ module _ (c : Card) (ys : List Line) (k : Known c ys) (at : ℕ) (l : List ℕ) 
   line-decided x s e =
       by (single (rowOfLine x))
       (λ t. by (any (ofRow (rowOfLine x)) ys)
-      (λ u. (Refused 10 at, refused (second x s t (any-some (ofRow (rowOfLine x)) ys u))))
-      (λ u. (Next (lineCard c x), goes-on x s e (λ h. any-none (ofRow (rowOfLine x)) ys u))))
-      (λ t. (Next (lineCard c x), goes-on x s e (λ h. absurd (false≢true (sym t ∙ h)))))
+      (λ u. by (any (sameInstance x) ys)
+      (λ v. (Next (lineCard c x), goes-on x s e (λ h m. v)))
+      (λ v. (Refused 10 at, refused (second x s t (any-some (ofRow (rowOfLine x)) ys u) (apart-law x ys .0 v)))))
+      (λ u. (Next (lineCard c x), goes-on x s e (λ h m. absurd (omega (arith, m, any-none (ofRow (rowOfLine x)) ys u))))))
+      (λ t. (Next (lineCard c x), goes-on x s e (λ h m. absurd (false≢true (sym t ∙ h)))))
 
   value-decided : (x : Line) → Reads l x → InPlace ys x → Unladen x → (f : Fault) → valueScan (rowOfLine x) (kindOfLine x) (x .value) ≡ f → Decided
   value-decided x r h u Fits e =

@@ -20,7 +20,7 @@ line-number (rule h f) = inr (inr (first-number f))
 line-number (order x h k) = middle (omega arith) (omega arith)
 line-number (laden x h k m) = middle (omega arith) (omega arith)
 line-number (value x h k m g) = middle (omega arith) (omega arith)
-line-number (second x h k m) = middle (omega arith) (omega arith)
+line-number (second x h k m f) = middle (omega arith) (omega arith)
 line-number (nameless x h k m) = middle (omega arith) (omega arith)
 line-number (no-group x h k m g f) = middle (omega arith) (omega arith)
 

@@ -15,11 +15,8 @@ use Rattle.line_folds.specs.Folds.{unfolded}
 use Rattle.line_folds.specs.Logical.{rawLines}
 use Rattle.line_parser.specs.Grammar.{Line}
 use Rattle.octets.proofs.Bools.{by}
-use Rattle.card_state.specs.State.{freshCard}
+use Rattle.card_state.specs.State.{Card, Step, Next, Refused as Halted, freshCard}
 use Rattle.card_judge.specs.Judge.{judgeLine}
-use Rattle.card_state.specs.declared.Card.{Card}
-use Rattle.card_state.specs.declared.Step.{Step}
-use Rattle.card_state.specs.declared.Step.the-variants.{Next, Refused as Halted}
 use Rattle.line_breaks.specs.Lone.{loneStep, firstLone, endsCrLf}
 use Rattle.reader_walk.specs.Walk.{onward, judgeLines}
 use Rattle.reader.specs.Outcome.{verdictOf, judgeOf, ended}

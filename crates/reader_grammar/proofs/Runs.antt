@@ -1,6 +1,6 @@
 -- Cards and the lines of a card that has not ended are judged through, and the state then says what they are. Assumes nothing.
 use mathlib.Core.Path.{_≡_, refl, sym, ap, subst, _∙_}
-use mathlib.Core.Bool.{true}
+use mathlib.Core.Bool.{true, false}
 use mathlib.Core.List.{List, [], _∷_, _++_, map, append-nil}
 use Prim.Native.Nat.{ℕ, suc, _+_, _≤_}
 use native.Mathlib.Omega.{arith}
@@ -9,18 +9,17 @@ use lib.Seq.{append-snoc}
 use borrow.Author.Tests.{eq-eqb}
 use Rattle.line_folds.specs.Folds.{unfolded}
 use Rattle.line_parser.specs.Grammar.{Line, Each, render}
-use Rattle.property_table.specs.Rows.{single}
+use Rattle.octets.proofs.Bools.{by}
 use Rattle.card_line.specs.Parts.{rowOfLine}
 use Rattle.card_judge.specs.Judge.{judgeLine}
-use Rattle.card_state.specs.declared.Card.{Card}
-use Rattle.card_state.specs.declared.Step.{Step}
-use Rattle.card_state.specs.declared.Step.the-variants.{Next}
+use Rattle.card_state.specs.State.{Card, Step, Next, lineCard as nextCard}
 use Rattle.reader_walk.specs.Walk.{onward, judgeLines}
-use Rattle.reader_grammar.specs.Cards.{Readable, Begins, Versions, Inside, count, ofRow, linesOf, groupLines, Once, Inner, CardLines, card, Cards, none, more}
+use Rattle.reader_grammar.specs.Cards.{Readable, Begins, Versions, Inside, count, linesOf, groupLines, any, sameInstance, instances, Once, Inner, CardLines, card, Cards, none, more}
 use Rattle.reader_grammar.specs.Refusals.{Begun, nothing, first, within, Sound}
-use Rattle.reader_grammar.proofs.Known.{Known, count-append, line-known, end-known}
+use Rattle.reader_grammar.proofs.Known.{Known, Joins, line-known, end-known}
+use Rattle.reader_grammar.proofs.InstanceLaws.{instances-append, some-instance}
 use Rattle.reader_grammar.proofs.LineLaws.{goes-on, ends, outcome}
-use Rattle.reader_grammar.proofs.BegunLaws.{each-split, Stands, begin-stands, version-stands, end-stands, inside-stands, frame-rows, frame-groups}
+use Rattle.reader_grammar.proofs.BegunLaws.{each-split, frame-any, Stands, begin-stands, version-stands, end-stands, inside-stands, frame-rows, frame-groups}
 
 -- each of the lines xs, written out, leads from a state to the next
 pub data Steps : Card → List Line → Card → Type 0 where
@@ -69,11 +68,12 @@ module _ (c : Card) (ys : List Line) (h : Known c ys) (x : Line) (r : Readable x
   sound : Sound ys (render x) x
   sound = record { reads = record { text = refl; readable = r }; place = s .place; unladen = s .unladen; fits = s .fits }
 
-  led-line : (rowOfLine x ≡ 2 → ⊥) → (single (rowOfLine x) ≡ true → linesOf (rowOfLine x) ys ≡ 0) → Led c (x ∷ []) (ys ++ (x ∷ [])) 0
+  led-line : (rowOfLine x ≡ 2 → ⊥) → Joins ys x → Led c (x ∷ []) (ys ++ (x ∷ [])) 0
+  unfolding nextCard
   led-line e f = record {
     card = _;
     steps = step (λ at. outcome c ys h at (render x) (goes-on x sound e f)) stop;
-    known = line-known c ys x h (s .place);
+    known = line-known c ys x h f (s .place);
     cards = omega arith;
     lines = refl;
   }
@@ -88,17 +88,20 @@ module _ (c : Card) (ys : List Line) (h : Known c ys) (x : Line) (r : Readable x
   }
 
 module _ (b v : Line) (begins : Begins b) (versions : Versions v) where
-  -- a line of a property marked *1 is the first of it
-  first-of : (done rest : List Line) (x : Line) → Inside x → Once (done ++ (x ∷ rest))
-      → single (rowOfLine x) ≡ true → linesOf (rowOfLine x) (b ∷ v ∷ done) ≡ 0
-  unfolding count
-  first-of done rest x i once e =
+  -- a line of a property marked *1 is of the instance of those before it
+  first-of : (done rest : List Line) (x : Line) → Inside x → Once (done ++ (x ∷ rest)) → Joins (b ∷ v ∷ done) x
+  unfolding instances any
+  first-of done rest x i once e h =
       let row = rowOfLine x in
-      let o : linesOf row (x ∷ rest) ≡ suc (linesOf row rest) = rw (eq-eqb row row refl) in
       let f = frame-rows row b v done (i .begin) (i .version) begins versions in
-      let g = count-append (ofRow row) done (x ∷ rest) in
+      let some = some-instance row [] done refl (omega (arith, h)) in
+      let all = instances-append row [] done (x ∷ rest) in
       let m = once row e in
-      omega arith
+      frame-any x b v done begins versions i
+      ∙ by (any (sameInstance x) done) (λ t. t)
+      (λ t.
+      let more : instances row done (x ∷ rest) ≡ suc (instances row (done ++ (x ∷ [])) rest) = rw (eq-eqb row row refl, t) in
+      absurd (omega arith))
 
   inner-run : (rest done : List Line) → Each Readable rest → Each Inside rest → Once (done ++ rest)
       → (c : Card) → Known c (b ∷ v ∷ done) → Led c rest (b ∷ v ∷ (done ++ rest)) 0
@@ -112,14 +115,19 @@ module _ (b v : Line) (begins : Begins b) (versions : Versions v) where
 
 begin-run : (b : Line) → Begins b → Readable b → (c : Card) → Known c [] → Led c (b ∷ []) (b ∷ []) 0
 unfolding count
-begin-run b h r c k = led-line c [] k b r (begin-stands b h) (λ e. omega (arith, h .row)) (λ e. refl)
+begin-run b h r c k = led-line c [] k b r (begin-stands b h) (λ e. omega (arith, h .row)) (λ e n. absurd (omega arith))
+
+-- BEGIN is no line of VERSION's row
+no-line : (b v : Line) → Begins b → Versions v → 1 ≤ linesOf (rowOfLine v) (b ∷ []) → ⊥
+unfolding count
+no-line b v h g n = let z : linesOf (rowOfLine v) (b ∷ []) ≡ 0 = rw (g .row, h .row) in omega arith
 
 within-run : (b v : Line) (ys : List Line) → Begins b → Versions v → Inner ys → Each Readable (b ∷ v ∷ ys) → (c : Card) → Known c []
     → Led c (b ∷ v ∷ ys) (b ∷ v ∷ ys) 0
 unfolding Each count
 within-run b v ys h g i r c k =
     let one = begin-run b h (r .0) c k in
-    let two = led-line (one .card) (b ∷ []) (one .known) v (r .1 .0) (version-stands b v g) (λ e. omega (arith, g .row)) (λ e. rw (g .row, h .row)) in
+    let two = led-line (one .card) (b ∷ []) (one .known) v (r .1 .0) (version-stands b v g) (λ e. omega (arith, g .row)) (λ e n. absurd (no-line b v h g n)) in
     let others = inner-run b v h g ys [] (r .1 .1) (i .each) (i .once) (two .card) (two .known) in
     led-join c (b ∷ []) (b ∷ []) (v ∷ ys) (b ∷ v ∷ ys) 0 0 one (led-join (one .card) (v ∷ []) (b ∷ v ∷ []) ys (b ∷ v ∷ ys) 0 0 two others)
 

@@ -8,15 +8,12 @@ use lib.ListN.{length, length-append}
 use lib.Seq.{append-snoc}
 use Rattle.line_folds.specs.Folds.{unfolded}
 use Rattle.line_parser.specs.Grammar.{Line, Each, render}
-use Rattle.card_state.specs.State.{freshCard}
-use Rattle.card_state.specs.declared.Card.{Card}
-use Rattle.card_state.specs.declared.Step.{Step}
-use Rattle.card_state.specs.declared.Step.the-variants.{Next, Refused}
+use Rattle.card_state.specs.State.{Card, Step, Next, Refused, freshCard, lineCard as nextCard}
 use Rattle.reader_walk.specs.Walk.{onward, judgeLines}
 use Rattle.reader.specs.Outcome.{ended}
 use Rattle.reader_grammar.specs.Cards.{Readable, CardLines, Cards, none, more}
 use Rattle.reader_grammar.specs.Refusals.{Begun, nothing, SoFar, Sound, LineRefused}
-use Rattle.reader_grammar.proofs.Known.{Known, fresh-known, lineCard, line-known, endCard, end-known}
+use Rattle.reader_grammar.proofs.Known.{Known, Joins, fresh-known, lineCard, line-known, endCard, end-known}
 use Rattle.reader_grammar.proofs.LineLaws.{Judged, refused, goes-on, ends, outcome, decided}
 use Rattle.reader_grammar.proofs.BegunLaws.{each-join, Stands, begun-next, begun-end}
 
@@ -68,15 +65,16 @@ module _ (ds : List (List ℕ)) (c : Card) (r : Reached ds c) (l : List ℕ) (x 
   counted : c .lines + 1 ≡ length (all ++ (x ∷ []))
   counted = omega (arith, r .count, length-append all (x ∷ []))
 
-  line-reached : Begun (r .ys ++ (x ∷ [])) → Reached (ds ++ (l ∷ [])) (lineCard c x)
-  line-reached b =
+  line-reached : Joins (r .ys) x → Begun (r .ys ++ (x ∷ [])) → Reached (ds ++ (l ∷ [])) (lineCard c x)
+  unfolding nextCard
+  line-reached j b =
       let q = append-assoc (r .zs) (r .ys) (x ∷ []) in
       record {
         k = r .k;
         zs = r .zs;
         ys = r .ys ++ (x ∷ []);
         lines = record { written = rw q at written; readable = rw q at readable; cards = r .lines .cards; begun = b };
-        known = line-known c (r .ys) x (r .known) (s .place);
+        known = line-known c (r .ys) x (r .known) j (s .place);
         cards = r .cards;
         count = rw q at counted;
       }
@@ -105,7 +103,7 @@ turn : (ds : List (List ℕ)) (l : List ℕ) (es : List (List ℕ)) (c : Card) (
     → Judged c (r .ys) (length (ended ds)) (unfolded l) s
     → ((d : Card) → Reached (ds ++ (l ∷ [])) d → Walked (ds ++ (l ∷ es)) (f d)) → Walked (ds ++ (l ∷ es)) (onward s f)
 turn ds l es c r f (refused h) ih = stopped ds l es refl r h
-turn ds l es c r f (goes-on x s e h) ih = ih (lineCard c x) (line-reached ds c r l x s (begun-next x (r .lines .begun) (stands s) e h))
+turn ds l es c r f (goes-on x s e h) ih = ih (lineCard c x) (line-reached ds c r l x s h (begun-next x (r .lines .begun) (stands s) e h))
 turn ds l es c r f (ends x s e h g) ih = ih (endCard c) (end-reached ds c r l x s (begun-end x (r .lines .begun) (stands s) e h g))
 
 -- where the line after ds and l starts

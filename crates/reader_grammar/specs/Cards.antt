@@ -1,8 +1,9 @@
 -- What a card is, and any number of cards, as REFERENCE, The order of lines draws them. Assumes nothing.
 use Prim.Native.Nat.{ℕ, zero, suc, _≤_}
 use mathlib.Core.Path.{_≡_}
-use mathlib.Core.Bool.{Bool, true, false, _&&_}
+use mathlib.Core.Bool.{Bool, true, false, not, _&&_, _||_}
 use mathlib.Core.List.{List, [], _∷_, _++_}
+use mathlib.Core.Option.{some}
 use lib.Dec.{eqb}
 use Rattle.numbers.specs.Properties as property
 use Rattle.utf8.specs.Characters.{allowed}
@@ -10,7 +11,8 @@ use Rattle.utf8.specs.Rfc3629.{Characters}
 use Rattle.utf8_laws.specs.Texts.{Each as EachOctet}
 use Rattle.line_parser.specs.Grammar.{Line, Each, WellFormed, render}
 use Rattle.property_table.specs.Rows.{single, isGroup}
-use Rattle.card_line.specs.Parts.{rowOfLine, kindOfLine}
+use Rattle.card_state.specs.State.{sameTag}
+use Rattle.card_line.specs.Parts.{rowOfLine, kindOfLine, altidOf}
 use Rattle.reader_grammar.specs.Values.{OfKind, Vcard, Four}
 
 -- no octet 00-08, 0A-1F or 7F, and RFC 3629 UTF-8
@@ -73,9 +75,27 @@ saysGroup x = eqb (rowOfLine x) property.kind && isGroup (x .value)
 abbrev pub groupLines : List Line → ℕ
 groupLines xs = count saysGroup xs
 
--- each property marked *1 at most once
+-- one of the lines passes the test
+unfoldable pub any : (Line → Bool) → List Line → Bool
+any p [] = false
+any p (x ∷ xs) = p x || any p xs
+
+-- RFC 6350, 5.4: two lines of one property with the same ALTID value are one instance; a line with no ALTID is of no instance but its own
+pub data OneInstance (x y : Line) : Type 0 where
+  alike : {v : List ℕ} → rowOfLine x ≡ rowOfLine y → altidOf x ≡ some v → altidOf y ≡ some v → OneInstance x y
+
+-- the same as a test
+unfoldable pub sameInstance : Line → Line → Bool
+sameInstance x y = eqb (rowOfLine y) (rowOfLine x) && sameTag (altidOf y) (altidOf x)
+
+-- how many of the lines xs of the row start an instance; ys are the lines before them
+unfoldable pub instances : ℕ → List Line → List Line → ℕ
+instances row ys [] = 0
+instances row ys (x ∷ xs) = counts (ofRow row x && not (any (sameInstance x) ys)) (instances row (ys ++ (x ∷ [])) xs)
+
+-- each property marked *1 at most once: all its lines are one instance
 abbrev pub Once : List Line → Type 0
-Once xs = (row : ℕ) → single row ≡ true → linesOf row xs ≤ 1
+Once xs = (row : ℕ) → single row ≡ true → instances row [] xs ≤ 1
 
 -- lines after VERSION, before END
 pub record Inner (xs : List Line) : Type 0 where

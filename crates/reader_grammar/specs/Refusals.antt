@@ -16,7 +16,7 @@ use Rattle.reader_laws.specs.Lone.{Lone}
 use Rattle.reader_grammar.specs.Values.{Fitting}
 use Rattle.line_laws.specs.Lined.{Lined, EndsCrLf}
 use Rattle.line_laws.specs.FirstFault.{FirstFault}
-use Rattle.reader_grammar.specs.Cards.{Clean, Readable, Bare, Begins, Versions, Inner, Cards, linesOf, groupLines}
+use Rattle.reader_grammar.specs.Cards.{Clean, Readable, Bare, Begins, Versions, Inner, OneInstance, Cards, linesOf, groupLines}
 
 -- no "CR without LF after it, or LF without CR before it"
 abbrev pub Paired : List ℕ → Type 0
@@ -75,7 +75,7 @@ pub data LineRefused (ys : List Line) (l : List ℕ) : ℕ → Type 0 where
   order : (x : Line) → Reads l x → (InPlace ys x → ⊥) → LineRefused ys l refusal.order
   laden : (x : Line) → Reads l x → InPlace ys x → (Unladen x → ⊥) → LineRefused ys l refusal.laden
   value : (x : Line) → Reads l x → InPlace ys x → Unladen x → (Fitting (rowOfLine x) (kindOfLine x) (x .value) → ⊥) → LineRefused ys l refusal.value
-  second : (x : Line) → Sound ys l x → single (rowOfLine x) ≡ true → 1 ≤ linesOf (rowOfLine x) ys → LineRefused ys l refusal.second
+  second : (x : Line) → Sound ys l x → single (rowOfLine x) ≡ true → 1 ≤ linesOf (rowOfLine x) ys → Each (λ y. OneInstance y x → ⊥) ys → LineRefused ys l refusal.second
   nameless : (x : Line) → Sound ys l x → rowOfLine x ≡ property.end → linesOf property.fn ys ≡ 0 → LineRefused ys l refusal.noFn
   no-group : (x : Line) → Sound ys l x → rowOfLine x ≡ property.end → 1 ≤ linesOf property.fn ys → 1 ≤ linesOf property.member ys → groupLines ys ≡ 0 → LineRefused ys l refusal.member
 

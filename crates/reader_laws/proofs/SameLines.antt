@@ -9,11 +9,8 @@ use lib.ListN.{length}
 use borrow.Author.Tests.{ne-eqb, eq-eqb, le-ltb}
 use Rattle.line_folds.specs.Folds.{unfolded}
 use Rattle.line_folds.specs.Logical.{rawLines, logicalLines}
-use Rattle.card_state.specs.State.{freshCard}
+use Rattle.card_state.specs.State.{Card, Step, Next, freshCard}
 use Rattle.card_judge.specs.Judge.{judgeLine}
-use Rattle.card_state.specs.declared.Card.{Card}
-use Rattle.card_state.specs.declared.Step.{Step}
-use Rattle.card_state.specs.declared.Step.the-variants.{Next}
 use Rattle.line_breaks.specs.Lone.{firstLone, endsCrLf}
 use Rattle.reader_walk.specs.Walk.{onward, judgeLines}
 use Rattle.reader.specs.Outcome.{verdictOf, judgeOf, copyOf, recordsOf}

@@ -9,9 +9,10 @@ use Rattle.line_folds.specs.Logical.{rawLines}
 use Rattle.line_folds.proofs.SpanLaws.{lines-turn, part-length}
 use Rattle.card_judge.specs.Judge.{judgeLine}
 use Rattle.card_judge.proofs.CardLaws.{one-more}
-use Rattle.card_state.specs.declared.Card.{Card}
-use Rattle.card_state.specs.declared.Step.{Step}
-use Rattle.card_state.specs.declared.Step.the-variants.{Next, Refused}
+use Rattle.card_state.specs.State.{Card, Step, Next, Refused}
+use Rattle.card_state.specs.Kept.{stepOf}
+use Rattle.card_state.specs.declared.Step.{Step as KeptStep}
+use Rattle.card_state.specs.declared.Step.the-variants.{Refused as refused}
 use Rattle.reader_walk.specs.Walk.{onward, judgeLines}
 
 -- the line from `at` to e is the first of those that are left; it was judged r
@@ -26,8 +27,9 @@ module _ (s : List ℕ) (at e : ℕ) (lt : at < length s) (he : e ≡ at + lineL
       ∙ ap (λ (q : Step). onward q (judgeLines (rawLines (drop (e + 2) s)) (e + 2))) (sym hr)
 
 -- a refusal is handed up unchanged
-pub handed : {r : Step} {n p : ℕ} (f : Card → Step) → r ≡ Refused n p → onward r f ≡ r
-handed {r} {n} {p} f e = ap (λ (q : Step). onward q f) e ∙ sym e
+pub stopped-step : (store : List ℕ) (r : KeptStep) (n p : ℕ) (f : Card → Step) → r ≡ refused n p → onward (stepOf store r) f ≡ stepOf store r
+unfolding stepOf
+stopped-step store r n p f e = rw e
 
 -- where the lines after it are accepted too, a line was judged and led to a card
 pub onward-next : {A : Type 0} (r : Step) (f : Card → Step) (c′ : Card) → onward r f ≡ Next c′

@@ -1,12 +1,14 @@
 -- The judgement of logical lines one after the other, up to the first refusal. Assumes nothing.
-use Prim.Native.Nat.{ℕ, _+_}
-use mathlib.Core.List.{List, [], _∷_}
-use lib.ListN.{length}
+use Prim.Native.Nat.{ℕ, _+_, _≤_}
+use mathlib.Core.List.{List, [], _∷_, _++_}
+use lib.ListN.{length, take, drop}
+use Rattle.numbers.specs.Limits as limit
+use Rattle.octets.specs.Room.{overlay}
 use Rattle.line_folds.specs.Folds.{unfolded}
 use Rattle.card_judge.specs.Judge.{judgeLine}
-use Rattle.card_state.specs.declared.Card.{Card}
-use Rattle.card_state.specs.declared.Step.{Step}
-use Rattle.card_state.specs.declared.Step.the-variants.{Next, Refused as Halted}
+use Rattle.card_state.specs.Kept.{Lies}
+use Rattle.card_state.specs.declared.Card.{Card as Kept}
+use Rattle.card_state.specs.State.{Card, Step, Next, Refused as Halted}
 
 -- a refusal is handed up unchanged
 abbrev pub onward : Step → (Card → Step) → Step
@@ -17,3 +19,13 @@ onward (Halted n p) f = Halted n p
 unfoldable pub judgeLines : List (List ℕ) → ℕ → Card → Step
 judgeLines [] p c = Next c
 judgeLines (l ∷ ls) p c = onward (judgeLine c p (unfolded l)) (judgeLines ls (p + length l + 2))
+
+-- a list d with xs in the place of as many octets from a place on
+unfoldable pub behind : ℕ → List ℕ → List ℕ → List ℕ
+behind used xs d = take used d ++ overlay xs (drop used d)
+
+-- the scratch has the values that the state keeps, and room for the line behind them
+pub record Roomy (c : Kept) (l scratch : List ℕ) : Type 0 where
+  pub lies : Lies c
+  pub room : c .used + length l ≤ length scratch
+  pub short : length scratch ≤ limit.octets

@@ -1,16 +1,20 @@
 // The walk over the logical lines of an input, each judged in turn.
 ghost use mathlib.Core.Path.{_≡_};
 ghost use mathlib.Core.Bool.{false};
-ghost use Prim.Native.Nat.{_≤_};
-ghost use lib.ListN.{length};
+ghost use mathlib.Core.List.{List, []};
+ghost use Prim.Native.Nat.{ℕ, _+_, _≤_};
+ghost use lib.ListN.{length, take, drop};
 ghost use Rattle.numbers.specs.Limits as limit;
-ghost use Rattle.octets.specs.Pick.{pick};
-ghost use Rattle.octets.specs.Room.{overlay};
 ghost use Rattle.line_folds.specs.Folds.{unfolded};
 ghost use Rattle.line_folds.specs.Logical.{rawLines};
 ghost use Rattle.card_state.specs.State.{Counted, freshCard};
-ghost use Rattle.card_judge.specs.Judge.{Tables, judgeLine};
-ghost use Rattle.reader_walk.specs.Walk.{judgeLines};
+ghost use Rattle.card_state.specs.Kept.{cardOf, stepOf, Holds};
+ghost use Rattle.card_judge.specs.Judge.{Tables, judgeLine, readBy, Keeping};
+ghost use Rattle.reader_walk.specs.Walk.{judgeLines, Roomy};
+
+mod keeping;
+
+use card_judge::judge::Judgement;
 use card_state::Card;
 use card_state::Step;
 use numbers::limit;
@@ -18,7 +22,76 @@ use octets::classes::ClassTable;
 use property_table::rows::PropertyTable;
 use value_automaton::states::Transitions;
 
-// Judges the logical line s, which starts at `at` in the input: as it is where it has no fold, else unfolded into the scratch.
+// Judges the line s, which has no fold and starts at `at` in the input, and keeps what is to be kept of it.
+fn judge_plain(
+    t: &ClassTable,
+    rows: &PropertyTable,
+    steps: &Transitions,
+    s: &[u8],
+    scratch: &mut [u8],
+    at: usize,
+    c: Card,
+) -> Step
+    requires { ⌜ Tables (now t) (now rows) (now steps) ⌝ }
+    requires { ⌜ Counted (c .cards) (c .lines) ⌝ }
+    requires { ⌜ Roomy c (now s) (now scratch) ⌝ }
+    ensures { λ r. ⌜ stepOf (now (scratch .exit)) r ≡ judgeLine (cardOf c (now (scratch .entry))) at (now (s .entry)) ⌝ }
+    ensures { λ r. ⌜ Holds (c .used + length (now (s .entry))) r ⌝ }
+{
+    let used = c.used;
+    let j = card_judge::judge::judge_line(t, rows, steps, s, &scratch[..used], at, c);
+    let from = j.from;
+    let to = j.to;
+    keeping::keep(scratch, used, &s[from..to]);
+    j.step
+}
+
+// Judges the line that stands in the buffer behind the values that the state keeps; it starts at `at` in the input.
+fn judge_behind(
+    t: &ClassTable,
+    rows: &PropertyTable,
+    steps: &Transitions,
+    buffer: &[u8],
+    at: usize,
+    c: Card,
+) -> Judgement
+    requires { ⌜ Tables (now t) (now rows) (now steps) ⌝ }
+    requires { ⌜ Counted (c .cards) (c .lines) ⌝ }
+    requires { ⌜ Roomy c [] (now buffer) ⌝ }
+    ensures { λ r. ⌜ readBy r (take (c .used) (now (buffer .entry))) (drop (c .used) (now (buffer .entry))) ≡ judgeLine (cardOf c (take (c .used) (now (buffer .entry)))) at (drop (c .used) (now (buffer .entry))) ⌝ }
+    ensures { λ r. ⌜ Keeping c (drop (c .used) (now (buffer .entry))) r ⌝ }
+{
+    let used = c.used;
+    card_judge::judge::judge_line(t, rows, steps, &buffer[used..], &buffer[..used], at, c)
+}
+
+// Judges the line s, which starts at `at` in the input, unfolded behind the values that are kept, and keeps what is to be kept of it.
+fn judge_folded(
+    t: &ClassTable,
+    rows: &PropertyTable,
+    steps: &Transitions,
+    s: &[u8],
+    scratch: &mut [u8],
+    at: usize,
+    c: Card,
+) -> Step
+    requires { ⌜ Tables (now t) (now rows) (now steps) ⌝ }
+    requires { ⌜ Counted (c .cards) (c .lines) ⌝ }
+    requires { ⌜ Roomy c (now s) (now scratch) ⌝ }
+    ensures { λ r. ⌜ stepOf (now (scratch .exit)) r ≡ judgeLine (cardOf c (now (scratch .entry))) at (unfolded (now (s .entry))) ⌝ }
+    ensures { λ r. ⌜ Holds (c .used + length (now (s .entry))) r ⌝ }
+{
+    let used = c.used;
+    let n = keeping::unfold_behind(s, scratch, used);
+    let end = used + n;
+    let j = judge_behind(t, rows, steps, &scratch[..end], at, c);
+    let from = used + j.from;
+    let n = j.to - j.from;
+    keeping::move_down(scratch, used, from, n);
+    j.step
+}
+
+// Judges the logical line s, which starts at `at` in the input: as it is where it has no fold, else unfolded.
 fn judge_span(
     t: &ClassTable,
     rows: &PropertyTable,
@@ -30,18 +103,16 @@ fn judge_span(
     c: Card,
 ) -> Step
     requires { ⌜ Tables (now t) (now rows) (now steps) ⌝ }
-    requires { ⌜ Counted c ⌝ }
-    requires { ⌜ length (now s) ≤ limit.octets ⌝ }
-    requires { ⌜ length (unfolded (now s)) ≤ length (now scratch) ⌝ }
+    requires { ⌜ Counted (c .cards) (c .lines) ⌝ }
+    requires { ⌜ Roomy c (now s) (now scratch) ⌝ }
     requires { ⌜ (folded ≡ false → unfolded (now s) ≡ now s) ⌝ }
-    ensures { λ r. ⌜ r ≡ judgeLine c at (unfolded (now (s .entry))) ⌝ }
-    ensures { λ _. ⌜ now (scratch .exit) ≡ pick folded (overlay (unfolded (now (s .entry))) (now (scratch .entry))) (now (scratch .entry)) ⌝ }
+    ensures { λ r. ⌜ stepOf (now (scratch .exit)) r ≡ judgeLine (cardOf c (now (scratch .entry))) at (unfolded (now (s .entry))) ⌝ }
+    ensures { λ r. ⌜ Holds (c .used + length (now (s .entry))) r ⌝ }
 {
-    if !folded {
-        return card_judge::judge::judge_line(t, rows, steps, s, at, c);
+    if folded {
+        return judge_folded(t, rows, steps, s, scratch, at, c);
     }
-    let n = line_unfolding::unfold(s, scratch);
-    card_judge::judge::judge_line(t, rows, steps, &scratch[..n], at, c)
+    judge_plain(t, rows, steps, s, scratch, at, c)
 }
 
 // An input of at most so many octets is judged with a scratch of as many, since the scratch is made at each call.
@@ -57,8 +128,8 @@ fn walk_in(
 ) -> Step
     requires { ⌜ Tables (now t) (now rows) (now steps) ⌝ }
     requires { ⌜ length (now s) ≤ limit.octets ⌝ }
-    requires { ⌜ length (now s) ≤ length (now scratch) ⌝ }
-    ensures { λ r. ⌜ r ≡ judgeLines (rawLines (now (s .entry))) 0 freshCard ⌝ }
+    requires { ⌜ (length (now s) ≤ length (now scratch)) × (length (now scratch) ≤ limit.octets) ⌝ }
+    ensures { λ r. ⌜ ((store : List ℕ) × (stepOf store r ≡ judgeLines (rawLines (now (s .entry))) 0 freshCard)) ⌝ }
 {
     let mut c = card_state::fresh();
     let mut at: usize = 0;
@@ -80,7 +151,7 @@ fn walk_in(
 pub fn walk(t: &ClassTable, rows: &PropertyTable, steps: &Transitions, s: &[u8]) -> Step
     requires { ⌜ Tables (now t) (now rows) (now steps) ⌝ }
     requires { ⌜ length (now s) ≤ limit.octets ⌝ }
-    ensures { λ r. ⌜ r ≡ judgeLines (rawLines (now (s .entry))) 0 freshCard ⌝ }
+    ensures { λ r. ⌜ ((store : List ℕ) × (stepOf store r ≡ judgeLines (rawLines (now (s .entry))) 0 freshCard)) ⌝ }
 {
     if s.len() <= SHORT {
         let mut scratch = [0u8; SHORT];

@@ -6,11 +6,9 @@ use native.Mathlib.Omega.{arith}
 use lib.ListN.{length}
 use Rattle.line_folds.specs.Folds.{unfolded}
 use Rattle.line_folds.specs.Logical.{rawLines}
-use Rattle.card_state.specs.State.{freshCard}
+use Rattle.card_state.specs.State.{Card, Next, freshCard}
 use Rattle.card_judge.specs.Judge.{judgeLine}
 use Rattle.card_judge.proofs.CardLaws.{one-more}
-use Rattle.card_state.specs.declared.Card.{Card}
-use Rattle.card_state.specs.declared.Step.the-variants.{Next}
 use Rattle.reader_walk.specs.Walk.{judgeLines}
 use Rattle.reader.specs.Outcome.{judgeOf}
 use Rattle.reader_walk.proofs.WalkLaws.{onward-next}

@@ -5,7 +5,7 @@ use crate::content::{parse, ContentLine};
 use crate::kinds::fits;
 use crate::line_faults::fault_of;
 use crate::lines::LogicalLine;
-use crate::properties::{is_frame, kind_of, row_of, Row, BEGIN, END, FN, KIND, MEMBER, VERSION};
+use crate::properties::{first_value, is_frame, kind_of, row_of, Row, BEGIN, END, FN, KIND, MEMBER, VERSION};
 use crate::refusal::{refuse, Refusal};
 
 /// A logical line that passed its checks, with what its record says of it.
@@ -21,7 +21,8 @@ pub struct AcceptedLine {
 #[derive(Clone, Debug, Default)]
 pub struct Card {
     lines: usize,
-    singles: Vec<u32>,
+    /// The instances of single properties so far: the property's number, and their ALTID value where they have one.
+    instances: Vec<(u32, Option<Vec<u8>>)>,
     has_fn: bool,
     has_member: bool,
     is_group: bool,
@@ -53,8 +54,13 @@ impl Card {
         if !value_fits(row, kind, &parts.value) {
             return refuse(7, line.start);
         }
-        if row.single && self.singles.contains(&row.number) {
+        let altid = first_value(&parts.parameters, "ALTID").cloned();
+        let starts = row.single && self.starts_an_instance(row, &altid);
+        if starts && self.instances.iter().any(|(number, _)| *number == row.number) {
             return refuse(10, line.start);
+        }
+        if starts {
+            self.instances.push((row.number, altid));
         }
         self.count_in(row, &parts.value);
         if row.number == END {
@@ -72,16 +78,18 @@ impl Card {
         }
     }
 
+    /// Whether a line of this row starts an instance: it has no ALTID, or no earlier line of the property has its ALTID value.
+    fn starts_an_instance(&self, row: Row, altid: &Option<Vec<u8>>) -> bool {
+        altid.is_none() || !self.instances.contains(&(row.number, altid.clone()))
+    }
+
     /// Notes what later lines and END have to know.
     fn count_in(&mut self, row: Row, value: &[u8]) {
         self.lines += 1;
-        if row.single {
-            self.singles.push(row.number);
-        }
         match row.number {
             FN => self.has_fn = true,
             MEMBER => self.has_member = true,
-            KIND => self.is_group = value.eq_ignore_ascii_case(b"group"),
+            KIND => self.is_group |= value.eq_ignore_ascii_case(b"group"),
             _ => (),
         }
     }

@@ -8,6 +8,7 @@ use std::thread;
 
 use crate::console::Console;
 use crate::generator::dates::dates;
+use crate::generator::alternatives::alternatives;
 use crate::generator::folds::folds;
 use crate::generator::labels::labels;
 use crate::generator::line_faults::line_faults;
@@ -27,6 +28,7 @@ pub struct Plan {
     pub line_faults: usize,
     pub names: usize,
     pub dates: usize,
+    pub alternatives: usize,
     pub folds: usize,
     pub texts: usize,
     pub labels: usize,
@@ -45,6 +47,7 @@ impl Default for Plan {
             line_faults: 30_000,
             names: 30_000,
             dates: 60_000,
+            alternatives: 30_000,
             folds: 10_000,
             texts: 80_000,
             labels: 50_000,
@@ -74,6 +77,7 @@ pub fn steps(plan: Plan) -> impl Iterator<Item = Step> {
         .chain(line_faults(plan.seed).take(plan.line_faults).map(of("line faults")))
         .chain(names(plan.seed).take(plan.names).map(of("names")))
         .chain(dates(plan.seed).take(plan.dates).map(of("dates")))
+        .chain(alternatives(plan.seed).take(plan.alternatives).map(of("alternatives")))
         .chain(folds(plan.seed).take(plan.folds).map(of("folds")))
         .chain(texts(plan.seed).take(plan.texts).map(of("texts")))
         .chain(labels(plan.seed).take(plan.labels).map(of("labels")))
@@ -123,11 +127,13 @@ fn routine_steps(plan: Plan) -> impl Iterator<Item = Step> {
     let faulty = line_faults(plan.seed).filter(|line| !line.starts_with("read "));
     let named = names(plan.seed).filter(|line| line.starts_with("judge "));
     let dated = dates(plan.seed).filter(|line| line.starts_with("judge "));
+    let tagged = alternatives(plan.seed).filter(|line| !line.starts_with("read "));
     let unescaped = texts(plan.seed).filter(|line| line.starts_with("unescape "));
     (judged.take(plan.readers).map(of("readers")))
         .chain(faulty.take(plan.line_faults).map(of("line faults")))
         .chain(named.take(plan.names).map(of("names")))
         .chain(dated.take(plan.dates).map(of("dates")))
+        .chain(tagged.take(plan.alternatives).map(of("alternatives")))
         .chain(folds(plan.seed).take(plan.folds).map(of("folds")))
         .chain(unescaped.take(plan.texts).map(of("texts")))
 }

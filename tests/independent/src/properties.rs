@@ -110,7 +110,7 @@ fn looks_at_value(row: Row) -> bool {
 }
 
 /// The first value of the first parameter of this name.
-fn first_value<'a>(parameters: &'a [Parameter], name: &str) -> Option<&'a Vec<u8>> {
+pub fn first_value<'a>(parameters: &'a [Parameter], name: &str) -> Option<&'a Vec<u8>> {
     let named = |parameter: &&Parameter| parameter.name.eq_ignore_ascii_case(name.as_bytes());
     parameters.iter().find(named).map(|parameter| &parameter.values[0])
 }

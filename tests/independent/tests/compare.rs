@@ -11,6 +11,7 @@ const NOTHING: Plan = Plan {
     line_faults: 0,
     names: 0,
     dates: 0,
+    alternatives: 0,
     folds: 0,
     texts: 0,
     labels: 0,
@@ -28,6 +29,7 @@ fn small() -> Plan {
         line_faults: 300,
         names: 200,
         dates: 400,
+        alternatives: 200,
         folds: 500,
         texts: 1_000,
         labels: 1_000,
@@ -52,7 +54,7 @@ fn compare_side(side: Side, script: &str, plan: Plan) -> Result<String, String> 
 fn the_own_console_gives_the_same_answers() {
     let counts = compare(Side::Console, SELF, &["console".to_string()], small()).expect("no difference");
     assert!(counts.starts_with(
-        "same answers: protocol 177, readers 2000, line faults 300, names 200, dates 400, folds 500, texts 1000, labels 1000, 60 lists of "
+        "same answers: protocol 177, readers 2000, line faults 300, names 200, dates 400, alternatives 200, folds 500, texts 1000, labels 1000, 60 lists of "
     ));
 }
 
@@ -102,14 +104,17 @@ fn the_c_routines_are_asked_for_what_they_answer() {
     // A text's octets may look like a count of lines to the pattern.
     let plan = Plan { texts: 0, ..small() };
     let same = compare_side(Side::Routines, counts_alone, plan);
-    assert_eq!(same, Ok("same answers: readers 2000, line faults 300, names 200, dates 400, folds 500".to_string()));
+    assert_eq!(
+        same,
+        Ok("same answers: readers 2000, line faults 300, names 200, dates 400, alternatives 200, folds 500".to_string())
+    );
     let lines_too = compare_side(Side::Routines, "\"$0\" console", plan).expect_err("a difference");
     assert!(lines_too.starts_with("difference in readers, request 1\nrequest:\njudge "), "{lines_too}");
     let touched = format!("{counts_alone} | sed 's/^no 15 .*/& touched/'");
     let report = compare_side(Side::Routines, &touched, plan).expect_err("a difference");
     assert!(report.starts_with("difference in folds, request "), "{report}");
     assert!(report.contains("request:\nfold ") && report.ends_with(" touched"), "{report}");
-    let unescapes = Plan { readers: 0, line_faults: 0, names: 0, dates: 0, folds: 0, ..small() };
+    let unescapes = Plan { readers: 0, line_faults: 0, names: 0, dates: 0, alternatives: 0, folds: 0, ..small() };
     let same = compare_side(Side::Routines, "\"$0\" console", unescapes);
     assert_eq!(same, Ok("same answers: texts 1000".to_string()));
 }

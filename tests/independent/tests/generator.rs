@@ -5,6 +5,7 @@ use std::collections::HashSet;
 use independent::beside::{compare_desks, survey_desks};
 use independent::compare::{steps, Plan};
 use independent::generator::{
+    alternatives::alternatives,
     dates,
     dates::dates,
     desks::desks,
@@ -87,6 +88,16 @@ fn names_have_every_length_and_first_letter_and_reach_every_row() {
         assert!(survey.kinds.get(&kind).is_some_and(|&count| count >= 10), "{kind}: {survey}");
     }
     assert!(survey.accepted >= 10_000 && survey.bad_requests == 0, "{survey}");
+}
+
+#[test]
+fn alternatives_are_accepted_and_refused_in_every_request() {
+    for word in ["judge ", "read ", "fold "] {
+        let survey = survey(alternatives(1).take(30_000).filter(|line| line.starts_with(word)));
+        assert!(times(&survey, 10) >= 1_000, "{word}: {survey}");
+        assert!(times(&survey, 12) >= 20, "{word}: {survey}");
+        assert!(survey.accepted >= 1_000 && survey.bad_requests == 0, "{word}: {survey}");
+    }
 }
 
 #[test]
@@ -274,6 +285,7 @@ fn a_family_of_0_is_left_out() {
         line_faults: 0,
         names: 0,
         dates: 0,
+        alternatives: 0,
         folds: 0,
         texts: 5,
         labels: 0,

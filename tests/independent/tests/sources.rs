@@ -42,7 +42,7 @@ fn the_files_are_whole() {
         examples.filter(|e| e.source == source && e.verdict.starts_with(verdict)).count()
     };
     assert_eq!((count("002", "ok"), count("002", "no")), (65, 8));
-    assert_eq!((count("003", "ok"), count("003", "no")), (117, 23));
+    assert_eq!((count("003", "ok"), count("003", "no")), (120, 20));
 }
 
 #[test]

@@ -1,6 +1,7 @@
 -- `card_state::note` meets its contract. Assumes nothing.
-use Rattle.card_state.specs.State.{onceFlag, noted}
 use borrow.Author.Needs.{needs}
+use Rattle.card_state.specs.State.{onceFlag}
+use Rattle.card_state.specs.Kept.{goneOn}
 use Rattle.card_state.proofs.note.Statement.{statement}
 use Rattle.card_state.proofs.note.Tie as tie
 
@@ -22,22 +23,22 @@ either-requires-2 c κs = search needs
 either-requires-3 : tie.Need-either-requires-3
 either-requires-3 c κs = search needs
 
-add-t14 : tie.Need-add-t14
-add-t14 c = search needs
+add-t15 : tie.Need-add-t15
+add-t15 c = search needs
 
 returns : tie.Need-returns
-unfolding noted onceFlag
-returns c at =
-    let l = c .before .before .before .before .before in
+unfolding goneOn onceFlag
+returns c =
+    let f = c .before .before .before .before .before in
+    let g = f .before .before .before in
     simp (
-      l .before .before .before .pre .1 .1,
-      l .before .phase-after .ensures,
-      l .flag-of .ensures,
-      l .before .before .before .pre .1 .0 .0,
+      f .before .phase-after .ensures,
+      f .flag-of .ensures,
+      g .before .pre .1 .0,
       c .before .before .before .either .ensures,
       c .before .before .either2 .ensures,
       c .before .either3 .ensures,
-      l .before .before .says-group .ensures,
+      g .says-group .ensures,
     )
 
 pub note-spec : {M : Type 1} → statement M
@@ -50,5 +51,5 @@ note-spec =
     either-requires
     either-requires-2
     either-requires-3
-    add-t14
+    add-t15
     returns)

@@ -1,6 +1,7 @@
 -- `reader::conclude` meets its contract. Assumes nothing.
 use borrow.Author.Tests.{eq-eqb, ne-eqb}
 use Rattle.reader.specs.Outcome.{verdictOf}
+use Rattle.card_state.specs.Kept.{cardOf, stepOf}
 use borrow.Author.Needs.{needs}
 use Rattle.reader.proofs.conclude.Statement.{statement}
 use Rattle.reader.proofs.conclude.Tie as tie
@@ -9,21 +10,21 @@ enum-known-last : tie.Need-enum-known-last
 enum-known-last c = search needs
 
 returns : tie.Need-returns
-unfolding verdictOf
-returns c =
+unfolding verdictOf stepOf cardOf
+returns c store =
     simp (c .before .before .before .last .given .1, eq-eqb _ _ (c .if1 .taken))
 
 enum-known-last-2 : tie.Need-enum-known-last-2
 enum-known-last-2 c = search needs
 
 returns-2 : tie.Need-returns-2
-unfolding verdictOf
-returns-2 c =
+unfolding verdictOf stepOf cardOf
+returns-2 c store =
     simp (c .before .before .before .last .given .1, ne-eqb _ _ (c .if1 .left))
 
 returns-3 : tie.Need-returns-3
-unfolding verdictOf
-returns-3 c =
+unfolding verdictOf stepOf
+returns-3 c store =
     simp (c .before .last2 .given .1)
 
 pub conclude-spec : {M : Type 1} → statement M

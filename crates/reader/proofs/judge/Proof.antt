@@ -55,7 +55,7 @@ returns-5 c =
     let c8 = c .before .before .before .before .before .before .before .before in
     let c13 = c8 .before .before .before .before .before in
     let e = c8 .before .before .before .first-lone .ensures in
-    c .conclude .ensures ∙ ap (verdictOf _) (c .before .walk .ensures) ∙ sym (simp (le-ltb _ _ (c13 .if1 .left), ne-eqb _ _ (c8 .before .before .before .before .if2 .left), le-ltb _ _ (rw e at (c8 .before .before .if3 .left)), sym (c8 .before .ends-cr-lf .ensures) ∙ not-false _ (c8 .if4 .left)))
+    c .conclude .ensures (c .before .walk .ensures .0) ∙ ap (verdictOf _) (c .before .walk .ensures .1) ∙ sym (simp (le-ltb _ _ (c13 .if1 .left), ne-eqb _ _ (c8 .before .before .before .before .if2 .left), le-ltb _ _ (rw e at (c8 .before .before .if3 .left)), sym (c8 .before .ends-cr-lf .ensures) ∙ not-false _ (c8 .if4 .left)))
 
 pub judge-spec : {M : Type 1} → statement M
 judge-spec =

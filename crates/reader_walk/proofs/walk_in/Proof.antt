@@ -1,26 +1,26 @@
 -- `reader_walk::walk_in` meets its contract. Assumes nothing.
 use borrow.Author.Needs.{needs}
-use mathlib.Core.Path.{_≡_, refl, sym, ap, _∙_}
+use mathlib.Core.Path.{_≡_, refl, sym, ap, subst, _∙_}
 use mathlib.Core.List.{List}
 use Prim.Native.Nat.{ℕ, _+_, _-_, _≤_}
 use native.Mathlib.Omega.{arith}
 use lib.ListN.{length, take, drop}
 use Rattle.line_folds.specs.Logical.{rawLines}
-use Rattle.line_folds.proofs.FoldLaws.{unfold-shorter}
 use Rattle.line_folds.proofs.LineLaws.{lines-end}
-use Rattle.card_state.specs.State.{freshCard}
-use Rattle.card_state.specs.declared.Card.{Card}
-use Rattle.card_state.specs.declared.Step.{Step}
+use Rattle.card_state.specs.State.{Step, freshCard}
+use Rattle.card_state.specs.Kept.{Lies, cardOf, stepOf, Holds}
+use Rattle.card_state.proofs.KeptLaws.{none-lie, fresh-card}
 use Rattle.card_judge.proofs.CardLaws.{one-more}
 use Rattle.reader_walk.specs.Walk.{onward, judgeLines}
 use Rattle.line_folds.proofs.SpanLaws.{whole, part-length}
-use Rattle.reader_walk.proofs.WalkLaws.{judged, handed}
+use Rattle.reader_walk.proofs.WalkLaws.{judged, stopped-step}
 use Rattle.reader_walk.proofs.walk_in.Statement.{statement}
 use Rattle.reader_walk.proofs.walk_in.Tie as tie
 
 abbrev Inv-loop : tie.InvT-loop
 Inv-loop t rows steps s scratch₀ c₀ at₀ scratch c at =
-    (length scratch ≡ length scratch₀) × (c .cards ≤ c .lines) × (c .lines ≤ at) × (judgeLines (rawLines s) 0 freshCard ≡ judgeLines (rawLines (drop at s)) at c)
+    (length scratch ≡ length scratch₀) × (c .cards ≤ c .lines) × (c .lines ≤ at) × Lies c × (c .used ≤ at)
+    × (judgeLines (rawLines s) 0 freshCard ≡ judgeLines (rawLines (drop at s)) at (cardOf c scratch))
 
 abbrev μ-loop : tie.MeasureT-loop
 μ-loop t rows steps s scratch₀ c₀ at₀ scratch c at =
@@ -29,12 +29,12 @@ abbrev μ-loop : tie.MeasureT-loop
 -- one turn, judged
 turn : (c : tie.After-judge-span Inv-loop μ-loop)
     → judgeLines (rawLines (c .before .before .before .before .before .before .before .before .before .before .args .s .now)) 0 freshCard
-    ≡ onward (c .judge-span .result) (judgeLines (rawLines (drop (c .before .before .before .before .line-at .result .end + 2) (c .before .before .before .before .before .before .before .before .before .before .args .s .now))) (c .before .before .before .before .line-at .result .end + 2))
+    ≡ onward (stepOf (c .judge-span .last .1 .1 .1 .1 .1 .0) (c .judge-span .result)) (judgeLines (rawLines (drop (c .before .before .before .before .line-at .result .end + 2) (c .before .before .before .before .before .before .before .before .before .before .args .s .now))) (c .before .before .before .before .line-at .result .end + 2))
 turn c =
     let l = c .before .before .before .before .before .before .loop in
     let v = c .before .before .before .before .line-at in
     let s = c .before .before .before .before .before .before .before .before .before .before .args .s .now in
-    l .inv .3 ∙ judged s (l .at) (v .result .end) (c .before .before .before .before .before .loop-test .taken) (v .ensures .1) (v .ensures .2) (l .c) (c .judge-span .result) (c .judge-span .ensures .0)
+    l .inv .5 ∙ judged s (l .at) (v .result .end) (c .before .before .before .before .before .loop-test .taken) (v .ensures .1) (v .ensures .2) (cardOf (l .c) (l .scratch)) (stepOf (c .judge-span .last .1 .1 .1 .1 .1 .0) (c .judge-span .result)) (c .judge-span .ensures .0)
 
 fresh-requires : tie.Need-fresh-requires Inv-loop μ-loop
 fresh-requires c κs = search needs
@@ -42,9 +42,14 @@ fresh-requires c κs = search needs
 loop-holds : tie.Need-loop-holds Inv-loop μ-loop
 loop-holds c =
     let f = c .fresh in
-    let k = ap (λ (x : Card). x .cards) (f .ensures) in
-    let n = ap (λ (x : Card). x .lines) (f .ensures) in
-    (refl, omega arith, omega arith, ap (judgeLines (rawLines (c .before .before .before .args .s .now)) 0) (sym (f .ensures)))
+    rw (f .ensures) (
+      refl,
+      omega arith,
+      omega arith,
+      none-lie,
+      omega arith,
+      ap (judgeLines (rawLines (c .before .before .before .args .s .now)) 0) (sym (fresh-card _)),
+    )
 
 line-at-requires : tie.Need-line-at-requires Inv-loop μ-loop
 line-at-requires c κs = search needs
@@ -70,11 +75,8 @@ judge-span-requires c κs =
       (
         (l .inv .1, omega (arith, l .inv .2, z .1 .0)),
         (
-          omega (arith, n, z .1 .0),
-          (
-            omega (arith, unfold-shorter part, l .inv .0, n, z .1 .1),
-            whole (a .s .now) (l .at) (v .result .cr) (v .result .end) (v .ensures .0),
-          ),
+          record { lies = l .inv .3; room = omega (arith, n, l .inv .0, l .inv .4, v .ensures .2, z .1 .1 .0); short = omega (arith, l .inv .0, z .1 .1 .1) },
+          whole (a .s .now) (l .at) (v .result .cr) (v .result .end) (v .ensures .0),
         ),
       ),
     )
@@ -90,7 +92,8 @@ same-length c = search needs
 
 returns : tie.Need-returns Inv-loop μ-loop
 returns c =
-    sym (turn (c .before .before .before .before) ∙ handed _ (c .enum-told .given .1))
+    let j = c .before .before .before .before .judge-span in
+    (j .last .1 .1 .1 .1 .1 .0, sym (turn (c .before .before .before .before) ∙ stopped-step (j .last .1 .1 .1 .1 .1 .0) (j .result) _ _ _ (c .enum-told .given .1)))
 
 add-at : tie.Need-add-at Inv-loop μ-loop
 add-at c = search needs
@@ -99,30 +102,37 @@ loop-less : tie.Need-loop-less Inv-loop μ-loop
 loop-less c = search needs
 
 loop-again : tie.Need-loop-again Inv-loop μ-loop
+unfolding stepOf cardOf Holds
 loop-again c =
     let c5 = c .before .before .before .before .before in
     let c9 = c5 .before .before .before .before in
     let c11 = c9 .before .before in
     let c15 = c11 .before .before .before .before in
     let e = c .before .j .given .1 in
+    let next = c .before .j .given .0 .0 in
     let l = c11 .loop in
     let v = c9 .line-at in
     let a = c15 .args in
-    let more = one-more (l .c) (c .before .j .given .0 .0) (l .at) _ (sym (c5 .judge-span .ensures .0) ∙ e) in (
-      omega (arith, c5 .judge-span, l .inv .0),
-      omega (arith, l .inv .1),
-      omega (arith, v .ensures .1, l .inv .2),
-      turn (c5) ∙ ap (λ (r : Step). onward r (judgeLines (rawLines (drop (v .result .end + 2) (a .s .now))) (v .result .end + 2))) e,
+    let j = c5 .judge-span in
+    let n = part-length (a .s .now) (l .at) (v .result .end) (c5 .before .before .before .before .before .loop-test .taken) (v .ensures .1) (v .ensures .2) in
+    let holds = subst (Holds (l .c .used + length (take (v .result .end - l .at) (drop (l .at) (a .s .now))))) e (j .ensures .1) in
+    let more = one-more (cardOf (l .c) (l .scratch)) (cardOf next (j .last .1 .1 .1 .1 .1 .0)) (l .at) _ (sym (j .ensures .0) ∙ ap (stepOf (j .last .1 .1 .1 .1 .1 .0)) e) in (
+      omega (arith, j, l .inv .0),
+      omega (arith, l .inv .1, more .0, more .1, more .2),
+      omega (arith, v .ensures .1, l .inv .2, more .0),
+      holds .0,
+      omega (arith, holds .1, n, l .inv .4, v .ensures .1),
+      turn (c5) ∙ ap (λ (r : Step). onward r (judgeLines (rawLines (drop (v .result .end + 2) (a .s .now))) (v .result .end + 2))) (ap (stepOf (j .last .1 .1 .1 .1 .1 .0)) e),
     )
 
 same-length-2 : tie.Need-same-length-2 Inv-loop μ-loop
 same-length-2 c = search needs
 
 returns-2 : tie.Need-returns-2 Inv-loop μ-loop
-unfolding judgeLines
+unfolding judgeLines stepOf
 returns-2 c =
     let l = c .before .loop in
-    sym (l .inv .3 ∙ ap (λ (ls : List (List ℕ)). judgeLines ls (l .at) (l .c)) (lines-end (c .before .before .before .before .before .args .s .now) (l .at) (c .loop-test .left)))
+    (l .scratch, sym (l .inv .5 ∙ ap (λ (ls : List (List ℕ)). judgeLines ls (l .at) (cardOf (l .c) (l .scratch))) (lines-end (c .before .before .before .before .before .args .s .now) (l .at) (c .loop-test .left))))
 
 pub walk-in-spec : {M : Type 1} → statement M
 walk-in-spec =

@@ -1,5 +1,6 @@
 // Knows the families of request lines that every comparison uses; the same seed gives the same lines.
 
+pub mod alternatives;
 pub mod dates;
 pub mod desks;
 pub mod faults;

@@ -1,23 +1,31 @@
 -- `card_judge::judge::judge_line` meets its contract. Assumes nothing.
+use borrow.Author.Needs.{needs}
 use borrow.Author.Tests.{lt-ltb}
 use mathlib.Core.Path.{sym, _∙_}
 use mathlib.Core.Bool.{false}
 use lib.ListN.{length}
 use Rattle.utf8.specs.Characters.{allowed, firstBad}
-use Rattle.card_judge.specs.Judge.{judgeLine}
 use Rattle.card_line.proofs.PartLaws.{Read, read}
+use Rattle.card_state.specs.Kept.{cardOf}
+use Rattle.card_judge.specs.Judge.{judgeLine}
 use Rattle.card_judge.proofs.JudgeLaws.{refused, judged}
-use borrow.Author.Needs.{needs}
+use Rattle.card_judge.proofs.SettleLaws.{stopped}
 use Rattle.card_judge.proofs.judge.judge_line.Statement.{statement}
 use Rattle.card_judge.proofs.judge.judge_line.Tie as tie
 
 first-bad-requires : tie.Need-first-bad-requires
 first-bad-requires c κs = search needs
 
+unkept-requires : tie.Need-unkept-requires
+unkept-requires c κs = search needs
+
 returns : tie.Need-returns
 unfolding judgeLine
 returns c =
-    simp (lt-ltb (firstBad (allowed false) (c .before .before .before .args .s .now)) (length (c .before .before .before .args .s .now)) (rw (← c .before .first-bad .ensures) (c .if1 .taken)))
+    let a = c .before .before .before .before .before .args in
+    let l = a .s .now in
+    stopped (a .c) (a .store .now) l (c .unkept .result) 5 (a .at) _ (c .unkept .ensures)
+    (simp (lt-ltb (firstBad (allowed false) l) (length l) (rw (← c .before .before .first-bad .ensures) (c .before .if1 .taken))))
 
 parts-of-requires : tie.Need-parts-of-requires
 parts-of-requires c κs = search needs
@@ -25,11 +33,14 @@ parts-of-requires c κs = search needs
 enum-known-e : tie.Need-enum-known-e
 enum-known-e c = search needs
 
+unkept-requires-2 : tie.Need-unkept-requires-2
+unkept-requires-2 c κs = search needs
+
 enum-known-x : tie.Need-enum-known-x
 enum-known-x c = search needs
 
 -- the line by its parts
-there : (c : tie.After-known-told2) → Read (c .before .before .before .before .before .before .before .args .s .now) (c .before .x .given .0 .0)
+there : (c : tie.After-known-told2) → Read (c .before .before .before .before .before .before .before .before .args .s .now) (c .before .x .given .0 .0)
 there c = read _ _ (sym (c .before .x .given .1) ∙ c .before .before .before .parts-of .ensures)
 
 sub-judge-parts : tie.Need-sub-judge-parts
@@ -43,29 +54,36 @@ part-judge-parts-end c = search needs
 
 judge-parts-requires : tie.Need-judge-parts-requires
 judge-parts-requires c κs =
-    let s = c .before .before .before .before .before .before .before .before in
-    (s .pre .0 .1, (s .pre .0 .2, ((there (c .before) .listed, there (c .before) .low), s .pre .1 .1)))
+    let s = c .before .before .before .before .before .before .before .before .before in
+    let x = c .before .before .x .given .1 in
+    (s .pre .0, (sym x ∙ c .before .before .before .before .parts-of .ensures, ((there (c .before) .listed, there (c .before) .low), s .pre .1)))
 
 returns-2 : tie.Need-returns-2
-unfolding judgeLine
 returns-2 c =
-    let a = c .before .before .before .before .before .before .before .args in
-    refused (a .c) (a .at) (a .s .now) (rw (← c .before .before .before .before .before .first-bad .ensures) (c .before .before .before .before .if1 .left)) (sym (c .before .e .given .1) ∙ c .before .before .before .parts-of .ensures)
+    let a = c .before .before .before .before .before .before .before .before .before .args in
+    stopped (a .c) (a .store .now) (a .s .now) (c .unkept2 .result) _ (a .at) _ (c .unkept2 .ensures)
+    (refused (cardOf (a .c) (a .store .now)) (a .at) (a .s .now) (rw (← c .before .before .before .before .before .before .first-bad .ensures) (c .before .before .before .before .before .if1 .left))
+    (sym (c .before .before .e .given .1) ∙ c .before .before .before .before .parts-of .ensures))
 
 returns-3 : tie.Need-returns-3
 returns-3 c =
-    let s = c .before .before .before .before .before .before .before .before .before in
-    c .judge-parts .ensures
-    ∙ judged (s .args .c) (s .args .at) (s .args .s .now) (rw (← c .before .before .before .before .before .before .before .first-bad .ensures) (c .before .before .before .before .before .before .if1 .left)) _ (there (c .before .before))
+    let s = c .before .before .before .before .before .before .before .before .before .before in
+    let a = s .args in (
+      c .judge-parts .ensures .0
+          ∙ judged (cardOf (a .c) (a .store .now)) (a .at) (a .s .now) (rw (← c .before .before .before .before .before .before .before .first-bad .ensures) (c .before .before .before .before .before .before .if1 .left)) _ (there (c .before .before)),
+      c .judge-parts .ensures .1,
+    )
 
 pub judge-line-spec : {M : Type 1} → statement M
 judge-line-spec =
     tie.close
     (tie.spec
     first-bad-requires
+    unkept-requires
     returns
     parts-of-requires
     enum-known-e
+    unkept-requires-2
     enum-known-x
     sub-judge-parts
     part-judge-parts-start

@@ -1,13 +1,15 @@
 -- `card_judge::judge::judge_parts` meets its contract. Assumes nothing.
-use mathlib.Core.Path.{_≡_, sym, ap, _∙_}
-use Prim.Native.Nat.{ℕ}
-use mathlib.Core.Bool.{not}
-use Rattle.octets.specs.Pick.{pick}
-use Rattle.card_judge.specs.Judge.{entered, judgeParts}
-use Rattle.card_state.specs.State.{flagOf, onceFlag, isSeen}
-use Rattle.card_state.specs.declared.Step.the-variants.{Refused}
 use borrow.Author.Needs.{needs}
+use mathlib.Core.Path.{_≡_, sym, ap, _∙_}
+use mathlib.Core.Bool.{not}
+use Prim.Native.Nat.{ℕ}
+use Rattle.octets.specs.Pick.{pick}
+use Rattle.card_line.specs.Parts.{altidName, firstValue}
+use Rattle.card_state.specs.State.{Refused, flagOf, onceFlag, isSeen}
+use Rattle.card_state.specs.Kept.{cardOf}
+use Rattle.card_judge.specs.Judge.{entered, judgeParts}
 use Rattle.card_judge.proofs.JudgeLaws.{tests}
+use Rattle.card_judge.proofs.SettleLaws.{stopped}
 use Rattle.card_judge.proofs.judge.judge_parts.Statement.{statement}
 use Rattle.card_judge.proofs.judge.judge_parts.Tie as tie
 
@@ -20,49 +22,75 @@ is-laden-requires c κs = search needs
 breaks-kind-requires : tie.Need-breaks-kind-requires
 breaks-kind-requires c κs = search needs
 
+-- the judgement by what the three tests answered
+found : (c : tie.After-breaks-kind)
+    → let a = c .before .before .before .before .before .before .args in
+    judgeParts (cardOf (a .c) (a .store .now)) (a .at) (a .x .row) (a .x .«group_length») (a .x .«param_count») (a .x .kind) (firstValue altidName (a .s .now)) (a .value .now)
+    ≡ pick (not (c .before .before .in-order .result)) (Refused 9 (a .at)) (pick (c .before .is-laden .result) (Refused 8 (a .at))
+    (pick (c .breaks-kind .result) (Refused 7 (a .at)) (entered (cardOf (a .c) (a .store .now)) (a .at) (a .x .row) (firstValue altidName (a .s .now)) (a .value .now))))
+unfolding cardOf
+found c =
+    let a = c .before .before .before .before .before .before .args in
+    tests (cardOf (a .c) (a .store .now)) (a .at) (a .x .row) (a .x .«group_length») (a .x .«param_count») (a .x .kind) (firstValue altidName (a .s .now)) (a .value .now)
+    (c .before .before .in-order .ensures) (c .before .is-laden .ensures) (c .breaks-kind .ensures)
+
+unkept-requires : tie.Need-unkept-requires
+unkept-requires c κs = search needs
+
+returns : tie.Need-returns
+returns c =
+    let a = c .before .before .before .before .before .before .before .before .args in
+    stopped (a .c) (a .store .now) (a .s .now) (c .unkept .result) 9 (a .at) _ (c .unkept .ensures) (simp (found (c .before .before), c .before .if1 .taken))
+
+unkept-requires-2 : tie.Need-unkept-requires-2
+unkept-requires-2 c κs = search needs
+
+returns-2 : tie.Need-returns-2
+returns-2 c =
+    let a = c .before .before .before .before .before .before .before .before .before .args in
+    stopped (a .c) (a .store .now) (a .s .now) (c .unkept2 .result) 8 (a .at) _ (c .unkept2 .ensures)
+    (simp (found (c .before .before .before), c .before .before .if1 .left, c .before .if2 .taken))
+
+unkept-requires-3 : tie.Need-unkept-requires-3
+unkept-requires-3 c κs = search needs
+
+returns-3 : tie.Need-returns-3
+returns-3 c =
+    let a = c .before .before .before .before .before .before .before .before .before .before .args in
+    stopped (a .c) (a .store .now) (a .s .now) (c .unkept3 .result) 7 (a .at) _ (c .unkept3 .ensures)
+    (simp (found (c .before .before .before .before), c .before .before .before .if1 .left, c .before .before .if2 .left, c .before .if3 .taken))
+
 once-of-requires : tie.Need-once-of-requires
 once-of-requires c κs = search needs
 
 is-again-requires : tie.Need-is-again-requires
 is-again-requires c κs = search needs
 
--- the row's flag is not among those seen, or is
-seen-by : (c : tie.After-is-again) → c .is-again .result ≡ isSeen (onceFlag (c .before .before .before .before .before .before .args .x .row)) (c .before .before .before .before .before .before .args .c .seen)
+settle-requires : tie.Need-settle-requires
 unfolding onceFlag
-seen-by c =
-    let a = c .before .before .before .before .before .before .args in
-    c .is-again .ensures ∙ ap (λ (k : ℕ). isSeen (flagOf k) (a .c .seen)) (c .before .once-of .ensures .0)
-
--- the judgement by what the four tests answered
-found : (c : tie.After-is-again)
-    → let a = c .before .before .before .before .before .before .args in
-    judgeParts (a .c) (a .at) (a .x .row) (a .x .«group_length») (a .x .«param_count») (a .x .kind) (a .value .now)
-    ≡ pick (not (c .before .before .before .before .in-order .result)) (Refused 9 (a .at)) (pick (c .before .before .before .is-laden .result) (Refused 8 (a .at))
-    (pick (c .before .before .breaks-kind .result) (Refused 7 (a .at)) (pick (c .is-again .result) (Refused 10 (a .at)) (entered (a .c) (a .at) (a .x .row) (a .value .now)))))
-found c =
-    let a = c .before .before .before .before .before .before .args in
-    tests (a .c) (a .at) (a .x .row) (a .value .now) (a .x .«group_length») (a .x .«param_count») (a .x .kind) (c .before .before .before .before .in-order .ensures) (c .before .before .before .is-laden .ensures) (c .before .before .breaks-kind .ensures) (seen-by c)
-
-returns : tie.Need-returns
-returns c = simp (found (c .before), c .if1 .taken)
-
-returns-2 : tie.Need-returns-2
-returns-2 c = simp (found (c .before .before), c .before .if1 .left, c .if2 .taken)
-
-returns-3 : tie.Need-returns-3
-returns-3 c = simp (found (c .before .before .before), c .before .before .if1 .left, c .before .if2 .left, c .if3 .taken)
+settle-requires c κs =
+    let o = c .before .once-of .ensures in
+    let s = c .before .before .before .before .before .before .before .before .before .before .before in
+    let p = s .pre in (
+      p .0 .0,
+      (
+        p .1 .0,
+        (
+          (p .1 .1 .0 .0, o),
+          (
+            c .is-again .ensures ∙ ap (λ (k : ℕ). isSeen (flagOf k) (s .args .c .seen)) (o .0),
+            (p .1 .1 .1 .0, p .1 .1 .1 .1),
+          ),
+        ),
+      ),
+    )
 
 returns-4 : tie.Need-returns-4
-returns-4 c = simp (found (c .before .before .before .before), c .before .before .before .if1 .left, c .before .before .if2 .left, c .before .if3 .left, c .if4 .taken)
-
-enter-requires : tie.Need-enter-requires
-enter-requires c κs =
-    let again = c .before .before .before .before in
-    let s = again .before .before .before .before .before .before in
-    (s .pre .1 .1 .1, (again .before .once-of .ensures, sym (seen-by again) ∙ c .if4 .left))
-
-returns-5 : tie.Need-returns-5
-returns-5 c = simp (found (c .before .before .before .before .before), c .before .before .before .before .if1 .left, c .before .before .before .if2 .left, c .before .before .if3 .left, c .before .if4 .left) (c .enter .ensures)
+returns-4 c =
+    let d = c .before .before .before in (
+      c .settle .ensures .0 ∙ simp (found (c .before .before .before .before .before .before), d .before .before .if1 .left, d .before .if2 .left, d .if3 .left),
+      c .settle .ensures .1,
+    )
 
 pub judge-parts-spec : {M : Type 1} → statement M
 judge-parts-spec =
@@ -71,11 +99,13 @@ judge-parts-spec =
     in-order-requires
     is-laden-requires
     breaks-kind-requires
+    unkept-requires
+    returns
+    unkept-requires-2
+    returns-2
+    unkept-requires-3
+    returns-3
     once-of-requires
     is-again-requires
-    returns
-    returns-2
-    returns-3
-    returns-4
-    enter-requires
-    returns-5)
+    settle-requires
+    returns-4)
