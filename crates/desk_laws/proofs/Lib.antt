@@ -6,8 +6,4 @@ pub mod Relation
 pub mod Refinement
 pub mod Noninterference
 pub mod Joins
-pub mod Demand
-pub mod PoolNoninterference
-pub mod Granted
-pub mod GrantedOnly
-pub mod Chunks
+pub mod Reclaims

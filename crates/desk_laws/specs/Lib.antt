@@ -1,4 +1,2 @@
--- What demand 3 says, what a granted call does, and octets added chunk by chunk. Assumes nothing.
-pub mod Demand
-pub mod Granted
+-- What demand 3 says. Assumes nothing.
 pub mod Chunks
