@@ -7,3 +7,4 @@ pub mod Refinement
 pub mod Noninterference
 pub mod Joins
 pub mod Reclaims
+pub mod Following

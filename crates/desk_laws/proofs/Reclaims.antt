@@ -17,13 +17,13 @@ use Rattle.desk_laws.proofs.LedgerRows.{no}
 -- ---- one call
 
 -- stamps change neither the answer nor the plain ledger
-by-reply : (c : Clocked) (now t : ℕ) (r : Reply) (o : Out Ledger) → clockedBy c now t r o .reply ≡ o .reply
+pub by-reply : (c : Clocked) (now t : ℕ) (r : Reply) (o : Out Ledger) → clockedBy c now t r o .reply ≡ o .reply
 by-reply c now t (refused n p) o = refl
 by-reply c now t (told n) o = refl
 by-reply c now t (counts k n) o = refl
 by-reply c now t (part q) o = refl
 
-by-ledger : (c : Clocked) (now t : ℕ) (r : Reply) (o : Out Ledger) → clockedBy c now t r o .then .ledger ≡ o .then
+pub by-ledger : (c : Clocked) (now t : ℕ) (r : Reply) (o : Out Ledger) → clockedBy c now t r o .then .ledger ≡ o .then
 by-ledger c now t (refused n p) o = refl
 by-ledger c now t (told n) o = refl
 by-ledger c now t (counts k n) o = refl
