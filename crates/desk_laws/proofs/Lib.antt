@@ -8,3 +8,8 @@ pub mod Noninterference
 pub mod Joins
 pub mod Reclaims
 pub mod Following
+pub mod Granted
+pub mod GrantedOnly
+pub mod Demand
+pub mod PoolNoninterference
+pub mod Chunks
