@@ -1,7 +1,7 @@
 -- The three demands, what a granted call does, the claim of demand 3 of a program that makes the calls, and the marked examples, side by
 -- side. Assumes nothing.
 use Rattle.line_parser.specs.Grammar.{Each}
-use Rattle.desk_laws.specs.Demand.{Demand3}
+use Rattle.desk_laws.specs.Demand.{Demand3, Demand3AsAsked}
 use Rattle.desk_laws.specs.Granted.{Granted}
 use Rattle.replay_laws.specs.Replays.{Replays}
 use Rattle.demands.specs.Examples.{Holds, marked}
@@ -12,6 +12,7 @@ pub record Demands : Type 0 where
   pub total : Demand1
   pub exact : Demand2
   pub separate : Demand3
+  pub separate-as-asked : Demand3AsAsked
   pub granted : Granted
   pub replays : Replays
   pub examples : Each Holds marked
