@@ -112,6 +112,8 @@ fn run_morning(count: usize) -> u8
     let p = cabbook_morning::play(count);
     match p {
         Ending::NoSize => usage::print_usage(b"--chunk takes a number from 1 to 16,384"),
+        Ending::NoTicks => usage::print_usage(b"--tick takes a number from 1 to 16,384"),
+        Ending::NoSlots => usage::print_usage(b"--slots takes a number from 1 to 40"),
         Ending::NoFile => usage::print_usage(b"morning needs a FILE"),
         Ending::Played(status) => status,
     }

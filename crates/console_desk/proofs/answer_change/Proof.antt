@@ -53,10 +53,10 @@ returns c =
     let call = c .before .before .before .before .before .before .call in
     let size = a .c .size in
     let p = now (a .pool) in
-    let q = call .last .1 .1 .1 .1 .0 in
+    let q = call .last .1 .1 .1 .1 .1 .0 in
     rw (← c .before .before .before .before .before .before .before .before .before .is-ticked .ensures .0, c .before .before .before .before .before .before .before .before .if1 .taken)
     (ap (λ (x : State). withPool x (q ++ drop (size - 0) p)) (c .before .before .answer-turn .ensures)
-    ∙ ap (λ (l : List ℕ). withPool (afterTurn (call .result) size (page (a .c .at) (now (a .out)))) l) (put-front p q size (c .before .before .before .before .before .before .before .before .before .is-ticked .ensures .1 (c .before .before .before .before .before .before .before .before .if1 .taken) .2) (call .kept .1 .1 .1 .1 .0))
+    ∙ ap (λ (l : List ℕ). withPool (afterTurn (call .result) size (page (a .c .at) (now (a .out)))) l) (put-front p q size (c .before .before .before .before .before .before .before .before .before .is-ticked .ensures .1 (c .before .before .before .before .before .before .before .before .if1 .taken) .2) (call .kept .1 .1 .1 .1 .1 .0))
     ∙ ap (λ (u : Turned). over u (stateOf (a .c) (now (a .out))) p)
     (call .ensures ∙ ap (λ (m : ℕ). changeOf (a .which) (a .c .desk) (take m p) (a .n) (a .tick) (now (a .chunk))) (less-none size)))
 
