@@ -103,11 +103,13 @@ pub(crate) fn begin(
 pub(crate) fn begin_round(mut m: Morning) -> Morning
     ensures { λ r. ⌜ r ≡ nextRound m ⌝ }
 {
-    if m.tick > u32::MAX - m.step {
+    let tick = m.tick;
+    let step = m.step;
+    if tick > u32::MAX - step {
         m.tick = u32::MAX;
         return m;
     }
-    m.tick = m.tick + m.step;
+    m.tick = tick + step;
     m
 }
 

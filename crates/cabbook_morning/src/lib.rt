@@ -184,6 +184,14 @@ fn run_rounds(m: Morning, pool: &mut [u8]) -> Morning {
     now
 }
 
+// Runs the rounds with as much of a pool as so many slots have.
+fn run_on(slots: usize, m: Morning, pool: &mut [u8]) -> Morning
+    requires { ⌜ slots ≤ limit.slots ⌝ }
+{
+    let n = octets::slices::least(slots * limit::OCTETS, pool.len());
+    run_rounds(m, &mut pool[..n])
+}
+
 // Runs the morning on a desk of so many slots with the files that the arguments from `first` on name.
 fn run(slots: usize, step: u32, first: usize, count: usize, chunk: usize) -> u8
     requires { ⌜ slots ≤ limit.slots ⌝ }
@@ -192,10 +200,10 @@ fn run(slots: usize, step: u32, first: usize, count: usize, chunk: usize) -> u8
     let width = options::widest(first, count);
     printing::print_titles(width);
     let mut pool = [0u8; limit::POOL];
-    let size = slots * limit::OCTETS;
-    let m = run_rounds(
+    let m = run_on(
+        slots,
         depot::begin(slots, step, first, count, chunk, width),
-        &mut pool[..size],
+        &mut pool,
     );
     printing::print_summary(
         m.accepted,

@@ -49,7 +49,7 @@ fn size_at(i: usize) -> usize
 }
 
 // An option's number where its name stands at an argument, else the usual one.
-fn setting(at: usize, name: &[u8], usual: usize) -> Setting
+fn read_setting(at: usize, name: &[u8], usual: usize) -> Setting
     requires { ⌜ at ≤ limit.octets ⌝ }
     ensures { λ r. ⌜ SetBy usual at (r .value) (r .next) ⌝ }
 {
@@ -71,9 +71,9 @@ fn setting(at: usize, name: &[u8], usual: usize) -> Setting
 pub fn read() -> Options
     ensures { λ r. ⌜ Chosen r ⌝ }
 {
-    let chunk = setting(AFTER_COMMAND, b"--chunk", USUAL_CHUNK);
-    let tick = setting(chunk.next, b"--tick", USUAL_TICK);
-    let slots = setting(tick.next, b"--slots", USUAL_SLOTS);
+    let chunk = read_setting(AFTER_COMMAND, b"--chunk", USUAL_CHUNK);
+    let tick = read_setting(chunk.next, b"--tick", USUAL_TICK);
+    let slots = read_setting(tick.next, b"--slots", USUAL_SLOTS);
     Options {
         chunk: chunk.value,
         tick: tick.value,

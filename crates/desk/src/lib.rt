@@ -135,9 +135,9 @@ impl Desk {
         match p {
             Position::Barred(r) => self.refuse(r, 0),
             Position::Nowhere => self.refuse(refusal::NO_FREE_SLOT, 0),
-            Position::At(i) => {
-                desk_pool::clear(pool, i);
-                self.begin(i, tram, tick)
+            Position::At(slot) => {
+                desk_pool::clear(pool, slot);
+                self.begin(slot, tram, tick)
             }
         }
     }

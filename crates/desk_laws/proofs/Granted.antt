@@ -280,7 +280,7 @@ module _ (d : Desk) (p : List ℕ) (u : Usable d p) where
                 ticks = record { tick = refl; stamps = refl };
                 answer = w;
                 next = refl;
-                pool = slot-zeroed p i (omega (arith, g .inside, u .size));
+                zeros = slot-zeroed p i (omega (arith, g .inside, u .size));
               },
             ),
           )

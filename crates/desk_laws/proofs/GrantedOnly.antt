@@ -125,4 +125,4 @@ module _ (d : Desk) (p : List ℕ) where
     released-only n i j v w r s a b x y =
         let o = slot-only i j v w (x .slot) (y .slot) in
         let z : Released d p t n i w s = subst (λ (k : ℕ). Released d p t n k w s) (o .0) y in
-        turned-only r s n a b (desk-freed (x .entries) (x .ticks) (z .entries) (z .ticks) (x .next ∙ sym (z .next))) (octets-only (x .pool) (z .pool))
+        turned-only r s n a b (desk-freed (x .entries) (x .ticks) (z .entries) (z .ticks) (x .next ∙ sym (z .next))) (octets-only (x .zeros) (z .zeros))

@@ -102,7 +102,7 @@ pub record Released (d : Desk) (p : List ℕ) (t n i : ℕ) (s : Session) (r : T
   pub ticks : TicksStay d (r .desk)
   pub answer : n ≡ 0
   pub next : r .desk .next ≡ d .next
-  pub pool : OctetsBecome p (i * limit.octets) limit.octets (λ k. 0) (r .pool)
+  pub zeros : OctetsBecome p (i * limit.octets) limit.octets (λ k. 0) (r .pool)
 
 pub record Granted : Type 0 where
   pub opens : (d : Desk) (p : List ℕ) → Usable d p → (m tick t : ℕ) → said (openStep d p m tick .answer) ≡ told t → Opens d p m tick t (openStep d p m tick)
