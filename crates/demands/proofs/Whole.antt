@@ -1,4 +1,5 @@
 -- The demands and the marked examples, proved. Assumes nothing.
+use Rattle.value_laws.proofs.ChoiceLaws.{choosing}
 use Rattle.desk_laws.proofs.Demand.{demand3, demand3-as-asked}
 use Rattle.desk_laws.proofs.Granted.{grants}
 use Rattle.replay_laws.proofs.Replays.{replays}
@@ -8,4 +9,4 @@ use Rattle.demands.proofs.Total.{demand1}
 use Rattle.demands.proofs.Exact.{demand2}
 
 pub demands : Demands
-demands = record { total = demand1; exact = demand2; separate = demand3; separate-as-asked = demand3-as-asked; granted = grants; replays = replays; examples = examples }
+demands = record { total = demand1; exact = demand2; separate = demand3; separate-as-asked = demand3-as-asked; granted = grants; replays = replays; choosing = choosing; examples = examples }

@@ -1,6 +1,9 @@
--- The three demands, what a granted call does, the claim of demand 3 of a program that makes the calls, and the marked examples, side by
--- side. Assumes nothing.
+-- The three demands, what a granted call does, the claim of demand 3 of a program that makes the calls, the rows that a name is compared
+-- with, and the marked examples, side by side. Assumes nothing.
+use Prim.Native.Nat.{ℕ}
+use mathlib.Core.List.{List}
 use Rattle.line_parser.specs.Grammar.{Each}
+use Rattle.value_laws.specs.Choice.{Choosing}
 use Rattle.desk_laws.specs.Demand.{Demand3, Demand3AsAsked}
 use Rattle.desk_laws.specs.Granted.{Granted}
 use Rattle.replay_laws.specs.Replays.{Replays}
@@ -15,4 +18,5 @@ pub record Demands : Type 0 where
   pub separate-as-asked : Demand3AsAsked
   pub granted : Granted
   pub replays : Replays
+  pub choosing : (v : List ℕ) → Choosing v
   pub examples : Each Holds marked

@@ -1,5 +1,5 @@
 -- The property table, by REFERENCE, The property table, the row of a name, and the kind of a line. Assumes nothing.
-use Prim.Native.Nat.{ℕ, zero, suc}
+use Prim.Native.Nat.{ℕ, zero, suc, _+_}
 use Prim.Native.String.{String}
 use mathlib.Core.Bool.{Bool, true, false, not, _&&_, _||_}
 use mathlib.Core.List.{List, [], _∷_, _++_}
@@ -10,7 +10,7 @@ use Rattle.numbers.specs.Properties as property
 use Rattle.numbers.specs.Kinds as kinds
 use Rattle.octets.specs.Pick.{pick}
 use Rattle.octets.specs.Classes.{bit}
-use Rattle.octets.specs.Cases.{same}
+use Rattle.octets.specs.Cases.{lower, same}
 use Rattle.octets.specs.Ascii.{octets}
 use Rattle.octets.specs.Tables.{TableOf}
 
@@ -83,17 +83,34 @@ noRow = record { name = []; kind = 0; times = often }
 unfoldable pub rowAt : ℕ → Row
 rowAt n = getD (noRow ∷ rows) n noRow
 
--- the number of the first row whose name has l octets, counted from i; 0 where there is none
-unfoldable pub sized : ℕ → ℕ → List Row → ℕ
-sized l i [] = 0
-sized l i (r ∷ rs) = pick (eqb (length (r .name)) l) i (sized l (suc i) rs)
+-- the first octet of a name, a capital as its small letter
+unfoldable pub initial : List ℕ → ℕ
+initial v = lower (getD v 0 0)
 
-unfoldable pub firstOf : ℕ → ℕ
-firstOf l = sized l 1 rows
+-- the row's name has l octets and starts with the letter c in either case
+unfoldable pub startsAs : ℕ → ℕ → Row → Bool
+startsAs l c r = eqb (length (r .name)) l && eqb (initial (r .name)) c
 
--- the first row after row n whose name is as long
+-- the row's name is as long as v and starts with the same letter in any case
+unfoldable pub agrees : List ℕ → Row → Bool
+agrees v = startsAs (length v) (initial v)
+
+-- the numbers, counted from i, of the rows that pass the test p
+unfoldable pub choice : (Row → Bool) → ℕ → List Row → List ℕ
+choice p i [] = []
+choice p i (r ∷ rs) = pick (p r) (i ∷ choice p (suc i) rs) (choice p (suc i) rs)
+
+-- the rows that a name is compared with
+unfoldable pub chosen : List ℕ → List ℕ
+chosen v = choice (agrees v) 1 rows
+
+-- the first of the rows with this length and letter; 0 where there is none
+unfoldable pub firstOf : ℕ → ℕ → ℕ
+firstOf l c = getD (choice (startsAs l c) 1 rows) 0 0
+
+-- the first row after row n that agrees with its name
 unfoldable pub nextOf : ℕ → ℕ
-nextOf n = sized (length (rowAt n .name)) (suc n) (drop n rows)
+nextOf n = getD (choice (agrees (rowAt n .name)) (suc n) (drop n rows)) 0 0
 
 unfoldable pub kindAt : ℕ → ℕ
 kindAt n = rowAt n .kind
@@ -154,18 +171,36 @@ longestName = 12
 abbrev pub rowLength : ℕ
 rowLength = 16
 
--- what the table has in the place of a row's name: the name, filled up by points; for row 0, which has none, the first row of each length
+-- what the table has in the place of a row's name: the name, filled up by points
 unfoldable pub nameEntries : ℕ → List ℕ
-nameEntries zero =
-    firstOf 1 ∷ firstOf 2 ∷ firstOf 3 ∷ firstOf 4 ∷ firstOf 5 ∷ firstOf 6 ∷
-    firstOf 7 ∷ firstOf 8 ∷ firstOf 9 ∷ firstOf 10 ∷ firstOf 11 ∷ firstOf 12 ∷ []
-nameEntries (suc n) = take longestName (rowAt (suc n) .name ++ octets "............")
+nameEntries n = take longestName (rowAt n .name ++ octets "............")
 
--- the sixteen entries that the table has for a row: those of its name, its number among the rows marked *1, its kind, the next row whose name
--- is as long, and 1 where VALUE sets the kind
+-- the sixteen entries that the table has for a row: those of its name, its number among the rows marked *1, its kind, the next row that agrees
+-- with its name, and 1 where VALUE sets the kind
 unfoldable pub entries : ℕ → List ℕ
 entries n = nameEntries n ++ onceAt n ∷ kindAt n ∷ nextOf n ∷ bit (takesValue n) 1 ∷ []
 
--- a list is the property table
-unfoldable pub Lists : List ℕ → Type 0
-Lists t = TableOf entries property.count t
+-- for names that start with c, the first row for each of k lengths from l on
+unfoldable pub firsts : ℕ → ℕ → ℕ → List ℕ
+firsts c l zero = []
+firsts c l (suc k) = firstOf l c ∷ firsts c (suc l) k
+
+-- how many letters there are, and the first of them
+abbrev pub letterCount : ℕ
+letterCount = 26
+
+abbrev pub firstLetter : ℕ
+firstLetter = 97
+
+-- the index's entries for names that start with the letter of this number, counted from 0: the first row for each length from 0 to 15
+unfoldable pub indexEntries : ℕ → List ℕ
+indexEntries n = firsts (firstLetter + n) 0 rowLength
+
+-- where the index starts: behind the rows
+abbrev pub indexStart : ℕ
+indexStart = 624
+
+-- a list is the property table: the rows, and behind them the index by letter and length
+pub record Lists (t : List ℕ) : Type 0 where
+  pub lines : TableOf entries property.count (take indexStart t)
+  pub index : TableOf indexEntries letterCount (drop indexStart t)

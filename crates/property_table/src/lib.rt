@@ -1,12 +1,13 @@
 // The property table: the row of a name, what a row says, and the kind that a VALUE parameter names.
 ghost use mathlib.Core.Path.{_≡_};
+ghost use mathlib.Core.Bool.{true};
 ghost use Prim.Native.Nat.{_+_, _*_, _<_, _≤_};
 ghost use lib.ListN.{length, getD};
 ghost use Rattle.numbers.specs.Limits as limit;
 ghost use Rattle.numbers.specs.Properties as property;
 ghost use Rattle.numbers.specs.Kinds as kinds;
 ghost use Rattle.octets.specs.Cases.{same};
-ghost use Rattle.property_table.specs.Rows.{longestName, rowLength, rowOf, rowAt, firstOf, nextOf, kindAt, onceAt, framing, takesValue, kindNamed, isGroup, Lists};
+ghost use Rattle.property_table.specs.Rows.{rowLength, rowOf, rowAt, initial, agrees, firstOf, nextOf, kindAt, onceAt, framing, takesValue, kindNamed, isGroup, Lists};
 
 pub mod rows;
 
@@ -28,11 +29,17 @@ const ONCE: usize = LONGEST;
 // The column of the kind.
 const KIND: usize = 13;
 
-// The column of the next row whose name is as long.
+// The column of the next row with a name as long and the same first letter.
 const NEXT: usize = 14;
 
 // The column with 1 where a VALUE parameter sets the kind.
 const VALUE: usize = 15;
+
+// The letter a, which the index starts with.
+const FIRST_LETTER: usize = 97;
+
+// Where the index starts, behind the rows; it has as many entries as a row for each letter, one for each length.
+const INDEX: usize = property::COUNT * ROW;
 
 // The table as a value, which its users are lent: a use of the constant in a loop would build it there at each turn.
 pub fn table() -> PropertyTable
@@ -49,17 +56,29 @@ fn entry(rows: &PropertyTable, row: usize, column: usize) -> usize
     wide(rows[row * ROW + column])
 }
 
-// The first row whose name has n octets, 0 for none.
-fn first_sized(rows: &PropertyTable, n: usize) -> usize
+// The first row whose name is as long as this one and starts with the same letter in any case, 0 for none.
+fn first_chosen(rows: &PropertyTable, name: &[u8]) -> usize
     requires { ⌜ Lists (now rows) ⌝ }
-    requires { ⌜ (0 < n) × (n ≤ longestName) ⌝ }
-    ensures { λ r. ⌜ r ≡ firstOf n ⌝ }
+    ensures { λ r. ⌜ r ≡ firstOf (length (now (name .entry))) (initial (now (name .entry))) ⌝ }
 {
-    wide(rows[n - 1])
+    if name.len() == 0 {
+        return 0;
+    }
+    if LONGEST < name.len() {
+        return 0;
+    }
+    let letter = name[0] | 32;
+    if letter < b'a' {
+        return 0;
+    }
+    if b'z' < letter {
+        return 0;
+    }
+    wide(rows[INDEX + (wide(letter) - FIRST_LETTER) * ROW + name.len()])
 }
 
-// The next row whose name is as long as this one's, 0 for none.
-fn next_sized(rows: &PropertyTable, row: usize) -> usize
+// The next row that agrees with this one's name in length and first letter, 0 for none.
+fn next_chosen(rows: &PropertyTable, row: usize) -> usize
     requires { ⌜ Lists (now rows) ⌝ }
     requires { ⌜ row < property.count ⌝ }
     ensures { λ r. ⌜ r ≡ nextOf row ⌝ }
@@ -67,15 +86,16 @@ fn next_sized(rows: &PropertyTable, row: usize) -> usize
     entry(rows, row, NEXT)
 }
 
-// Whether the row's name, which is as long, is this one without case: a capital and an octet differ at most in the bit of 32.
+// Whether the row's name, which is as long and starts with the same letter, is this one without case: a capital and an octet differ at most
+// in the bit of 32.
 fn spells(rows: &PropertyTable, row: usize, name: &[u8]) -> bool
     requires { ⌜ Lists (now rows) ⌝ }
     requires { ⌜ row < property.count ⌝ }
-    requires { ⌜ length (rowAt row .name) ≡ length (now name) ⌝ }
+    requires { ⌜ agrees (now name) (rowAt row) ≡ true ⌝ }
     ensures { λ r. ⌜ r ≡ same (now (name .entry)) (rowAt row .name) ⌝ }
 {
     let base = row * ROW;
-    let mut i: usize = 0;
+    let mut i: usize = 1;
     while i < name.len() {
         if name[i] | 32 != rows[base + i] | 32 {
             return false;
@@ -85,24 +105,18 @@ fn spells(rows: &PropertyTable, row: usize, name: &[u8]) -> bool
     true
 }
 
-// The number of the row with this name without case, or 0: only rows whose name is as long are looked at.
+// The number of the row with this name without case, or 0: only rows with a name as long and the same first letter are compared.
 pub fn find_row(rows: &PropertyTable, name: &[u8]) -> usize
     requires { ⌜ Lists (now rows) ⌝ }
     ensures { λ r. ⌜ r ≡ rowOf (now (name .entry)) ⌝ }
     ensures { λ r. ⌜ r < property.count ⌝ }
 {
-    if name.len() == 0 {
-        return 0;
-    }
-    if LONGEST < name.len() {
-        return 0;
-    }
-    let mut row = first_sized(rows, name.len());
+    let mut row = first_chosen(rows, name);
     while 0 < row {
         if spells(rows, row, name) {
             return row;
         }
-        row = next_sized(rows, row);
+        row = next_chosen(rows, row);
     }
     0
 }

@@ -4,3 +4,4 @@ pub mod KindLaws
 pub mod Plain
 pub mod Escapes
 pub mod RowLaws
+pub mod ChoiceLaws

@@ -9,6 +9,7 @@ use crate::console::Console;
 use crate::generator::folds::folds;
 use crate::generator::line_faults::line_faults;
 use crate::generator::lists::lists;
+use crate::generator::names::names;
 use crate::generator::protocol::protocol;
 use crate::generator::readers;
 use crate::generator::texts::texts;
@@ -20,6 +21,7 @@ pub struct Plan {
     pub protocol: usize,
     pub readers: usize,
     pub line_faults: usize,
+    pub names: usize,
     pub folds: usize,
     pub texts: usize,
     pub lists: usize,
@@ -34,6 +36,7 @@ impl Default for Plan {
             protocol: 1000,
             readers: 100_000,
             line_faults: 30_000,
+            names: 30_000,
             folds: 10_000,
             texts: 80_000,
             lists: 2_000,
@@ -61,6 +64,7 @@ pub fn steps(plan: Plan) -> impl Iterator<Item = Step> {
     (protocol().into_iter().take(plan.protocol).map(of("protocol")))
         .chain(readers(plan.seed).take(plan.readers).map(of("readers")))
         .chain(line_faults(plan.seed).take(plan.line_faults).map(of("line faults")))
+        .chain(names(plan.seed).take(plan.names).map(of("names")))
         .chain(folds(plan.seed).take(plan.folds).map(of("folds")))
         .chain(texts(plan.seed).take(plan.texts).map(of("texts")))
         .chain(calls)
@@ -98,9 +102,11 @@ fn routine_steps(plan: Plan) -> impl Iterator<Item = Step> {
     let of = |family| move |line| Step { family, begins: false, line };
     let judged = readers(plan.seed).filter(|line| line.starts_with("judge "));
     let faulty = line_faults(plan.seed).filter(|line| !line.starts_with("read "));
+    let named = names(plan.seed).filter(|line| line.starts_with("judge "));
     let unescaped = texts(plan.seed).filter(|line| line.starts_with("unescape "));
     (judged.take(plan.readers).map(of("readers")))
         .chain(faulty.take(plan.line_faults).map(of("line faults")))
+        .chain(named.take(plan.names).map(of("names")))
         .chain(folds(plan.seed).take(plan.folds).map(of("folds")))
         .chain(unescaped.take(plan.texts).map(of("texts")))
 }

@@ -10,6 +10,7 @@ fn small() -> Plan {
         protocol: 1000,
         readers: 2_000,
         line_faults: 300,
+        names: 200,
         folds: 500,
         texts: 1_000,
         lists: 60,
@@ -32,7 +33,7 @@ fn compare_side(side: Side, script: &str, plan: Plan) -> Result<String, String> 
 fn the_own_console_gives_the_same_answers() {
     let counts = compare(Side::Console, SELF, &["console".to_string()], small()).expect("no difference");
     assert!(counts.starts_with(
-        "same answers: protocol 128, readers 2000, line faults 300, folds 500, texts 1000, 60 lists of "
+        "same answers: protocol 128, readers 2000, line faults 300, names 200, folds 500, texts 1000, 60 lists of "
     ));
 }
 
@@ -47,7 +48,7 @@ fn a_changed_answer_is_reported_with_its_request() {
 
 #[test]
 fn a_difference_in_a_call_list_comes_with_the_calls_before_it() {
-    let plan = Plan { protocol: 0, readers: 0, line_faults: 0, folds: 0, texts: 0, ..small() };
+    let plan = Plan { protocol: 0, readers: 0, line_faults: 0, names: 0, folds: 0, texts: 0, ..small() };
     let report =
         compare_shell("\"$0\" console | sed 's/^ok 16384$/ok 16383/'", plan).expect_err("a difference");
     assert!(report.starts_with("difference in lists, request "), "{report}");
@@ -70,8 +71,17 @@ fn a_console_that_ends_early_or_says_too_much_or_ends_badly_differs() {
 
 #[test]
 fn families_that_the_console_does_not_know_can_be_left_out() {
-    let only_readers =
-        Plan { protocol: 0, readers: 500, line_faults: 0, folds: 0, texts: 0, lists: 0, desks: 0, seed: 1 };
+    let only_readers = Plan {
+        protocol: 0,
+        readers: 500,
+        line_faults: 0,
+        names: 0,
+        folds: 0,
+        texts: 0,
+        lists: 0,
+        desks: 0,
+        seed: 1,
+    };
     let script = "\"$0\" console | sed 's/^ok \\([0-9]*\\)$/gone/'";
     assert_eq!(compare_shell(script, only_readers), Ok("same answers: readers 500".to_string()));
     assert!(compare_shell(script, Plan { lists: 1, ..only_readers }).is_err());
@@ -83,14 +93,14 @@ fn the_c_routines_are_asked_for_what_they_answer() {
     // A text's octets may look like a count of lines to the pattern.
     let plan = Plan { texts: 0, ..small() };
     let same = compare_side(Side::Routines, counts_alone, plan);
-    assert_eq!(same, Ok("same answers: readers 2000, line faults 300, folds 500".to_string()));
+    assert_eq!(same, Ok("same answers: readers 2000, line faults 300, names 200, folds 500".to_string()));
     let lines_too = compare_side(Side::Routines, "\"$0\" console", plan).expect_err("a difference");
     assert!(lines_too.starts_with("difference in readers, request 1\nrequest:\njudge "), "{lines_too}");
     let touched = format!("{counts_alone} | sed 's/^no 15 .*/& touched/'");
     let report = compare_side(Side::Routines, &touched, plan).expect_err("a difference");
     assert!(report.starts_with("difference in folds, request "), "{report}");
     assert!(report.contains("request:\nfold ") && report.ends_with(" touched"), "{report}");
-    let unescapes = Plan { readers: 0, line_faults: 0, folds: 0, ..small() };
+    let unescapes = Plan { readers: 0, line_faults: 0, names: 0, folds: 0, ..small() };
     let same = compare_side(Side::Routines, "\"$0\" console", unescapes);
     assert_eq!(same, Ok("same answers: texts 1000".to_string()));
 }

@@ -5,10 +5,19 @@ use std::collections::HashSet;
 use independent::beside::{compare_desks, survey_desks};
 use independent::compare::{steps, Plan};
 use independent::generator::{
-    desks::desks, folds, folds::folds, hand, line_faults::line_faults, lists, lists::lists, readers, texts,
+    desks::desks,
+    folds,
+    folds::folds,
+    hand,
+    line_faults::line_faults,
+    lists,
+    lists::lists,
+    names::{names, names_by_hand, LONGEST},
+    readers, texts,
     texts::texts,
 };
 use independent::hex::word_of;
+use independent::properties::row_of;
 use independent::survey::{survey, Survey};
 
 /// How often a refusal number came.
@@ -40,6 +49,26 @@ fn line_faults_reach_40_to_43_in_every_request() {
         assert_eq!(times(&survey, 6), 0);
         assert!(survey.accepted >= 500, "{word}: {survey}");
     }
+}
+
+#[test]
+fn names_have_every_length_and_first_letter_and_reach_every_row() {
+    let by_hand: HashSet<Vec<u8>> = names_by_hand().into_iter().collect();
+    for length in 1..=LONGEST {
+        for first in (b'A'..=b'Z').chain(b'a'..=b'z').chain(b'0'..=b'9').chain([b'-']) {
+            assert!(by_hand.iter().any(|name| name.len() == length && name[0] == first), "{length} {first}");
+        }
+    }
+    let found: HashSet<u32> = by_hand.iter().map(|name| row_of(name).number).collect();
+    assert_eq!(found, (0..=38).collect());
+    let survey = survey(names(1).take(30_000));
+    for number in [7, 8, 9, 12] {
+        assert!(times(&survey, number) >= 10, "{number}: {survey}");
+    }
+    for kind in 0..=8 {
+        assert!(survey.kinds.get(&kind).is_some_and(|&count| count >= 10), "{kind}: {survey}");
+    }
+    assert!(survey.accepted >= 10_000 && survey.bad_requests == 0, "{survey}");
 }
 
 #[test]
@@ -151,8 +180,17 @@ fn no_line_is_longer_than_the_console_takes() {
 
 #[test]
 fn a_family_of_0_is_left_out() {
-    let plan =
-        Plan { protocol: 0, readers: 10, line_faults: 0, folds: 0, texts: 5, lists: 0, desks: 0, seed: 1 };
+    let plan = Plan {
+        protocol: 0,
+        readers: 10,
+        line_faults: 0,
+        names: 0,
+        folds: 0,
+        texts: 5,
+        lists: 0,
+        desks: 0,
+        seed: 1,
+    };
     let families: Vec<&str> = steps(plan).map(|step| step.family).collect();
     assert_eq!(families, [["readers"; 10].as_slice(), &["texts"; 5]].concat());
 }

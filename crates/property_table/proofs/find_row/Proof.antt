@@ -5,7 +5,7 @@ use mathlib.Core.List.{List}
 use Prim.Native.Nat.{ℕ, zero, suc, _-_, _%_, _<_}
 use native.Mathlib.Omega.{arith}
 use Rattle.property_table.specs.Rows.{nextOf}
-use Rattle.property_table.proofs.RowLaws.{Along, Sized, along-first, sized-next, search-found, search-long, search-empty}
+use Rattle.property_table.proofs.RowLaws.{Along, Onward, along-first, onward-next, search-found}
 use Rattle.property_table.proofs.find_row.Statement.{statement}
 use Rattle.property_table.proofs.find_row.Tie as tie
 
@@ -20,56 +20,50 @@ falls : (n m : ℕ) → 0 < n → n < 39 → m < 39 → (0 < m → n < m) → (3
 falls n zero p h l f = omega arith
 falls n (suc m) p h l f = let up = f (omega arith) in omega arith
 
-returns : tie.Need-returns Inv-loop μ-loop
-returns c = (sym (search-empty (c .before .before .args .name .now) (c .if1 .taken)), omega arith)
-
-returns-2 : tie.Need-returns-2 Inv-loop μ-loop
-returns-2 c = (sym (search-long (c .before .before .before .args .name .now) (c .if2 .taken)), omega arith)
-
-first-sized-requires : tie.Need-first-sized-requires Inv-loop μ-loop
-first-sized-requires c κs = search needs
+first-chosen-requires : tie.Need-first-chosen-requires Inv-loop μ-loop
+first-chosen-requires c κs = search needs
 
 loop-holds : tie.Need-loop-holds Inv-loop μ-loop
-loop-holds c = rw (c .first-sized .ensures) (along-first (c .before .before .before .before .args .name .now))
+loop-holds c = rw (c .first-chosen .ensures) (along-first (c .before .before .args .name .now))
 
 spells-requires : tie.Need-spells-requires Inv-loop μ-loop
-spells-requires c κs = (search needs, (c .before .loop .inv .low, c .before .loop .inv .long (c .loop-test .taken)))
+spells-requires c κs = (search needs, (c .before .loop .inv .low, c .before .loop .inv .agree (c .loop-test .taken)))
 
-returns-3 : tie.Need-returns-3 Inv-loop μ-loop
-returns-3 c =
+returns : tie.Need-returns Inv-loop μ-loop
+returns c =
     let i = c .before .before in
     let l = i .before in
-    let v = l .before .before .before .before .before .args .name .now in
+    let v = l .before .before .before .args .name .now in
     let on = l .loop .inv in
-    (sym (on .here (i .loop-test .taken) ∙ search-found v (l .loop .row) (on .low) (sym (c .before .spells .ensures) ∙ c .if3 .taken)), on .low)
+    (sym (on .here (i .loop-test .taken) ∙ search-found v (l .loop .row) (on .low) (sym (c .before .spells .ensures) ∙ c .if1 .taken)), on .low)
 
-next-sized-requires : tie.Need-next-sized-requires Inv-loop μ-loop
-next-sized-requires c κs = (search needs, c .before .before .before .loop .inv .low)
+next-chosen-requires : tie.Need-next-chosen-requires Inv-loop μ-loop
+next-chosen-requires c κs = (search needs, c .before .before .before .loop .inv .low)
 
 -- the turn's start, and the name
-abbrev start : tie.Else3 Inv-loop μ-loop → tie.At-loop Inv-loop μ-loop
+abbrev start : tie.Else1 Inv-loop μ-loop → tie.At-loop Inv-loop μ-loop
 start c = c .before .before .before
 
 abbrev sought : tie.At-loop Inv-loop μ-loop → List ℕ
-sought l = l .before .before .before .before .before .args .name .now
+sought l = l .before .before .before .args .name .now
 
 -- the search goes on at the next row, which comes later
-onward : (c : tie.Else3 Inv-loop μ-loop) → Sized (sought (start c)) (suc (start c .loop .row)) (nextOf (start c .loop .row))
+onward : (c : tie.Else1 Inv-loop μ-loop) → Onward (sought (start c)) (suc (start c .loop .row)) (nextOf (start c .loop .row))
 onward c =
     let l = start c in
-    sized-next (sought l) (l .loop .row) (c .before .before .loop-test .taken) (l .loop .inv) (sym (c .before .spells .ensures) ∙ c .if3 .left)
+    onward-next (sought l) (l .loop .row) (c .before .before .loop-test .taken) (l .loop .inv) (sym (c .before .spells .ensures) ∙ c .if1 .left)
 
 loop-less : tie.Need-loop-less Inv-loop μ-loop
 loop-less c =
     let l = start (c .before) .loop in
     let on = onward (c .before) in
-    rw (c .next-sized .ensures) (falls (l .row) (nextOf (l .row)) (c .before .before .before .loop-test .taken) (l .inv .low) (on .on .low) (on .after))
+    rw (c .next-chosen .ensures) (falls (l .row) (nextOf (l .row)) (c .before .before .before .loop-test .taken) (l .inv .low) (on .on .low) (on .after))
 
 loop-again : tie.Need-loop-again Inv-loop μ-loop
-loop-again c = rw (c .next-sized .ensures) (onward (c .before) .on)
+loop-again c = rw (c .next-chosen .ensures) (onward (c .before) .on)
 
-returns-4 : tie.Need-returns-4 Inv-loop μ-loop
-returns-4 c =
+returns-2 : tie.Need-returns-2 Inv-loop μ-loop
+returns-2 c =
     let over : c .before .loop .row ≡ 0 = omega arith in
     (sym (c .before .loop .inv .over over), omega arith)
 
@@ -79,13 +73,11 @@ find-row-spec =
     (tie.spec
     Inv-loop
     μ-loop
-    returns
-    returns-2
-    first-sized-requires
+    first-chosen-requires
     loop-holds
     spells-requires
-    returns-3
-    next-sized-requires
+    returns
+    next-chosen-requires
     loop-less
     loop-again
-    returns-4)
+    returns-2)

@@ -8,6 +8,7 @@ pub mod hand;
 pub mod line_faults;
 pub mod lists;
 pub mod mutation;
+pub mod names;
 pub mod protocol;
 pub mod rooms;
 pub mod texts;
