@@ -205,13 +205,7 @@ fn run(slots: usize, step: u32, first: usize, count: usize, chunk: usize) -> u8
         depot::begin(slots, step, first, count, chunk, width),
         &mut pool,
     );
-    printing::print_summary(
-        m.accepted,
-        m.refused,
-        m.reclaimed,
-        m.unread,
-        m.differing,
-    )
+    printing::print_summary(m.accepted, m.refused, m.reclaimed, m.unread, m.differing)
 }
 
 // How a morning went: the options had no size of a chunk, no ticks of a round, no count of slots or no file; or it was played, with an exit status.
@@ -243,11 +237,5 @@ pub fn play(count: usize) -> Ending
     if o.first >= count {
         return Ending::NoFile;
     }
-    Ending::Played(run(
-        o.slots,
-        o.tick as u32,
-        o.first,
-        count,
-        o.chunk,
-    ))
+    Ending::Played(run(o.slots, o.tick as u32, o.first, count, o.chunk))
 }

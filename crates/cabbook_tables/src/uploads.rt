@@ -125,14 +125,7 @@ pub fn put_summary(
     ensures { λ r. ⌜ page r (now (room .exit)) ≡ added (summary accepted refused reclaimed differing unread) (page at (now (room .entry))) ⌝ }
 {
     let totals_end = put_totals(room, at, accepted, refused);
-    let reclaimed_end = put_note(
-        room,
-        totals_end,
-        reclaimed,
-        b"",
-        b" upload",
-        b" reclaimed",
-    );
+    let reclaimed_end = put_note(room, totals_end, reclaimed, b"", b" upload", b" reclaimed");
     let comparison_end = put_note(
         room,
         reclaimed_end,

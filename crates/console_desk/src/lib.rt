@@ -168,7 +168,14 @@ pub fn answer_change(
 {
     let size = c.size;
     if is_ticked(n, tick, size, pool) {
-        let t = call(which, c.desk, n as u32, tick as u32, chunk, &mut pool[0..size]);
+        let t = call(
+            which,
+            c.desk,
+            n as u32,
+            tick as u32,
+            chunk,
+            &mut pool[0..size],
+        );
         return answer_turn(t, size, out, c.at);
     }
     c.answer_bad(out)

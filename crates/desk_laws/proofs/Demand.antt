@@ -4,15 +4,15 @@ use mathlib.Core.Path.{_≡_, refl, sym, ap, subst, _∙_}
 use mathlib.Core.Bool.{Bool, true, false, not}
 use mathlib.Core.List.{List, [], _∷_, _++_, map}
 use native.Mathlib.Omega.{arith}
-use lib.Dec.{ltb, leb, eqb}
-use lib.ListN.{length, getD, take, getD-replicate}
+use lib.Dec.{leb, eqb}
+use lib.ListN.{length, take}
 use borrow.Author.Tests.{leb-true, le-leb, eqb-true, eqb-false, eq-eqb, ne-eqb}
 use Rattle.octets.specs.Pick.{pick}
 use Rattle.reader.specs.Outcome.{judgeOf}
 use Rattle.desk_entries.specs.Search.{firstAt, lowestAt}
 use Rattle.desk_slots.specs.Sound.{stateAt, tickAt}
 use Rattle.desk_slots.specs.Slots.{isFree, freeAt, idleAt, idleOf}
-use Rattle.desk.specs.Steps.{Sound, Turned, refused, seen as counts-as, idleSlot, newStep, reclaimIn, openIn, openStep, octetsIn, showStep, heldStep, judgeStep}
+use Rattle.desk.specs.Steps.{Sound, Turned, refused, seen as counts-as, newStep, reclaimIn, openIn, openStep, octetsIn, showStep, heldStep, judgeStep}
 use Rattle.desk_entries.proofs.Searches.{clash, firstAt-is, firstAt-not, unbarred, lowestAt-is, lowestAt-not, lowest-unbarred}
 use Rattle.desk_slots.proofs.SlotLaws.{free-is, slot-inside}
 use Rattle.desk.proofs.DeskLaws.{is-sound}
@@ -23,9 +23,9 @@ use Rattle.desk_entries.specs.declared.State.{State}
 use Rattle.desk_entries.specs.declared.State.the-variants.{Free, Open}
 use Rattle.desk.specs.declared.Desk.{Desk}
 use Rattle.desk_ledger.specs.Answers.{Reply, refused as refusal, told, counts, part, verdict, said}
-use Rattle.desk_ledger.specs.Ledger.{Deed, adds, judges, shows, asks, releases, Call, opens, on, Found, absent, present, shut, answer, leaves, Row, Ledger, lookup, change, Out, ledgerStep, freshLedger, run, after}
+use Rattle.desk_ledger.specs.Ledger.{Deed, adds, judges, shows, asks, releases, Call, opens, on, Found, absent, present, shut, answer, leaves, Ledger, lookup, change, Out, ledgerStep, freshLedger, after}
 use Rattle.desk_ledger.specs.Uploads.{keep, mine, own, solo, joined}
-use Rattle.desk_ledger.specs.Ticks.{idleTicks, deed, releasing, Ticked, opensAt, addsAt, asksOf, plain, Clocked, stampOf, counted, idle, Whose, nobody, of, lowestIdle, taken, takes, freed, clockedBy, plainOut, clockedStep, freshClocked, runTicked, afterTicked, Spared, ReclaimsNone, SameTicked, same-opening, same-add, same-ask, SameTickedCalls, none, next}
+use Rattle.desk_ledger.specs.Ticks.{deed, releasing, Ticked, opensAt, addsAt, asksOf, plain, Clocked, stampOf, counted, idle, Whose, nobody, of, lowestIdle, taken, takes, freed, clockedBy, plainOut, clockedStep, freshClocked, runTicked, afterTicked, ReclaimsNone, SameTicked, same-opening, same-add, same-ask, SameTickedCalls, none, next}
 use Rattle.desk_ledger.specs.Desks.{World, deskStep, fresh, Proper, answers, world, ledgerAnswers, ledger}
 use Rattle.desk_laws.specs.Demand.{OpenOn, OpenIn, Holds, Afterwards, Grants, Kept, ownAnswers, deedsOn, onAt, asked, Alike, Taken, Reclaims, Closed, used-up, no-slot, Opening, Demand3, Demand3AsAsked}
 use Rattle.desk_laws.proofs.LedgerRows.{no, Below, below-absent, length-close}
@@ -382,8 +382,12 @@ module _ (n : ℕ) (p : List ℕ) (f : Proper n p) (xs : List Ticked) (m τ t : 
   grants : Grants n p xs m τ (c .ledger .next)
   grants =
       step-follows (world n p xs) c (opensAt m τ) (then-follows n p f xs) .same ∙ step-reply c (opensAt m τ) ∙ ap (λ (o : Out Ledger). o .reply) out-so
-      ∙ rw (low .row, ne-eqb (c .ledger .next) 4294967295 (how .0), ne-eqb (length (change (c .ledger .rows) t absent)) (c .ledger .slots)
-      (λ x. omega (arith, length-close (c .ledger .rows) t (low .octets) (low .row), how .1)))
+      ∙ rw (
+        low .row,
+        ne-eqb (c .ledger .next) 4294967295 (how .0),
+        ne-eqb (length (change (c .ledger .rows) t absent)) (c .ledger .slots)
+            (λ x. omega (arith, length-close (c .ledger .rows) t (low .octets) (low .row), how .1)),
+      )
 
   closed-row : (ys : List Ticked) → lookup (ledger n (xs ++ opensAt m τ ∷ ys) .ledger .rows) t ≡ absent
   closed-row ys =

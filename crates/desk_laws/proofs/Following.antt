@@ -1,21 +1,20 @@
 -- Refinement with ticks: each call is answered on the desk as in the ledger with ticks and keeps their relation; so is every list of calls.
 -- Assumes nothing.
-use Prim.Native.Nat.{ℕ, zero, suc, _+_, _*_, _<_, _≤_}
+use Prim.Native.Nat.{ℕ, _+_, _*_, _<_, _≤_}
 use mathlib.Core.Path.{_≡_, refl, sym, ap, subst, _∙_}
 use mathlib.Core.Bool.{Bool, true, false, not}
 use mathlib.Core.List.{List, [], _∷_}
 use native.Mathlib.Omega.{arith}
 use lib.Dec.{ltb, leb, eqb}
-use lib.ListN.{length, set, replicate, length-set, length-replicate, getD-replicate}
+use lib.ListN.{length, set, length-set, length-replicate, getD-replicate}
 use lib.Seq.{getD-set-same, getD-set-other, set-set}
-use borrow.Author.Tests.{ltb-true, ltb-false, leb-true, eqb-true, eqb-false, eq-eqb, ne-eqb}
+use borrow.Author.Tests.{ltb-true, eqb-true, eqb-false, eq-eqb, ne-eqb}
 use Rattle.octets.specs.Pick.{pick}
-use Rattle.desk_entries.specs.Entries.{ticketOf}
 use Rattle.desk_entries.specs.Search.{firstAt, lowestAt}
 use Rattle.desk_slots.specs.Sound.{none, stateAt, tickAt}
-use Rattle.desk_slots.specs.Slots.{isFree, freeAt, idleAt, idleOf}
+use Rattle.desk_slots.specs.Slots.{freeAt, idleAt, idleOf}
 use Rattle.desk_pool.specs.Pools.{patch, zeros}
-use Rattle.desk.specs.Steps.{Turned, refused as refusing, newStep, slotOf, seen as counts-as, idleSlot, stamped, opened, reclaimIn, openIn, openStep, grown, withState, addIn, addStep, releaseIn, releaseStep, octetsIn}
+use Rattle.desk.specs.Steps.{Turned, refused as refusing, newStep, slotOf, seen as counts-as, stamped, opened, reclaimIn, openIn, openStep, grown, withState, addIn, addStep, releaseIn, releaseStep, octetsIn}
 use Rattle.desk_entries.proofs.Searches.{clash, firstAt-is, firstAt-not, unbarred, LowestIs, lowestAt-is, lowestAt-not, lowest-unbarred}
 use Rattle.desk_slots.proofs.SoundLaws.{in-bounds}
 use Rattle.desk_slots.proofs.SlotLaws.{free-is, slot-inside}
@@ -31,11 +30,11 @@ use Rattle.desk.specs.declared.Answer.the-variants.{Done}
 use Rattle.desk_slots.specs.declared.Slot.{Slot}
 use Rattle.desk_slots.specs.declared.Slot.the-variants.{Held, No}
 use Rattle.desk_ledger.specs.Answers.{said}
-use Rattle.desk_ledger.specs.Ledger.{adds, releases, opens, on, Reply, refused, told, Found, absent, present, leaves, Row, Ledger, lookup, change, Out, ledgerStep, freshLedger}
+use Rattle.desk_ledger.specs.Ledger.{adds, opens, on, Reply, told, absent, present, Ledger, lookup, change, Out, ledgerStep}
 use Rattle.desk_ledger.specs.Ticks.{Ask, judging, showing, counting, releasing, deed, Ticked, opensAt, addsAt, asksOf, Stamp, Clocked, stampOf, counted, idle, Whose, nobody, of, lowestIdle, takes, freed, clockedBy, clockedStep, freshClocked, runTicked, afterTicked}
 use Rattle.desk_ledger.specs.Desks.{World, took, askStep, deskStep}
 use Rattle.desk_laws.proofs.LedgerRows.{no, length-close}
-use Rattle.desk_laws.proofs.Counts.{count, count-le, count-full}
+use Rattle.desk_laws.proofs.Counts.{count-le, count-full}
 use Rattle.desk_laws.proofs.Relation.{same-at, other-at, taken, Refines, Timed, Follows, View, seen, unseen, view}
 use Rattle.desk_laws.proofs.Refinement.{Simulates, deedStep, on-refines, released, granted-open, fresh-refines}
 use Rattle.desk_laws.proofs.Reclaims.{by-reply, by-ledger, Settles, none-idle, lowest-idle, settles}

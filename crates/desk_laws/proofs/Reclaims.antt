@@ -1,17 +1,16 @@
 -- The ledger with ticks is the plain ledger with a release before each opening that takes a session; and whose session that is. Assumes nothing.
-use Prim.Native.Nat.{ℕ, _+_, _<_, _≤_}
+use Prim.Native.Nat.{ℕ, _+_, _≤_}
 use mathlib.Core.Path.{_≡_, refl, sym, ap, _∙_}
 use mathlib.Core.Bool.{Bool, true, false}
 use mathlib.Core.List.{List, [], _∷_, _++_, map}
 use native.Mathlib.Omega.{arith}
 use lib.Dec.{ltb, eqb}
-use lib.ListN.{length}
-use borrow.Author.Tests.{ltb-true, ltb-false, eqb-true, eqb-false, eq-eqb, ne-eqb}
+use borrow.Author.Tests.{ltb-true, ltb-false, eqb-true, eq-eqb, ne-eqb}
 use Rattle.octets.specs.Pick.{pick}
 use Rattle.desk_entries.proofs.Searches.{clash}
-use Rattle.desk_ledger.specs.Ledger.{Deed, adds, releases, Call, opens, on, Reply, refused, told, counts, part, Found, absent, present, Row, Ledger, lookup, Out, ledgerStep, run, after}
+use Rattle.desk_ledger.specs.Ledger.{Deed, adds, releases, Call, on, Reply, refused, told, counts, part, present, Row, Ledger, lookup, Out, ledgerStep, run, after}
 use Rattle.desk_ledger.specs.Uploads.{keep, mine, own, chunk, joined}
-use Rattle.desk_ledger.specs.Ticks.{Ticked, opensAt, addsAt, asksOf, plain, deed, Clocked, counted, idle, Whose, nobody, of, lower, lowerIf, lowestIdle, takes, taken, freed, clockedBy, plainOut, clockedStep, runTicked, afterTicked, Spares, Spared, ReclaimsNone}
+use Rattle.desk_ledger.specs.Ticks.{Ticked, opensAt, addsAt, asksOf, plain, deed, Clocked, counted, idle, Whose, nobody, of, lowerIf, lowestIdle, takes, taken, freed, clockedBy, plainOut, clockedStep, runTicked, afterTicked, Spares, Spared, ReclaimsNone}
 use Rattle.desk_laws.proofs.LedgerRows.{no}
 
 -- ---- one call

@@ -9,19 +9,14 @@ use lib.Dec.{ltb, eqb}
 use lib.ListN.{length, drop, set, replicate, length-set, length-drop, getD-replicate}
 use lib.Seq.{length-take-le, getD-set-same, getD-set-other}
 use borrow.Author.Tests.{ltb-false, eqb-true, eqb-false, eq-eqb, ne-eqb}
-use Rattle.octets.specs.Pick.{pick}
-use Rattle.desk_entries.specs.Search.{firstAt}
 use Rattle.desk_slots.specs.Sound.{none, stateAt, Fit}
-use Rattle.desk_slots.specs.Slots.{isFree, freeAt}
+use Rattle.desk_slots.specs.Slots.{isFree}
 use Rattle.desk_pool.specs.Pools.{patch, zeros}
 use Rattle.desk_pool.proofs.Patches.{zeros-length}
 use Rattle.desk.specs.Steps.{Sound, newStep, slotOf, stamped, opened, grown, withState, addIn, releaseStep, octetsIn, showStep, heldStep, judgeStep}
-use Rattle.desk_entries.proofs.Searches.{clash, firstAt-is, firstAt-not, unbarred}
+use Rattle.desk_entries.proofs.Searches.{clash}
 use Rattle.desk_slots.proofs.SoundLaws.{in-bounds}
-use Rattle.desk_slots.proofs.SlotLaws.{free-is}
-use Rattle.desk.proofs.DeskLaws.{is-sound, Granted}
-use Rattle.desk_entries.specs.declared.tickets.Position.{Position}
-use Rattle.desk_entries.specs.declared.tickets.Position.the-variants.{At, Nowhere, Barred}
+use Rattle.desk.proofs.DeskLaws.{Granted}
 use Rattle.desk_entries.specs.declared.Session.{Session}
 use Rattle.desk_entries.specs.declared.Entry.{Entry}
 use Rattle.desk_entries.specs.declared.State.{State}
@@ -33,8 +28,8 @@ use Rattle.desk_ledger.specs.Ticks.{judging, showing, counting, releasing}
 use Rattle.desk_ledger.specs.Desks.{World, took, askStep}
 use Rattle.desk_laws.proofs.LedgerRows.{no, change-same, change-other, change-absent, change-back, below-change, length-put, length-close}
 use Rattle.desk_laws.proofs.Patched.{patch-in, length-patch, patch-other}
-use Rattle.desk_laws.proofs.Counts.{count, count-same, count-le, count-zero, count-full, count-more}
-use Rattle.desk_laws.proofs.Relation.{same-at, other-at, Later, sound-set, taken, Refines, is-open, is-free, backed-set, View, seen, unseen, view}
+use Rattle.desk_laws.proofs.Counts.{count, count-same, count-zero, count-more}
+use Rattle.desk_laws.proofs.Relation.{same-at, other-at, Later, sound-set, taken, Refines, is-open, is-free, backed-set, View, seen, unseen}
 
 -- the same answer, and the relation holds on
 pub record Simulates (a : Out World) (b : Out Ledger) : Type 0 where

@@ -2,9 +2,7 @@
 -- its proper pool; and as it is asked, over lists that reclaim no session. Assumes nothing.
 use Prim.Native.Nat.{ℕ, _+_, _*_, _<_, _≤_}
 use mathlib.Core.Path.{_≡_}
-use mathlib.Core.Bool.{true}
 use mathlib.Core.List.{List, [], _∷_, _++_, map}
-use lib.Dec.{leb}
 use lib.ListN.{length, getD, take}
 use Rattle.numbers.specs.Limits as limit
 use Rattle.numbers.specs.Refusals as refusal
@@ -17,7 +15,7 @@ use Rattle.desk.specs.declared.Desk.{Desk}
 use Rattle.desk_ledger.specs.Answers.{Reply, refused, told, part, verdict, said}
 use Rattle.desk_ledger.specs.Ledger.{Deed, adds, judges, shows, asks, releases, present, shut, Ledger, lookup, ledgerStep, freshLedger, run}
 use Rattle.desk_ledger.specs.Uploads.{mine, own, solo, joined}
-use Rattle.desk_ledger.specs.Ticks.{idleTicks, judging, showing, counting, releasing, Ticked, opensAt, addsAt, asksOf, plain, Clocked, stampOf, counted, Whose, nobody, of, taken, clockedStep, freshClocked, runTicked, afterTicked, Spared, ReclaimsNone, SameTickedCalls}
+use Rattle.desk_ledger.specs.Ticks.{idleTicks, judging, showing, counting, releasing, Ticked, opensAt, addsAt, asksOf, plain, Clocked, stampOf, counted, of, taken, clockedStep, freshClocked, runTicked, Spared, ReclaimsNone, SameTickedCalls}
 use Rattle.desk_ledger.specs.Desks.{World, deskStep, Proper, answers, world, ledgerAnswers, ledger}
 
 -- a ticket is open on a desk; in a ledger

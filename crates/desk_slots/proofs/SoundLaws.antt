@@ -7,11 +7,11 @@ use native.Mathlib.Omega.{arith}
 use lib.Dec.{ltb, eqb}
 use Rattle.octets.specs.Pick.{pick}
 use borrow.Author.Tests.{ltb-true, ltb-false, leb-true, eqb-true, eqb-false, ne-eqb, lt-ltb, le-ltb, le-leb}
-use Rattle.desk_entries.specs.Search.{allAt, anyAt, column, among}
+use Rattle.desk_entries.specs.Search.{allAt, among}
 use Rattle.desk_slots.specs.Sound.{stateAt, Fit, Sound, tickAt, SoundAt, ticketAt, fitsAt, goodAt, bounds, sound, aheadIn, soundAt}
-use Rattle.desk_entries.specs.Entries.{ticketOf, fits}
-use Rattle.desk_entries.specs.Ticks.{ahead, aheadBy}
-use Rattle.desk_entries.proofs.Searches.{clash, pick-both, allAt-all, all-allAt, among-not, not-among, anyAt-not, not-anyAt, anyAt-same}
+use Rattle.desk_entries.specs.Entries.{fits}
+use Rattle.desk_entries.specs.Ticks.{aheadBy}
+use Rattle.desk_entries.proofs.Searches.{clash, pick-both, allAt-all, all-allAt, among-not, not-among, anyAt-not, not-anyAt}
 use Rattle.desk_entries.specs.declared.Session.{Session}
 use Rattle.desk_entries.specs.declared.State.{State}
 use Rattle.desk_entries.specs.declared.State.the-variants.{Free, Open}

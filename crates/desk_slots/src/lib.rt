@@ -83,10 +83,7 @@ pub fn find_idle(
     requires { ⌜ slots ≤ limit.slots ⌝ }
     ensures { λ r. ⌜ r ≡ idleOf entries slots (now (stamps .entry)) at ⌝ }
 {
-    let mut lowest = Lowest {
-        ticket: 0,
-        at: 0,
-    };
+    let mut lowest = Lowest { ticket: 0, at: 0 };
     let mut i: usize = 0;
     while i < slots {
         let u = desk_entries::idle_ticket(entries[i], stamps[i], at);

@@ -1,5 +1,4 @@
 -- `cabbook_morning::take_file` meets its contract. Assumes nothing.
-use denote.Ref.{now}
 use mir.Syntax.{w32}
 use mir.Val.{ofZ, toZ}
 use mathlib.Core.Path.{refl, ap}

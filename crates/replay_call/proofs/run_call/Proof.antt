@@ -1,16 +1,16 @@
 -- `replay_call::run_call` meets its contract. Assumes nothing.
 use Prim.Native.Nat.{ℕ, _+_, _-_}
-use mathlib.Core.Path.{_≡_, ap, _∙_}
+use mathlib.Core.Path.{ap, _∙_}
 use denote.Ref.{now}
 use native.Mathlib.Omega.{arith}
 use lib.ListN.{getD, take, drop}
 use Rattle.desk_pool.proofs.Patches.{part-size}
 use Rattle.desk_ledger.specs.Ledger.{Out}
-use Rattle.desk_ledger.specs.Desks.{World, askStep, deskStep}
-use Rattle.replay_script.specs.Scripts.{queryOf, callOf}
+use Rattle.desk_ledger.specs.Desks.{World}
+use Rattle.replay_script.specs.Scripts.{callOf}
 use Rattle.replay_call.specs.Stepped.{worldOf}
 use Rattle.replay_script.proofs.ScriptLaws.{needed-add, needed-open, whole}
-use Rattle.replay_call.proofs.CallLaws.{step-query, Acts, open-acts, add-acts, release-acts, acts-steps, query-steps}
+use Rattle.replay_call.proofs.CallLaws.{step-query, open-acts, add-acts, release-acts, acts-steps, query-steps}
 use borrow.Author.Needs.{needs}
 use Rattle.replay_call.proofs.run_call.Statement.{statement}
 use Rattle.replay_call.proofs.run_call.Tie as tie

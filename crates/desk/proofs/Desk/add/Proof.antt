@@ -1,93 +1,68 @@
+-- `desk::Desk::add` meets its contract. Assumes nothing.
 use denote.Ref.{now}
-use mathlib.Core.Path.{_≡_, sym, ap, _∙_}
 use native.Mathlib.Omega.{arith}
 use Rattle.desk.proofs.DeskLaws.{add-barred, add-full, add-done}
 use borrow.Author.Needs.{needs}
 use Rattle.desk.proofs.Desk.add.Statement.{statement}
 use Rattle.desk.proofs.Desk.add.Tie as tie
-use Rattle.desk.proofs.Desk.add.Reads as reads
-use Rattle.desk.proofs.Desk.add.Lts as lts
-use Rattle.desk.proofs.Desk.at_ticket.Reads as at-ticket-reads
-use Rattle.desk.proofs.Desk.grant.Reads as grant-reads
-use Rattle.desk.proofs.Desk.refuse.Reads as refuse-reads
-use Rattle.desk.proofs.Desk.stamp.Reads as stamp-reads
-use Rattle.desk_entries.proofs.ticks.higher.Reads as higher-reads
-use Rattle.desk_pool.proofs.put.Reads as put-reads
 
--- src/lib.rt:174:13
 at-ticket-requires : tie.Need-at-ticket-requires
 at-ticket-requires c κs = search needs
 
--- src/lib.rt:176:22
 enum-known-slot : tie.Need-enum-known-slot
 enum-known-slot c = search needs
 
--- src/lib.rt:176:28
 refuse-requires : tie.Need-refuse-requires
 refuse-requires c κs = search needs
 
--- src/lib.rt:177:24
 enum-known-slot-2 : tie.Need-enum-known-slot-2
 enum-known-slot-2 c = search needs
 
--- src/lib.rt:178:25
 cast-h : tie.Need-cast-h
 cast-h c = search needs
 
--- src/lib.rt:179:34
 sub-if1 : tie.Need-sub-if1
 sub-if1 c =
     let g = rw (c .before .before .slot2 .given .1) at (c .before .before .before .before .at-ticket .ensures .1) in omega arith
 
--- src/lib.rt:180:21
 refuse-requires-2 : tie.Need-refuse-requires-2
 refuse-requires-2 c κs = search needs
 
--- src/lib.rt:180:21
 returns : tie.Need-returns
 returns c =
     let a = c .before .before .before .before .before .before .before .before .before .args in
     let g = rw (c .before .before .before .before .slot2 .given .1) at (c .before .before .before .before .before .before .at-ticket .ensures .1) in
     add-full (a .self) (now (a .pool)) (a .t) _ (c .before .before .before .before .before .before .at-ticket .ensures .0) (now (a .chunk)) (a .tick) _ _ (c .before .before .before .before .slot2 .given .1) (omega arith) _ (c .refuse2 .ensures)
 
--- src/lib.rt:182:17
 put-requires : tie.Need-put-requires
 put-requires c κs =
     let g = rw (c .before .before .before .before .slot2 .given .1) at (c .before .before .before .before .before .before .at-ticket .ensures .1) in omega arith
 
--- src/lib.rt:183:25
 add-m : tie.Need-add-m
 add-m c = search needs
 
--- src/lib.rt:187:27
 cast-t22 : tie.Need-cast-t22
 cast-t22 c = search needs
 
--- src/lib.rt:189:21
 higher-requires : tie.Need-higher-requires
 higher-requires c κs = search needs
 
--- src/lib.rt:190:17
 stamp-requires : tie.Need-stamp-requires
 stamp-requires c κs =
     (rw (c .before .before .before .before .before .before .before .before .slot2 .given .1) at (c .before .before .before .before .before .before .before .before .before .before .at-ticket .ensures .1)) .short
 
--- src/lib.rt:190:17
 grant-requires : tie.Need-grant-requires
 grant-requires c κs =
     (rw (c .before .before .before .before .before .before .before .before .before .slot2 .given .1) at (c .before .before .before .before .before .before .before .before .before .before .before .at-ticket .ensures .1)) .short
 
--- src/lib.rt:171:5
 returns-2 : tie.Need-returns-2
 returns-2 c =
     let a = c .before .before .before .before .before .before .before .args in
     add-barred (a .self) (now (a .pool)) (a .t) _ (c .before .before .before .before .at-ticket .ensures .0) (now (a .chunk)) (a .tick) _ (c .before .before .slot .given .1) _ (c .refuse .ensures)
 
--- src/lib.rt:171:5
 same-length : tie.Need-same-length
 same-length c = search needs
 
--- src/lib.rt:171:5
 returns-3 : tie.Need-returns-3
 returns-3 c =
     let a = c .before .before .before .before .before .before .before .before .before .before .before .before .before .before .before .args in

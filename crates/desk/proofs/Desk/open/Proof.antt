@@ -1,100 +1,77 @@
+-- `desk::Desk::open` meets its contract. Assumes nothing.
 use denote.Ref.{now}
-use mathlib.Core.Path.{_≡_, sym, ap, _∙_}
+use mathlib.Core.Path.{sym, ap, _∙_}
 use native.Mathlib.Omega.{arith}
 use lib.ListN.{length}
 use borrow.Author.Tests.{eq-eqb, ne-eqb}
 use Rattle.desk_slots.proofs.SlotLaws.{position-short}
-use Rattle.desk.specs.Steps.{turned, openStep}
+use Rattle.desk.specs.Steps.{turned}
 use Rattle.desk.specs.declared.Turn.{Turn}
-use Rattle.desk.proofs.DeskLaws.{openAfter, open-position, can-take}
+use Rattle.desk.proofs.DeskLaws.{open-position, can-take}
 use borrow.Author.Needs.{needs}
 use Rattle.desk.proofs.Desk.open.Statement.{statement}
 use Rattle.desk.proofs.Desk.open.Tie as tie
-use Rattle.desk.proofs.Desk.open.Reads as reads
-use Rattle.desk.proofs.Desk.open.Lts as lts
-use Rattle.desk.proofs.Desk.begin.Reads as begin-reads
-use Rattle.desk.proofs.Desk.reclaim.Reads as reclaim-reads
-use Rattle.desk.proofs.Desk.refuse.Reads as refuse-reads
-use Rattle.desk_entries.proofs.ticks.higher.Reads as higher-reads
-use Rattle.desk_slots.proofs.find_slot.Reads as find-slot-reads
 
--- src/lib.rt:152:13
 find-slot-requires : tie.Need-find-slot-requires
 find-slot-requires c κs = search needs
 
--- src/lib.rt:154:30
 enum-known-p : tie.Need-enum-known-p
 enum-known-p c = search needs
 
--- src/lib.rt:154:36
 refuse-requires : tie.Need-refuse-requires
 refuse-requires c κs = search needs
 
--- src/lib.rt:156:20
 enum-told : tie.Need-enum-told
 enum-told c = search needs
 
--- src/lib.rt:157:21
 refuse-requires-2 : tie.Need-refuse-requires-2
 refuse-requires-2 c κs = search needs
 
--- src/lib.rt:157:21
 returns : tie.Need-returns
 returns c =
     let a = c .before .before .before .before .before .before .before .before .before .before .args in
     ap (λ (r : Turn). turned r (now (a .pool))) (c .refuse2 .ensures) ∙ (rw (eq-eqb _ _ (c .before .if1 .taken)) at (open-position (a .self) (now (a .pool)) (a .tram) (a .tick) _ (sym (c .before .before .before .before .before .find-slot .ensures) ∙ c .before .before .before .enum-told .given .1)))
 
--- src/lib.rt:159:42
 higher-requires : tie.Need-higher-requires
 higher-requires c κs = search needs
 
--- src/lib.rt:159:17
 reclaim-requires : tie.Need-reclaim-requires
 reclaim-requires c κs =
     let a = c .before .before .before .before .before .before .before .before .before .before .before .args in
     can-take (a .self) (now (a .pool)) (sym (c .before .before .before .before .before .before .find-slot .ensures) ∙ c .before .before .before .before .enum-told .given .1) (omega arith)
 
--- src/lib.rt:161:26
 enum-known-p-2 : tie.Need-enum-known-p-2
 enum-known-p-2 c = search needs
 
--- src/lib.rt:163:21
 refuse-requires-3 : tie.Need-refuse-requires-3
 refuse-requires-3 c κs = search needs
 
--- src/lib.rt:163:21
 returns-2 : tie.Need-returns-2
 returns-2 c =
     let a = c .before .before .before .before .before .before .before .before .before .before .before .args in
     ap (λ (r : Turn). turned r (now (a .pool))) (c .refuse3 .ensures) ∙ (rw (eq-eqb _ _ (c .before .if2 .taken)) at (open-position (a .self) (now (a .pool)) (a .tram) (a .tick) _ (sym (c .before .before .before .before .before .before .find-slot .ensures) ∙ c .before .before .before .before .p2 .given .1)))
 
--- src/lib.rt:165:37
 higher-requires-2 : tie.Need-higher-requires-2
 higher-requires-2 c κs = search needs
 
--- src/lib.rt:165:17
 begin-requires : tie.Need-begin-requires
 begin-requires c κs =
     let a = c .before .before .before .before .before .before .before .before .before .before .before .args in
     (position-short (a .self .entries) (a .self .slots) (a .self .next) (a .self .stamps) (a .self .tick) (length (now (a .pool))) 0 _ (sym (c .before .before .before .before .before .before .find-slot .ensures) ∙ c .before .before .before .before .p2 .given .1), omega arith)
 
--- src/lib.rt:146:5
 returns-3 : tie.Need-returns-3
 returns-3 c =
     let a = c .before .before .before .before .before .before .before .before .before .args in
     ap (λ (r : Turn). turned r (now (a .pool))) (c .refuse .ensures) ∙ open-position (a .self) (now (a .pool)) (a .tram) (a .tick) _ (sym (c .before .before .before .before .find-slot .ensures) ∙ c .before .before .p .given .1)
 
--- src/lib.rt:146:5
 same-length : tie.Need-same-length
 same-length c = search needs
 
--- src/lib.rt:146:5
 returns-4 : tie.Need-returns-4
 returns-4 c =
     let a = c .before .before .before .before .before .before .before .before .before .before .before .before .before .before .args in
     (rw (c .before .before .before .higher .ensures) at (c .before .before .reclaim .ensures)) ∙ (rw (ne-eqb _ _ (c .before .before .before .before .before .if1 .left)) at (open-position (a .self) (now (a .pool)) (a .tram) (a .tick) _ (sym (c .before .before .before .before .before .before .before .before .before .find-slot .ensures) ∙ c .before .before .before .before .before .before .before .enum-told .given .1)))
 
--- src/lib.rt:146:5
 returns-5 : tie.Need-returns-5
 returns-5 c =
     let a = c .before .before .before .before .before .before .before .before .before .before .before .before .args in
