@@ -73,7 +73,7 @@ fn a_difference_in_a_call_list_comes_with_the_calls_before_it() {
     let report =
         compare_shell("\"$0\" console | sed 's/^ok 16384$/ok 16383/'", plan).expect_err("a difference");
     assert!(report.starts_with("difference in lists, request "), "{report}");
-    assert!(report.contains("after these requests:\ndesk 1 16384\nopen 7\n"));
+    assert!(report.contains("after these requests:\ndesk 1 16384\nopen 7 0\n"));
 }
 
 #[test]
