@@ -168,10 +168,8 @@ fn fold_one(count: usize) -> u8 {
 
 // The argument that names a morning's first file.
 fn first_upload() -> usize {
-    if reporting::is_option(FIRST_FILE, b"--chunk") {
-        return FIRST_FILE + 2;
-    }
-    FIRST_FILE
+    let o = cabbook_morning::options::read();
+    o.first
 }
 
 // Runs a morning of uploads, or says what its options lack.
@@ -181,6 +179,8 @@ fn run_morning(count: usize) -> u8
     let p = cabbook_morning::play(count);
     match p {
         Ending::NoSize => usage::print_usage(b"--chunk takes a number from 1 to 16,384"),
+        Ending::NoTicks => usage::print_usage(b"--tick takes a number from 1 to 16,384"),
+        Ending::NoSlots => usage::print_usage(b"--slots takes a number from 1 to 40"),
         Ending::NoFile => usage::print_usage(b"morning needs a FILE"),
         Ending::Played(status) => {
             reporting::print_after(first_upload(), count);

@@ -37,7 +37,11 @@ fn print_commands(to: i32) {
     );
     io::write_all(
         to,
-        b"  cabbook morning [--chunk N] FILE..  forty uploads at a time on one desk\n",
+        b"  cabbook morning [--chunk N] [--tick N] [--slots N] FILE..\n",
+    );
+    io::write_all(
+        to,
+        b"                                      forty uploads at a time on one desk\n",
     );
     io::write_all(
         to,

@@ -1,5 +1,5 @@
 -- A turn of an upload, by what the desk answered and by what was read. Assumes nothing.
-use Prim.Native.Nat.{ℕ, zero, suc, _-_, _<_, _≤_}
+use Prim.Native.Nat.{ℕ, zero, suc, _+_, _-_, _<_, _≤_}
 use mathlib.Core.Path.{_≡_, refl, subst, _∙_}
 use mathlib.Core.Bool.{true, false}
 use mathlib.Core.Logic.{_⊎_, inl, inr}
@@ -9,7 +9,7 @@ use lib.Dec.{ltb}
 use lib.IntN.{ℤ}
 use lib.ListN.{length, take, length-take}
 use lib.Seq.{length-take-le}
-use borrow.Author.Tests.{le-ltb}
+use borrow.Author.Tests.{le-ltb, eq-eqb, ne-eqb}
 use Rattle.octets.specs.Slices.{part}
 use Rattle.desk.specs.Steps.{Turned}
 use Rattle.desk.specs.declared.Answer.the-variants.{Done, Refused}
@@ -17,7 +17,8 @@ use Rattle.reader.specs.declared.Verdict.the-variants.{Refused as NotAdded}
 use Rattle.program_files.specs.Inputs.{fetched}
 use Rattle.program_files.specs.declared.Input.{Input}
 use Rattle.program_files.specs.declared.Input.the-variants.{Octets, Unread}
-use Rattle.cabbook_morning.specs.Depot.{asTicket, atDesk, counted, startedAt}
+use Rattle.cabbook_morning.specs.Depot.{asTicket, atDesk, counted, waits, startedAt}
+use Rattle.cabbook_morning.specs.Options.{SetBy}
 use Rattle.cabbook_morning.specs.Turns.{Opened, Finished, Added, Taken, FedWith, Fed, unread, judged, added}
 use Rattle.cabbook_morning.specs.declared.depot.Morning.{Morning}
 
@@ -35,10 +36,15 @@ pub open-done : (k i : ℕ) (m : Morning) (t s : Turned) → t ≡ s → (n : �
     → r ≡ startedAt k (record { file = i; fd = fd; ticket = asTicket n }) (atDesk (t .desk) m) → Opened k i m s (s .answer) r
 open-done k i m t s e n a fd r h = subst (λ (x : Turned). Opened k i m x (x .answer) r) e (rw a (fd, h))
 
--- it refused one
-pub open-refused : (k i : ℕ) (m : Morning) (t s : Turned) → t ≡ s → (n at : ℕ) → t .answer ≡ Refused n at → (r : Morning)
+-- it refused one for want of a slot
+pub open-waits : (k i : ℕ) (m : Morning) (t s : Turned) → t ≡ s → (n at : ℕ) → t .answer ≡ Refused n at → n ≡ 20 → (r : Morning)
+    → r ≡ waits i (atDesk (t .desk) m) → Opened k i m s (s .answer) r
+open-waits k i m t s e n at a z r h = subst (λ (x : Turned). Opened k i m x (x .answer) r) e (rw (a, eq-eqb n 20 z) h)
+
+-- it refused one otherwise
+pub open-refused : (k i : ℕ) (m : Morning) (t s : Turned) → t ≡ s → (n at : ℕ) → t .answer ≡ Refused n at → (n ≡ 20 → ⊥) → (r : Morning)
     → r ≡ counted (NotAdded n at) true (atDesk (t .desk) m) → Opened k i m s (s .answer) r
-open-refused k i m t s e n at a r h = subst (λ (x : Turned). Opened k i m x (x .answer) r) e (rw a h)
+open-refused k i m t s e n at a z r h = subst (λ (x : Turned). Opened k i m x (x .answer) r) e (rw (a, ne-eqb n 20 z) h)
 
 -- a chunk is read to the first octets of the room
 pub taken : (g : Input) (size n : ℕ) (room left after : List ℕ) → fetched g (take n room) left → n ≤ size → n ≤ length room → length after ≡ length room → Taken g size after
@@ -57,6 +63,16 @@ part-length room n h =
 zero-or-more : (n : ℕ) → (n ≡ 0) ⊎ (0 < n)
 zero-or-more zero = inl refl
 zero-or-more (suc n) = inr (omega arith)
+
+-- ---- options
+
+pub set-small : (usual from value next : ℕ) → usual ≤ 16384 → SetBy usual from value next → value ≤ 16384
+set-small usual from value next h (inl e) = omega (arith, e .0)
+set-small usual from value next h (inr e) = e .0
+
+pub set-next : (usual from value next : ℕ) → SetBy usual from value next → next ≤ from + 2
+set-next usual from value next (inl e) = omega (arith, e .1)
+set-next usual from value next (inr e) = omega (arith, e .1)
 
 -- what was read is fed
 pub fed : (g : Input) (k : ℕ) (room : List ℕ) (m : Morning) (p : List ℕ) (r : Morning) (q : List ℕ) → Taken g (m .chunk) room → FedWith k g room m p r q → Fed k m p r q

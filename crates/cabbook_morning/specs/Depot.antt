@@ -5,11 +5,12 @@ use lib.IntN.{pos}
 use mathlib.Core.Bool.{Bool}
 use lib.ListN.{set, replicate, getD}
 use Rattle.numbers.specs.Limits as limit
+use Rattle.numbers.specs.Refusals as refusal
 use Rattle.octets.specs.Pick.{pick}
 use Rattle.reader.specs.declared.Verdict.{Verdict}
 use Rattle.reader.specs.declared.Verdict.the-variants.{Accepted, Refused}
 use Rattle.desk.specs.declared.Desk.{Desk}
-use Rattle.desk.specs.Steps.{freshDesk}
+use Rattle.desk.specs.Steps.{newStep}
 use Rattle.cabbook_morning.specs.declared.depot.Upload.{Upload}
 use Rattle.cabbook_morning.specs.declared.depot.Morning.{Morning}
 
@@ -25,11 +26,11 @@ asTicket n = pick (ltb limit.largest n) 0 n
 abbrev pub noUpload : Upload
 noUpload = record { file = 0; fd = pos 0; ticket = 0 }
 
--- before the first upload: a desk with all its slots, and nothing counted
-abbrev pub begun : ℕ → ℕ → ℕ → ℕ → Morning
-begun next count chunk width =
+-- before the first upload: a new desk, and nothing counted
+abbrev pub begun : ℕ → ℕ → ℕ → ℕ → ℕ → ℕ → Morning
+begun slots step next count chunk width =
     record {
-      desk = freshDesk limit.slots;
+      desk = newStep slots .desk;
       uploads = replicate limit.slots noUpload;
       next = next;
       count = count;
@@ -40,6 +41,9 @@ begun next count chunk width =
       refused = 0;
       unread = 0;
       differing = 0;
+      reclaimed = 0;
+      tick = 0;
+      step = step;
     }
 
 -- without an upload, and with the desk as it is then
@@ -57,6 +61,9 @@ releasedAt k d m =
       refused = m .refused;
       unread = m .unread;
       differing = m .differing;
+      reclaimed = m .reclaimed;
+      tick = m .tick;
+      step = m .step;
     }
 
 -- the ticket of upload k
@@ -78,12 +85,23 @@ atDesk d m =
       refused = m .refused;
       unread = m .unread;
       differing = m .differing;
+      reclaimed = m .reclaimed;
+      tick = m .tick;
+      step = m .step;
     }
 
 -- one more accepted, or one more refused
 abbrev pub acceptedBy : Verdict → ℕ → ℕ
 acceptedBy (Accepted cards lines) n = oneMore n
 acceptedBy (Refused number place) n = n
+
+-- one more whose session was reclaimed, where that is the refusal
+abbrev pub reclaimedAt : ℕ → ℕ → ℕ
+reclaimedAt number n = pick (eqb number refusal.notOpen) (oneMore n) n
+
+abbrev pub reclaimedBy : Verdict → ℕ → ℕ
+reclaimedBy (Accepted cards lines) n = n
+reclaimedBy (Refused number place) n = reclaimedAt number n
 
 abbrev pub refusedBy : Verdict → ℕ → ℕ
 refusedBy (Accepted cards lines) n = n
@@ -104,6 +122,9 @@ differed same m =
       refused = m .refused;
       unread = m .unread;
       differing = pick same (m .differing) (oneMore (m .differing));
+      reclaimed = m .reclaimed;
+      tick = m .tick;
+      step = m .step;
     }
 
 -- a verdict counted, and whether what the upload holds is its file's
@@ -121,6 +142,9 @@ counted v same m =
       refused = refusedBy v (m .refused);
       unread = m .unread;
       differing = pick same (m .differing) (oneMore (m .differing));
+      reclaimed = reclaimedBy v (m .reclaimed);
+      tick = m .tick;
+      step = m .step;
     }
 
 -- one more file that can't be read
@@ -138,6 +162,9 @@ unreadCounted m =
       refused = m .refused;
       unread = oneMore (m .unread);
       differing = m .differing;
+      reclaimed = m .reclaimed;
+      tick = m .tick;
+      step = m .step;
     }
 
 -- with the next file
@@ -155,6 +182,9 @@ nextFile m =
       refused = m .refused;
       unread = m .unread;
       differing = m .differing;
+      reclaimed = m .reclaimed;
+      tick = m .tick;
+      step = m .step;
     }
 
 -- with one more upload that runs, at k
@@ -172,4 +202,47 @@ startedAt k u m =
       refused = m .refused;
       unread = m .unread;
       differing = m .differing;
+      reclaimed = m .reclaimed;
+      tick = m .tick;
+      step = m .step;
+    }
+
+-- with a file that is to be tried again
+abbrev pub waits : ℕ → Morning → Morning
+waits i m =
+    record {
+      desk = m .desk;
+      uploads = m .uploads;
+      next = i;
+      count = m .count;
+      running = m .running;
+      chunk = m .chunk;
+      width = m .width;
+      accepted = m .accepted;
+      refused = m .refused;
+      unread = m .unread;
+      differing = m .differing;
+      reclaimed = m .reclaimed;
+      tick = m .tick;
+      step = m .step;
+    }
+
+-- with the tick of the next round
+abbrev pub nextRound : Morning → Morning
+nextRound m =
+    record {
+      desk = m .desk;
+      uploads = m .uploads;
+      next = m .next;
+      count = m .count;
+      running = m .running;
+      chunk = m .chunk;
+      width = m .width;
+      accepted = m .accepted;
+      refused = m .refused;
+      unread = m .unread;
+      differing = m .differing;
+      reclaimed = m .reclaimed;
+      tick = pick (ltb (limit.largest - m .step) (m .tick)) limit.largest (m .tick + m .step);
+      step = m .step;
     }

@@ -2,9 +2,12 @@
 use Prim.Native.Nat.{ℕ, _<_, _≤_}
 use mathlib.Core.Path.{_≡_}
 use mathlib.Core.Bool.{Bool, true}
+use lib.Dec.{eqb}
 use mathlib.Core.List.{List}
 use lib.IntN.{ℤ}
 use lib.ListN.{length, getD}
+use Rattle.numbers.specs.Refusals as refusal
+use Rattle.octets.specs.Pick.{pick}
 use Rattle.octets.specs.Slices.{part}
 use Rattle.reader.specs.declared.Verdict.{Verdict}
 use Rattle.reader.specs.declared.Verdict.the-variants.{Refused as Unread}
@@ -13,7 +16,7 @@ use Rattle.desk.specs.declared.Answer.{Answer}
 use Rattle.desk.specs.declared.Answer.the-variants.{Done, Refused}
 use Rattle.program_files.specs.declared.Input.{Input}
 use Rattle.program_files.specs.declared.Input.the-variants.{Octets, Unread as NotRead}
-use Rattle.cabbook_morning.specs.Depot.{asTicket, noUpload, ticketAt, atDesk, counted, unreadCounted, releasedAt, nextFile, startedAt}
+use Rattle.cabbook_morning.specs.Depot.{asTicket, noUpload, ticketAt, atDesk, counted, unreadCounted, releasedAt, nextFile, waits, startedAt}
 use Rattle.cabbook_morning.specs.declared.depot.Morning.{Morning}
 
 -- upload k is released
@@ -31,7 +34,7 @@ Added k m s (Refused number place) r q = Finished k (Unread number place) (atDes
 
 -- exactly these octets are added to upload k
 abbrev pub AddedTo : ℕ → List ℕ → Morning → List ℕ → Morning → List ℕ → Type 0
-AddedTo k chunk m p r q = Added k m (addStep (m .desk) p (ticketAt m k) chunk) (addStep (m .desk) p (ticketAt m k) chunk .answer) r q
+AddedTo k chunk m p r q = Added k m (addStep (m .desk) p (ticketAt m k) chunk (m .tick)) (addStep (m .desk) p (ticketAt m k) chunk (m .tick) .answer) r q
 
 -- of a room, what was read: where it failed, the file is counted as unread; where there is none, what the desk holds is judged; else exactly the
 -- octets that were read are added to upload k
@@ -52,18 +55,21 @@ pub data Fed (k : ℕ) (m : Morning) (p : List ℕ) (r : Morning) (q : List ℕ)
   judged : Finished k (judgeStep (m .desk) p (ticketAt m k)) m p r q → Fed k m p r q
   added : (chunk : List ℕ) → 0 < length chunk → length chunk ≤ m .chunk → AddedTo k chunk m p r q → Fed k m p r q
 
--- upload k is opened by the step s, with that answer, for the file that argument i names, by a descriptor that is free; a refusal is its verdict
+-- upload k is opened by the step s, with that answer, for the file that argument i names, by a descriptor that is free; refusal 20 leaves the file to be
+-- tried again, and any other is its verdict
 abbrev pub Opened : ℕ → ℕ → Morning → Turned → Answer → Morning → Type 0
 Opened k i m s (Done t) r = (fd : ℤ) × (r ≡ startedAt k (record { file = i; fd = fd; ticket = asTicket t }) (atDesk (s .desk) m))
-Opened k i m s (Refused number place) r = r ≡ counted (Unread number place) true (atDesk (s .desk) m)
+Opened k i m s (Refused number place) r =
+    r ≡ pick (eqb number refusal.noFreeSlot) (waits i (atDesk (s .desk) m)) (counted (Unread number place) true (atDesk (s .desk) m))
 
--- upload k gets the next file, if there is one: that can't be opened, or an upload is opened for it with identifier 0; the pool is as it was
-pub data Begun (k : ℕ) (m : Morning) (p : List ℕ) (r : Morning) : Type 0 where
-  no-file : m .count ≤ m .next → r ≡ m → Begun k m p r
-  no-descriptor : m .next < m .count → r ≡ unreadCounted (nextFile m) → Begun k m p r
-  opened : m .next < m .count → Opened k (m .next) (nextFile m) (openStep (m .desk) p 0) (openStep (m .desk) p 0 .answer) r → Begun k m p r
+-- upload k gets the next file, if there is one: that can't be opened, or an upload is opened for it with identifier 0 at the tick of the round
+pub data Begun (k : ℕ) (m : Morning) (p : List ℕ) (r : Morning) (q : List ℕ) : Type 0 where
+  no-file : m .count ≤ m .next → r ≡ m → q ≡ p → Begun k m p r q
+  no-descriptor : m .next < m .count → r ≡ unreadCounted (nextFile m) → q ≡ p → Begun k m p r q
+  opened : m .next < m .count → Opened k (m .next) (nextFile m) (openStep (m .desk) p 0 (m .tick)) (openStep (m .desk) p 0 (m .tick) .answer) r
+      → q ≡ openStep (m .desk) p 0 (m .tick) .pool → Begun k m p r q
 
 -- a turn feeds an upload that runs, and begins one where none runs
 abbrev pub Turns : ℕ → Morning → List ℕ → Morning → List ℕ → Type 0
 Turns k m p r q =
-    (getD (m .uploads) k noUpload .file ≡ 0 → Begun k m p r × (q ≡ p)) × ((getD (m .uploads) k noUpload .file ≡ 0 → ⊥) → Fed k m p r q)
+    (getD (m .uploads) k noUpload .file ≡ 0 → Begun k m p r q) × ((getD (m .uploads) k noUpload .file ≡ 0 → ⊥) → Fed k m p r q)

@@ -4,9 +4,10 @@ ghost use Prim.Native.Nat.{_<_};
 ghost use lib.ListN.{getD};
 ghost use Rattle.desk.specs.Steps.{releaseStep};
 ghost use Rattle.numbers.specs.Limits as limit;
-ghost use Rattle.cabbook_morning.specs.Depot.{oneMore, asTicket, noUpload, begun, releasedAt, differed, counted, unreadCounted};
+ghost use Rattle.cabbook_morning.specs.Depot.{oneMore, asTicket, noUpload, begun, nextRound, reclaimedAt, releasedAt, differed, counted, unreadCounted};
 use desk::Desk;
 use numbers::limit;
+use numbers::refusal;
 use reader::Verdict;
 
 // An upload: the argument that names its file, 0 where there is no upload, the file's descriptor, and the ticket.
@@ -16,7 +17,7 @@ pub struct Upload {
     pub ticket: u32,
 }
 
-// The desk and the uploads at it, the next argument and how many there are, how many uploads run, the chunks' size, the width of the column of names, and what was counted.
+// The desk and the uploads at it, the next argument and how many there are, how many uploads run, the chunks' size, the width of the column of names, what was counted, and the tick of this round with the ticks of a round.
 pub struct Morning {
     pub desk: Desk,
     pub uploads: [Upload; limit::SLOTS],
@@ -29,6 +30,9 @@ pub struct Morning {
     pub refused: usize,
     pub unread: usize,
     pub differing: usize,
+    pub reclaimed: usize,
+    pub tick: u32,
+    pub step: u32,
 }
 
 // One more, or the same where there is no larger number.
@@ -62,11 +66,18 @@ fn no_upload() -> Upload
     }
 }
 
-// Before the first upload.
-pub(crate) fn begin(next: usize, count: usize, chunk: usize, width: usize) -> Morning
-    ensures { λ r. ⌜ r ≡ begun next count chunk width ⌝ }
+// Before the first upload, on a desk of so many slots.
+pub(crate) fn begin(
+    slots: usize,
+    step: u32,
+    next: usize,
+    count: usize,
+    chunk: usize,
+    width: usize,
+) -> Morning
+    ensures { λ r. ⌜ r ≡ begun slots step next count chunk width ⌝ }
 {
-    let t = Desk::new(limit::SLOTS);
+    let t = Desk::new(slots);
     let d = t.desk;
     let none = no_upload();
     let uploads = [none; limit::SLOTS];
@@ -82,7 +93,24 @@ pub(crate) fn begin(next: usize, count: usize, chunk: usize, width: usize) -> Mo
         refused: 0,
         unread: 0,
         differing: 0,
+        reclaimed: 0,
+        tick: 0,
+        step: step,
     }
+}
+
+// Begins a round: its tick is higher by the ticks of a round, as far as ticks go.
+pub(crate) fn begin_round(mut m: Morning) -> Morning
+    ensures { λ r. ⌜ r ≡ nextRound m ⌝ }
+{
+    let tick = m.tick;
+    let step = m.step;
+    if tick > u32::MAX - step {
+        m.tick = u32::MAX;
+        return m;
+    }
+    m.tick = tick + step;
+    m
 }
 
 // Releases upload k and closes its file.
@@ -113,6 +141,16 @@ fn count_difference(mut m: Morning, same: bool) -> Morning
     m
 }
 
+// Counts an upload whose session was reclaimed: its ticket is not open.
+fn count_reclaimed(n: usize, number: u32) -> usize
+    ensures { λ r. ⌜ r ≡ reclaimedAt number n ⌝ }
+{
+    if number == refusal::NOT_OPEN {
+        return more(n);
+    }
+    n
+}
+
 // Counts a verdict, and whether the upload holds its file's octets.
 pub(crate) fn count_verdict(m: Morning, v: Verdict, same: bool) -> Morning
     ensures { λ r. ⌜ r ≡ counted v same m ⌝ }
@@ -123,8 +161,9 @@ pub(crate) fn count_verdict(m: Morning, v: Verdict, same: bool) -> Morning
             next.accepted = more(next.accepted);
             next
         }
-        Verdict::Refused(_, _) => {
+        Verdict::Refused(number, _) => {
             next.refused = more(next.refused);
+            next.reclaimed = count_reclaimed(next.reclaimed, number);
             next
         }
     }

@@ -1,6 +1,6 @@
 // A morning: many files as uploads on one desk, as many at a time as it has slots, each opened with identifier 0, and a row for each.
 mod depot;
-mod options;
+pub mod options;
 mod printing;
 
 ghost use Prim.Native.Nat.{_<_, _≤_};
@@ -14,6 +14,7 @@ use desk::Answer;
 use desk::Desk;
 use libc::SEEK_SET;
 use numbers::limit;
+use numbers::refusal;
 use program_files::Input;
 use reader::Verdict;
 
@@ -48,10 +49,10 @@ fn finish(m: Morning, k: usize, v: Verdict, whole: bool, pool: &mut [u8]) -> Mor
     depot::release(depot::count_verdict(m, v, same), k, pool)
 }
 
-// Opens upload k with the next file, if there is one.
-fn take_file(mut m: Morning, k: usize, pool: &[u8]) -> Morning
+// Opens upload k with the next file, if there is one; refusal 20 leaves the file for the next round.
+fn take_file(mut m: Morning, k: usize, pool: &mut [u8]) -> Morning
     requires { ⌜ k < limit.slots ⌝ }
-    ensures { λ r. ⌜ Begun k m (now (pool .entry)) r ⌝ }
+    ensures { λ r. ⌜ Begun k m (now (pool .entry)) r (now (pool .exit)) ⌝ }
 {
     let i = m.next;
     if i >= m.count {
@@ -63,7 +64,7 @@ fn take_file(mut m: Morning, k: usize, pool: &[u8]) -> Morning
         return depot::count_unread(m);
     }
     let d = m.desk;
-    let t = d.open(pool, 0);
+    let t = d.open(pool, 0, m.tick);
     let a = t.answer;
     let next = t.desk;
     m.desk = next;
@@ -78,9 +79,13 @@ fn take_file(mut m: Morning, k: usize, pool: &[u8]) -> Morning
             m
         }
         Answer::Refused(number, place) => {
+            libc::close(fd);
+            if number == refusal::NO_FREE_SLOT {
+                m.next = i;
+                return m;
+            }
             let v = Verdict::Refused(number, place);
             printing::print_row(i, m.width, 0, 0, v, true);
-            libc::close(fd);
             depot::count_verdict(m, v, true)
         }
     }
@@ -93,7 +98,7 @@ fn add_chunk(mut m: Morning, k: usize, chunk: &[u8], pool: &mut [u8]) -> Morning
 {
     let upload = m.uploads[k];
     let d = m.desk;
-    let t = d.add(pool, upload.ticket, chunk);
+    let t = d.add(pool, upload.ticket, chunk, m.tick);
     let a = t.answer;
     let next = t.desk;
     m.desk = next;
@@ -154,7 +159,7 @@ fn turn(m: Morning, k: usize, pool: &mut [u8]) -> Morning
 
 // One turn of each upload.
 fn run_round(m: Morning, pool: &mut [u8]) -> Morning {
-    let mut now = m;
+    let mut now = depot::begin_round(m);
     let mut k: usize = 0;
     while k < limit::SLOTS {
         now = turn(now, k, pool);
@@ -179,20 +184,35 @@ fn run_rounds(m: Morning, pool: &mut [u8]) -> Morning {
     now
 }
 
-// Runs the morning with the files that the arguments from `first` on name.
-fn run(first: usize, count: usize, chunk: usize) -> u8
+// Runs the rounds with as much of a pool as so many slots have.
+fn run_on(slots: usize, m: Morning, pool: &mut [u8]) -> Morning
+    requires { ⌜ slots ≤ limit.slots ⌝ }
+{
+    let n = octets::slices::least(slots * limit::OCTETS, pool.len());
+    run_rounds(m, &mut pool[..n])
+}
+
+// Runs the morning on a desk of so many slots with the files that the arguments from `first` on name.
+fn run(slots: usize, step: u32, first: usize, count: usize, chunk: usize) -> u8
+    requires { ⌜ slots ≤ limit.slots ⌝ }
     ensures { λ r. ⌜ r ≤ status.failed ⌝ }
 {
     let width = options::widest(first, count);
     printing::print_titles(width);
     let mut pool = [0u8; limit::POOL];
-    let m = run_rounds(depot::begin(first, count, chunk, width), &mut pool);
-    printing::print_summary(m.accepted, m.refused, m.unread, m.differing)
+    let m = run_on(
+        slots,
+        depot::begin(slots, step, first, count, chunk, width),
+        &mut pool,
+    );
+    printing::print_summary(m.accepted, m.refused, m.reclaimed, m.unread, m.differing)
 }
 
-// How a morning went: the options had no size of a chunk or no file; or it was played, with an exit status.
+// How a morning went: the options had no size of a chunk, no ticks of a round, no count of slots or no file; or it was played, with an exit status.
 pub enum Ending {
     NoSize,
+    NoTicks,
+    NoSlots,
     NoFile,
     Played(u8),
 }
@@ -201,12 +221,21 @@ pub enum Ending {
 pub fn play(count: usize) -> Ending
     ensures { λ r. ⌜ Ends r ⌝ }
 {
-    let o = options::read(count);
+    let o = options::read();
     if o.chunk == 0 {
         return Ending::NoSize;
+    }
+    if o.tick == 0 {
+        return Ending::NoTicks;
+    }
+    if o.slots == 0 {
+        return Ending::NoSlots;
+    }
+    if o.slots > limit::SLOTS {
+        return Ending::NoSlots;
     }
     if o.first >= count {
         return Ending::NoFile;
     }
-    Ending::Played(run(o.first, count, o.chunk))
+    Ending::Played(run(o.slots, o.tick as u32, o.first, count, o.chunk))
 }

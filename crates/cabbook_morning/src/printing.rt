@@ -45,12 +45,26 @@ pub(crate) fn print_row(
 }
 
 // Prints the last line, with the counts, and answers the exit status.
-pub fn print_summary(accepted: usize, refused: usize, unread: usize, differing: usize) -> u8
+pub fn print_summary(
+    accepted: usize,
+    refused: usize,
+    reclaimed: usize,
+    unread: usize,
+    differing: usize,
+) -> u8
     ensures { λ r. ⌜ r ≡ statusOf refused differing unread ⌝ }
     ensures { λ r. ⌜ r ≤ status.failed ⌝ }
 {
     let mut room = io::buffer();
-    let n = uploads::put_summary(&mut room, 0, accepted, refused, differing, unread);
+    let n = uploads::put_summary(
+        &mut room,
+        0,
+        accepted,
+        refused,
+        reclaimed,
+        differing,
+        unread,
+    );
     send(&room, n);
     uploads::status_of(refused, differing, unread)
 }

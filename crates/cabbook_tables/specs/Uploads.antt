@@ -47,6 +47,10 @@ totals accepted refused =
     counted (min (accepted + refused) limit.largest64) (octets " upload") ++ octets ": "
     ++ amount accepted (octets " accepted, ") ++ amount refused (octets " refused")
 
+-- how many uploads were reclaimed, where there are any
+abbrev pub reclaimedText : ℕ → List ℕ
+reclaimedText reclaimed = note reclaimed (octets "") (octets " upload") (octets " reclaimed")
+
 -- whether the octets of all uploads are their files'
 abbrev pub comparison : ℕ → List ℕ
 comparison differing = note differing (octets "; what each upload holds is its file's") (octets " upload") (octets " with other octets than its file")
@@ -55,8 +59,8 @@ comparison differing = note differing (octets "; what each upload holds is its f
 abbrev pub unreadText : ℕ → List ℕ
 unreadText unread = note unread (octets "\n") (octets " file") (octets " not read\n")
 
-abbrev pub summary : ℕ → ℕ → ℕ → ℕ → List ℕ
-summary accepted refused differing unread = totals accepted refused ++ comparison differing ++ unreadText unread
+abbrev pub summary : ℕ → ℕ → ℕ → ℕ → ℕ → List ℕ
+summary accepted refused reclaimed differing unread = totals accepted refused ++ reclaimedText reclaimed ++ comparison differing ++ unreadText unread
 
 -- whether a file was not read, or an upload is refused or differs from its file
 abbrev pub statusOf : ℕ → ℕ → ℕ → ℕ

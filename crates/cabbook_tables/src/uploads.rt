@@ -118,15 +118,17 @@ pub fn put_summary(
     at: usize,
     accepted: usize,
     refused: usize,
+    reclaimed: usize,
     differing: usize,
     unread: usize,
 ) -> usize
-    ensures { λ r. ⌜ page r (now (room .exit)) ≡ added (summary accepted refused differing unread) (page at (now (room .entry))) ⌝ }
+    ensures { λ r. ⌜ page r (now (room .exit)) ≡ added (summary accepted refused reclaimed differing unread) (page at (now (room .entry))) ⌝ }
 {
     let totals_end = put_totals(room, at, accepted, refused);
+    let reclaimed_end = put_note(room, totals_end, reclaimed, b"", b" upload", b" reclaimed");
     let comparison_end = put_note(
         room,
-        totals_end,
+        reclaimed_end,
         differing,
         b"; what each upload holds is its file's",
         b" upload",

@@ -70,7 +70,7 @@ deskAnswer slots n t pool =
     pick (ltb (length pool) n) (withPool (saysBad t) pool) (withPool (afterTurn (newStep slots) n (t .output)) (overlay (octetRoom n) pool))
 
 abbrev pub withNext : Desk → ℕ → Desk
-withNext d n = record { entries = d .entries; slots = d .slots; next = n }
+withNext d n = record { entries = d .entries; slots = d .slots; next = n; tick = d .tick; stamps = d .stamps }
 
 -- a number over 32 bits is no request
 unfoldable pub nextAnswer : ℕ → State → State
@@ -82,18 +82,22 @@ nextAnswer n t = pick (ltb limit.largest n) (saysBad t) (state (withNext (t .des
 unfoldable pub callable : ℕ → ℕ → List ℕ → Bool
 callable n size pool = pick (ltb limit.largest n) false (leb size (length pool))
 
-abbrev pub changeOf : Change → Desk → List ℕ → ℕ → List ℕ → Turned
-changeOf Open d p n chunk = openStep d p n
-changeOf Add d p n chunk = addStep d p n chunk
-changeOf Release d p n chunk = releaseStep d p n
+-- and a tick of 32 bits
+unfoldable pub ticked : ℕ → ℕ → ℕ → List ℕ → Bool
+ticked n tick size pool = pick (ltb limit.largest tick) false (callable n size pool)
+
+abbrev pub changeOf : Change → Desk → List ℕ → ℕ → ℕ → List ℕ → Turned
+changeOf Open d p n tick chunk = openStep d p n tick
+changeOf Add d p n tick chunk = addStep d p n chunk tick
+changeOf Release d p n tick chunk = releaseStep d p n
 
 -- a call over the part of the pool that is lent
 abbrev pub over : Turned → State → List ℕ → WithPool
 over u t pool = withPool (state (u .desk) (t .size) (added (answerText (u .answer) ++ lineEnd) (t .output))) (overlay (u .pool) pool)
 
-unfoldable pub changeAnswer : Change → ℕ → List ℕ → State → List ℕ → WithPool
-changeAnswer w n chunk t pool =
-    pick (callable n (t .size) pool) (over (changeOf w (t .desk) (take (t .size) pool) n chunk) t pool) (withPool (saysBad t) pool)
+unfoldable pub changeAnswer : Change → ℕ → ℕ → List ℕ → State → List ℕ → WithPool
+changeAnswer w n tick chunk t pool =
+    pick (ticked n tick (t .size) pool) (over (changeOf w (t .desk) (take (t .size) pool) n tick chunk) t pool) (withPool (saysBad t) pool)
 
 -- ---- check, show, held, pool
 

@@ -6,7 +6,7 @@ ghost use lib.ListN.{length};
 ghost use Rattle.numbers.specs.Limits as limit;
 ghost use Rattle.desk.specs.Steps.{turned};
 ghost use Rattle.program_output.specs.Pages.{page, added};
-ghost use Rattle.console_desk.specs.DeskAnswers.{stateOf, withPool, first, moved, endsLine, callable, lies, saysBad, afterTurn, deskAnswer, nextAnswer, changeOf, changeAnswer, lookText, lookAnswer, poolAnswer};
+ghost use Rattle.console_desk.specs.DeskAnswers.{stateOf, withPool, first, moved, endsLine, callable, ticked, lies, saysBad, afterTurn, deskAnswer, nextAnswer, changeOf, changeAnswer, lookText, lookAnswer, poolAnswer};
 use console_entries::rooms;
 use desk::Desk;
 use desk::Turn;
@@ -106,12 +106,15 @@ pub fn answer_next(c: Console, ticket: usize, out: &mut [u8]) -> Console
     }
     let d = c.desk;
     let es = d.entries;
+    let stamps = d.stamps;
     let end = console_answers::put_done(out, c.at, ticket);
     Console {
         desk: Desk {
             entries: es,
             slots: d.slots,
             next: ticket as u32,
+            tick: d.tick,
+            stamps: stamps,
         },
         size: c.size,
         at: console_answers::put_end(out, end),
@@ -129,31 +132,50 @@ fn is_callable(n: usize, size: usize, pool: &[u8]) -> bool
     size <= pool.len()
 }
 
-// Calls `open TRAM`, `add TICKET OCTETS` or `release TICKET` over the pool that is lent.
-fn call(which: Change, d: Desk, t: u32, chunk: &[u8], pool: &mut [u8]) -> Turn
-    ensures { λ r. ⌜ turned r (now (pool .exit)) ≡ changeOf which d (now (pool .entry)) t (now (chunk .entry)) ⌝ }
+// Whether a call has a number and a tick of 32 bits, and the pool that is lent is there.
+fn is_ticked(n: usize, tick: usize, size: usize, pool: &[u8]) -> bool
+    ensures { λ r. ⌜ r ≡ ticked n tick size (now (pool .entry)) ⌝ }
+    ensures { λ r. ⌜ (r ≡ true → (n ≤ limit.largest) × (tick ≤ limit.largest) × (size ≤ length (now (pool .entry)))) ⌝ }
+{
+    if tick > limit::LARGEST {
+        return false;
+    }
+    is_callable(n, size, pool)
+}
+
+// Calls `open TRAM TICK`, `add TICKET TICK OCTETS` or `release TICKET` over the pool that is lent.
+fn call(which: Change, d: Desk, t: u32, tick: u32, chunk: &[u8], pool: &mut [u8]) -> Turn
+    ensures { λ r. ⌜ turned r (now (pool .exit)) ≡ changeOf which d (now (pool .entry)) t tick (now (chunk .entry)) ⌝ }
 {
     match which {
-        Change::Open => d.open(pool, t),
-        Change::Add => d.add(pool, t, chunk),
+        Change::Open => d.open(pool, t, tick),
+        Change::Add => d.add(pool, t, chunk, tick),
         Change::Release => d.release(pool, t),
     }
 }
 
-// Answers such a request; its number is a ticket or a tram's identifier.
+// Answers such a request; its numbers are a ticket or a tram's identifier, and a tick, 0 where it has none.
 pub fn answer_change(
     which: Change,
     c: Console,
     n: usize,
+    tick: usize,
     chunk: &[u8],
     pool: &mut [u8],
     out: &mut [u8],
 ) -> Console
-    ensures { λ r. ⌜ withPool (stateOf r (now (out .exit))) (now (pool .exit)) ≡ changeAnswer which n (now (chunk .entry)) (stateOf c (now (out .entry))) (now (pool .entry)) ⌝ }
+    ensures { λ r. ⌜ withPool (stateOf r (now (out .exit))) (now (pool .exit)) ≡ changeAnswer which n tick (now (chunk .entry)) (stateOf c (now (out .entry))) (now (pool .entry)) ⌝ }
 {
     let size = c.size;
-    if is_callable(n, size, pool) {
-        let t = call(which, c.desk, n as u32, chunk, &mut pool[0..size]);
+    if is_ticked(n, tick, size, pool) {
+        let t = call(
+            which,
+            c.desk,
+            n as u32,
+            tick as u32,
+            chunk,
+            &mut pool[0..size],
+        );
         return answer_turn(t, size, out, c.at);
     }
     c.answer_bad(out)

@@ -37,8 +37,8 @@ rows =
     row Escape "escape" 1 withOctets ∷
     row Unescape "unescape" 1 withOctets ∷
     row Desk "desk" 2 alone ∷
-    row Open "open" 1 alone ∷
-    row Add "add" 1 withOctets ∷
+    row Open "open" 2 alone ∷
+    row Add "add" 2 withOctets ∷
     row Check "check" 1 alone ∷
     row Show "show" 1 alone ∷
     row Held "held" 1 alone ∷

@@ -31,8 +31,8 @@ const ROWS: [u8; TABLE] = *b"\
     escape..\x06\x01\x01\
     unescape\x08\x01\x01\
     desk....\x04\x02\x00\
-    open....\x04\x01\x00\
-    add.....\x03\x01\x01\
+    open....\x04\x02\x00\
+    add.....\x03\x02\x01\
     check...\x05\x01\x00\
     show....\x04\x01\x00\
     held....\x04\x01\x00\

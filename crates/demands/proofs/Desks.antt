@@ -5,20 +5,21 @@ use mathlib.Core.Bool.{Bool, true, false, false≢true}
 use mathlib.Core.List.{List, []}
 use mathlib.Core.Logic.{_⊎_, inl, inr}
 use native.Mathlib.Omega.{arith}
-use lib.Dec.{ltb, eqb}
+use lib.Dec.{ltb, leb, eqb}
 use lib.ListN.{length}
-use borrow.Author.Tests.{ltb-true, ltb-false, lt-ltb, eqb-true, eqb-false, eq-eqb, ne-eqb}
+use borrow.Author.Tests.{ltb-true, ltb-false, lt-ltb, leb-true, le-leb, eqb-true, eqb-false, eq-eqb, ne-eqb}
 use Rattle.octets.specs.Pick.{pick}
 use Rattle.reader.specs.Outcome.{judgeOf}
 use Rattle.reader.specs.declared.Verdict.{Verdict}
 use Rattle.reader.specs.declared.Verdict.the-variants.{Refused as Unread}
-use Rattle.desk_entries.specs.Search.{firstAt}
-use Rattle.desk_slots.specs.Sound.{stateAt, bounds}
-use Rattle.desk_slots.specs.Slots.{openAt, freeAt, atPosition}
-use Rattle.desk.specs.Steps.{Sound, sound, Turned, refuse, refused, freshDesk, newStep, slotOf, openIn, openStep, addIn, addStep, releaseIn, releaseStep, octetsIn, showStep, heldIn, heldStep, judgeIn, judgeStep}
+use Rattle.desk_entries.specs.Search.{firstAt, lowestAt}
+use Rattle.desk_slots.specs.Sound.{stateAt, tickAt, bounds}
+use Rattle.desk_slots.specs.Slots.{openAt, freeAt, idleAt, idleOf, atPosition}
+use Rattle.desk.specs.Steps.{Sound, sound, Turned, refuse, refused, freshDesk, newStep, slotOf, seen, reclaimIn, openIn, openStep, addIn, addStep, releaseIn, releaseStep, octetsIn, showStep, heldIn, heldStep, judgeIn, judgeStep}
 use Rattle.desk_entries.specs.declared.tickets.Position.{Position}
 use Rattle.desk_entries.specs.declared.tickets.Position.the-variants.{At, Nowhere, Barred}
 use Rattle.desk_entries.specs.declared.Session.{Session}
+use Rattle.desk_entries.specs.declared.State.{State}
 use Rattle.desk_entries.specs.declared.State.the-variants.{Free, Open}
 use Rattle.desk_slots.specs.declared.Slot.{Slot}
 use Rattle.desk_slots.specs.declared.Slot.the-variants.{Held, No}
@@ -26,7 +27,7 @@ use Rattle.desk.specs.declared.Desk.{Desk}
 use Rattle.desk.specs.declared.Turn.{Turn}
 use Rattle.desk.specs.declared.Answer.{Answer}
 use Rattle.desk.specs.declared.Answer.the-variants.{Done, Refused}
-use Rattle.desk_entries.proofs.Searches.{firstAt-is, firstAt-not, unbarred}
+use Rattle.desk_entries.proofs.Searches.{firstAt-is, firstAt-not, unbarred, LowestIs, lowestAt-is, lowestAt-not, lowest-unbarred}
 use Rattle.desk_slots.proofs.SoundLaws.{bounds-are, in-bounds}
 use Rattle.desk_slots.proofs.SlotLaws.{free-is, session-at, slot-inside}
 use Rattle.desk.proofs.DeskLaws.{sound-is, is-sound, granted}
@@ -89,14 +90,21 @@ module _ (d : Desk) (p : List ℕ) where
 
   -- ---- 25, 24, 21, 20
 
-  module _ (m : ℕ) where
-    open-told : (n q : ℕ) → openStep d p m .answer ≡ Refused n q → OpenBy d p n q
-    unfolding openStep
+  module _ (m tick : ℕ) where
+    abbrev now : ℕ
+    now = seen d tick
+
+    -- the ticket of entry i where it is idle, else 0
+    abbrev idles : ℕ → ℕ
+    idles i = idleAt (d .entries) (d .stamps) now i
+
+    open-told : (n q : ℕ) → openStep d p m tick .answer ≡ Refused n q → OpenBy d p tick n q
+    unfolding openStep idleOf
     open-told n q e =
-        last turn-tells (OpenBy d p) (sound d) 25 0 n q _ e (λ a. no-desk (unsound (unsound-so a))) (λ a f.
-        last turn-tells (OpenBy d p) (eqb (length p) (d .slots * 16384)) 24 0 n q _ f
+        last turn-tells (OpenBy d p tick) (sound d) 25 0 n q _ e (λ a. no-desk (unsound (unsound-so a))) (λ a f.
+        last turn-tells (OpenBy d p tick) (eqb (length p) (d .slots * 16384)) 24 0 n q _ f
         (λ b. no-desk (other-size (sound-is d a) (eqb-false (length p) (d .slots * 16384) b))) (λ b g.
-        first turn-tells (OpenBy d p) (eqb (d .next) 4294967295) 21 0 n q _ g (λ c. used-up (ready a b) (eqb-true (d .next) 4294967295 c)) (λ c h.
+        first turn-tells (OpenBy d p tick) (eqb (d .next) 4294967295) 21 0 n q _ g (λ c. used-up (ready a b) (eqb-true (d .next) 4294967295 c)) (λ c h.
         place (ready a b) (eqb-false (d .next) 4294967295 c) (firstAt (freeAt (d .entries)) 0 (d .slots)) refl h)))
       where
         taken : firstAt (freeAt (d .entries)) 0 (d .slots) ≡ Nowhere → (i : ℕ) → i < d .slots → stateAt (d .entries) i ≡ Free → ⊥
@@ -104,28 +112,53 @@ module _ (d : Desk) (p : List ℕ) where
             let z : freeAt (d .entries) i ≡ true = rw f in
             false≢true (sym (firstAt-not (freeAt (d .entries)) (d .slots) 0 x i (omega arith) (omega arith)) ∙ z)
 
-        place : Ready d p → (d .next ≡ 4294967295 → ⊥) → (x : Position) → firstAt (freeAt (d .entries)) 0 (d .slots) ≡ x → openIn d p m x .answer ≡ Refused n q → OpenBy d p n q
-        place r l Nowhere x e = itself turn-tells (OpenBy d p) 20 0 n q e (full r l (taken x))
+        awake : Ready d p → lowestAt idles (d .slots) ≡ Nowhere → (i : ℕ) (s : Session) → i < d .slots → stateAt (d .entries) i ≡ Open s → tickAt (d .stamps) i + 600 ≤ now → ⊥
+        awake r y i s l f h =
+            let k : idles i ≡ s .ticket = rw (f, le-leb (tickAt (d .stamps) i + 600) now h) in
+            let g = r .sound .entries .each i (omega (arith, r .sound .entries .most)) s f .low in
+            omega (arith, k, lowestAt-not idles (d .slots) y i l)
+
+        reclaim : Ready d p → (d .next ≡ 4294967295 → ⊥) → firstAt (freeAt (d .entries)) 0 (d .slots) ≡ Nowhere
+            → (y : Position) → lowestAt idles (d .slots) ≡ y → reclaimIn d p m now y .answer ≡ Refused n q → OpenBy d p tick n q
+        reclaim r l x Nowhere y e = itself turn-tells (OpenBy d p tick) 20 0 n q e (full r l (taken x) (awake r y))
+        reclaim r l x (Barred k) y e = lowest-unbarred idles (d .slots) k y
+        reclaim r l x (At i) y e = done-no (d .next) n q e
+
+        place : Ready d p → (d .next ≡ 4294967295 → ⊥) → (x : Position) → firstAt (freeAt (d .entries)) 0 (d .slots) ≡ x → openIn d p m now x .answer ≡ Refused n q → OpenBy d p tick n q
+        place r l Nowhere x e = reclaim r l x (lowestAt idles (d .slots)) refl e
         place r l (Barred k) x e = unbarred (freeAt (d .entries)) (d .slots) 0 k x
         place r l (At i) x e = done-no (d .next) n q e
 
-    open-so : (n q : ℕ) → OpenBy d p n q → openStep d p m ≡ refused d p q n
-    unfolding openStep
+    open-so : (n q : ℕ) → OpenBy d p tick n q → openStep d p m tick ≡ refused d p q n
+    unfolding openStep idleOf
     open-so n q (no-desk (unsound h)) = rw (not-true (sound d) (λ e. h (sound-is d e)))
     open-so n q (no-desk (other-size s h)) = rw (is-sound d s, ne-eqb (length p) (d .slots * 16384) h)
     open-so n q (used-up r h) = rw (is-sound d (r .sound), eq-eqb (length p) (d .slots * 16384) (r .size), eq-eqb (d .next) 4294967295 h)
-    open-so n q (full r l f) =
+    open-so n q (full r l f g) =
         rw (is-sound d (r .sound), eq-eqb (length p) (d .slots * 16384) (r .size), ne-eqb (d .next) 4294967295 l)
         (go (firstAt (freeAt (d .entries)) 0 (d .slots)) refl)
       where
-        go : (x : Position) → firstAt (freeAt (d .entries)) 0 (d .slots) ≡ x → openIn d p m x ≡ refused d p 0 20
-        go Nowhere q = refl
+        none : (i : ℕ) → LowestIs idles (d .slots) i → ⊥
+        none i k = at (stateAt (d .entries) i) refl (leb (tickAt (d .stamps) i + 600) now) refl
+          where
+            at : (x : State) → stateAt (d .entries) i ≡ x → (b : Bool) → leb (tickAt (d .stamps) i + 600) now ≡ b → ⊥
+            at x y false b = k .some (rw b)
+            at Free y true b = k .some (rw (y, b))
+            at (Open s) y true b = g i s (k .inside) y (leb-true (tickAt (d .stamps) i + 600) now b)
+
+        idle : (y : Position) → lowestAt idles (d .slots) ≡ y → reclaimIn d p m now y ≡ refused d p 0 20
+        idle Nowhere q = refl
+        idle (Barred k) q = lowest-unbarred idles (d .slots) k q
+        idle (At i) q = absurd (none i (lowestAt-is idles (d .slots) i q))
+
+        go : (x : Position) → firstAt (freeAt (d .entries)) 0 (d .slots) ≡ x → openIn d p m now x ≡ refused d p 0 20
+        go Nowhere q = idle (lowestAt idles (d .slots)) refl
         go (Barred k) q = unbarred (freeAt (d .entries)) (d .slots) 0 k q
         go (At i) q =
             let w = firstAt-is (freeAt (d .entries)) (d .slots) 0 i q in
             absurd (f i (omega arith) (free-is (stateAt (d .entries) i) (w .0)))
 
-    pub open-exactly : Turning (openStep d p m) d p (OpenBy d p)
+    pub open-exactly : Turning (openStep d p m tick) d p (OpenBy d p tick)
     open-exactly = record { only = open-told; unchanged = open-so }
 
   module _ (t : ℕ) where
@@ -140,7 +173,7 @@ module _ (d : Desk) (p : List ℕ) where
 
         none : firstAt (openAt (d .entries) t) 0 40 ≡ Nowhere → Sound d → OpenOn d t → ⊥
         none q s o =
-            let m = s .most in
+            let m = s .entries .most in
             let z : openAt (d .entries) t (o .0) ≡ true = rw (o .1 .1 .1) (eq-eqb (o .1 .0 .ticket) t (o .1 .1 .2)) in
             false≢true (sym (firstAt-not (openAt (d .entries) t) 40 0 q (o .0) (omega arith) (omega (arith, o .1 .1 .0))) ∙ z)
 
@@ -171,7 +204,7 @@ module _ (d : Desk) (p : List ℕ) where
         go (At i) q =
             let w = firstAt-is (openAt (d .entries) t) 40 0 i q in
             let s = session-at (d .entries) t i (w .0) in
-            absurd (h (i, (s .0, (slot-inside (d .entries) (d .slots) (d .next) (r .sound) i (omega arith) (s .0) (s .1 .0), s .1 .0, s .1 .1))))
+            absurd (h (i, (s .0, (slot-inside (d .entries) (d .slots) (d .next) (r .sound .entries) i (omega arith) (s .0) (s .1 .0), s .1 .0, s .1 .1))))
 
     -- a session with the ticket is what is found
     pub held-by : (i : ℕ) (s : Session) → slotOf d (length p) t ≡ Held i s → Holds d p t i s
@@ -193,7 +226,7 @@ module _ (d : Desk) (p : List ℕ) where
             let g = granted d (length p) t j u e in
             let m = g .few in
             let l = h .inside in
-            let w : j ≡ i = h .ready .sound .distinct j i (g .short) (omega arith) u s (g .state) (h .state) (g .ticket ∙ sym (h .ticket)) in
+            let w : j ≡ i = h .ready .sound .entries .distinct j i (g .short) (omega arith) u s (g .state) (h .state) (g .ticket ∙ sym (h .ticket)) in
             let v : stateAt (d .entries) i ≡ Open u = rw w at (g .state) in
             let o : Open u ≡ Open s = sym v ∙ h .state in
             let z : u ≡ s = cc in
@@ -267,21 +300,21 @@ module _ (d : Desk) (p : List ℕ) where
 
     -- ---- add
 
-    module _ (chunk : List ℕ) where
-      add-told : (n q : ℕ) → addStep d p t chunk .answer ≡ Refused n q → AddBy d p t chunk n q
+    module _ (chunk : List ℕ) (tick : ℕ) where
+      add-told : (n q : ℕ) → addStep d p t chunk tick .answer ≡ Refused n q → AddBy d p t chunk n q
       unfolding addStep
       add-told n q e = go (slotOf d (length p) t) refl e
         where
-          go : (x : Slot) → slotOf d (length p) t ≡ x → addIn d p chunk x .answer ≡ Refused n q → AddBy d p t chunk n q
+          go : (x : Slot) → slotOf d (length p) t ≡ x → addIn d p chunk (seen d tick) x .answer ≡ Refused n q → AddBy d p t chunk n q
           go (No m) f e = itself turn-tells (AddBy d p t chunk) m 0 n q e (no-upload (slot-told m f))
           go (Held i s) f e =
               first turn-tells (AddBy d p t chunk) (ltb 16384 (s .held + length chunk)) 23 (s .held) n q _ e
               (λ b. too-much (held-by i s f) (ltb-true 16384 (s .held + length chunk) b)) (λ b g. done-no (s .held + length chunk) n q g)
 
-      add-so : (n q : ℕ) → AddBy d p t chunk n q → addStep d p t chunk ≡ refused d p q n
+      add-so : (n q : ℕ) → AddBy d p t chunk n q → addStep d p t chunk tick ≡ refused d p q n
       unfolding addStep
       add-so n q (no-upload b) = let w = slot-so n q b in rw (w .0, w .1)
       add-so n q (too-much {i} {s} h l) = rw (held-so i s h, lt-ltb 16384 (s .held + length chunk) l)
 
-      pub add-exactly : Turning (addStep d p t chunk) d p (AddBy d p t chunk)
+      pub add-exactly : Turning (addStep d p t chunk tick) d p (AddBy d p t chunk)
       add-exactly = record { only = add-told; unchanged = add-so }

@@ -51,6 +51,7 @@ use Rattle.desk_slots.specs.Sound as sound
 use Rattle.desk_slots.specs.Slots as slots
 use Rattle.desk.specs.Steps as desk
 use Rattle.desk_ledger.specs.Ledger as ledger
+use Rattle.desk_ledger.specs.Ticks as ticks
 use Rattle.demands.specs.Examples.{Holds, marked, cardM, foldedM, recordsM, rowsM, Merged, smallName, capitalName}
 use Rattle.demands.proofs.Tested.{sameNumbers, sameAnswers, allHold, tested}
 
@@ -137,11 +138,11 @@ unfolding digits.decimalIn digits.decimal printed.name printed.row printed.has p
 by-print = tt
 
 by-desk : Unit {0}
-unfolding pool.patch pool.zeros searches.firstAt searches.allAt searches.among sound.bounds sound.goodAt sound.sound slots.slotOf
+unfolding pool.patch pool.zeros searches.firstAt searches.allAt searches.anyAt searches.among sound.bounds sound.goodAt sound.sound sound.aheadIn sound.soundAt slots.slotOf
 by-desk = tt
 
 by-calls : Unit {0}
-unfolding desk.newStep desk.openStep desk.releaseStep ledger.lookup ledger.change ledger.run ledger.after
+unfolding desk.newStep desk.openStep desk.releaseStep ledger.lookup ledger.change ticks.runTicked ticks.afterTicked
 by-calls = tt
 
 by-examples : Unit {0}

@@ -21,8 +21,8 @@ use Rattle.desk_entries.specs.declared.Session.{Session}
 use Rattle.desk_entries.specs.declared.State.{State}
 use Rattle.desk_entries.specs.declared.State.the-variants.{Free, Open}
 use Rattle.desk_ledger.specs.Answers.{Reply, refused, told, counts, part, verdict, wrote}
-use Rattle.desk_ledger.specs.Ledger.{Call, ledgerStep, freshLedger, run}
-use Rattle.desk_ledger.specs.Desks.{Proper, world}
+use Rattle.desk_ledger.specs.Ticks.{Ticked}
+use Rattle.desk_ledger.specs.Desks.{Proper, world, ledgerAnswers}
 use Rattle.desk_laws.proofs.Demand.{demand3}
 use Rattle.desk_laws.proofs.PoolNoninterference.{same-desk}
 use Rattle.demands.specs.Examples.{Example, reads, folds, unescapes, reports, turns, Turns, Fills, Reads, Holds}
@@ -74,9 +74,9 @@ abbrev zeros : ℕ → List ℕ
 zeros n = replicate (n * 16384) 0
 
 -- the ledger answers so, and on a pool of zeros the slot is so
-abbrev sameTurns : ℕ → List Call → List ℕ → ℕ → Session → Bool
+abbrev sameTurns : ℕ → List Ticked → List ℕ → ℕ → Session → Bool
 sameTurns n cs ns i s =
-    (leb 1 n && leb n 40) && (sameAnswers (run ledgerStep (freshLedger n) cs) ns && sameSession (stateAt (world n (zeros n) cs .desk .entries) i) s)
+    (leb 1 n && leb n 40) && (sameAnswers (ledgerAnswers n cs) ns && sameSession (stateAt (world n (zeros n) cs .desk .entries) i) s)
 
 abbrev holds : Example → Bool
 holds (reads i c r a c′ r′) = sameTaken (readOutcome i c r) a c′ r′
@@ -161,16 +161,16 @@ same-session (Open r) s e =
     rw (eqb-true (r .ticket) (s .ticket) (b .0), c .0, c .1) in
     o
 
-same-turns : (n : ℕ) (cs : List Call) (ns : List ℕ) (i : ℕ) (s : Session) → sameTurns n cs ns i s ≡ true → Turns n cs ns i s
+same-turns : (n : ℕ) (cs : List Ticked) (ns : List ℕ) (i : ℕ) (s : Session) → sameTurns n cs ns i s ≡ true → Turns n cs ns i s
 unfolding newStep bounds
 same-turns n cs ns i s e =
     let a = both (leb 1 n && leb n 40) _ e in
     let r = both (leb 1 n) (leb n 40) (a .0) in
-    let b = both (sameAnswers (run ledgerStep (freshLedger n) cs) ns) _ (a .1) in
+    let b = both (sameAnswers (ledgerAnswers n cs) ns) _ (a .1) in
     let z : Proper n (zeros n) = record { some = leb-true 1 n (r .0); most = leb-true n 40 (r .1); sized = length-replicate (n * 16384) 0 } in
     record {
       granted = rw (r .0, r .1);
-      answered = λ p f. demand3 .answered n p f cs ∙ same-answers (run ledgerStep (freshLedger n) cs) ns (b .0);
+      answered = λ p f. demand3 .answered n p f cs ∙ same-answers (ledgerAnswers n cs) ns (b .0);
       slot = λ p f. rw (same-desk n p (zeros n) f z cs) (same-session _ s (b .1));
     }
 

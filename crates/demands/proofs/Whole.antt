@@ -1,6 +1,6 @@
 -- The demands and the marked examples, proved. Assumes nothing.
 use Rattle.value_laws.proofs.ChoiceLaws.{choosing}
-use Rattle.desk_laws.proofs.Demand.{demand3}
+use Rattle.desk_laws.proofs.Demand.{demand3, demand3-as-asked}
 use Rattle.desk_laws.proofs.Granted.{grants}
 use Rattle.replay_laws.proofs.Replays.{replays}
 use Rattle.report_laws.proofs.Reports.{reports}
@@ -17,6 +17,7 @@ demands =
       total = demand1;
       exact = demand2;
       separate = demand3;
+      separate-as-asked = demand3-as-asked;
       dated = demand4;
       labels = labels;
       granted = grants;

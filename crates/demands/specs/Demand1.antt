@@ -26,8 +26,9 @@ use Rattle.reader.specs.Outcome.{judgeOf, ended, Taken, readOutcome}
 use Rattle.folder_line.specs.Pieces.{foldedLines}
 use Rattle.folder_raising.specs.declared.Style.{Style}
 use Rattle.folder.specs.Outcome.{foldIn, foldOutcome}
-use Rattle.desk_slots.specs.Sound.{stateAt}
-use Rattle.desk.specs.Steps.{Sound, Turned, freshDesk, newStep, openStep, addStep, releaseStep, octetsIn, showStep, heldStep, judgeStep}
+use Rattle.desk_entries.specs.Ticks.{idleTicks}
+use Rattle.desk_slots.specs.Sound.{stateAt, tickAt}
+use Rattle.desk.specs.Steps.{Sound, seen, Turned, freshDesk, newStep, openStep, addStep, releaseStep, octetsIn, showStep, heldStep, judgeStep}
 use Rattle.desk_entries.specs.declared.Session.{Session}
 use Rattle.desk_entries.specs.declared.State.the-variants.{Free, Open}
 use Rattle.desk.specs.declared.Desk.{Desk}
@@ -155,10 +156,12 @@ pub data NewBy (slots : ℕ) : ℕ → ℕ → Type 0 where
   range : (slots ≡ 0) ⊎ (limit.slots < slots) → NewBy slots refusal.slotCount 0
 
 -- 25, 24, 21, 20
-pub data OpenBy (d : Desk) (p : List ℕ) : ℕ → ℕ → Type 0 where
-  no-desk : {n q : ℕ} → Unready d p n q → OpenBy d p n q
-  used-up : Ready d p → d .next ≡ limit.tickets → OpenBy d p refusal.ticketsUsedUp 0
-  full : Ready d p → (d .next ≡ limit.tickets → ⊥) → ((i : ℕ) → i < d .slots → stateAt (d .entries) i ≡ Free → ⊥) → OpenBy d p refusal.noFreeSlot 0
+pub data OpenBy (d : Desk) (p : List ℕ) (tick : ℕ) : ℕ → ℕ → Type 0 where
+  no-desk : {n q : ℕ} → Unready d p n q → OpenBy d p tick n q
+  used-up : Ready d p → d .next ≡ limit.tickets → OpenBy d p tick refusal.ticketsUsedUp 0
+  -- no slot is free, and none has a session that the tick counted is ahead of by 600 or more
+  full : Ready d p → (d .next ≡ limit.tickets → ⊥) → ((i : ℕ) → i < d .slots → stateAt (d .entries) i ≡ Free → ⊥)
+      → ((i : ℕ) (s : Session) → i < d .slots → stateAt (d .entries) i ≡ Open s → tickAt (d .stamps) i + idleTicks ≤ seen d tick → ⊥) → OpenBy d p tick refusal.noFreeSlot 0
 
 -- 25, 24, 22, 23
 pub data AddBy (d : Desk) (p : List ℕ) (t : ℕ) (chunk : List ℕ) : ℕ → ℕ → Type 0 where
@@ -220,8 +223,8 @@ pub record Demand1 : Type 0 where
   pub decodes : (r : Rule) (t out : List ℕ) → Filling (decodeOutcome r t out) out (DecodeBy t out r)
   -- a refused desk has 0 slots
   pub starts : (slots : ℕ) → Exactly (said (newStep slots .answer)) (newStep slots .desk ≡ freshDesk 0) (NewBy slots)
-  pub opens : (d : Desk) (pool : List ℕ) (m : ℕ) → Turning (openStep d pool m) d pool (OpenBy d pool)
-  pub adds : (d : Desk) (pool : List ℕ) (t : ℕ) (chunk : List ℕ) → Turning (addStep d pool t chunk) d pool (AddBy d pool t chunk)
+  pub opens : (d : Desk) (pool : List ℕ) (m tick : ℕ) → Turning (openStep d pool m tick) d pool (OpenBy d pool tick)
+  pub adds : (d : Desk) (pool : List ℕ) (t : ℕ) (chunk : List ℕ) (tick : ℕ) → Turning (addStep d pool t chunk tick) d pool (AddBy d pool t chunk)
   pub releases : (d : Desk) (pool : List ℕ) (t : ℕ) → Turning (releaseStep d pool t) d pool (TicketBy d pool t)
   pub counts : (d : Desk) (pool : List ℕ) (t : ℕ) → Answering (said (heldStep d pool t)) (TicketBy d pool t)
   pub judges-held : (d : Desk) (pool : List ℕ) (t : ℕ) → Answering (verdict (judgeStep d pool t)) (JudgeBy d pool t)

@@ -4,7 +4,7 @@ use Prim.Native.Nat.{ℕ}
 use mathlib.Core.List.{List}
 use Rattle.line_parser.specs.Grammar.{Each}
 use Rattle.value_laws.specs.Choice.{Choosing}
-use Rattle.desk_laws.specs.Demand.{Demand3}
+use Rattle.desk_laws.specs.Demand.{Demand3, Demand3AsAsked}
 use Rattle.desk_laws.specs.Granted.{Granted}
 use Rattle.replay_laws.specs.Replays.{Replays}
 use Rattle.report_laws.specs.Reports.{Reports}
@@ -19,6 +19,7 @@ pub record Demands : Type 0 where
   pub exact : Demand2
   pub labels : Labels
   pub separate : Demand3
+  pub separate-as-asked : Demand3AsAsked
   pub dated : Demand4
   pub granted : Granted
   pub replays : Replays

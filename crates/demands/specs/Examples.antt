@@ -19,7 +19,7 @@ use Rattle.desk.specs.Steps.{newStep}
 use Rattle.desk_entries.specs.declared.Session.{Session}
 use Rattle.desk_entries.specs.declared.State.the-variants.{Open}
 use Rattle.desk_ledger.specs.Answers.{Reply, refused, told, counts, verdict, wrote, said}
-use Rattle.desk_ledger.specs.Ledger.{Call, opens, on, releases}
+use Rattle.desk_ledger.specs.Ticks.{Ticked, opensAt, asksOf, releasing}
 use Rattle.desk_ledger.specs.Desks.{Proper, answers, world}
 
 -- CR LF
@@ -71,10 +71,10 @@ pub data Example : Type 0 where
   folds : (style : Style) (input room : List ℕ) → Reply → (room′ : List ℕ) → Example
   unescapes : (text room : List ℕ) → Reply → (room′ : List ℕ) → Example
   reports : (inputs : List (List ℕ)) (room : List ℕ) → Reply → (room′ : List ℕ) → Example
-  turns : (slots : ℕ) (calls : List Call) (numbers : List ℕ) (slot : ℕ) (session : Session) → Example
+  turns : (slots : ℕ) (calls : List Ticked) (numbers : List ℕ) (slot : ℕ) (session : Session) → Example
 
 -- such a desk is granted; and with its proper pool, whatever this holds, the steps of the desk's contracts answer and end so
-pub record Turns (n : ℕ) (cs : List Call) (ns : List ℕ) (i : ℕ) (s : Session) : Type 0 where
+pub record Turns (n : ℕ) (cs : List Ticked) (ns : List ℕ) (i : ℕ) (s : Session) : Type 0 where
   pub granted : said (newStep n .answer) ≡ told 0
   pub answered : (p : List ℕ) → Proper n p → answers n p cs ≡ map told ns
   pub slot : (p : List ℕ) → Proper n p → stateAt (world n p cs .desk .entries) i ≡ Open s
@@ -137,7 +137,7 @@ marked =
     unescapes (octets "\\N") (replicate 8 0) (told 1) (10 ∷ replicate 7 0) ∷
     unescapes (octets "a,b") (replicate 8 0) (refused 30 1) (replicate 8 0) ∷
     reports (cardM ∷ []) (replicate 70 0) (told 68) (rowsM ++ replicate 2 0) ∷
-    turns 2 (opens 0 ∷ opens 0 ∷ on 1 releases ∷ opens 0 ∷ []) (1 ∷ 2 ∷ 0 ∷ 3 ∷ []) 0 (record { ticket = 3; tram = 0; held = 0 }) ∷
+    turns 2 (opensAt 0 0 ∷ opensAt 0 0 ∷ asksOf 1 releasing ∷ opensAt 0 0 ∷ []) (1 ∷ 2 ∷ 0 ∷ 3 ∷ []) 0 (record { ticket = 3; tram = 0; held = 0 }) ∷
     []
 
 -- raised, two inputs whose copies differ are written to equal octets

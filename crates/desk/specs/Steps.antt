@@ -1,5 +1,5 @@
 -- What each call answers, the next desk and what the pool holds then, for every desk, pool and ticket. Assumes nothing.
-use Prim.Native.Nat.{ℕ, _+_, _*_}
+use Prim.Native.Nat.{ℕ, _+_, _*_, _<_, _≤_}
 use mathlib.Core.Bool.{Bool}
 use mathlib.Core.List.{List, []}
 use lib.Dec.{ltb, eqb}
@@ -11,8 +11,9 @@ use Rattle.reader.specs.Outcome.{judgeOf}
 use Rattle.reader.specs.declared.Verdict.{Verdict}
 use Rattle.reader.specs.declared.Verdict.the-variants.{Refused as Unread}
 use Rattle.desk_entries.specs.Search.{firstAt}
-use Rattle.desk_slots.specs.Sound.{none, bounds, Sound as SoundEntries, sound as soundEntries}
-use Rattle.desk_slots.specs.Slots.{guarded as guardedEntries, freeAt, slotOf as slotIn}
+use Rattle.desk_entries.specs.Ticks.{higher}
+use Rattle.desk_slots.specs.Sound.{none, bounds, SoundAt, soundAt}
+use Rattle.desk_slots.specs.Slots.{guarded as guardedEntries, freeAt, idleOf, slotOf as slotIn}
 use Rattle.desk_entries.specs.declared.tickets.Position.{Position}
 use Rattle.desk_entries.specs.declared.tickets.Position.the-variants.{At, Nowhere, Barred}
 use Rattle.desk_entries.specs.declared.Session.{Session}
@@ -29,18 +30,26 @@ use Rattle.desk.specs.declared.Turn.{Turn}
 -- ---- a sound desk, and the slot of a ticket
 
 abbrev pub Sound : Desk → Type 0
-Sound d = SoundEntries (d .entries) (d .slots) (d .next)
+Sound d = SoundAt (d .entries) (d .slots) (d .next) (d .stamps) (d .tick)
 
 abbrev pub sound : Desk → Bool
-sound d = soundEntries (d .entries) (d .slots) (d .next)
+sound d = soundAt (d .entries) (d .slots) (d .next) (d .stamps) (d .tick)
 
 -- 25 where the desk is not sound, then 24 where the pool has another size, else a
 abbrev pub guarded : {A : Type 0} → Desk → ℕ → (ℕ → A) → A → A
-guarded d size bar a = guardedEntries (d .entries) (d .slots) (d .next) size bar a
+guarded d size bar a = guardedEntries (d .entries) (d .slots) (d .next) (d .stamps) (d .tick) size bar a
 
 -- 25, 24, 22, or the slot of a ticket with its session
 abbrev pub slotOf : Desk → ℕ → ℕ → Slot
-slotOf d size t = slotIn (d .entries) (d .slots) (d .next) size t
+slotOf d size t = slotIn (d .entries) (d .slots) (d .next) (d .stamps) (d .tick) size t
+
+-- "a lower one counts as that": the higher of the desk's tick and a call's
+abbrev pub seen : Desk → ℕ → ℕ
+seen d tick = higher (d .tick) tick
+
+-- the idle slot with the lowest ticket, when the desk's tick is `now`
+abbrev pub idleSlot : Desk → ℕ → Position
+idleSlot d now = idleOf (d .entries) (d .slots) (d .stamps) now
 
 -- ---- answers
 
@@ -63,7 +72,7 @@ refused d p at n = turned (refuse d n at) p
 -- ---- a new desk
 
 abbrev pub freshDesk : ℕ → Desk
-freshDesk n = record { entries = replicate limit.slots none; slots = n; next = 1 }
+freshDesk n = record { entries = replicate limit.slots none; slots = n; next = 1; tick = 0; stamps = replicate limit.slots 0 }
 
 unfoldable pub newStep : ℕ → Turn
 newStep n = pick (bounds n 1) (record { answer = Done 0; desk = freshDesk n }) (refuse (freshDesk 0) refusal.slotCount 0)
@@ -71,40 +80,66 @@ newStep n = pick (bounds n 1) (record { answer = Done 0; desk = freshDesk n }) (
 -- ---- open
 
 abbrev pub withState : Desk → ℕ → State → Desk
-withState d i s = record { entries = set (d .entries) i (record { state = s }); slots = d .slots; next = d .next }
+withState d i s = record { entries = set (d .entries) i (record { state = s }); slots = d .slots; next = d .next; tick = d .tick; stamps = d .stamps }
 
 -- the desk with entry i in a new state, and an answer
 abbrev pub grant : Desk → ℕ → State → ℕ → Turn
 grant d i s n = record { answer = Done n; desk = withState d i s }
 
-abbrev pub opened : Desk → ℕ → ℕ → Desk
-opened d m i =
-    record { entries = set (d .entries) i (record { state = Open (record { ticket = d .next; tram = m; held = 0 }) }); slots = d .slots; next = d .next + 1 }
+-- the desk with its tick and that of entry i
+abbrev pub stamped : Desk → ℕ → ℕ → Desk
+stamped d i now = record { entries = d .entries; slots = d .slots; next = d .next; tick = now; stamps = set (d .stamps) i now }
 
-abbrev pub openIn : Desk → List ℕ → ℕ → Position → Turned
-openIn d p m Nowhere = refused d p 0 refusal.noFreeSlot
-openIn d p m (At i) = record { answer = Done (d .next); desk = opened d m i; pool = p }
-openIn d p m (Barred n) = refused d p 0 n
+-- the next ticket in slot i
+abbrev pub opened : Desk → ℕ → ℕ → ℕ → Desk
+opened d m now i =
+    record {
+      entries = set (d .entries) i (record { state = Open (record { ticket = d .next; tram = m; held = 0 }) });
+      slots = d .slots;
+      next = d .next + 1;
+      tick = now;
+      stamps = set (d .stamps) i now;
+    }
 
--- 25, 24, 21, 20; else the next ticket in the lowest free slot
-unfoldable pub openStep : Desk → List ℕ → ℕ → Turned
-openStep d p m =
+abbrev pub begun : Desk → ℕ → ℕ → ℕ → Turn
+begun d m now i = record { answer = Done (d .next); desk = opened d m now i }
+
+-- with no free slot: the idle one that is found is zeroed and taken, else 20
+abbrev pub reclaimIn : Desk → List ℕ → ℕ → ℕ → Position → Turned
+reclaimIn d p m now Nowhere = refused d p 0 refusal.noFreeSlot
+reclaimIn d p m now (At i) = turned (begun d m now i) (patch p (i * limit.octets) zeros)
+reclaimIn d p m now (Barred n) = refused d p 0 n
+
+abbrev pub openIn : Desk → List ℕ → ℕ → ℕ → Position → Turned
+openIn d p m now Nowhere = reclaimIn d p m now (idleSlot d now)
+openIn d p m now (At i) = turned (begun d m now i) p
+openIn d p m now (Barred n) = refused d p 0 n
+
+-- a ticket is left, and the pool has the desk's slots
+pub record Takes (d : Desk) (p : List ℕ) : Type 0 where
+  pub few : d .slots ≤ limit.slots
+  pub left : d .next < limit.tickets
+  pub fits : d .slots * limit.octets ≤ length p
+
+-- 25, 24, 21, 20; else the next ticket in the lowest free slot, or in the idle one with the lowest ticket
+unfoldable pub openStep : Desk → List ℕ → ℕ → ℕ → Turned
+openStep d p m tick =
     guarded d (length p) (refused d p 0)
-    (pick (eqb (d .next) limit.tickets) (refused d p 0 refusal.ticketsUsedUp) (openIn d p m (firstAt (freeAt (d .entries)) 0 (d .slots))))
+    (pick (eqb (d .next) limit.tickets) (refused d p 0 refusal.ticketsUsedUp) (openIn d p m (seen d tick) (firstAt (freeAt (d .entries)) 0 (d .slots))))
 
 -- ---- add
 
 abbrev pub grown : Session → ℕ → Session
 grown s n = record { ticket = s .ticket; tram = s .tram; held = s .held + n }
 
-abbrev pub addIn : Desk → List ℕ → List ℕ → Slot → Turned
-addIn d p q (No n) = refused d p 0 n
-addIn d p q (Held i s) =
+abbrev pub addIn : Desk → List ℕ → List ℕ → ℕ → Slot → Turned
+addIn d p q now (No n) = refused d p 0 n
+addIn d p q now (Held i s) =
     pick (ltb limit.octets (s .held + length q)) (refused d p (s .held) refusal.slotFull)
-    (record { answer = Done (s .held + length q); desk = withState d i (Open (grown s (length q))); pool = patch p (i * limit.octets + s .held) q })
+    (record { answer = Done (s .held + length q); desk = withState (stamped d i now) i (Open (grown s (length q))); pool = patch p (i * limit.octets + s .held) q })
 
-unfoldable pub addStep : Desk → List ℕ → ℕ → List ℕ → Turned
-addStep d p t q = addIn d p q (slotOf d (length p) t)
+unfoldable pub addStep : Desk → List ℕ → ℕ → List ℕ → ℕ → Turned
+addStep d p t q tick = addIn d p q (seen d tick) (slotOf d (length p) t)
 
 -- ---- release
 

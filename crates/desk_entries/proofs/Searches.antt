@@ -2,11 +2,13 @@
 use Prim.Native.Nat.{ℕ, zero, suc, _+_, _-_, _<_, _≤_}
 use mathlib.Core.Path.{_≡_, refl, sym, ap, _∙_}
 use mathlib.Core.Bool.{Bool, true, false}
+use native.Mathlib.Numerals.{add-one}
 use native.Mathlib.Omega.{arith}
-use lib.Dec.{eqb}
-use borrow.Author.Tests.{eqb-true, eqb-false, eq-eqb, ne-eqb}
+use lib.Dec.{ltb, eqb}
+use borrow.Author.Tests.{ltb-true, ltb-false, eqb-true, eqb-false, eq-eqb, ne-eqb}
 use Rattle.octets.specs.Pick.{pick}
-use Rattle.desk_entries.specs.Search.{firstAt, allAt, sameAs, isAt, among}
+use Rattle.desk_entries.specs.Search.{firstAt, allAt, anyAt, sameAs, isAt, among, AtMost, noneYet, lower, lowestOf, lowestAt}
+use Rattle.desk_entries.specs.declared.tickets.Lowest.{Lowest}
 use Rattle.desk_entries.specs.declared.tickets.Position.{Position}
 use Rattle.desk_entries.specs.declared.tickets.Position.the-variants.{At, Nowhere, Barred}
 
@@ -133,3 +135,150 @@ not-among f t n u = go (eqb t 0) refl (firstAt (sameAs f t) 0 n) refl
 pub among-same : (f g : ℕ → ℕ) (t n : ℕ) → ((j : ℕ) → j < n → f j ≡ g j) → among f t n ≡ among g t n
 unfolding among
 among-same f g t n e = ap (λ (r : Position). pick (eqb t 0) false (isAt r)) (firstAt-same (sameAs f t) (sameAs g t) n 0 (λ j h l. ap (λ (x : ℕ). eqb x t) (e j (omega arith))))
+
+pub above-all : (f : ℕ → ℕ) (t n h : ℕ) → AtMost f n h → h < t → among f t n ≡ false
+unfolding AtMost
+above-all f t n h m l = not-among f t n (λ z j k e. (let w = m j k in omega arith))
+
+-- ---- one of the first positions
+
+either : (a b : Bool) → pick a true b ≡ false → (a ≡ false) × (b ≡ false)
+either true b e = clash cc
+either false b e = (refl, e)
+
+pub anyAt-none : (p : ℕ → Bool) → anyAt p 0 ≡ false
+unfolding anyAt
+anyAt-none p = refl
+
+pub anyAt-more : (p : ℕ → Bool) (n : ℕ) → anyAt p (n + 1) ≡ pick (anyAt p n) true (p n)
+unfolding anyAt
+anyAt-more p n = rw (add-one n)
+
+pub anyAt-not : (p : ℕ → Bool) (n : ℕ) → anyAt p n ≡ false → (j : ℕ) → j < n → p j ≡ false
+unfolding anyAt
+anyAt-not p zero e j h = absurd (omega arith)
+anyAt-not p (suc n) e j h = let b = either (anyAt p n) (p n) e in go (anyAt-not p n (b .0) j) (b .1) (eqb j n) refl
+  where
+    go : (j < n → p j ≡ false) → p n ≡ false → (t : Bool) → eqb j n ≡ t → p j ≡ false
+    go ih b true q = let w : j ≡ n = eqb-true j n q in rw w b
+    go ih b false q = ih (omega (arith, eqb-false j n q))
+
+pub not-anyAt : (p : ℕ → Bool) (n : ℕ) → ((j : ℕ) → j < n → p j ≡ false) → anyAt p n ≡ false
+unfolding anyAt
+not-anyAt p zero f = refl
+not-anyAt p (suc n) f = rw (not-anyAt p n (λ j h. f j (omega arith)), f n (omega arith))
+
+pub anyAt-same : (p q : ℕ → Bool) (n : ℕ) → ((j : ℕ) → j < n → p j ≡ q j) → anyAt p n ≡ anyAt q n
+unfolding anyAt
+anyAt-same p q zero f = refl
+anyAt-same p q (suc n) f = rw (anyAt-same p q n (λ j h. f j (omega arith)), f n (omega arith))
+
+-- ---- the lowest number
+
+-- what was found among the first n numbers: none of them is a number, or the lowest
+pub record Finds (f : ℕ → ℕ) (n : ℕ) (b : Lowest) : Type 0 where
+  pub none : b .ticket ≡ 0 → (j : ℕ) → j < n → f j ≡ 0
+  pub inside : (b .ticket ≡ 0 → ⊥) → b .at < n
+  pub there : (b .ticket ≡ 0 → ⊥) → f (b .at) ≡ b .ticket
+  pub least : (j : ℕ) → j < n → (f j ≡ 0 → ⊥) → b .ticket ≤ f j
+
+module _ (f : ℕ → ℕ) (n : ℕ) (b : Lowest) (h : Finds f n b) where
+  -- the same among one number more, which is none or not lower
+  same : ((b .ticket ≡ 0 → f n ≡ 0) × ((f n ≡ 0 → ⊥) → b .ticket ≤ f n)) → Finds f (suc n) b
+  same k =
+      record {
+        none = λ z j l. none z j l (eqb j n) refl;
+        inside = λ z. omega (arith, h .inside z);
+        there = h .there;
+        least = λ j l z. least j l z (eqb j n) refl;
+      }
+    where
+      none : b .ticket ≡ 0 → (j : ℕ) → j < suc n → (t : Bool) → eqb j n ≡ t → f j ≡ 0
+      none z j l true q = let w : j ≡ n = eqb-true j n q in rw w (k .0 z)
+      none z j l false q = h .none z j (omega (arith, eqb-false j n q))
+
+      least : (j : ℕ) → j < suc n → (f j ≡ 0 → ⊥) → (t : Bool) → eqb j n ≡ t → b .ticket ≤ f j
+      least j l z true q = let w : j ≡ n = eqb-true j n q in rw w (k .1 (λ e. z (rw w e)))
+      least j l z false q = h .least j (omega (arith, eqb-false j n q)) z
+
+  -- a number more that is the lowest then
+  new : (f n ≡ 0 → ⊥) → ((j : ℕ) → j < n → (f j ≡ 0 → ⊥) → f n ≤ f j) → Finds f (suc n) (record { ticket = f n; at = n })
+  new z k =
+      record {
+        none = λ e. absurd (z e);
+        inside = λ e. omega arith;
+        there = λ e. refl;
+        least = λ j l e. least j l e (eqb j n) refl;
+      }
+    where
+      least : (j : ℕ) → j < suc n → (f j ≡ 0 → ⊥) → (t : Bool) → eqb j n ≡ t → f n ≤ f j
+      least j l e true q = let w : j ≡ n = eqb-true j n q in rw w (omega arith)
+      least j l e false q = k j (omega (arith, eqb-false j n q)) e
+
+  finds-more : Finds f (suc n) (lower b (f n) n)
+  finds-more = go (eqb (f n) 0) refl (eqb (b .ticket) 0) refl (ltb (f n) (b .ticket)) refl
+    where
+      go : (x : Bool) → eqb (f n) 0 ≡ x → (y : Bool) → eqb (b .ticket) 0 ≡ y → (z : Bool) → ltb (f n) (b .ticket) ≡ z → Finds f (suc n) (lower b (f n) n)
+      go true p y q z r = rw p (same (λ e. eqb-true (f n) 0 p, λ e. absurd (e (eqb-true (f n) 0 p))))
+      go false p true q z r = rw (p, q) (new (eqb-false (f n) 0 p) (λ j l e. absurd (e (h .none (eqb-true (b .ticket) 0 q) j l))))
+      go false p false q true r =
+          rw (p, q, r) (new (eqb-false (f n) 0 p) (λ j l e. (let k = h .least j l e in omega (arith, ltb-true (f n) (b .ticket) r))))
+      go false p false q false r =
+          rw (p, q, r) (same (λ e. absurd (eqb-false (b .ticket) 0 q e), λ e. ltb-false (f n) (b .ticket) r))
+
+finds : (f : ℕ → ℕ) (n : ℕ) → Finds f n (lowestOf f n)
+unfolding lowestOf
+finds f zero =
+    record { none = λ z j l. absurd (omega arith); inside = λ z. absurd (z refl); there = λ z. absurd (z refl); least = λ j l z. omega arith }
+finds f (suc n) = finds-more f n (lowestOf f n) (finds f n)
+
+pub lowestOf-none : (f : ℕ → ℕ) → lowestOf f 0 ≡ noneYet
+unfolding lowestOf
+lowestOf-none f = refl
+
+pub lowestOf-more : (f : ℕ → ℕ) (n : ℕ) → lowestOf f (n + 1) ≡ lower (lowestOf f n) (f n) n
+unfolding lowestOf
+lowestOf-more f n = rw (add-one n)
+
+pub lowest-none : (f : ℕ → ℕ) (n : ℕ) (b : Lowest) → b ≡ lowestOf f n → b .ticket ≡ 0 → Nowhere ≡ lowestAt f n
+unfolding lowestAt
+lowest-none f n b e z = rw (← e, eq-eqb (b .ticket) 0 z)
+
+pub lowest-some : (f : ℕ → ℕ) (n : ℕ) (b : Lowest) → b ≡ lowestOf f n → (b .ticket ≡ 0 → ⊥) → At (b .at) ≡ lowestAt f n
+unfolding lowestAt
+lowest-some f n b e z = rw (← e, ne-eqb (b .ticket) 0 z)
+
+pub lowestAt-not : (f : ℕ → ℕ) (n : ℕ) → lowestAt f n ≡ Nowhere → (j : ℕ) → j < n → f j ≡ 0
+unfolding lowestAt
+lowestAt-not f n e = go (eqb (lowestOf f n .ticket) 0) refl e
+  where
+    go : (b : Bool) → eqb (lowestOf f n .ticket) 0 ≡ b → pick b Nowhere (At (lowestOf f n .at)) ≡ Nowhere → (j : ℕ) → j < n → f j ≡ 0
+    go true q e = finds f n .none (eqb-true (lowestOf f n .ticket) 0 q)
+    go false q e = clash cc
+
+-- position i is one of the first n, and no number there is lower but 0
+pub record LowestIs (f : ℕ → ℕ) (n i : ℕ) : Type 0 where
+  pub inside : i < n
+  pub some : f i ≡ 0 → ⊥
+  pub least : (j : ℕ) → j < n → (f j ≡ 0 → ⊥) → f i ≤ f j
+
+pub lowestAt-is : (f : ℕ → ℕ) (n i : ℕ) → lowestAt f n ≡ At i → LowestIs f n i
+unfolding lowestAt
+lowestAt-is f n i e = go (eqb (lowestOf f n .ticket) 0) refl e
+  where
+    go : (b : Bool) → eqb (lowestOf f n .ticket) 0 ≡ b → pick b Nowhere (At (lowestOf f n .at)) ≡ At i → LowestIs f n i
+    go true q e = clash cc
+    go false q e =
+        let z = eqb-false (lowestOf f n .ticket) 0 q in
+        let h = finds f n in
+        let w : lowestOf f n .at ≡ i = cc in
+        let t : f i ≡ lowestOf f n .ticket = rw (← w) (h .there z) in
+        record { inside = rw w at (h .inside z); some = λ k. z (sym t ∙ k); least = λ j l k. rw t (h .least j l k) }
+
+pub lowest-unbarred : {A : Type 0} (f : ℕ → ℕ) (n k : ℕ) → lowestAt f n ≡ Barred k → A
+unfolding lowestAt
+lowest-unbarred {A} f n k e = go (eqb (lowestOf f n .ticket) 0) e
+  where
+    go : (b : Bool) → pick b Nowhere (At (lowestOf f n .at)) ≡ Barred k → A
+    go true e = clash cc
+    go false e = clash cc

@@ -2,8 +2,10 @@
 use numbers::limit;
 ghost use mathlib.Core.Path.{_≡_};
 ghost use Rattle.desk_entries.specs.Entries.{ticketOf, fits};
+ghost use Rattle.desk_entries.specs.Ticks.{idleTicket};
 
 pub mod tickets;
+pub mod ticks;
 
 // An open upload: its ticket, the tram's identifier and the octets held.
 pub struct Session {
@@ -32,6 +34,16 @@ pub fn ticket_of(e: Entry) -> u32
         State::Free => 0,
         State::Open(o) => o.ticket,
     }
+}
+
+// Tells the ticket of an open entry whose session is idle, and 0 of any other.
+pub fn idle_ticket(e: Entry, tick: u32, now: u32) -> u32
+    ensures { λ r. ⌜ r ≡ idleTicket (e .state) tick now ⌝ }
+{
+    if ticks::is_idle(tick, now) {
+        return ticket_of(e);
+    }
+    0
 }
 
 // Tells whether entry i is free, or a slot's with a session that fits.

@@ -3,13 +3,41 @@ use numbers::limit;
 ghost use mathlib.Core.Path.{_≡_};
 ghost use Prim.Native.Nat.{_≤_};
 ghost use Rattle.numbers.specs.Limits as limit;
-ghost use Rattle.desk_entries.specs.Search.{firstAt, column, sameAs, among};
+ghost use Rattle.desk_entries.specs.Search.{firstAt, column, sameAs, among, AtMost, lower};
 
 // Where a ticket stands among the entries, or the refusal that bars a call.
 pub enum Position {
     At(usize),
     Nowhere,
     Barred(u32),
+}
+
+// The lowest ticket found so far, 0 where there is none yet, and where it stands.
+pub struct Lowest {
+    pub ticket: u32,
+    pub at: usize,
+}
+
+// Takes a ticket at a position, which 0 is none of, where it is lower than what was found.
+pub fn lower(found: Lowest, ticket: u32, at: usize) -> Lowest
+    ensures { λ r. ⌜ r ≡ lower found ticket at ⌝ }
+{
+    if ticket == 0 {
+        return found;
+    }
+    if found.ticket == 0 {
+        return Lowest {
+            ticket: ticket,
+            at: at,
+        };
+    }
+    if ticket < found.ticket {
+        return Lowest {
+            ticket: ticket,
+            at: at,
+        };
+    }
+    found
 }
 
 // Finds the first of n positions that has a ticket, where a free one has 0.
@@ -41,4 +69,15 @@ pub fn stands(tickets: &[u32; limit::SLOTS], t: u32, n: usize) -> bool
         Position::Nowhere => false,
         Position::Barred(_) => false,
     }
+}
+
+// Tells the same as `stands`, at once for a ticket that is higher than all of them.
+pub fn repeats(tickets: &[u32; limit::SLOTS], t: u32, n: usize, highest: u32) -> bool
+    requires { ⌜ (n ≤ limit.slots) × AtMost (column (now tickets)) n highest ⌝ }
+    ensures { λ r. ⌜ r ≡ among (column (now (tickets .entry))) t n ⌝ }
+{
+    if highest < t {
+        return false;
+    }
+    stands(tickets, t, n)
 }

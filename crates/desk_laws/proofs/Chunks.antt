@@ -9,11 +9,11 @@ use lib.Seq.{take-add}
 use borrow.Author.Tests.{le-ltb}
 use Rattle.numbers.specs.Limits as limit
 use Rattle.octets.specs.Pick.{pick}
-use Rattle.desk_ledger.specs.Ledger.{Deed, adds, Call, Found, present, answer, leaves}
-use Rattle.desk_ledger.specs.Uploads.{mine}
+use Rattle.desk_ledger.specs.Ledger.{Deed, adds, Found, present, answer, leaves}
+use Rattle.desk_ledger.specs.Ticks.{Ticked, opensAt}
 use Rattle.desk_ledger.specs.Desks.{Proper}
 use Rattle.desk_laws.specs.Chunks.{pieces, total}
-use Rattle.desk_laws.specs.Demand.{Grants, asked}
+use Rattle.desk_laws.specs.Demand.{Grants, Kept, deedsOn, asked}
 use Rattle.desk_laws.proofs.Noninterference.{fates}
 use Rattle.desk_laws.proofs.Demand.{asked-so}
 
@@ -36,10 +36,10 @@ pieces-held (n ∷ ns) a o h =
     ∙ pieces-held ns (a ++ take n o) (drop n o) (omega arith)
     ∙ ap present (append-assoc a (take n o) (take (total ns) (drop n o)) ∙ ap (λ (r : List ℕ). a ++ r) (take-then n (total ns) o))
 
--- an upload that was granted, and whose own calls add the octets chunk by chunk, answers whatever is asked of it, the next chunk too, as one that
+-- an upload that was granted and is kept, and whose own calls add the octets chunk by chunk, answers whatever is asked of it, the next chunk too, as one that
 -- holds exactly the octets taken so far; what is called for other uploads changes nothing
-pub octets-held : (n : ℕ) (p : List ℕ) → Proper n p → (xs : List Call) (m t : ℕ) → Grants n p xs m t
-    → (octets ns : List ℕ) → length (take (total ns) octets) ≤ limit.octets → (ys : List Call) → mine t ys ≡ pieces ns octets
-    → (x : Deed) → asked n p xs m t ys x ≡ answer (present (take (total ns) octets)) x
-octets-held n p f xs m t g octets ns h ys e x =
-    asked-so n p f xs m t g ys x ∙ ap (λ (ds : List Deed). answer (fates (present []) ds) x) e ∙ ap (λ (r : Found). answer r x) (pieces-held ns [] octets (omega arith))
+pub octets-held : (n : ℕ) (p : List ℕ) → Proper n p → (xs : List Ticked) (m τ t : ℕ) → Grants n p xs m τ t
+    → (octets ns : List ℕ) → length (take (total ns) octets) ≤ limit.octets → (ys : List Ticked) → Kept n xs m τ t ys → deedsOn t ys ≡ pieces ns octets
+    → (x : Deed) (σ : ℕ) → asked n p (xs ++ opensAt m τ ∷ ys) t x σ ≡ answer (present (take (total ns) octets)) x
+octets-held n p f xs m τ t g octets ns h ys s e x σ =
+    asked-so n p f xs m τ t g ys s x σ ∙ ap (λ (ds : List Deed). answer (fates (present []) ds) x) e ∙ ap (λ (r : Found). answer r x) (pieces-held ns [] octets (omega arith))

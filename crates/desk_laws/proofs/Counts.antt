@@ -36,6 +36,23 @@ unfolding count
 count-full f zero h = refl
 count-full f (suc n) h = let x = count-full f n (λ j l. h j (omega arith)) in rw (h n (omega arith)) (omega arith)
 
+-- at all of them, where it holds at as many
+pub count-all : (p : ℕ → Bool) (n : ℕ) → count p n ≡ n → (j : ℕ) → j < n → p j ≡ true
+unfolding count
+count-all p zero e j h = absurd (omega arith)
+count-all p (suc n) e j h =
+    let l = count-le p n in
+    let m = bit-le (p n) in
+    go (count-all p n (omega arith) j) (last (p n) refl) (eqb j n) refl
+  where
+    last : (b : Bool) → p n ≡ b → p n ≡ true
+    last true q = q
+    last false q = let l = count-le p n in let z : bit (p n) 1 ≡ 0 = rw q in absurd (omega arith)
+
+    go : (j < n → p j ≡ true) → p n ≡ true → (t : Bool) → eqb j n ≡ t → p j ≡ true
+    go ih a true q = let w : j ≡ n = eqb-true j n q in rw w a
+    go ih a false q = ih (omega (arith, eqb-false j n q))
+
 -- g is f with i besides
 pub count-more : (f g : ℕ → Bool) (n i : ℕ) → i < n → f i ≡ false → g i ≡ true → ((j : ℕ) → (j ≡ i → ⊥) → f j ≡ g j) → count g n ≡ suc (count f n)
 unfolding count

@@ -6,8 +6,10 @@ pub mod Relation
 pub mod Refinement
 pub mod Noninterference
 pub mod Joins
-pub mod Demand
-pub mod PoolNoninterference
+pub mod Reclaims
+pub mod Following
 pub mod Granted
 pub mod GrantedOnly
+pub mod Demand
+pub mod PoolNoninterference
 pub mod Chunks

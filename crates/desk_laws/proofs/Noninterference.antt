@@ -1,4 +1,4 @@
--- Noninterference in the ledger: an upload is answered by its own calls alone, and no identifier changes an answer. Assumes nothing.
+-- Noninterference in the plain ledger: an upload is answered by its own calls alone. Assumes nothing.
 use Prim.Native.Nat.{ℕ, zero, suc, _+_, _<_, _≤_}
 use mathlib.Core.Path.{_≡_, refl, sym, ap, _∙_}
 use mathlib.Core.Bool.{Bool, true, false}
@@ -10,7 +10,7 @@ use borrow.Author.Tests.{eqb-true, eqb-false, eq-eqb, ne-eqb}
 use Rattle.octets.specs.Pick.{pick}
 use Rattle.desk_entries.proofs.Searches.{clash}
 use Rattle.desk_ledger.specs.Ledger.{Deed, Call, opens, on, Reply, refused, told, Found, absent, present, answer, leaves, Row, Ledger, lookup, change, Out, opening, ledgerStep, run, after}
-use Rattle.desk_ledger.specs.Uploads.{keep, mine, own, solo, SameCall, openings, deeds, SameCalls, none, next}
+use Rattle.desk_ledger.specs.Uploads.{keep, mine, own, solo}
 use Rattle.desk_laws.proofs.LedgerRows.{Below, change-same, change-other, change-absent, below-change}
 
 -- ---- one call of the ledger
@@ -188,19 +188,3 @@ next-granted l m t e = go (opening l) (opens-so l) e
     go : (x : Out Ledger) → Opens l x → x .reply ≡ told t → l .next ≡ t
     go x (stays n) h = clash cc
     go x grants h = cc
-
--- ---- identifiers
-
-step-same : (l : Ledger) {c d : Call} → SameCall c d → ledgerStep l c ≡ ledgerStep l d
-step-same l (openings m m′) = refl
-step-same l (deeds t x) = refl
-
-pub run-same : (l : Ledger) {cs ds : List Call} → SameCalls cs ds → run ledgerStep l cs ≡ run ledgerStep l ds
-unfolding run
-run-same l none = refl
-run-same l (next {c} {d} s r) = rw (step-same l s, run-same (ledgerStep l d .then) r)
-
-pub same-calls : (cs : List Call) → SameCalls cs cs
-same-calls [] = none
-same-calls (opens m ∷ cs) = next (openings m m) (same-calls cs)
-same-calls (on t x ∷ cs) = next (deeds t x) (same-calls cs)

@@ -1,4 +1,5 @@
--- Refinement: each call is answered on the desk as in the ledger and keeps their relation; so is every list of calls. Assumes nothing.
+-- Refinement without ticks: each call that names a ticket is answered on the desk as in the plain ledger and keeps their relation, and so does an
+-- opening in a free slot. Assumes nothing.
 use Prim.Native.Nat.{ℕ, _+_, _*_, _<_, _≤_}
 use mathlib.Core.Path.{_≡_, refl, sym, ap, subst, _∙_}
 use mathlib.Core.Bool.{Bool, true, false, not}
@@ -6,33 +7,29 @@ use mathlib.Core.List.{List, [], _∷_, _++_}
 use native.Mathlib.Omega.{arith}
 use lib.Dec.{ltb, eqb}
 use lib.ListN.{length, drop, set, replicate, length-set, length-drop, getD-replicate}
-use lib.Seq.{length-take-le}
+use lib.Seq.{length-take-le, getD-set-same, getD-set-other}
 use borrow.Author.Tests.{ltb-false, eqb-true, eqb-false, eq-eqb, ne-eqb}
-use Rattle.octets.specs.Pick.{pick}
-use Rattle.desk_entries.specs.Search.{firstAt}
 use Rattle.desk_slots.specs.Sound.{none, stateAt, Fit}
-use Rattle.desk_slots.specs.Slots.{isFree, freeAt}
+use Rattle.desk_slots.specs.Slots.{isFree}
 use Rattle.desk_pool.specs.Pools.{patch, zeros}
 use Rattle.desk_pool.proofs.Patches.{zeros-length}
-use Rattle.desk.specs.Steps.{refused as refusing, newStep, slotOf, opened, openIn, openStep, grown, withState, addIn, addStep, releaseStep, octetsIn, showStep, heldStep, judgeStep}
-use Rattle.desk_entries.proofs.Searches.{clash, firstAt-is, firstAt-not, unbarred}
+use Rattle.desk.specs.Steps.{Sound, newStep, slotOf, stamped, opened, grown, withState, addIn, releaseStep, octetsIn, showStep, heldStep, judgeStep}
+use Rattle.desk_entries.proofs.Searches.{clash}
 use Rattle.desk_slots.proofs.SoundLaws.{in-bounds}
-use Rattle.desk_slots.proofs.SlotLaws.{free-is}
-use Rattle.desk.proofs.DeskLaws.{is-sound, Granted}
-use Rattle.desk_entries.specs.declared.tickets.Position.{Position}
-use Rattle.desk_entries.specs.declared.tickets.Position.the-variants.{At, Nowhere, Barred}
+use Rattle.desk.proofs.DeskLaws.{Granted}
 use Rattle.desk_entries.specs.declared.Session.{Session}
 use Rattle.desk_entries.specs.declared.Entry.{Entry}
 use Rattle.desk_entries.specs.declared.State.{State}
 use Rattle.desk_entries.specs.declared.State.the-variants.{Free, Open}
 use Rattle.desk.specs.declared.Desk.{Desk}
 use Rattle.desk_slots.specs.declared.Slot.the-variants.{Held, No}
-use Rattle.desk_ledger.specs.Ledger.{Deed, adds, judges, shows, asks, releases, Call, opens, on, told, absent, present, answer, leaves, Row, Ledger, lookup, change, Out, opening, ledgerStep, freshLedger, run, after}
-use Rattle.desk_ledger.specs.Desks.{World, took, deedStep, deskStep}
+use Rattle.desk_ledger.specs.Ledger.{Deed, adds, judges, shows, asks, releases, on, told, absent, present, answer, leaves, Row, Ledger, lookup, change, Out, ledgerStep, freshLedger}
+use Rattle.desk_ledger.specs.Ticks.{judging, showing, counting, releasing}
+use Rattle.desk_ledger.specs.Desks.{World, took, askStep}
 use Rattle.desk_laws.proofs.LedgerRows.{no, change-same, change-other, change-absent, change-back, below-change, length-put, length-close}
 use Rattle.desk_laws.proofs.Patched.{patch-in, length-patch, patch-other}
-use Rattle.desk_laws.proofs.Counts.{count, count-same, count-le, count-zero, count-full, count-more}
-use Rattle.desk_laws.proofs.Relation.{same-at, other-at, sound-set, taken, Refines, is-open, is-free, backed-set, View, seen, unseen, view}
+use Rattle.desk_laws.proofs.Counts.{count, count-same, count-zero, count-more}
+use Rattle.desk_laws.proofs.Relation.{same-at, other-at, Later, sound-set, taken, Refines, is-open, is-free, backed-set, View, seen, unseen}
 
 -- the same answer, and the relation holds on
 pub record Simulates (a : Out World) (b : Out Ledger) : Type 0 where
@@ -56,15 +53,24 @@ taken-set es i j x l e true q =
     rw w (sym e ∙ sym (ap (λ (y : State). not (isFree y)) (same-at es i x l)))
 taken-set es i j x l e false q = sym (ap (λ (y : State). not (isFree y)) (other-at es i j x (eqb-false j i q)))
 
+-- a stamp at entry i with a tick that is not lower
+later-stamp : (d : Desk) (i now : ℕ) → d .tick ≤ now → i < length (d .stamps) → Later d i now (set (d .stamps) i now)
+later-stamp d i now h l =
+    record { higher = h; there = let e = getD-set-same (d .stamps) i now 0 l in omega arith; others = λ j n. getD-set-other (d .stamps) i j now 0 n }
+
+-- no stamp moves where an open entry becomes free
+later-same : (d : Desk) (i : ℕ) (s : Session) → Sound d → i < 40 → stateAt (d .entries) i ≡ Open s → Later d i (d .tick) (d .stamps)
+later-same d i s g h e = record { higher = omega arith; there = g .behind i h s e; others = λ j n. refl }
+
 module _ (d : Desk) (p : List ℕ) (l : Ledger) (r : Refines d p l) (t i : ℕ) (s : Session) (g : Granted d (length p) t i s) (lk : lookup (l .rows) t ≡ present (octetsIn p i s)) where
   in-list : i < length (d .entries)
   in-list = let a : i < 40 = g .short in let b = r .forty in omega arith
 
   fit : Fit (d .next) s
-  fit = r .good .each i (g .short) s (g .state)
+  fit = r .good .entries .each i (g .short) s (g .state)
 
   elsewhere : (j : ℕ) → j < 40 → (j ≡ i → ⊥) → (u : Session) → stateAt (d .entries) j ≡ Open u → u .ticket ≡ t → ⊥
-  elsewhere j k n u e q = n (r .good .distinct j i k (g .short) u s e (g .state) (q ∙ sym (g .ticket)))
+  elsewhere j k n u e q = n (r .good .entries .distinct j i k (g .short) u s e (g .state) (q ∙ sym (g .ticket)))
 
   was : (u : Session) → stateAt (d .entries) i ≡ Open u → u .ticket ≡ t
   was u e = let w : Open u ≡ Open s = sym e ∙ g .state in let v : u ≡ s = cc in ap (λ (x : Session). x .ticket) v ∙ g .ticket
@@ -73,15 +79,15 @@ module _ (d : Desk) (p : List ℕ) (l : Ledger) (r : Refines d p l) (t i : ℕ) 
   kept q a low high j k n u e =
       let b : length p ≡ d .slots * 16384 = g .sized in
       let c : i < d .slots = g .inside in
-      patch-other p q i j a (u .held) n low high (omega arith) (r .good .each j k u e .room)
+      patch-other p q i j a (u .held) n low high (omega arith) (r .good .entries .each j k u e .room)
 
-  added : (q : List ℕ) → s .held + length q ≤ 16384
-      → Refines (withState d i (Open (grown s (length q)))) (patch p (i * 16384 + s .held) q) (with l (change (l .rows) t (present (octetsIn p i s ++ q))))
-  added q h =
+  added : (q : List ℕ) (now : ℕ) → d .tick ≤ now → length (d .stamps) ≡ 40 → s .held + length q ≤ 16384
+      → Refines (withState (stamped d i now) i (Open (grown s (length q)))) (patch p (i * 16384 + s .held) q) (with l (change (l .rows) t (present (octetsIn p i s ++ q))))
+  added q now a f h =
       let b : length p ≡ d .slots * 16384 = g .sized in
       let c : i < d .slots = g .inside in
       record {
-        good = sound-set d (d .next) i (Open (grown s (length q))) (r .good) (omega arith) in-list c
+        good = sound-set d (d .next) i (Open (grown s (length q))) now (set (d .stamps) i now) (r .good) (later-stamp d i now a (omega (arith, g .short))) (omega arith) in-list c
             (λ u e. let w : grown s (length q) ≡ u = cc in rw (← w) (record { low = fit .low; high = fit .high; room = h }))
             (λ a u j e k n f q′. let w : grown s (length q) ≡ a = cc in elsewhere j k n u f (q′ ∙ sym (ap (λ (x : Session). x .ticket) w) ∙ g .ticket));
         forty = simp length-set (r .forty);
@@ -97,7 +103,7 @@ module _ (d : Desk) (p : List ℕ) (l : Ledger) (r : Refines d p l) (t i : ℕ) 
         falling = below-change (l .rows) (l .next) t (present (octetsIn p i s ++ q)) (r .falling);
       }
 
-  released : Refines (withState d i Free) (patch p (i * 16384) zeros) (with l (change (l .rows) t absent))
+  pub released : Refines (withState d i Free) (patch p (i * 16384) zeros) (with l (change (l .rows) t absent))
   released =
       let b : length p ≡ d .slots * 16384 = g .sized in
       let c : i < d .slots = g .inside in
@@ -107,7 +113,7 @@ module _ (d : Desk) (p : List ℕ) (l : Ledger) (r : Refines d p l) (t i : ℕ) 
       (λ j n. ap (λ (y : State). not (isFree y)) (other-at (d .entries) i j Free n)) in
       let k = length-close (l .rows) t (octetsIn p i s) lk in
       record {
-        good = sound-set d (d .next) i Free (r .good) (omega arith) in-list c (λ u e. clash cc) (λ a u j e. clash cc);
+        good = sound-set d (d .next) i Free (d .tick) (d .stamps) (r .good) (later-same d i s (r .good) (g .short) (g .state)) (omega arith) in-list c (λ u e. clash cc) (λ a u j e. clash cc);
         forty = simp length-set (r .forty);
         sized = length-patch p zeros (i * 16384) (omega arith) ∙ b;
         slots = r .slots;
@@ -119,125 +125,91 @@ module _ (d : Desk) (p : List ℕ) (l : Ledger) (r : Refines d p l) (t i : ℕ) 
         falling = below-change (l .rows) (l .next) t absent (r .falling);
       }
 
--- ---- each call
+-- ---- each call that names a ticket
+
+-- a deed on the desk, with the tick that counts
+abbrev pub deedStep : World → ℕ → ℕ → Deed → Out World
+deedStep w now t (adds q) = took (addIn (w .desk) (w .pool) q now (slotOf (w .desk) (length (w .pool)) t))
+deedStep w now t judges = askStep w t judging
+deedStep w now t shows = askStep w t showing
+deedStep w now t asks = askStep w t counting
+deedStep w now t releases = askStep w t releasing
 
 -- a ticket that is not open: nothing changes
-shut-refines : (d : Desk) (p : List ℕ) (l : Ledger) (t : ℕ) (x : Deed) → Refines d p l → slotOf d (length p) t ≡ No 22 → lookup (l .rows) t ≡ absent
-    → Simulates (deedStep (record { desk = d; pool = p }) t x) (ledgerStep l (on t x))
-unfolding addStep releaseStep showStep heldStep judgeStep
-shut-refines d p l t (adds q) r e f = rw (e, f, change-absent (l .rows) t absent f) (record { same = refl; keeps = r })
-shut-refines d p l t judges r e f = rw (e, f, change-absent (l .rows) t absent f) (record { same = refl; keeps = r })
-shut-refines d p l t shows r e f = rw (e, f, change-absent (l .rows) t absent f) (record { same = refl; keeps = r })
-shut-refines d p l t asks r e f = rw (e, f, change-absent (l .rows) t absent f) (record { same = refl; keeps = r })
-shut-refines d p l t releases r e f = rw (e, f, change-absent (l .rows) t absent f) (record { same = refl; keeps = r })
+shut-refines : (d : Desk) (p : List ℕ) (l : Ledger) (now t : ℕ) (x : Deed) → Refines d p l → slotOf d (length p) t ≡ No 22 → lookup (l .rows) t ≡ absent
+    → Simulates (deedStep (record { desk = d; pool = p }) now t x) (ledgerStep l (on t x))
+unfolding releaseStep showStep heldStep judgeStep
+shut-refines d p l now t (adds q) r e f = rw (e, f, change-absent (l .rows) t absent f) (record { same = refl; keeps = r })
+shut-refines d p l now t judges r e f = rw (e, f, change-absent (l .rows) t absent f) (record { same = refl; keeps = r })
+shut-refines d p l now t shows r e f = rw (e, f, change-absent (l .rows) t absent f) (record { same = refl; keeps = r })
+shut-refines d p l now t asks r e f = rw (e, f, change-absent (l .rows) t absent f) (record { same = refl; keeps = r })
+shut-refines d p l now t releases r e f = rw (e, f, change-absent (l .rows) t absent f) (record { same = refl; keeps = r })
 
-open-refines : (d : Desk) (p : List ℕ) (l : Ledger) (t : ℕ) (x : Deed) → Refines d p l → (i : ℕ) (s : Session) → slotOf d (length p) t ≡ Held i s → Granted d (length p) t i s
-    → lookup (l .rows) t ≡ present (octetsIn p i s) → Simulates (deedStep (record { desk = d; pool = p }) t x) (ledgerStep l (on t x))
-unfolding addStep releaseStep showStep heldStep judgeStep
-open-refines d p l t (adds q) r i s e g lk = rw (e, lk) (go (ltb 16384 (s .held + length q)) refl)
+open-refines : (d : Desk) (p : List ℕ) (l : Ledger) (now t : ℕ) (x : Deed) → Refines d p l → d .tick ≤ now → length (d .stamps) ≡ 40
+    → (i : ℕ) (s : Session) → slotOf d (length p) t ≡ Held i s → Granted d (length p) t i s
+    → lookup (l .rows) t ≡ present (octetsIn p i s) → Simulates (deedStep (record { desk = d; pool = p }) now t x) (ledgerStep l (on t x))
+unfolding releaseStep showStep heldStep judgeStep
+open-refines d p l now t (adds q) r a b i s e g lk = rw (e, lk) (go (ltb 16384 (s .held + length q)) refl)
   where
     n : length (octetsIn p i s) ≡ s .held
     n = octets-length d p t i s g
 
     go : (b : Bool) → ltb 16384 (s .held + length q) ≡ b
-        → Simulates (took (addIn d p q (Held i s)))
+        → Simulates (took (addIn d p q now (Held i s)))
         (record {
           reply = answer (present (octetsIn p i s)) (adds q);
           then = with l (change (l .rows) t (leaves (present (octetsIn p i s)) (adds q)));
         })
     go true h = rw (n, h, change-back (l .rows) t (octetsIn p i s) lk) (record { same = refl; keeps = r })
-    go false h = rw (n, h) (record { same = refl; keeps = added d p l r t i s g lk q (ltb-false _ _ h) })
-open-refines d p l t judges r i s e g lk = rw (e, lk, change-back (l .rows) t (octetsIn p i s) lk) (record { same = refl; keeps = r })
-open-refines d p l t shows r i s e g lk = rw (e, lk, change-back (l .rows) t (octetsIn p i s) lk) (record { same = refl; keeps = r })
-open-refines d p l t asks r i s e g lk = rw (e, lk, change-back (l .rows) t (octetsIn p i s) lk) (record { same = ap told (sym (octets-length d p t i s g)); keeps = r })
-open-refines d p l t releases r i s e g lk = rw (e, lk) (record { same = refl; keeps = released d p l r t i s g lk })
+    go false h = rw (n, h) (record { same = refl; keeps = added d p l r t i s g lk q now a b (ltb-false _ _ h) })
+open-refines d p l now t judges r a b i s e g lk = rw (e, lk, change-back (l .rows) t (octetsIn p i s) lk) (record { same = refl; keeps = r })
+open-refines d p l now t shows r a b i s e g lk = rw (e, lk, change-back (l .rows) t (octetsIn p i s) lk) (record { same = refl; keeps = r })
+open-refines d p l now t asks r a b i s e g lk = rw (e, lk, change-back (l .rows) t (octetsIn p i s) lk) (record { same = ap told (sym (octets-length d p t i s g)); keeps = r })
+open-refines d p l now t releases r a b i s e g lk = rw (e, lk) (record { same = refl; keeps = released d p l r t i s g lk })
 
-on-refines : (d : Desk) (p : List ℕ) (l : Ledger) (t : ℕ) (x : Deed) → Refines d p l → View d p l t
-    → Simulates (deedStep (record { desk = d; pool = p }) t x) (ledgerStep l (on t x))
-on-refines d p l t x r (unseen e f) = shut-refines d p l t x r e f
-on-refines d p l t x r (seen i s e g lk) = open-refines d p l t x r i s e g lk
+pub on-refines : (d : Desk) (p : List ℕ) (l : Ledger) (now t : ℕ) (x : Deed) → Refines d p l → d .tick ≤ now → length (d .stamps) ≡ 40 → View d p l t
+    → Simulates (deedStep (record { desk = d; pool = p }) now t x) (ledgerStep l (on t x))
+on-refines d p l now t x r a b (unseen e f) = shut-refines d p l now t x r e f
+on-refines d p l now t x r a b (seen i s e g lk) = open-refines d p l now t x r a b i s e g lk
 
 -- an opening in the free slot i
-granted-open : (d : Desk) (p : List ℕ) (l : Ledger) (m : ℕ) → Refines d p l → (i : ℕ) → freeAt (d .entries) i ≡ true → i < d .slots
-    → Refines (opened d m i) p (record { slots = l .slots; next = d .next + 1; rows = record { ticket = d .next; octets = [] } ∷ l .rows })
+pub granted-open : (d : Desk) (p : List ℕ) (l : Ledger) (m now : ℕ) → Refines d p l → d .tick ≤ now → length (d .stamps) ≡ 40
+    → (i : ℕ) → stateAt (d .entries) i ≡ Free → i < d .slots
+    → Refines (opened d m now i) p (record { slots = l .slots; next = l .next + 1; rows = record { ticket = l .next; octets = [] } ∷ l .rows })
 unfolding lookup
-granted-open d p l m r i e c =
-    let a : d .slots ≤ 40 = r .good .most in
-    let f : length (d .entries) ≡ 40 = r .forty in
-    let b : i < length (d .entries) = omega arith in
-    let z : stateAt (d .entries) i ≡ Free = free-is (stateAt (d .entries) i) e in
-    let x : State = Open (record { ticket = d .next; tram = m; held = 0 }) in
-    let high : (j : ℕ) → j < 40 → (u : Session) → stateAt (d .entries) j ≡ Open u → u .ticket ≡ d .next → ⊥ = λ j k u h q. (let w : u .ticket < d .next = r .good .each j k u h .high in omega arith) in
-    let k = count-more (taken (d .entries)) (taken (set (d .entries) i (record { state = x }))) (d .slots) i c (ap (λ (y : State). not (isFree y)) z)
-    (ap (λ (y : State). not (isFree y)) (same-at (d .entries) i x b)) (λ j n. sym (ap (λ (y : State). not (isFree y)) (other-at (d .entries) i j x n))) in
-    record {
-      good = sound-set d (d .next + 1) i x (r .good) (omega arith) b c
-          (λ u h. let w : _≡_ {A = Session} (record { ticket = d .next; tram = m; held = 0 }) u = cc in rw (← w) (record { low = r .good .first; high = omega arith; room = omega arith }))
-          (λ v u j h k n f q. let w : _≡_ {A = Session} (record { ticket = d .next; tram = m; held = 0 }) v = cc in high j k u f (q ∙ sym (ap (λ (x : Session). x .ticket) w)));
-      forty = simp length-set f;
-      sized = r .sized;
-      slots = r .slots;
-      next = refl;
-      rows = backed-set (d .entries) p p (l .rows) (record { ticket = d .next; octets = [] } ∷ l .rows) i (d .next) x (r .rows) (omega arith) b
-          (λ j k n u h. high j k u h) (λ u h. (let w : Free ≡ Open u = sym z ∙ h in clash cc)) (λ u n. rw (ne-eqb (d .next) u (λ q. n (sym q)))) (λ j k n u h. refl)
-          (is-open (record { ticket = d .next; tram = m; held = 0 }) refl (rw (eq-eqb (d .next) (d .next) refl)));
-      many = let n = r .many in omega arith;
-      falling = (omega arith, rw (r .next) at (r .falling));
-    }
-
-opening-refines : (d : Desk) (p : List ℕ) (l : Ledger) (m : ℕ) → Refines d p l → Simulates (took (openStep d p m)) (opening l)
-unfolding openStep
-opening-refines d p l m r =
-    rw (is-sound d (r .good), eq-eqb (length p) (d .slots * 16384) (r .sized)) (limit (eqb (d .next) 4294967295) refl)
+granted-open d p l m now r late beside i z c =
+    subst (λ (n : ℕ). Refines (opened d m now i) p (record { slots = l .slots; next = n + 1; rows = record { ticket = n; octets = [] } ∷ l .rows })) (sym (r .next)) there
   where
-    same-limit : (b : Bool) → eqb (d .next) 4294967295 ≡ b → eqb (l .next) 4294967295 ≡ b
-    same-limit b h = ap (λ (n : ℕ). eqb n 4294967295) (r .next) ∙ h
+    a : d .slots ≤ 40
+    a = r .good .entries .most
 
-    grants : (i : ℕ) → freeAt (d .entries) i ≡ true → i < d .slots
-        → Refines (opened d m i) p (record { slots = l .slots; next = l .next + 1; rows = record { ticket = l .next; octets = [] } ∷ l .rows })
-    grants i e c =
-        subst (λ (n : ℕ). Refines (opened d m i) p (record { slots = l .slots; next = n + 1; rows = record { ticket = n; octets = [] } ∷ l .rows })) (sym (r .next))
-        (granted-open d p l m r i e c)
+    b : i < length (d .entries)
+    b = omega (arith, a, r .forty)
 
-    place : (x : Position) → firstAt (freeAt (d .entries)) 0 (d .slots) ≡ x → eqb (d .next) 4294967295 ≡ false → Simulates (took (openIn d p m x)) (opening l)
-    place (Barred n) e h = unbarred (freeAt (d .entries)) (d .slots) 0 n e
-    place Nowhere e h =
-        let k = count-full (taken (d .entries)) (d .slots) (λ j b. ap not (firstAt-not (freeAt (d .entries)) (d .slots) 0 e j (omega arith) (omega arith))) in
-        let n = r .many in
-        let v = r .slots in
-        rw (same-limit false h, eq-eqb (length (l .rows)) (l .slots) (omega arith)) (record { same = refl; keeps = r })
-    place (At i) e h =
-        let f = firstAt-is (freeAt (d .entries)) (d .slots) 0 i e in
-        let c : i < d .slots = omega arith in
-        let g = grants i (f .0) c in
-        let n = g .many in
-        let k = count-le (taken (set (d .entries) i (record { state = Open (record { ticket = d .next; tram = m; held = 0 }) }))) (d .slots) in
-        let v = r .slots in
-        rw (same-limit false h, ne-eqb (length (l .rows)) (l .slots) (λ w. omega arith)) (record { same = ap told (sym (r .next)); keeps = g })
+    x : State
+    x = Open (record { ticket = d .next; tram = m; held = 0 })
 
-    limit : (b : Bool) → eqb (d .next) 4294967295 ≡ b
-        → Simulates (took (pick (eqb (d .next) 4294967295) (refusing d p 0 21) (openIn d p m (firstAt (freeAt (d .entries)) 0 (d .slots))))) (opening l)
-    limit true h = rw (h, same-limit true h) (record { same = refl; keeps = r })
-    limit false h = rw h (place (firstAt (freeAt (d .entries)) 0 (d .slots)) refl h)
+    high : (j : ℕ) → j < 40 → (u : Session) → stateAt (d .entries) j ≡ Open u → u .ticket ≡ d .next → ⊥
+    high j k u h q = let w : u .ticket < d .next = r .good .entries .each j k u h .high in omega arith
 
-pub step-refines : (w : World) (l : Ledger) (c : Call) → Refines (w .desk) (w .pool) l → Simulates (deskStep w c) (ledgerStep l c)
-step-refines w l (opens m) r = opening-refines (w .desk) (w .pool) l m r
-step-refines w l (on t x) r = on-refines (w .desk) (w .pool) l t x r (view (w .desk) (w .pool) l t r)
-
--- ---- a list of calls
-
-pub run-refines : (cs : List Call) (w : World) (l : Ledger) → Refines (w .desk) (w .pool) l → run deskStep w cs ≡ run ledgerStep l cs
-unfolding run
-run-refines [] w l r = refl
-run-refines (c ∷ cs) w l r =
-    let a = step-refines w l c r in
-    rw (a .same, run-refines cs (deskStep w c .then) (ledgerStep l c .then) (a .keeps))
-
-pub after-refines : (cs : List Call) (w : World) (l : Ledger) → Refines (w .desk) (w .pool) l
-    → Refines (after deskStep w cs .desk) (after deskStep w cs .pool) (after ledgerStep l cs)
-unfolding after
-after-refines [] w l r = r
-after-refines (c ∷ cs) w l r = after-refines cs (deskStep w c .then) (ledgerStep l c .then) (step-refines w l c r .keeps)
+    there : Refines (opened d m now i) p (record { slots = l .slots; next = d .next + 1; rows = record { ticket = d .next; octets = [] } ∷ l .rows })
+    there =
+        let k = count-more (taken (d .entries)) (taken (set (d .entries) i (record { state = x }))) (d .slots) i c (ap (λ (y : State). not (isFree y)) z)
+        (ap (λ (y : State). not (isFree y)) (same-at (d .entries) i x b)) (λ j n. sym (ap (λ (y : State). not (isFree y)) (other-at (d .entries) i j x n))) in
+        record {
+          good = sound-set d (d .next + 1) i x now (set (d .stamps) i now) (r .good) (later-stamp d i now late (omega (arith, a))) (omega arith) b c
+              (λ u h. let w : _≡_ {A = Session} (record { ticket = d .next; tram = m; held = 0 }) u = cc in rw (← w) (record { low = r .good .entries .first; high = omega arith; room = omega arith }))
+              (λ v u j h k n f q. let w : _≡_ {A = Session} (record { ticket = d .next; tram = m; held = 0 }) v = cc in high j k u f (q ∙ sym (ap (λ (x : Session). x .ticket) w)));
+          forty = simp length-set (r .forty);
+          sized = r .sized;
+          slots = r .slots;
+          next = refl;
+          rows = backed-set (d .entries) p p (l .rows) (record { ticket = d .next; octets = [] } ∷ l .rows) i (d .next) x (r .rows) (omega (arith, a)) b
+              (λ j k n u h. high j k u h) (λ u h. (let w : Free ≡ Open u = sym z ∙ h in clash cc)) (λ u n. rw (ne-eqb (d .next) u (λ q. n (sym q)))) (λ j k n u h. refl)
+              (is-open (record { ticket = d .next; tram = m; held = 0 }) refl (rw (eq-eqb (d .next) (d .next) refl)));
+          many = let n = r .many in omega arith;
+          falling = (omega arith, rw (r .next) at (r .falling));
+        }
 
 -- ---- a fresh desk
 
@@ -250,12 +222,15 @@ fresh-refines n p a b c =
     rw (in-bounds n 1 a b (omega arith))
     (record {
       good = record {
-        some = a;
-        most = b;
-        first = omega arith;
-        past = λ i h l. all-free i l;
-        each = λ i h s e. (let w : Free ≡ Open s = sym (all-free i h) ∙ e in clash cc);
-        distinct = λ i j h k s u e f t. (let w : Free ≡ Open s = sym (all-free i h) ∙ e in clash cc);
+        entries = record {
+          some = a;
+          most = b;
+          first = omega arith;
+          past = λ i h l. all-free i l;
+          each = λ i h s e. (let w : Free ≡ Open s = sym (all-free i h) ∙ e in clash cc);
+          distinct = λ i j h k s u e f t. (let w : Free ≡ Open s = sym (all-free i h) ∙ e in clash cc);
+        };
+        behind = λ i h s e. (let w : Free ≡ Open s = sym (all-free i h) ∙ e in clash cc);
       };
       forty = refl;
       sized = c;

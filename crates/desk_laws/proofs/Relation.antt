@@ -9,7 +9,7 @@ use lib.ListN.{length, set}
 use lib.Seq.{getD-set-same, getD-set-other}
 use borrow.Author.Tests.{eqb-true, eqb-false, eq-eqb}
 use Rattle.desk_entries.specs.Search.{firstAt}
-use Rattle.desk_slots.specs.Sound.{none, stateAt, Fit}
+use Rattle.desk_slots.specs.Sound.{none, stateAt, Fit, Sound as SoundEntries, tickAt}
 use Rattle.desk_slots.specs.Slots.{isFree, openAt}
 use Rattle.desk.specs.Steps.{Sound, sound, slotOf, octetsIn}
 use Rattle.desk_entries.proofs.Searches.{clash, firstAt-is, firstAt-not, unbarred}
@@ -24,6 +24,7 @@ use Rattle.desk_entries.specs.declared.State.the-variants.{Free, Open}
 use Rattle.desk.specs.declared.Desk.{Desk}
 use Rattle.desk_slots.specs.declared.Slot.the-variants.{Held, No}
 use Rattle.desk_ledger.specs.Ledger.{Found, absent, present, Row, Ledger, lookup}
+use Rattle.desk_ledger.specs.Ticks.{Stamp, Clocked, stampOf}
 use Rattle.desk_laws.proofs.LedgerRows.{no, Below}
 use Rattle.desk_laws.proofs.Counts.{count}
 
@@ -35,24 +36,43 @@ same-at es i x h = ap (λ (e : Entry). e .state) (getD-set-same es i (record { s
 pub other-at : (es : List Entry) (i j : ℕ) (x : State) → (j ≡ i → ⊥) → stateAt (set es i (record { state = x })) j ≡ stateAt es j
 other-at es i j x n = ap (λ (e : Entry). e .state) (getD-set-other es i j (record { state = x }) none n)
 
--- a desk with the state x at entry i and another next ticket
-abbrev pub made : Desk → ℕ → State → ℕ → Desk
-made d i x more = record { entries = set (d .entries) i (record { state = x }); slots = d .slots; next = more }
+-- a desk with the state x at entry i, another next ticket, another tick and other stamps
+abbrev pub made : Desk → ℕ → State → ℕ → ℕ → List ℕ → Desk
+made d i x more now ks = record { entries = set (d .entries) i (record { state = x }); slots = d .slots; next = more; tick = now; stamps = ks }
 
-pub sound-set : (d : Desk) (more i : ℕ) (x : State) → Sound d → d .next ≤ more → i < length (d .entries) → i < d .slots
+-- a tick that is not lower, and the stamps but for entry i's, which is not ahead of it
+pub record Later (d : Desk) (i now : ℕ) (ks : List ℕ) : Type 0 where
+  pub higher : d .tick ≤ now
+  pub there : tickAt ks i ≤ now
+  pub others : (j : ℕ) → (j ≡ i → ⊥) → tickAt ks j ≡ tickAt (d .stamps) j
+
+pub sound-set : (d : Desk) (more i : ℕ) (x : State) (now : ℕ) (ks : List ℕ) → Sound d → Later d i now ks → d .next ≤ more → i < length (d .entries) → i < d .slots
     → ((s : Session) → x ≡ Open s → Fit more s)
     → ((s u : Session) (j : ℕ) → x ≡ Open s → j < 40 → (j ≡ i → ⊥) → stateAt (d .entries) j ≡ Open u → u .ticket ≡ s .ticket → ⊥)
-    → Sound (made d i x more)
-sound-set d more i x g h l inside fit new =
+    → Sound (made d i x more now ks)
+sound-set d more i x now ks good tk h l inside fit new =
     record {
-      some = g .some;
-      most = g .most;
-      first = let a = g .first in omega arith;
-      past = λ j k m. (let n : j ≡ i → ⊥ = λ e. omega arith in other-at (d .entries) i j x n ∙ g .past j k m);
-      each = λ j k s e. each j k s e (eqb j i) refl;
-      distinct = λ j m kj km s u e f t. one j m kj km s u e f t (eqb j i) refl (eqb m i) refl;
+      entries = record {
+        some = g .some;
+        most = g .most;
+        first = let a = g .first in omega arith;
+        past = λ j k m. (let n : j ≡ i → ⊥ = λ e. omega arith in other-at (d .entries) i j x n ∙ g .past j k m);
+        each = λ j k s e. each j k s e (eqb j i) refl;
+        distinct = λ j m kj km s u e f t. one j m kj km s u e f t (eqb j i) refl (eqb m i) refl;
+      };
+      behind = λ j k s e. behind j k s e (eqb j i) refl;
     }
   where
+    g : SoundEntries (d .entries) (d .slots) (d .next)
+    g = good .entries
+
+    behind : (j : ℕ) → j < 40 → (s : Session) → stateAt (set (d .entries) i (record { state = x })) j ≡ Open s → (b : Bool) → eqb j i ≡ b → tickAt ks j ≤ now
+    behind j k s e true q = let w : j ≡ i = eqb-true j i q in rw w (tk .there)
+    behind j k s e false q =
+        let n = eqb-false j i q in
+        let f = good .behind j k s (sym (other-at (d .entries) i j x n) ∙ e) in
+        omega (arith, tk .others j n, tk .higher)
+
     each : (j : ℕ) → j < 40 → (s : Session) → stateAt (set (d .entries) i (record { state = x })) j ≡ Open s → (b : Bool) → eqb j i ≡ b → Fit more s
     each j k s e true q =
         let w : j ≡ i = eqb-true j i q in
@@ -94,6 +114,17 @@ pub record Refines (d : Desk) (p : List ℕ) (l : Ledger) : Type 0 where
   pub rows : Backed (d .entries) p (l .rows)
   pub many : length (l .rows) ≡ count (taken (d .entries)) (d .slots)
   pub falling : Below (l .next) (l .rows)
+
+-- the desk's tick is the ledger's, and the tick that an open entry keeps is its ticket's
+pub record Timed (d : Desk) (tick : ℕ) (stamps : List Stamp) : Type 0 where
+  pub highest : tick ≡ d .tick
+  pub beside : length (d .stamps) ≡ 40
+  pub each : (i : ℕ) → i < 40 → (s : Session) → stateAt (d .entries) i ≡ Open s → stampOf stamps (s .ticket) ≡ tickAt (d .stamps) i
+
+-- the desk with its pool refines the ledger with ticks
+pub record Follows (d : Desk) (p : List ℕ) (c : Clocked) : Type 0 where
+  pub refines : Refines d p (c .ledger)
+  pub timed : Timed d (c .tick) (c .stamps)
 
 -- what is at entry i once it is set: a session under the ticket, or nothing
 pub data Here (rs : List Row) (p : List ℕ) (i t : ℕ) : State → Type 0 where

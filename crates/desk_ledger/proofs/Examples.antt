@@ -9,6 +9,7 @@ use Rattle.octets.specs.Ascii.{octets}
 use Rattle.desk_ledger.specs.Ledger.{adds, judges, shows, asks, releases, Call, opens, on}
 use Rattle.desk_ledger.specs.Ledger.{Reply, refused, told, part, Ledger, lookup, change, ledgerStep, freshLedger, run}
 use Rattle.desk_ledger.specs.Uploads.{joined}
+use Rattle.desk_ledger.specs.Ticks.{counting, showing, releasing, Ticked, opensAt, addsAt, asksOf, stampOf, idle, lowestIdle, clockedStep, freshClocked, runTicked}
 
 -- a call, and what the ledger answers
 pub record Example : Type 0 where
@@ -57,6 +58,31 @@ replies = map (λ (x : Example). x .reply) day
 abbrev usedUp : Ledger
 usedUp = record { slots = 1; next = limit.tickets; rows = record { ticket = 5; octets = [] } ∷ [] }
 
+-- the same with ticks, on a fresh ledger of one slot
+pub record TickedExample : Type 0 where
+  pub call : Ticked
+  pub reply : Reply
+
+abbrev at : Ticked → Reply → TickedExample
+at x r = record { call = x; reply = r }
+
+-- an opening 599 ticks after the last add is refused and moves no tick; one tick later it takes the session, whose ticket is closed then; a lower tick
+-- counts as the highest, and what asks of a ticket wakes nobody
+abbrev pub watch : List TickedExample
+watch =
+    at (opensAt 71 100) (told 1)
+    ∷ at (opensAt 72 699) (refused refusal.noFreeSlot 0)
+    ∷ at (asksOf 1 counting) (told 0)
+    ∷ at (opensAt 72 700) (told 2)
+    ∷ at (addsAt 1 (octets "A") 700) (refused refusal.notOpen 0)
+    ∷ at (addsAt 2 (octets "B") 5) (told 1)
+    ∷ at (asksOf 2 showing) (part (octets "B"))
+    ∷ at (opensAt 73 1299) (refused refusal.noFreeSlot 0)
+    ∷ at (opensAt 73 1300) (told 3)
+    ∷ at (asksOf 2 releasing) (refused refusal.notOpen 0)
+    ∷ at (asksOf 3 showing) (part [])
+    ∷ []
+
 pub record Worked : Type 0 where
   -- each call is answered as the table says
   pub answered : run ledgerStep (freshLedger 2) calls ≡ replies
@@ -65,7 +91,9 @@ pub record Worked : Type 0 where
   pub second : joined 2 calls replies ≡ octets "X"
   -- 21 comes before 20
   pub used : ledgerStep usedUp (opens 71) .reply ≡ refused refusal.ticketsUsedUp 0
+  -- and so is each call with its tick
+  pub watched : runTicked clockedStep (freshClocked 1) (map (λ (x : TickedExample). x .call) watch) ≡ map (λ (x : TickedExample). x .reply) watch
 
 pub worked : Worked
-unfolding octets lookup change run joined
-worked = record { answered = refl; first = refl; second = refl; used = refl }
+unfolding octets lookup change run joined runTicked stampOf idle lowestIdle
+worked = record { answered = refl; first = refl; second = refl; used = refl; watched = refl }

@@ -7,7 +7,8 @@ use Rattle.numbers.specs.Limits as limit
 use Rattle.desk.specs.Steps.{Turned, newStep, openStep, addStep, releaseStep, showStep, heldStep, judgeStep}
 use Rattle.desk.specs.declared.Desk.{Desk}
 pub use Rattle.desk_ledger.specs.Answers.{said}
-use Rattle.desk_ledger.specs.Ledger.{Deed, adds, judges, shows, asks, releases, Call, opens, on, Reply, part, verdict, Ledger, Out, ledgerStep, freshLedger, run, after}
+use Rattle.desk_ledger.specs.Ledger.{Reply, part, verdict, Out}
+use Rattle.desk_ledger.specs.Ticks.{Ask, judging, showing, counting, releasing, Ticked, opensAt, addsAt, asksOf, Clocked, clockedStep, freshClocked, runTicked, afterTicked}
 
 pub record World : Type 0 where
   pub desk : Desk
@@ -16,16 +17,16 @@ pub record World : Type 0 where
 abbrev pub took : Turned → Out World
 took r = record { reply = said (r .answer); then = record { desk = r .desk; pool = r .pool } }
 
-abbrev pub deedStep : World → ℕ → Deed → Out World
-deedStep w t (adds q) = took (addStep (w .desk) (w .pool) t q)
-deedStep w t judges = record { reply = verdict (judgeStep (w .desk) (w .pool) t); then = w }
-deedStep w t shows = record { reply = part (showStep (w .desk) (w .pool) t .octets); then = w }
-deedStep w t asks = record { reply = said (heldStep (w .desk) (w .pool) t); then = w }
-deedStep w t releases = took (releaseStep (w .desk) (w .pool) t)
+abbrev pub askStep : World → ℕ → Ask → Out World
+askStep w t judging = record { reply = verdict (judgeStep (w .desk) (w .pool) t); then = w }
+askStep w t showing = record { reply = part (showStep (w .desk) (w .pool) t .octets); then = w }
+askStep w t counting = record { reply = said (heldStep (w .desk) (w .pool) t); then = w }
+askStep w t releasing = took (releaseStep (w .desk) (w .pool) t)
 
-abbrev pub deskStep : World → Call → Out World
-deskStep w (opens m) = took (openStep (w .desk) (w .pool) m)
-deskStep w (on t x) = deedStep w t x
+abbrev pub deskStep : World → Ticked → Out World
+deskStep w (opensAt m τ) = took (openStep (w .desk) (w .pool) m τ)
+deskStep w (addsAt t q τ) = took (addStep (w .desk) (w .pool) t q τ)
+deskStep w (asksOf t x) = askStep w t x
 
 -- a new desk with its pool
 abbrev pub fresh : ℕ → List ℕ → World
@@ -37,11 +38,15 @@ pub record Proper (n : ℕ) (p : List ℕ) : Type 0 where
   pub most : n ≤ limit.slots
   pub sized : length p ≡ n * limit.octets
 
-abbrev pub answers : ℕ → List ℕ → List Call → List Reply
-answers n p cs = run deskStep (fresh n p) cs
+abbrev pub answers : ℕ → List ℕ → List Ticked → List Reply
+answers n p xs = runTicked deskStep (fresh n p) xs
 
-abbrev pub world : ℕ → List ℕ → List Call → World
-world n p cs = after deskStep (fresh n p) cs
+abbrev pub world : ℕ → List ℕ → List Ticked → World
+world n p xs = afterTicked deskStep (fresh n p) xs
 
-abbrev pub ledger : ℕ → List Call → Ledger
-ledger n cs = after ledgerStep (freshLedger n) cs
+-- the ledger's answers to the same calls, and the ledger after them
+abbrev pub ledgerAnswers : ℕ → List Ticked → List Reply
+ledgerAnswers n xs = runTicked clockedStep (freshClocked n) xs
+
+abbrev pub ledger : ℕ → List Ticked → Clocked
+ledger n xs = afterTicked clockedStep (freshClocked n) xs

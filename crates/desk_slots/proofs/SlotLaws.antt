@@ -9,12 +9,13 @@ use lib.ListN.{length, set}
 use lib.Seq.{getD-set-same, getD-set-other}
 use borrow.Author.Tests.{ltb-true, ltb-false, eqb-true, eqb-false, eq-eqb, ne-eqb}
 use Rattle.octets.specs.Pick.{pick}
-use Rattle.desk_entries.specs.Search.{firstAt, column, sameAs, among}
-use Rattle.desk_slots.specs.Sound.{stateAt, Sound, ticketAt, sound}
+use Rattle.desk_entries.specs.Search.{firstAt, anyAt, column, sameAs, among, AtMost}
+use Rattle.desk_entries.specs.Ticks.{higher, ahead, aheadBy}
+use Rattle.desk_slots.specs.Sound.{stateAt, Sound, SoundAt, ticketAt, aheadIn, soundAt}
 use Rattle.desk_entries.specs.Entries.{ticketOf}
 use Rattle.desk_slots.specs.Slots.{guarded, isFree, freeAt, openAt, inState, atPosition, positionOf, slotOf, Within}
-use Rattle.desk_entries.proofs.Searches.{clash, firstAt-is, firstAt-not, firstAt-same, unbarred, among-same}
-use Rattle.desk_slots.proofs.SoundLaws.{sound-is}
+use Rattle.desk_entries.proofs.Searches.{clash, firstAt-is, firstAt-not, firstAt-same, unbarred, among-same, anyAt-same}
+use Rattle.desk_slots.proofs.SoundLaws.{sound-at}
 use Rattle.desk_entries.specs.declared.tickets.Position.{Position}
 use Rattle.desk_entries.specs.declared.tickets.Position.the-variants.{At, Nowhere, Barred}
 use Rattle.desk_entries.specs.declared.Session.{Session}
@@ -30,28 +31,28 @@ abbrev bar : Bool → Bool → ℕ
 bar a b = pick a (pick b 0 24) 25
 
 -- neither refusal
-pub record Clear (es : List Entry) (slots next : ℕ) (size : ℕ) : Type 0 where
-  pub sound : Sound es slots next
+pub record Clear (es : List Entry) (slots next : ℕ) (ks : List ℕ) (tick : ℕ) (size : ℕ) : Type 0 where
+  pub sound : SoundAt es slots next ks tick
   pub sized : size ≡ slots * 16384
 
-pub clear : (es : List Entry) (slots next : ℕ) (size : ℕ) → guarded es slots next size (λ n. n) 0 ≡ 0 → Clear es slots next size
-clear es slots next size e = go (sound es slots next) refl (eqb size (slots * 16384)) refl e
+pub clear : (es : List Entry) (slots next : ℕ) (ks : List ℕ) (tick : ℕ) (size : ℕ) → guarded es slots next ks tick size (λ n. n) 0 ≡ 0 → Clear es slots next ks tick size
+clear es slots next ks tick size e = go (soundAt es slots next ks tick) refl (eqb size (slots * 16384)) refl e
   where
-    go : (a : Bool) → sound es slots next ≡ a → (b : Bool) → eqb size (slots * 16384) ≡ b → bar a b ≡ 0 → Clear es slots next size
-    go true p true q h = record { sound = sound-is es slots next p; sized = eqb-true size (slots * 16384) q }
+    go : (a : Bool) → soundAt es slots next ks tick ≡ a → (b : Bool) → eqb size (slots * 16384) ≡ b → bar a b ≡ 0 → Clear es slots next ks tick size
+    go true p true q h = record { sound = sound-at es slots next ks tick p; sized = eqb-true size (slots * 16384) q }
     go true p false q h = absurd (omega arith)
     go false p b q h = absurd (omega arith)
 
-pub cleared : {A : Type 0} (es : List Entry) (slots next : ℕ) (size : ℕ) (f : ℕ → A) (a : A) → guarded es slots next size (λ n. n) 0 ≡ 0 → guarded es slots next size f a ≡ a
-cleared {A} es slots next size f a e = go (sound es slots next) (eqb size (slots * 16384)) e
+pub cleared : {A : Type 0} (es : List Entry) (slots next : ℕ) (ks : List ℕ) (tick : ℕ) (size : ℕ) (f : ℕ → A) (a : A) → guarded es slots next ks tick size (λ n. n) 0 ≡ 0 → guarded es slots next ks tick size f a ≡ a
+cleared {A} es slots next ks tick size f a e = go (soundAt es slots next ks tick) (eqb size (slots * 16384)) e
   where
     go : (x y : Bool) → bar x y ≡ 0 → pick {A = A} x (pick y a (f 24)) (f 25) ≡ a
     go true true h = refl
     go true false h = absurd (omega arith)
     go false y h = absurd (omega arith)
 
-pub barred : {A : Type 0} (es : List Entry) (slots next : ℕ) (size : ℕ) (f : ℕ → A) (a : A) → (guarded es slots next size (λ n. n) 0 ≡ 0 → ⊥) → guarded es slots next size f a ≡ f (guarded es slots next size (λ n. n) 0)
-barred {A} es slots next size f a n = go (sound es slots next) (eqb size (slots * 16384)) n
+pub barred : {A : Type 0} (es : List Entry) (slots next : ℕ) (ks : List ℕ) (tick : ℕ) (size : ℕ) (f : ℕ → A) (a : A) → (guarded es slots next ks tick size (λ n. n) 0 ≡ 0 → ⊥) → guarded es slots next ks tick size f a ≡ f (guarded es slots next ks tick size (λ n. n) 0)
+barred {A} es slots next ks tick size f a n = go (soundAt es slots next ks tick) (eqb size (slots * 16384)) n
   where
     go : (x y : Bool) → (bar x y ≡ 0 → ⊥) → pick {A = A} x (pick y a (f 24)) (f 25) ≡ f (bar x y)
     go true true h = absurd (h refl)
@@ -84,6 +85,29 @@ pub begun-first : (es : List Entry) (ts : List ℕ) (m n t : ℕ) → m ≤ n �
 unfolding Begun
 begun-first es ts m n t h b =
     firstAt-same (sameAs (column ts) t) (sameAs (ticketAt es) t) m 0 (λ j k l. ap (λ (x : ℕ). eqb x t) (b j (omega arith)))
+
+-- no ticket is ahead where no entry is
+pub begun-ahead : (es : List Entry) (ts ks : List ℕ) (n tick : ℕ) → 40 ≤ n → Begun es ts n
+    → anyAt (aheadBy (column ts) (column ks) tick) 40 ≡ aheadIn es ks tick
+unfolding Begun aheadIn
+begun-ahead es ts ks n tick h b =
+    anyAt-same (aheadBy (column ts) (column ks) tick) (aheadBy (ticketAt es) (column ks) tick) 40
+    (λ j l. ap (λ (t : ℕ). ahead t (column ks j) tick) (b j (omega arith)))
+
+-- one number more, and the higher one as the bound
+pub most-more : (ts : List ℕ) (n t h : ℕ) → n < length ts → AtMost (column ts) n h → AtMost (column (set ts n t)) (n + 1) (higher h t)
+unfolding AtMost
+most-more ts n t h l m j k = go (eqb j n) refl (ltb h t) refl
+  where
+    go : (x : Bool) → eqb j n ≡ x → (y : Bool) → ltb h t ≡ y → column (set ts n t) j ≤ pick (ltb h t) t h
+    go true q true r = let w : j ≡ n = eqb-true j n q in rw (w, r) (let e = getD-set-same ts n t 0 l in omega arith)
+    go true q false r = let w : j ≡ n = eqb-true j n q in rw (w, r) (let e = getD-set-same ts n t 0 l in omega (arith, ltb-false h t r))
+    go false q true r =
+        let w : j ≡ n → ⊥ = eqb-false j n q in
+        rw r (let e = getD-set-other ts n j t 0 w in omega (arith, m j (omega arith), ltb-true h t r))
+    go false q false r =
+        let w : j ≡ n → ⊥ = eqb-false j n q in
+        rw r (let e = getD-set-other ts n j t 0 w in omega (arith, m j (omega arith)))
 
 -- ---- a ticket among the entries
 
@@ -161,47 +185,47 @@ module _ (es : List Entry) (slots next : ℕ) (s : Sound es slots next) where
 -- ---- a search
 
 -- barred, or clear with what was found
-pub position-short : (es : List Entry) (slots next : ℕ) (size t i : ℕ) → positionOf es slots next size t ≡ At i → i < 40
+pub position-short : (es : List Entry) (slots next : ℕ) (ks : List ℕ) (tick : ℕ) (size t i : ℕ) → positionOf es slots next ks tick size t ≡ At i → i < 40
 unfolding positionOf
-position-short es slots next size t i e = go (eqb (guarded es slots next size (λ n. n) 0) 0) refl
+position-short es slots next ks tick size t i e = go (eqb (guarded es slots next ks tick size (λ n. n) 0) 0) refl
   where
-    go : (b : Bool) → eqb (guarded es slots next size (λ n. n) 0) 0 ≡ b → i < 40
+    go : (b : Bool) → eqb (guarded es slots next ks tick size (λ n. n) 0) 0 ≡ b → i < 40
     go true b =
-        let z : guarded es slots next size (λ n. n) 0 ≡ 0 = eqb-true (guarded es slots next size (λ n. n) 0) 0 b in
-        let m = clear es slots next size z .sound .most in
-        let w = firstAt-is (sameAs (ticketAt es) t) slots 0 i (sym (cleared es slots next size Barred (firstAt (sameAs (ticketAt es) t) 0 slots) z) ∙ e) in
+        let z : guarded es slots next ks tick size (λ n. n) 0 ≡ 0 = eqb-true (guarded es slots next ks tick size (λ n. n) 0) 0 b in
+        let m = clear es slots next ks tick size z .sound .entries .most in
+        let w = firstAt-is (sameAs (ticketAt es) t) slots 0 i (sym (cleared es slots next ks tick size Barred (firstAt (sameAs (ticketAt es) t) 0 slots) z) ∙ e) in
         omega arith
     go false b =
-        let h : Barred (guarded es slots next size (λ n. n) 0) ≡ At i = sym (barred es slots next size Barred (firstAt (sameAs (ticketAt es) t) 0 slots) (eqb-false (guarded es slots next size (λ n. n) 0) 0 b)) ∙ e in
+        let h : Barred (guarded es slots next ks tick size (λ n. n) 0) ≡ At i = sym (barred es slots next ks tick size Barred (firstAt (sameAs (ticketAt es) t) 0 slots) (eqb-false (guarded es slots next ks tick size (λ n. n) 0) 0 b)) ∙ e in
         clash cc
 
 -- a search for a ticket leads to its slot
-slot-position : (es : List Entry) (slots next : ℕ) (size t : ℕ) (p : Position) → positionOf es slots next size t ≡ p → atPosition es p ≡ slotOf es slots next size t
+slot-position : (es : List Entry) (slots next : ℕ) (ks : List ℕ) (tick : ℕ) (size t : ℕ) (p : Position) → positionOf es slots next ks tick size t ≡ p → atPosition es p ≡ slotOf es slots next ks tick size t
 unfolding positionOf slotOf
-slot-position es slots next size t p e = sym (ap (atPosition es) e) ∙ go (sound es slots next) refl (eqb size (slots * 16384)) refl
+slot-position es slots next ks tick size t p e = sym (ap (atPosition es) e) ∙ go (soundAt es slots next ks tick) refl (eqb size (slots * 16384)) refl
   where
-    go : (a : Bool) → sound es slots next ≡ a → (b : Bool) → eqb size (slots * 16384) ≡ b
+    go : (a : Bool) → soundAt es slots next ks tick ≡ a → (b : Bool) → eqb size (slots * 16384) ≡ b
         → atPosition es (pick a (pick b (firstAt (sameAs (ticketAt es) t) 0 slots) (Barred 24)) (Barred 25))
         ≡ pick a (pick b (atPosition es (firstAt (openAt es t) 0 40)) (No 24)) (No 25)
-    go true a true b = same-slot es slots next (sound-is es slots next a) t
+    go true a true b = same-slot es slots next (sound-at es slots next ks tick a .entries) t
     go true a false b = refl
     go false a b c = refl
 
 -- a search for 0 leads to the lowest free slot
-pub free-position : (es : List Entry) (slots next size : ℕ) → positionOf es slots next size 0 ≡ guarded es slots next size Barred (firstAt (freeAt es) 0 slots)
+pub free-position : (es : List Entry) (slots next : ℕ) (ks : List ℕ) (tick size : ℕ) → positionOf es slots next ks tick size 0 ≡ guarded es slots next ks tick size Barred (firstAt (freeAt es) 0 slots)
 unfolding positionOf
-free-position es slots next size = go (sound es slots next) refl
+free-position es slots next ks tick size = go (soundAt es slots next ks tick) refl
   where
-    go : (a : Bool) → sound es slots next ≡ a
+    go : (a : Bool) → soundAt es slots next ks tick ≡ a
         → pick a (pick (eqb size (slots * 16384)) (firstAt (sameAs (ticketAt es) 0) 0 slots) (Barred 24)) (Barred 25)
         ≡ pick a (pick (eqb size (slots * 16384)) (firstAt (freeAt es) 0 slots) (Barred 24)) (Barred 25)
-    go true a = rw (lowest-free es slots next (sound-is es slots next a))
+    go true a = rw (lowest-free es slots next (sound-at es slots next ks tick a .entries))
     go false a = refl
 
 -- ---- a granted slot
 
-pub record Granted (es : List Entry) (slots next : ℕ) (size t i : ℕ) (s : Session) : Type 0 where
-  pub sound : Sound es slots next
+pub record Granted (es : List Entry) (slots next : ℕ) (ks : List ℕ) (tick : ℕ) (size t i : ℕ) (s : Session) : Type 0 where
+  pub sound : SoundAt es slots next ks tick
   pub sized : size ≡ slots * 16384
   pub state : stateAt es i ≡ Open s
   pub ticket : s .ticket ≡ t
@@ -213,9 +237,9 @@ pub record Granted (es : List Entry) (slots next : ℕ) (size t i : ℕ) (s : Se
 never : {A : Type 0} (n i : ℕ) (s : Session) → No n ≡ Held i s → A
 never n i s e = clash cc
 
-pub granted : (es : List Entry) (slots next : ℕ) (size t i : ℕ) (s : Session) → slotOf es slots next size t ≡ Held i s → Granted es slots next size t i s
+pub granted : (es : List Entry) (slots next : ℕ) (ks : List ℕ) (tick : ℕ) (size t i : ℕ) (s : Session) → slotOf es slots next ks tick size t ≡ Held i s → Granted es slots next ks tick size t i s
 unfolding slotOf
-granted es slots next size t i s e = go (eqb (guarded es slots next size (λ n. n) 0) 0) refl
+granted es slots next ks tick size t i s e = go (eqb (guarded es slots next ks tick size (λ n. n) 0) 0) refl
   where
     place : (p : Position) → firstAt (openAt es t) 0 40 ≡ p → atPosition es p ≡ Held i s → firstAt (openAt es t) 0 40 ≡ At i
     place Nowhere q h = never 22 i s h
@@ -230,11 +254,11 @@ granted es slots next size t i s e = go (eqb (guarded es slots next size (λ n. 
     open-there Free h = never 22 i s h
     open-there (Open o) h = let w : o ≡ s = cc in ap Open w
 
-    go : (b : Bool) → eqb (guarded es slots next size (λ n. n) 0) 0 ≡ b → Granted es slots next size t i s
+    go : (b : Bool) → eqb (guarded es slots next ks tick size (λ n. n) 0) 0 ≡ b → Granted es slots next ks tick size t i s
     go true b =
-        let z : guarded es slots next size (λ n. n) 0 ≡ 0 = eqb-true (guarded es slots next size (λ n. n) 0) 0 b in
-        let k = clear es slots next size z in
-        let h : atPosition es (firstAt (openAt es t) 0 40) ≡ Held i s = sym (cleared es slots next size No (atPosition es (firstAt (openAt es t) 0 40)) z) ∙ e in
+        let z : guarded es slots next ks tick size (λ n. n) 0 ≡ 0 = eqb-true (guarded es slots next ks tick size (λ n. n) 0) 0 b in
+        let k = clear es slots next ks tick size z in
+        let h : atPosition es (firstAt (openAt es t) 0 40) ≡ Held i s = sym (cleared es slots next ks tick size No (atPosition es (firstAt (openAt es t) 0 40)) z) ∙ e in
         let p = place (firstAt (openAt es t) 0 40) refl h in
         let f = firstAt-is (openAt es t) 40 0 i p in
         let q : stateAt es i ≡ Open s = open-there (stateAt es i) (rw p at h) in
@@ -245,21 +269,21 @@ granted es slots next size t i s e = go (eqb (guarded es slots next size (λ n. 
           state = q;
           ticket = eqb-true (s .ticket) t (rw q at (f .0));
           short = l;
-          few = k .sound .most;
-          inside = slot-inside es slots next (k .sound) i l s q;
-          room = k .sound .each i l s q .room;
+          few = k .sound .entries .most;
+          inside = slot-inside es slots next (k .sound .entries) i l s q;
+          room = k .sound .entries .each i l s q .room;
         }
     go false b =
-        never (guarded es slots next size (λ n. n) 0) i s
-        (sym (barred es slots next size No (atPosition es (firstAt (openAt es t) 0 40)) (eqb-false (guarded es slots next size (λ n. n) 0) 0 b)) ∙ e)
+        never (guarded es slots next ks tick size (λ n. n) 0) i s
+        (sym (barred es slots next ks tick size No (atPosition es (firstAt (openAt es t) 0 40)) (eqb-false (guarded es slots next ks tick size (λ n. n) 0) 0 b)) ∙ e)
 
 -- what a search for a ticket leads to: its slot, which lies within desk and pool
-pub found : (es : List Entry) (slots next size t : ℕ) (q p : Position) → q ≡ positionOf es slots next size t → q ≡ p → (x : Slot) → atPosition es p ≡ x
-    → (x ≡ slotOf es slots next size t) × Within size x
-found es slots next size t q p e f x g = go x (sym g ∙ slot-position es slots next size t p (sym e ∙ f))
+pub found : (es : List Entry) (slots next : ℕ) (ks : List ℕ) (tick size t : ℕ) (q p : Position) → q ≡ positionOf es slots next ks tick size t → q ≡ p → (x : Slot) → atPosition es p ≡ x
+    → (x ≡ slotOf es slots next ks tick size t) × Within size x
+found es slots next ks tick size t q p e f x g = go x (sym g ∙ slot-position es slots next ks tick size t p (sym e ∙ f))
   where
-    go : (x : Slot) → x ≡ slotOf es slots next size t → (x ≡ slotOf es slots next size t) × Within size x
+    go : (x : Slot) → x ≡ slotOf es slots next ks tick size t → (x ≡ slotOf es slots next ks tick size t) × Within size x
     go (No n) h = (h, tt)
     go (Held i s) h =
-        let g = granted es slots next size t i s (sym h) in
+        let g = granted es slots next ks tick size t i s (sym h) in
         (h, record { short = g .short; room = g .room; end = omega arith })

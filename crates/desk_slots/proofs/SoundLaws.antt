@@ -5,11 +5,13 @@ use mathlib.Core.Bool.{Bool, true, false, not}
 use mathlib.Core.List.{List}
 use native.Mathlib.Omega.{arith}
 use lib.Dec.{ltb, eqb}
-use borrow.Author.Tests.{ltb-true, ltb-false, leb-true, eqb-true, eqb-false, lt-ltb, le-leb}
+use Rattle.octets.specs.Pick.{pick}
+use borrow.Author.Tests.{ltb-true, ltb-false, leb-true, eqb-true, eqb-false, ne-eqb, lt-ltb, le-ltb, le-leb}
 use Rattle.desk_entries.specs.Search.{allAt, among}
-use Rattle.desk_slots.specs.Sound.{stateAt, Fit, Sound, ticketAt, fitsAt, goodAt, bounds, sound}
+use Rattle.desk_slots.specs.Sound.{stateAt, Fit, Sound, tickAt, SoundAt, ticketAt, fitsAt, goodAt, bounds, sound, aheadIn, soundAt}
 use Rattle.desk_entries.specs.Entries.{fits}
-use Rattle.desk_entries.proofs.Searches.{clash, pick-both, allAt-all, all-allAt, among-not, not-among}
+use Rattle.desk_entries.specs.Ticks.{aheadBy}
+use Rattle.desk_entries.proofs.Searches.{clash, pick-both, allAt-all, all-allAt, among-not, not-among, anyAt-not, not-anyAt}
 use Rattle.desk_entries.specs.declared.Session.{Session}
 use Rattle.desk_entries.specs.declared.State.{State}
 use Rattle.desk_entries.specs.declared.State.the-variants.{Free, Open}
@@ -140,3 +142,42 @@ module _ (es : List Entry) (slots next : ℕ) where
       alone j m h l (Open s) q (Open u) r n e =
           let w = g .distinct m j (omega arith) h u s r q (rw (r, q) at e) in
           omega arith
+
+-- ---- ticks
+
+not-not : (b : Bool) → not b ≡ true → b ≡ false
+not-not true e = clash cc
+not-not false e = refl
+
+module _ (es : List Entry) (slots next : ℕ) (ks : List ℕ) (tick : ℕ) where
+  behind-at : Sound es slots next → aheadIn es ks tick ≡ false → (i : ℕ) → i < 40 → (s : Session) → stateAt es i ≡ Open s → tickAt ks i ≤ tick
+  unfolding aheadIn
+  behind-at g e i h s q =
+      let n : s .ticket ≡ 0 → ⊥ = λ z. (let l = g .each i h s q .low in omega arith) in
+      let a : aheadBy (ticketAt es) (tickAt ks) tick i ≡ false = anyAt-not (aheadBy (ticketAt es) (tickAt ks) tick) 40 e i h in
+      let b : pick (eqb (s .ticket) 0) false (ltb tick (tickAt ks i)) ≡ false = rw q at a in
+      ltb-false tick (tickAt ks i) (rw (ne-eqb (s .ticket) 0 n) at b)
+
+  none-ahead : ((i : ℕ) → i < 40 → (s : Session) → stateAt es i ≡ Open s → tickAt ks i ≤ tick) → aheadIn es ks tick ≡ false
+  unfolding aheadIn
+  none-ahead f = not-anyAt (aheadBy (ticketAt es) (tickAt ks) tick) 40 (λ j h. go j h (stateAt es j) refl)
+    where
+      go : (j : ℕ) → j < 40 → (x : State) → stateAt es j ≡ x → aheadBy (ticketAt es) (tickAt ks) tick j ≡ false
+      go j h Free q = rw q
+      go j h (Open s) q = rw (q, le-ltb tick (tickAt ks j) (f j h s q)) (none (eqb (s .ticket) 0))
+        where
+          none : (b : Bool) → pick b false false ≡ false
+          none true = refl
+          none false = refl
+
+  -- what the test with ticks tells, and nothing less
+  pub sound-at : soundAt es slots next ks tick ≡ true → SoundAt es slots next ks tick
+  unfolding soundAt
+  sound-at e =
+      let b = pick-both (sound es slots next) (not (aheadIn es ks tick)) e in
+      let g = sound-is es slots next (b .0) in
+      record { entries = g; behind = behind-at g (not-not (aheadIn es ks tick) (b .1)) }
+
+  pub at-sound : SoundAt es slots next ks tick → soundAt es slots next ks tick ≡ true
+  unfolding soundAt
+  at-sound g = rw (is-sound es slots next (g .entries), none-ahead (g .behind))

@@ -1,5 +1,5 @@
--- The slot of a ticket and the lowest free slot, with the refusals 25, 24 and 22, for all entries of a desk, its slot count and its next
--- ticket, every size of the pool and every ticket. Assumes nothing.
+-- The slot of a ticket, the lowest free slot and the idle one with the lowest ticket, with the refusals 25, 24 and 22, for all entries of a
+-- desk, its slot count, its next ticket and its ticks, every size of the pool and every ticket. Assumes nothing.
 use Prim.Native.Nat.{ℕ, _+_, _*_, _<_, _≤_}
 use mathlib.Core.Bool.{Bool, true, false}
 use mathlib.Core.List.{List}
@@ -7,8 +7,9 @@ use lib.Dec.{eqb}
 use Rattle.numbers.specs.Limits as limit
 use Rattle.numbers.specs.Refusals as refusal
 use Rattle.octets.specs.Pick.{pick}
-use Rattle.desk_entries.specs.Search.{firstAt, sameAs}
-use Rattle.desk_slots.specs.Sound.{stateAt, ticketAt, sound}
+use Rattle.desk_entries.specs.Search.{firstAt, sameAs, lowestAt}
+use Rattle.desk_entries.specs.Ticks.{idleTicket}
+use Rattle.desk_slots.specs.Sound.{stateAt, ticketAt, tickAt, soundAt}
 use Rattle.desk_entries.specs.declared.tickets.Position.{Position}
 use Rattle.desk_entries.specs.declared.tickets.Position.the-variants.{At, Nowhere, Barred}
 use Rattle.desk_entries.specs.declared.Session.{Session}
@@ -19,8 +20,8 @@ use Rattle.desk_slots.specs.declared.Slot.{Slot}
 use Rattle.desk_slots.specs.declared.Slot.the-variants.{Held, No}
 
 -- 25 where the desk is not sound, then 24 where the pool has another size, else a
-abbrev pub guarded : {A : Type 0} → List Entry → ℕ → ℕ → ℕ → (ℕ → A) → A → A
-guarded es slots next size bar a = pick (sound es slots next) (pick (eqb size (slots * limit.octets)) a (bar refusal.poolLength)) (bar refusal.unsound)
+abbrev pub guarded : {A : Type 0} → List Entry → ℕ → ℕ → List ℕ → ℕ → ℕ → (ℕ → A) → A → A
+guarded es slots next stamps tick size bar a = pick (soundAt es slots next stamps tick) (pick (eqb size (slots * limit.octets)) a (bar refusal.poolLength)) (bar refusal.unsound)
 
 abbrev pub isFree : State → Bool
 isFree Free = true
@@ -46,12 +47,20 @@ atPosition es (At i) = inState i (stateAt es i)
 atPosition es (Barred n) = No n
 
 -- 25, 24, or the first slot that has a ticket; a free one has 0
-unfoldable pub positionOf : List Entry → ℕ → ℕ → ℕ → ℕ → Position
-positionOf es slots next size t = guarded es slots next size Barred (firstAt (sameAs (ticketAt es) t) 0 slots)
+unfoldable pub positionOf : List Entry → ℕ → ℕ → List ℕ → ℕ → ℕ → ℕ → Position
+positionOf es slots next stamps tick size t = guarded es slots next stamps tick size Barred (firstAt (sameAs (ticketAt es) t) 0 slots)
+
+-- the ticket of entry i where it is open and idle, and 0 of any other
+abbrev pub idleAt : List Entry → List ℕ → ℕ → ℕ → ℕ
+idleAt es stamps now i = idleTicket (stateAt es i) (tickAt stamps i) now
+
+-- the idle slot with the lowest ticket
+unfoldable pub idleOf : List Entry → ℕ → List ℕ → ℕ → Position
+idleOf es slots stamps now = lowestAt (idleAt es stamps now) slots
 
 -- 25, 24, 22, or the slot of a ticket with its session
-unfoldable pub slotOf : List Entry → ℕ → ℕ → ℕ → ℕ → Slot
-slotOf es slots next size t = guarded es slots next size No (atPosition es (firstAt (openAt es t) 0 limit.slots))
+unfoldable pub slotOf : List Entry → ℕ → ℕ → List ℕ → ℕ → ℕ → ℕ → Slot
+slotOf es slots next stamps tick size t = guarded es slots next stamps tick size No (atPosition es (firstAt (openAt es t) 0 limit.slots))
 
 -- slot i lies within the desk and its pool of that size, and the octets held within the slot
 pub record Bounded (size i : ℕ) (s : Session) : Type 0 where

@@ -37,11 +37,11 @@ heldKind = 3
 abbrev pub asked : Desk → List ℕ → Answer → Turned
 asked d p a = record { answer = a; desk = d; pool = p }
 
--- one call of a kind
+-- one call of a kind, at tick 0
 unfoldable pub callStep : Desk → List ℕ → List ℕ → ℕ → ℕ → Turned
 callStep d p q kind t =
-    pick (eqb kind openKind) (openStep d p t)
-    (pick (eqb kind addKind) (addStep d p t q)
+    pick (eqb kind openKind) (openStep d p t 0)
+    (pick (eqb kind addKind) (addStep d p t q 0)
     (pick (eqb kind releaseKind) (releaseStep d p t)
     (pick (eqb kind heldKind) (asked d p (heldStep d p t))
     (asked d p (verdictAnswer (judgeStep d p t))))))

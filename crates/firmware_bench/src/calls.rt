@@ -36,13 +36,13 @@ fn verdict_answer(v: Verdict) -> Answer
     }
 }
 
-// Makes one call of a kind.
+// Makes one call of a kind, at tick 0.
 fn call(d: Desk, pool: &mut [u8], chunk: &[u8], kind: u32, t: u32) -> Turn
     ensures { λ r. ⌜ turned r (now (pool .exit)) ≡ callStep d (now (pool .entry)) (now (chunk .entry)) kind t ⌝ }
 {
     match kind {
-        OPEN => d.open(pool, t),
-        ADD => d.add(pool, t, chunk),
+        OPEN => d.open(pool, t, 0),
+        ADD => d.add(pool, t, chunk, 0),
         RELEASE => d.release(pool, t),
         HELD => Turn {
             answer: d.held(pool, t),

@@ -14,7 +14,7 @@ use Rattle.desk.specs.Steps.{refuse, freshDesk, newStep}
 use Rattle.desk.specs.declared.Desk.{Desk}
 use Rattle.desk.specs.declared.Answer.the-variants.{Done, Refused as No}
 use Rattle.desk.specs.declared.Turn.{Turn}
-use Rattle.desk_ledger.specs.Ledger.{run, after}
+use Rattle.desk_ledger.specs.Ticks.{runTicked, afterTicked}
 use Rattle.desk_ledger.specs.Desks.{World, deskStep}
 use Rattle.replay_script.specs.Scripts.{width, callsIn, Decoded, calls, broken, decode}
 use Rattle.replay_script.specs.Counts.{shown, counted}
@@ -66,13 +66,13 @@ module _ (n : ℕ) (s p l : List ℕ) where
     pub played-short : length p ≡ n * 16384 → leb (9 * k + 16380 * m) (length l) ≡ false → replayed (Refused 92 (length l)) p l ≡ played n p l (decode s)
     played-short h e = rw (d .is, eq-eqb (length p) (n * 16384) h, sym room-test ∙ e)
 
-    pub log-fits : leb (9 * k + 16380 * m) (length l) ≡ true → (w : World) → length (written (run deskStep w (callsIn s 0))) ≤ length l
+    pub log-fits : leb (9 * k + 16380 * m) (length l) ≡ true → (w : World) → length (written (runTicked deskStep w (callsIn s 0))) ≤ length l
     log-fits e w =
         let f = leb-true (roomFor (callsIn s 0)) (length l) (sym room-test ∙ e) in
         omega (arith, room-enough (callsIn s 0) w)
 
     pub played-ran : (desk : Desk) → desk ≡ newStep n .desk → length p ≡ n * 16384 → leb (9 * k + 16380 * m) (length l) ≡ true
-        → (r : ℕ) (p′ l′ : List ℕ) → p′ ≡ after deskStep (worldOf desk p) (callsIn s 0) .pool → Put (written (run deskStep (worldOf desk p) (callsIn s 0))) l l′ r
+        → (r : ℕ) (p′ l′ : List ℕ) → p′ ≡ afterTicked deskStep (worldOf desk p) (callsIn s 0) .pool → Put (written (runTicked deskStep (worldOf desk p) (callsIn s 0))) l l′ r
         → replayed (Ran k r) p′ l′ ≡ played n p l (decode s)
     played-ran desk f h e r p′ l′ q t = rw (d .is, eq-eqb (length p) (n * 16384) h, sym room-test ∙ e, q, t .wrote, t .log, d .calls, f)
 

@@ -8,7 +8,7 @@ use Rattle.numbers.specs.Refusals as refusal
 use Rattle.octets.specs.Pick.{pick}
 use Rattle.octets.specs.Room.{overlay}
 use Rattle.desk_slots.specs.Sound.{bounds}
-use Rattle.desk_ledger.specs.Ledger.{Call}
+use Rattle.desk_ledger.specs.Ticks.{Ticked}
 use Rattle.desk_ledger.specs.Desks.{answers, world}
 use Rattle.replay_script.specs.Scripts.{Decoded, calls, broken, decode}
 use Rattle.replay_log.specs.Logs.{written, roomFor}
@@ -25,7 +25,7 @@ abbrev pub replayed : Replayed → List ℕ → List ℕ → Replay
 replayed a p l = record { answer = a; pool = p; log = l }
 
 -- the answers of a fresh desk to the calls, by its own steps, as a log has them
-abbrev pub deskLog : ℕ → List ℕ → List Call → List ℕ
+abbrev pub deskLog : ℕ → List ℕ → List Ticked → List ℕ
 deskLog n p cs = written (answers n p cs)
 
 -- 91 where the pool has another length, then 92 where the log may lack room, each with that length; else the calls are run

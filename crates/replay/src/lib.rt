@@ -11,7 +11,7 @@ ghost use lib.ListN.{length};
 ghost use Rattle.octets.specs.Scan.{scan};
 ghost use Rattle.desk_slots.specs.Sound.{bounds};
 ghost use Rattle.desk.specs.Steps.{newStep};
-ghost use Rattle.desk_ledger.specs.Ledger.{run, after};
+ghost use Rattle.desk_ledger.specs.Ticks.{runTicked, afterTicked};
 ghost use Rattle.desk_ledger.specs.Desks.{deskStep};
 ghost use Rattle.replay_script.specs.Scripts.{width, callsIn, decode};
 ghost use Rattle.replay_log.specs.Logs.{written, Put};
@@ -27,9 +27,9 @@ pub enum Replayed {
 // Runs the calls of a script one after the other, and answers how many octets of the log are written.
 fn run_all(desk: Desk, script: &[u8], pool: &mut [u8], log: &mut [u8]) -> usize
     requires { ⌜ scan width (now script) 0 ≡ length (now script) ⌝ }
-    requires { ⌜ length (written (run deskStep (worldOf desk (now pool)) (callsIn (now script) 0))) ≤ length (now log) ⌝ }
-    ensures { λ r. ⌜ now (pool .exit) ≡ after deskStep (worldOf desk (now (pool .entry))) (callsIn (now (script .entry)) 0) .pool ⌝ }
-    ensures { λ r. ⌜ Put (written (run deskStep (worldOf desk (now (pool .entry))) (callsIn (now (script .entry)) 0))) (now (log .entry)) (now (log .exit)) r ⌝ }
+    requires { ⌜ length (written (runTicked deskStep (worldOf desk (now pool)) (callsIn (now script) 0))) ≤ length (now log) ⌝ }
+    ensures { λ r. ⌜ now (pool .exit) ≡ afterTicked deskStep (worldOf desk (now (pool .entry))) (callsIn (now (script .entry)) 0) .pool ⌝ }
+    ensures { λ r. ⌜ Put (written (runTicked deskStep (worldOf desk (now (pool .entry))) (callsIn (now (script .entry)) 0))) (now (log .entry)) (now (log .exit)) r ⌝ }
 {
     let mut d = desk;
     let mut at: usize = 0;

@@ -6,7 +6,7 @@ use replay_script::numerals;
 ghost use mathlib.Core.Path.{_≡_};
 ghost use Prim.Native.Nat.{_≤_};
 ghost use lib.ListN.{length};
-ghost use Rattle.desk_ledger.specs.Desks.{said, deedStep, deskStep};
+ghost use Rattle.desk_ledger.specs.Desks.{said, askStep, deskStep};
 ghost use Rattle.replay_script.specs.Scripts.{width, queryOf, callOf};
 ghost use Rattle.replay_log.specs.Logs.{entry, Put};
 ghost use Rattle.replay_call.specs.Stepped.{worldOf, Stepped};
@@ -32,8 +32,8 @@ fn put_turn(turn: Turn, log: &mut [u8]) -> After
 
 // Runs judge, show or held, by the octet that names the call, and answers how many octets of the log are written.
 fn run_query(desk: Desk, pool: &[u8], name: u8, t: u32, log: &mut [u8]) -> usize
-    requires { ⌜ length (entry (deedStep (worldOf desk (now pool)) t (queryOf name) .reply)) ≤ length (now log) ⌝ }
-    ensures { λ r. ⌜ Put (entry (deedStep (worldOf desk (now (pool .entry))) t (queryOf name) .reply)) (now (log .entry)) (now (log .exit)) r ⌝ }
+    requires { ⌜ length (entry (askStep (worldOf desk (now pool)) t (queryOf name) .reply)) ≤ length (now log) ⌝ }
+    ensures { λ r. ⌜ Put (entry (askStep (worldOf desk (now (pool .entry))) t (queryOf name) .reply)) (now (log .entry)) (now (log .exit)) r ⌝ }
 {
     if name == call::JUDGE {
         return replay_log::put_verdict(log, desk.judge(pool, t));
@@ -53,11 +53,13 @@ pub fn run_call(desk: Desk, s: &[u8], pool: &mut [u8], log: &mut [u8]) -> After
     let b = s[0];
     let n = numerals::read_four(s, 1);
     if b == call::OPEN {
-        return put_turn(desk.open(pool, n), log);
+        let tick = numerals::read_four(s, call::LENGTH);
+        return put_turn(desk.open(pool, n, tick), log);
     }
     if b == call::ADD {
-        let end = call::CHUNK + numerals::read_two(s, call::LENGTH) as usize;
-        return put_turn(desk.add(pool, n, &s[call::CHUNK..end]), log);
+        let tick = numerals::read_four(s, call::LENGTH);
+        let end = call::CHUNK + numerals::read_two(s, call::OPENING) as usize;
+        return put_turn(desk.add(pool, n, &s[call::CHUNK..end], tick), log);
     }
     if b == call::RELEASE {
         return put_turn(desk.release(pool, n), log);

@@ -11,7 +11,7 @@ use lib.Seq.{take-append-seam, drop-append-seam}
 use borrow.Author.Tests.{le-leb, eq-eqb}
 use Rattle.octets.specs.Scan.{scan}
 use Rattle.octets.proofs.Scans.{scan-step}
-use Rattle.desk_ledger.specs.Ledger.{adds, judges, shows, asks, releases, Call, opens, on}
+use Rattle.desk_ledger.specs.Ticks.{judging, showing, counting, releasing, Ticked, opensAt, addsAt, asksOf}
 use Rattle.replay_script.specs.Numerals.{twoAt, fourAt, twoOctets, fourOctets}
 use Rattle.replay_script.specs.Scripts.{needed, width, callOf, callsIn, decode}
 use Rattle.replay_script.proofs.NumeralLaws.{two-value, four-value}
@@ -19,7 +19,7 @@ use Rattle.replay_script.proofs.ScriptLaws.{first}
 use Rattle.replay_laws.specs.Encoding.{encodeCall, encode, Octets, CallFits, Fit, Scripted}
 
 -- what stands at the start of a script
-record Starts (c : Call) (r : List ℕ) : Type 0 where
+record Starts (c : Ticked) (r : List ℕ) : Type 0 where
   wide : width (encodeCall c ++ r) ≡ length (encodeCall c)
   some : 1 ≤ length (encodeCall c)
   call : callOf (encodeCall c ++ r) ≡ c
@@ -27,25 +27,28 @@ record Starts (c : Call) (r : List ℕ) : Type 0 where
 five : (n : ℕ) → leb 5 (suc (suc (suc (suc (suc n))))) ≡ true
 five n = le-leb 5 (suc (suc (suc (suc (suc n))))) (omega arith)
 
-seven : (k n : ℕ) → k ≤ n → leb (7 + k) (suc (suc (suc (suc (suc (suc (suc n))))))) ≡ true
-seven k n h = le-leb (7 + k) (suc (suc (suc (suc (suc (suc (suc n))))))) (omega arith)
+nine : (n : ℕ) → leb 9 (suc (suc (suc (suc (suc (suc (suc (suc (suc n))))))))) ≡ true
+nine n = le-leb 9 (suc (suc (suc (suc (suc (suc (suc (suc (suc n))))))))) (omega arith)
 
-starts : (c : Call) (r : List ℕ) → CallFits c → Starts c r
+eleven : (k n : ℕ) → k ≤ n → leb (11 + k) (suc (suc (suc (suc (suc (suc (suc (suc (suc (suc (suc n))))))))))) ≡ true
+eleven k n h = le-leb (11 + k) (suc (suc (suc (suc (suc (suc (suc (suc (suc (suc (suc n))))))))))) (omega arith)
+
+starts : (c : Ticked) (r : List ℕ) → CallFits c → Starts c r
 unfolding width needed callOf twoAt fourAt twoOctets fourOctets
-starts (opens m) r h = record { wide = rw (five (length r)); some = omega arith; call = ap opens (four-value m h) }
-starts (on t (adds q)) r h =
+starts (opensAt m τ) r h = record { wide = rw (nine (length r)); some = omega arith; call = rw (four-value m (h .0), four-value τ (h .1)) }
+starts (addsAt t q τ) r h =
     let e : length q / 256 % 256 * 256 + length q % 256 ≡ length q = two-value (length q) (omega arith) in
     record {
-      wide = rw (e, seven (length q) (length (q ++ r)) (rw length-append (omega arith))) (omega arith);
+      wide = rw (e, eleven (length q) (length (q ++ r)) (rw length-append (omega arith))) (omega arith);
       some = omega arith;
-      call = rw (e, four-value t (h .0), take-append-seam q r);
+      call = rw (e, four-value t (h .0), four-value τ (h .1), take-append-seam q r);
     }
-starts (on t judges) r h = record { wide = rw (five (length r)); some = omega arith; call = ap (λ (n : ℕ). on n judges) (four-value t (h .0)) }
-starts (on t shows) r h = record { wide = rw (five (length r)); some = omega arith; call = ap (λ (n : ℕ). on n shows) (four-value t (h .0)) }
-starts (on t asks) r h = record { wide = rw (five (length r)); some = omega arith; call = ap (λ (n : ℕ). on n asks) (four-value t (h .0)) }
-starts (on t releases) r h = record { wide = rw (five (length r)); some = omega arith; call = ap (λ (n : ℕ). on n releases) (four-value t (h .0)) }
+starts (asksOf t judging) r h = record { wide = rw (five (length r)); some = omega arith; call = ap (λ (n : ℕ). asksOf n judging) (four-value t h) }
+starts (asksOf t showing) r h = record { wide = rw (five (length r)); some = omega arith; call = ap (λ (n : ℕ). asksOf n showing) (four-value t h) }
+starts (asksOf t counting) r h = record { wide = rw (five (length r)); some = omega arith; call = ap (λ (n : ℕ). asksOf n counting) (four-value t h) }
+starts (asksOf t releasing) r h = record { wide = rw (five (length r)); some = omega arith; call = ap (λ (n : ℕ). asksOf n releasing) (four-value t h) }
 
-scans : (cs : List Call) → Fit cs → scan width (encode cs) 0 ≡ length (encode cs)
+scans : (cs : List Ticked) → Fit cs → scan width (encode cs) 0 ≡ length (encode cs)
 unfolding encode Fit scan
 scans [] h = refl
 scans (c ∷ cs) h =
@@ -56,7 +59,7 @@ scans (c ∷ cs) h =
     let b = rw d at a in
     omega (arith, scans cs (h .1))
 
-finds : (cs : List Call) → Fit cs → callsIn (encode cs) 0 ≡ cs
+finds : (cs : List Ticked) → Fit cs → callsIn (encode cs) 0 ≡ cs
 unfolding encode Fit callsIn
 finds [] h = refl
 finds (c ∷ cs) h =
@@ -70,21 +73,22 @@ unfolding Octets
 octets-append [] ys h k = k
 octets-append (x ∷ xs) ys h k = (h .0, octets-append xs ys (h .1) k)
 
-call-octets : (c : Call) → CallFits c → Octets (encodeCall c)
+call-octets : (c : Ticked) → CallFits c → Octets (encodeCall c)
 unfolding Octets twoOctets fourOctets
-call-octets (opens m) h = (omega arith, (omega arith, (omega arith, (omega arith, (omega arith, tt)))))
-call-octets (on t (adds q)) h = (omega arith, (omega arith, (omega arith, (omega arith, (omega arith, (omega arith, (omega arith, h .1 .1)))))))
-call-octets (on t judges) h = (omega arith, (omega arith, (omega arith, (omega arith, (omega arith, tt)))))
-call-octets (on t shows) h = (omega arith, (omega arith, (omega arith, (omega arith, (omega arith, tt)))))
-call-octets (on t asks) h = (omega arith, (omega arith, (omega arith, (omega arith, (omega arith, tt)))))
-call-octets (on t releases) h = (omega arith, (omega arith, (omega arith, (omega arith, (omega arith, tt)))))
+call-octets (opensAt m τ) h = (omega arith, (omega arith, (omega arith, (omega arith, (omega arith, (omega arith, (omega arith, (omega arith, (omega arith, tt)))))))))
+call-octets (addsAt t q τ) h =
+    (omega arith, (omega arith, (omega arith, (omega arith, (omega arith, (omega arith, (omega arith, (omega arith, (omega arith, (omega arith, (omega arith, h .3)))))))))))
+call-octets (asksOf t judging) h = (omega arith, (omega arith, (omega arith, (omega arith, (omega arith, tt)))))
+call-octets (asksOf t showing) h = (omega arith, (omega arith, (omega arith, (omega arith, (omega arith, tt)))))
+call-octets (asksOf t counting) h = (omega arith, (omega arith, (omega arith, (omega arith, (omega arith, tt)))))
+call-octets (asksOf t releasing) h = (omega arith, (omega arith, (omega arith, (omega arith, (omega arith, tt)))))
 
-octets : (cs : List Call) → Fit cs → Octets (encode cs)
+octets : (cs : List Ticked) → Fit cs → Octets (encode cs)
 unfolding encode Fit Octets
 octets [] h = tt
 octets (c ∷ cs) h = octets-append (encodeCall c) (encode cs) (call-octets c (h .0)) (octets cs (h .1))
 
-pub every-list : (cs : List Call) → Fit cs → Scripted cs
+pub every-list : (cs : List Ticked) → Fit cs → Scripted cs
 unfolding decode
 every-list cs h =
     record {

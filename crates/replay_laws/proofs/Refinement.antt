@@ -10,7 +10,8 @@ use Rattle.octets.specs.Pick.{pick}
 use Rattle.octets.specs.Room.{overlay}
 use Rattle.desk_slots.specs.Sound.{bounds}
 use Rattle.desk_slots.proofs.SoundLaws.{bounds-are}
-use Rattle.desk_ledger.specs.Ledger.{Call, Reply}
+use Rattle.desk_ledger.specs.Ledger.{Reply}
+use Rattle.desk_ledger.specs.Ticks.{Ticked}
 use Rattle.desk_ledger.specs.Desks.{Proper, answers, world}
 use Rattle.desk_laws.proofs.Demand.{demand3}
 use Rattle.replay_script.specs.Scripts.{Decoded, calls, broken, decode}
@@ -21,7 +22,7 @@ use Rattle.replay_laws.specs.Refinement.{ledgerPlayed, ledgerOutcome}
 
 module _ (n : ℕ) (p l : List ℕ) where
   -- the calls were run, and answered so
-  abbrev ran : List Call → List Reply → Replay
+  abbrev ran : List Ticked → List Reply → Replay
   ran cs rs =
       pick (leb (roomFor cs) (length l))
       (replayed (Ran (length cs) (length (written rs))) (world n p cs .pool) (overlay (written rs) l))

@@ -1,6 +1,6 @@
 -- Each number that the ledger answers has 32 bits. Assumes nothing.
 use Prim.Native.Nat.{ℕ, _+_, _≤_}
-use mathlib.Core.Path.{_≡_, refl}
+use mathlib.Core.Path.{_≡_, refl, sym, subst}
 use mathlib.Core.Bool.{Bool, true, false}
 use mathlib.Core.List.{List, [], _∷_, _++_}
 use native.Mathlib.Omega.{arith}
@@ -8,7 +8,10 @@ use lib.Dec.{ltb, eqb}
 use lib.ListN.{length, length-append}
 use borrow.Author.Tests.{ltb-false, eqb-false}
 use Rattle.octets.specs.Pick.{pick}
-use Rattle.desk_ledger.specs.Ledger.{Deed, adds, judges, shows, asks, releases, Call, opens, on, refused, told, Found, absent, present, answer, leaves, Row, Ledger, lookup, renew, change, Out, opening, ledgerStep, freshLedger, run}
+use Rattle.desk_ledger.specs.Ledger.{Deed, adds, judges, shows, asks, releases, Call, opens, on, Reply, refused, told, Found, absent, present, answer, leaves, Row, Ledger, lookup, renew, change, Out, opening, ledgerStep}
+use Rattle.desk_ledger.specs.Ticks.{Ticked, plain, Clocked, Whose, nobody, of, taken, freed, clockedStep, freshClocked, runTicked}
+use Rattle.desk_ledger.specs.Desks.{ledgerAnswers}
+use Rattle.desk_laws.proofs.Reclaims.{step-reply, step-ledger}
 use Rattle.replay_laws.specs.Tells.{Small, AllSmall}
 use Rattle.replay_laws.proofs.VerdictLaws.{verdict-small}
 
@@ -102,10 +105,19 @@ step-keeps l (on t x) h =
       kept = record { next = h .next; rows = change-fits (l .rows) t (leaves (lookup (l .rows) t) x) (leaves-fits (lookup (l .rows) t) x f) (h .rows) };
     }
 
-run-small : (cs : List Call) (l : Ledger) → Kept l → AllSmall (run ledgerStep l cs)
-unfolding run AllSmall
-run-small [] l h = tt
-run-small (c ∷ cs) l h = let k = step-keeps l c h in (k .small, run-small cs (ledgerStep l c .then) (k .kept))
+freed-keeps : (l : Ledger) (w : Whose) → Kept l → Kept (freed l w)
+freed-keeps l nobody h = h
+freed-keeps l (of t) h = step-keeps l (on t releases) h .kept
 
-pub answers-small : (n : ℕ) (cs : List Call) → AllSmall (run ledgerStep (freshLedger n) cs)
-answers-small n cs = run-small cs (freshLedger n) (record { next = omega arith; rows = tt })
+ticked-keeps : (c : Clocked) (x : Ticked) → Kept (c .ledger) → Small (clockedStep c x .reply) × Kept (clockedStep c x .then .ledger)
+ticked-keeps c x h =
+    let k = step-keeps (freed (c .ledger) (taken c x)) (plain x) (freed-keeps (c .ledger) (taken c x) h) in
+    (subst (λ (r : Reply). Small r) (sym (step-reply c x)) (k .small), subst (λ (l : Ledger). Kept l) (sym (step-ledger c x)) (k .kept))
+
+run-small : (xs : List Ticked) (c : Clocked) → Kept (c .ledger) → AllSmall (runTicked clockedStep c xs)
+unfolding runTicked AllSmall
+run-small [] c h = tt
+run-small (x ∷ xs) c h = let k = ticked-keeps c x h in (k .0, run-small xs (clockedStep c x .then) (k .1))
+
+pub answers-small : (n : ℕ) (xs : List Ticked) → AllSmall (ledgerAnswers n xs)
+answers-small n xs = run-small xs (freshClocked n) (record { next = omega arith; rows = tt })

@@ -1,4 +1,4 @@
--- A replay by the ledger: the log has the ledger's answers, and the pool is left as the desk leaves it. Assumes nothing.
+-- A replay by the ledger with ticks: the log has the ledger's answers, and the pool is left as the desk leaves it. Assumes nothing.
 use Prim.Native.Nat.{ℕ, _*_}
 use mathlib.Core.List.{List}
 use lib.Dec.{leb, eqb}
@@ -8,16 +8,16 @@ use Rattle.numbers.specs.Refusals as refusal
 use Rattle.octets.specs.Pick.{pick}
 use Rattle.octets.specs.Room.{overlay}
 use Rattle.desk_slots.specs.Sound.{bounds}
-use Rattle.desk_ledger.specs.Ledger.{Call, ledgerStep, freshLedger, run}
-use Rattle.desk_ledger.specs.Desks.{world}
+use Rattle.desk_ledger.specs.Ticks.{Ticked}
+use Rattle.desk_ledger.specs.Desks.{world, ledgerAnswers}
 use Rattle.replay_script.specs.Scripts.{Decoded, calls, broken, decode}
 use Rattle.replay_log.specs.Logs.{written, roomFor}
 use Rattle.replay.specs.Outcome.{Replay, replayed}
 use Rattle.replay.specs.declared.Replayed.the-variants.{Ran, Refused}
 
 -- the answers of the ledger to the calls, as a log has them
-abbrev pub ledgerLog : ℕ → List Call → List ℕ
-ledgerLog n cs = written (run ledgerStep (freshLedger n) cs)
+abbrev pub ledgerLog : ℕ → List Ticked → List ℕ
+ledgerLog n cs = written (ledgerAnswers n cs)
 
 -- 91 where the pool has another length, then 92 where the log may lack room, each with that length; else the calls are run
 abbrev pub ledgerPlayed : ℕ → List ℕ → List ℕ → Decoded → Replay

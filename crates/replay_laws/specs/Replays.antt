@@ -3,7 +3,7 @@
 use Prim.Native.Nat.{ℕ}
 use mathlib.Core.Path.{_≡_}
 use mathlib.Core.List.{List}
-use Rattle.desk_ledger.specs.Ledger.{Call}
+use Rattle.desk_ledger.specs.Ticks.{Ticked}
 use Rattle.replay.specs.Outcome.{replayOutcome}
 use Rattle.replay_laws.specs.Encoding.{Fit, Scripted}
 use Rattle.replay_laws.specs.Refinement.{ledgerOutcome}
@@ -15,4 +15,4 @@ pub record Replays : Type 0 where
   -- a log has every answer of the ledger, and no two lists of answers have the same log
   pub tells : Tells
   -- every list of calls that fit 32 bits, with chunks of at most 65,535 octets, has a script
-  pub every-list : (cs : List Call) → Fit cs → Scripted cs
+  pub every-list : (cs : List Ticked) → Fit cs → Scripted cs

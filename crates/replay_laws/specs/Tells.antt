@@ -5,7 +5,9 @@ use mathlib.Core.Path.{_≡_}
 use mathlib.Core.List.{List, [], _∷_}
 use lib.ListN.{length, take}
 use Rattle.numbers.specs.Limits as limit
-use Rattle.desk_ledger.specs.Ledger.{Call, Reply, refused, told, counts, part, ledgerStep, freshLedger, run}
+use Rattle.desk_ledger.specs.Ledger.{Reply, refused, told, counts, part}
+use Rattle.desk_ledger.specs.Ticks.{Ticked}
+use Rattle.desk_ledger.specs.Desks.{ledgerAnswers}
 use Rattle.replay_script.specs.Scripts.{callsIn}
 use Rattle.replay_log.specs.Logs.{written}
 use Rattle.replay.specs.Outcome.{replayOutcome}
@@ -24,11 +26,11 @@ AllSmall (r ∷ rs) = Small r × AllSmall rs
 
 -- the answers to the calls of a script, on a fresh desk of n slots
 abbrev pub answersTo : ℕ → List ℕ → List Reply
-answersTo n s = run ledgerStep (freshLedger n) (callsIn s 0)
+answersTo n s = ledgerAnswers n (callsIn s 0)
 
 -- replays that ran, of any scripts on desks of any size, whatever their pools and logs held
 pub record Tells : Type 0 where
-  pub small : (n : ℕ) (cs : List Call) → AllSmall (run ledgerStep (freshLedger n) cs)
+  pub small : (n : ℕ) (cs : List Ticked) → AllSmall (ledgerAnswers n cs)
   pub wrote : (n : ℕ) (s p l : List ℕ) (k w : ℕ) → replayOutcome n s p l .answer ≡ Ran k w → take w (replayOutcome n s p l .log) ≡ written (answersTo n s)
   pub injective : (n : ℕ) (s p l : List ℕ) (k w : ℕ) → replayOutcome n s p l .answer ≡ Ran k w
       → (n′ : ℕ) (s′ p′ l′ : List ℕ) (k′ w′ : ℕ) → replayOutcome n′ s′ p′ l′ .answer ≡ Ran k′ w′

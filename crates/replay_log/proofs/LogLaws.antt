@@ -12,10 +12,11 @@ use Rattle.reader.specs.declared.Verdict.the-variants.{Accepted, Refused as Unr
 use Rattle.desk_pool.specs.Pools.{patch}
 use Rattle.desk.specs.declared.Answer.{Answer}
 use Rattle.desk.specs.declared.Answer.the-variants.{Done, Refused}
-use Rattle.desk_ledger.specs.Ledger.{adds, judges, shows, asks, releases, Call, opens, on, refused, told, counts, part, verdict}
+use Rattle.desk_ledger.specs.Ledger.{refused, told, counts, part, verdict}
+use Rattle.desk_ledger.specs.Ticks.{judging, showing, counting, releasing, Ticked, opensAt, addsAt, asksOf}
 use Rattle.desk_ledger.specs.Desks.{said}
 use Rattle.replay_script.specs.Numerals.{twoOctets, fourOctets}
-use Rattle.replay_script.specs.Counts.{showing, shown}
+use Rattle.replay_script.specs.Counts.{shows, shown}
 use Rattle.replay_log.specs.Logs.{entry, callRoom, roomFor}
 
 -- ---- lengths
@@ -74,15 +75,15 @@ put-behind d x o n e =
 
 -- ---- room for the answers to calls
 
-call-room : (c : Call) → callRoom c ≡ 9 + 16380 * showing c
-call-room (opens m) = refl
-call-room (on t (adds q)) = refl
-call-room (on t judges) = refl
-call-room (on t shows) = refl
-call-room (on t asks) = refl
-call-room (on t releases) = refl
+call-room : (c : Ticked) → callRoom c ≡ 9 + 16380 * shows c
+call-room (opensAt m τ) = refl
+call-room (addsAt t q τ) = refl
+call-room (asksOf t judging) = refl
+call-room (asksOf t showing) = refl
+call-room (asksOf t counting) = refl
+call-room (asksOf t releasing) = refl
 
-pub room-is : (cs : List Call) → roomFor cs ≡ 9 * length cs + 16380 * shown cs
+pub room-is : (cs : List Ticked) → roomFor cs ≡ 9 * length cs + 16380 * shown cs
 unfolding roomFor shown
 room-is [] = omega arith
 room-is (c ∷ cs) = omega (arith, call-room c, room-is cs)

@@ -5,7 +5,8 @@ use mathlib.Core.Path.{_≡_}
 use mathlib.Core.List.{List, [], _∷_, _++_}
 use lib.ListN.{length}
 use Rattle.octets.specs.Room.{overlay}
-use Rattle.desk_ledger.specs.Ledger.{Deed, adds, judges, shows, asks, releases, Call, opens, on, Reply, refused, told, counts, part}
+use Rattle.desk_ledger.specs.Ledger.{Reply, refused, told, counts, part}
+use Rattle.desk_ledger.specs.Ticks.{judging, showing, counting, releasing, Ticked, opensAt, addsAt, asksOf}
 use Rattle.replay_script.specs.Numerals.{fourOctets}
 use Rattle.replay_log.specs.Names as reply
 
@@ -35,17 +36,14 @@ abbrev pub shownMore : ℕ
 shownMore = 16380
 
 -- the most octets that the answer to a call has
-abbrev pub deedRoom : Deed → ℕ
-deedRoom (adds q) = answerRoom
-deedRoom judges = answerRoom
-deedRoom shows = answerRoom + shownMore
-deedRoom asks = answerRoom
-deedRoom releases = answerRoom
+abbrev pub callRoom : Ticked → ℕ
+callRoom (opensAt m τ) = answerRoom
+callRoom (addsAt t q τ) = answerRoom
+callRoom (asksOf t judging) = answerRoom
+callRoom (asksOf t showing) = answerRoom + shownMore
+callRoom (asksOf t counting) = answerRoom
+callRoom (asksOf t releasing) = answerRoom
 
-abbrev pub callRoom : Call → ℕ
-callRoom (opens m) = answerRoom
-callRoom (on t x) = deedRoom x
-
-unfoldable pub roomFor : List Call → ℕ
+unfoldable pub roomFor : List Ticked → ℕ
 roomFor [] = 0
 roomFor (c ∷ cs) = callRoom c + roomFor cs

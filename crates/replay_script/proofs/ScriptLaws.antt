@@ -13,10 +13,10 @@ use Rattle.octets.specs.Pick.{pick}
 use Rattle.octets.specs.Classes.{within}
 use Rattle.octets.specs.Scan.{scan}
 use Rattle.octets.proofs.Scans.{scan-stop, scan-step, scan-end}
-use Rattle.desk_ledger.specs.Ledger.{adds, judges, shows, asks, releases, Call, opens, on}
+use Rattle.desk_ledger.specs.Ticks.{judging, showing, counting, releasing, Ticked, opensAt, addsAt, asksOf}
 use Rattle.replay_script.specs.Numerals.{twoAt, fourAt}
 use Rattle.replay_script.specs.Scripts.{needed, width, callOf, callsIn, calls, decode}
-use Rattle.replay_script.specs.Counts.{showing, shown, counted}
+use Rattle.replay_script.specs.Counts.{shows, shown, counted}
 use Rattle.replay_script.specs.declared.Counted.the-variants.{Calls, Broken}
 
 -- ---- the width of a call
@@ -42,13 +42,14 @@ both a b n e = go (leb a n) refl (leb n b) refl e
 module _ (s : List ℕ) where
   pub needed-five : 5 ≤ needed s
   unfolding needed
-  needed-five = go (eqb (getD s 0 0) 2)
+  needed-five = go (eqb (getD s 0 0) 2) (eqb (getD s 0 0) 1)
     where
-      go : (t : Bool) → 5 ≤ pick t (7 + twoAt s 5) 5
-      go true = omega arith
-      go false = omega arith
+      go : (t u : Bool) → 5 ≤ pick t (11 + twoAt s 9) (pick u 9 5)
+      go true u = omega arith
+      go false true = omega arith
+      go false false = omega arith
 
-  pub needed-add : getD s 0 0 ≡ 2 → needed s ≡ 7 + twoAt s 5
+  pub needed-add : getD s 0 0 ≡ 2 → needed s ≡ 11 + twoAt s 9
   unfolding needed
   needed-add e = rw (eq-eqb (getD s 0 0) 2 e)
 
@@ -68,9 +69,13 @@ module _ (s : List ℕ) where
   unfolding width
   width-whole l h f = rw (le-leb 1 (getD s 0 0) l, le-leb (getD s 0 0) 6 h, le-leb (needed s) (length s) f)
 
-  pub needed-five-is : (getD s 0 0 ≡ 2 → ⊥) → needed s ≡ 5
+  pub needed-five-is : (getD s 0 0 ≡ 1 → ⊥) → (getD s 0 0 ≡ 2 → ⊥) → needed s ≡ 5
   unfolding needed
-  needed-five-is n = rw (ne-eqb (getD s 0 0) 2 n)
+  needed-five-is m n = rw (ne-eqb (getD s 0 0) 2 n, ne-eqb (getD s 0 0) 1 m)
+
+  pub needed-open : getD s 0 0 ≡ 1 → needed s ≡ 9
+  unfolding needed
+  needed-open e = rw e
 
 -- a call that is known and not cut off
 pub record Whole (s : List ℕ) : Type 0 where
@@ -106,7 +111,7 @@ unfolding callsIn
 first l zero h q pos = absurd (not-suc-le-zero pos)
 first [] (suc m) h q pos = absurd (not-suc-le-zero h)
 first (x ∷ xs) (suc m) h q pos =
-    ap (λ (k : ℕ). callOf (x ∷ xs) ∷ callsIn xs (pred k)) q ∙ ap (λ (cs : List Call). callOf (x ∷ xs) ∷ cs) (pass xs m)
+    ap (λ (k : ℕ). callOf (x ∷ xs) ∷ callsIn xs (pred k)) q ∙ ap (λ (cs : List Ticked). callOf (x ∷ xs) ∷ cs) (pass xs m)
 
 module _ (s : List ℕ) (i : ℕ) where
   pub calls-step : (m : ℕ) → i < length s → width (drop i s) ≡ m → 1 ≤ m → callsIn (drop i s) 0 ≡ callOf (drop i s) ∷ callsIn (drop (i + m) s) 0
@@ -120,29 +125,29 @@ module _ (s : List ℕ) (i : ℕ) where
 
 -- ---- shows among the calls
 
-pub show-is : (s : List ℕ) → getD s 0 0 ≡ 4 → showing (callOf s) ≡ 1
+pub show-is : (s : List ℕ) → getD s 0 0 ≡ 4 → shows (callOf s) ≡ 1
 unfolding callOf
 show-is s e = rw e
 
-pub show-not : (s : List ℕ) → (getD s 0 0 ≡ 4 → ⊥) → showing (callOf s) ≡ 0
+pub show-not : (s : List ℕ) → (getD s 0 0 ≡ 4 → ⊥) → shows (callOf s) ≡ 0
 unfolding callOf
 show-not s n = rw (ne-eqb (getD s 0 0) 4 n) (go (eqb (getD s 0 0) 1) (eqb (getD s 0 0) 2) (eqb (getD s 0 0) 6) (eqb (getD s 0 0) 3))
   where
     go : (a b c d : Bool)
-        → showing (pick a (opens (fourAt s 1)) (on (fourAt s 1) (pick b (adds (take (twoAt s 5) (drop 7 s))) (pick c releases (pick d judges asks))))) ≡ 0
+        → shows (pick a (opensAt (fourAt s 1) (fourAt s 5)) (pick b (addsAt (fourAt s 1) (take (twoAt s 9) (drop 11 s)) (fourAt s 5)) (asksOf (fourAt s 1) (pick c releasing (pick d judging counting))))) ≡ 0
     go true b c d = refl
     go false true c d = refl
     go false false true d = refl
     go false false false true = refl
     go false false false false = refl
 
-show-one : (c : Call) → showing c ≤ 1
-show-one (opens m) = omega arith
-show-one (on t (adds q)) = omega arith
-show-one (on t judges) = omega arith
-show-one (on t shows) = omega arith
-show-one (on t asks) = omega arith
-show-one (on t releases) = omega arith
+show-one : (c : Ticked) → shows c ≤ 1
+show-one (opensAt m τ) = omega arith
+show-one (addsAt t q τ) = omega arith
+show-one (asksOf t judging) = omega arith
+show-one (asksOf t showing) = omega arith
+show-one (asksOf t counting) = omega arith
+show-one (asksOf t releasing) = omega arith
 
 -- ---- counting: n calls, m of them shows, stand before `at`
 
@@ -165,7 +170,7 @@ module _ {s : List ℕ} {at n m : ℕ} (h : Counting s at n m) where
       let e = w .size in
       omega arith
 
-  pub count-step : at < length s → 1 ≤ width (drop at s) → Counting s (at + width (drop at s)) (n + 1) (m + showing (callOf (drop at s)))
+  pub count-step : at < length s → 1 ≤ width (drop at s) → Counting s (at + width (drop at s)) (n + 1) (m + shows (callOf (drop at s)))
   unfolding shown
   count-step l p =
       let f = next-fits l p in

@@ -19,10 +19,14 @@ asks = 5
 abbrev pub releases : ℕ
 releases = 6
 
--- the octets of any call but an add: its name, and a number in four
+-- the octets of a call with no tick: its name, and a number in four
 abbrev pub length : ℕ
 length = 5
 
--- the octets of an add before its chunk: the chunk's length in two more
+-- the octets of an opening: a tick in four more
+abbrev pub opening : ℕ
+opening = 9
+
+-- the octets of an add before its chunk: a tick in four more, and the chunk's length in two
 abbrev pub chunk : ℕ
-chunk = 7
+chunk = 11

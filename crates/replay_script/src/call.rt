@@ -12,8 +12,11 @@ pub const HELD: u8 = 5;
 
 pub const RELEASE: u8 = 6;
 
-// The octets of any call but an add: its name, and a number in four.
+// The octets of a call with no tick: its name, and a number in four.
 pub const LENGTH: usize = 5;
 
-// The octets of an add before its chunk: the chunk's length in two more.
-pub const CHUNK: usize = 7;
+// The octets of an opening: a tick in four more.
+pub const OPENING: usize = 9;
+
+// The octets of an add before its chunk: a tick in four more, and the chunk's length in two.
+pub const CHUNK: usize = 11;

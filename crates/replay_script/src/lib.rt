@@ -6,7 +6,7 @@ ghost use mathlib.Core.Path.{_≡_};
 ghost use Prim.Native.Nat.{_≤_};
 ghost use lib.ListN.{length};
 ghost use Rattle.replay_script.specs.Scripts.{width, callOf, decode};
-ghost use Rattle.replay_script.specs.Counts.{showing, counted};
+ghost use Rattle.replay_script.specs.Counts.{shows, counted};
 
 // How many calls a script has, and how many of them are shows; or where its first call starts that is unknown or cut off.
 pub enum Counted {
@@ -29,13 +29,19 @@ pub fn width(s: &[u8]) -> usize
     if call::RELEASE < b {
         return 0;
     }
+    if b == call::OPEN {
+        if n < call::OPENING {
+            return 0;
+        }
+        return call::OPENING;
+    }
     if b != call::ADD {
         return call::LENGTH;
     }
     if n < call::CHUNK {
         return 0;
     }
-    let w = call::CHUNK + numerals::read_two(s, call::LENGTH) as usize;
+    let w = call::CHUNK + numerals::read_two(s, call::OPENING) as usize;
     if n < w {
         return 0;
     }
@@ -45,7 +51,7 @@ pub fn width(s: &[u8]) -> usize
 // Counts a call that is a show as 1, and any other as 0.
 fn count_show(s: &[u8]) -> usize
     requires { ⌜ 1 ≤ length (now s) ⌝ }
-    ensures { λ r. ⌜ r ≡ showing (callOf (now (s .entry))) ⌝ }
+    ensures { λ r. ⌜ r ≡ shows (callOf (now (s .entry))) ⌝ }
 {
     if s[0] == call::SHOW {
         return 1;

@@ -1,8 +1,8 @@
 // Knows the console of CONSOLE.md: it answers each request line from this program's own entries.
 //
 // Points that CONSOLE.md leaves open, and how they are taken here:
-// - Room is at most 70,000 octets and 70,000 numbers, the pool at most 655,360 octets, TICKET and
-//   TRAM at most 4,294,967,295, SLOTS at most 18,446,744,073,709,551,615; a larger number is
+// - Room is at most 70,000 octets and 70,000 numbers, the pool at most 655,360 octets, TICKET,
+//   TRAM and TICK at most 4,294,967,295, SLOTS at most 18,446,744,073,709,551,615; a larger number is
 //   `bad request`.
 // - A number is one or more digits; leading zeros are allowed, a sign isn't.
 // - Two spaces, a space at either end, and an empty line make an empty word: `bad request`.
@@ -85,13 +85,13 @@ impl Console {
             }
             Request::Offset { octets } => number_line(minutes(&octets)),
             Request::Desk { slots, pool } => self.new_desk(slots, pool),
-            Request::Open { tram } => {
-                let (answer, next) = self.desk.open(&self.pool, tram);
+            Request::Open { tram, tick } => {
+                let (answer, next) = self.desk.open(&mut self.pool, tram, tick);
                 self.desk = next;
                 number_line(answer)
             }
-            Request::Add { ticket, chunk } => {
-                let (answer, next) = self.desk.add(&mut self.pool, ticket, &chunk);
+            Request::Add { ticket, tick, chunk } => {
+                let (answer, next) = self.desk.add(&mut self.pool, ticket, &chunk, tick);
                 self.desk = next;
                 number_line(answer)
             }

@@ -12,12 +12,16 @@ pub const MOST_SLOTS: usize = 40;
 /// The next ticket when the last one, 4,294,967,294, has been given out.
 pub const USED_UP: u32 = 4_294_967_295;
 
-/// What an open entry keeps; the tram identifier is kept and never looked at.
+/// How far the desk's tick is ahead of an idle session's at least.
+pub const IDLE: u32 = 600;
+
+/// What an open entry keeps, its opening's or last accepted add's tick too; the tram identifier is kept and never looked at.
 #[derive(Clone, Copy, Debug, PartialEq, Eq)]
 pub struct Session {
     pub ticket: u32,
     pub tram: u32,
     pub held: usize,
+    pub tick: u32,
 }
 
 /// Each entry is either free or open.
@@ -33,12 +37,13 @@ pub struct Desk {
     pub slots: usize,
     pub entries: [Entry; MOST_SLOTS],
     pub next_ticket: u32,
+    pub tick: u32,
 }
 
 impl Desk {
     /// A new desk; outside 1 to 40 slots it is refused, and the desk handed back has 0 slots.
     pub fn new(slots: u64) -> (Result<u32, Refusal>, Desk) {
-        let fresh = |slots| Desk { slots, entries: [Entry::Free; MOST_SLOTS], next_ticket: 1 };
+        let fresh = |slots| Desk { slots, entries: [Entry::Free; MOST_SLOTS], next_ticket: 1, tick: 0 };
         match slots {
             1..=40 => (Ok(0), fresh(slots as usize)),
             _ => (refuse(26, 0), fresh(0)),
@@ -52,6 +57,7 @@ impl Desk {
             && self.sessions().all(|session| self.is_sound_session(session))
             && self.tickets_are_distinct()
             && self.next_ticket >= 1
+            && self.sessions().all(|session| session.tick <= self.tick)
     }
 
     /// The sessions of all open entries.
@@ -102,8 +108,17 @@ impl Desk {
         self
     }
 
-    /// Opens a session in the lowest free slot; answers its ticket.
-    pub fn open(self, pool: &[u8], tram: u32) -> (Result<u32, Refusal>, Desk) {
+    /// The idle slot with the lowest ticket, when the desk's tick is this.
+    fn idle_slot(&self, now: u32) -> Option<usize> {
+        let idle = self.entries[..self.slots].iter().enumerate().filter_map(|(slot, entry)| match entry {
+            Entry::Open(session) if now - session.tick >= IDLE => Some((session.ticket, slot)),
+            _ => None,
+        });
+        idle.min().map(|(_, slot)| slot)
+    }
+
+    /// Opens a session in the lowest free slot, or in the idle one with the lowest ticket, which is zeroed; answers its ticket.
+    pub fn open(self, pool: &mut [u8], tram: u32, tick: u32) -> (Result<u32, Refusal>, Desk) {
         if let Err(refusal) = self.check(pool) {
             return (Err(refusal), self);
         }
@@ -111,17 +126,24 @@ impl Desk {
             return (refuse(21, 0), self);
         }
         let free = self.entries[..self.slots].iter().position(|entry| *entry == Entry::Free);
-        let Some(slot) = free else {
-            return (refuse(20, 0), self);
+        let now = self.tick.max(tick);
+        let slot = match (free, self.idle_slot(now)) {
+            (Some(slot), _) => slot,
+            (None, Some(slot)) => {
+                pool[slot * SLOT_OCTETS..][..SLOT_OCTETS].fill(0);
+                slot
+            }
+            (None, None) => return (refuse(20, 0), self),
         };
         let ticket = self.next_ticket;
-        let mut next = self.with_entry(slot, Entry::Open(Session { ticket, tram, held: 0 }));
+        let mut next = self.with_entry(slot, Entry::Open(Session { ticket, tram, held: 0, tick: now }));
         next.next_ticket += 1;
+        next.tick = now;
         (Ok(ticket), next)
     }
 
     /// Puts the chunk where the held octets end; answers the octets then held.
-    pub fn add(self, pool: &mut [u8], ticket: u32, chunk: &[u8]) -> (Result<usize, Refusal>, Desk) {
+    pub fn add(self, pool: &mut [u8], ticket: u32, chunk: &[u8], tick: u32) -> (Result<usize, Refusal>, Desk) {
         let (slot, session) = match self.find(pool, ticket) {
             Ok(found) => found,
             Err(refusal) => return (Err(refusal), self),
@@ -132,7 +154,10 @@ impl Desk {
             return (refuse(23, session.held), self);
         }
         pool[start..start + chunk.len()].copy_from_slice(chunk);
-        (Ok(held), self.with_entry(slot, Entry::Open(Session { held, ..session })))
+        let now = self.tick.max(tick);
+        let mut next = self.with_entry(slot, Entry::Open(Session { held, tick: now, ..session }));
+        next.tick = now;
+        (Ok(held), next)
     }
 
     /// The reader's verdict on the octets held.

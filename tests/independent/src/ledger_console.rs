@@ -49,8 +49,8 @@ impl LedgerConsole {
 /// The ledger's answer to a call.
 fn answer_call(ledger: &mut Ledger, call: Request) -> Option<String> {
     match call {
-        Request::Open { tram: _ } => Some(number_line(ledger.open())),
-        Request::Add { ticket, chunk } => Some(number_line(ledger.add(ticket, &chunk))),
+        Request::Open { tram: _, tick } => Some(number_line(ledger.open(tick))),
+        Request::Add { ticket, tick, chunk } => Some(number_line(ledger.add(ticket, &chunk, tick))),
         Request::Check { ticket } => Some(verdict_line(ledger.judge(ticket))),
         Request::Show { ticket } => Some(word_of(ledger.show(ticket))),
         Request::Held { ticket } => Some(number_line(ledger.held(ticket))),

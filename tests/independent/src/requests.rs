@@ -27,8 +27,8 @@ pub enum Request {
     Decode { rule: Rule, room: usize, octets: Vec<u8> },
     Offset { octets: Vec<u8> },
     Desk { slots: u64, pool: usize },
-    Open { tram: u32 },
-    Add { ticket: u32, chunk: Vec<u8> },
+    Open { tram: u32, tick: u32 },
+    Add { ticket: u32, tick: u32, chunk: Vec<u8> },
     Check { ticket: u32 },
     Show { ticket: u32 },
     Held { ticket: u32 },
@@ -96,9 +96,9 @@ fn desk_request(words: &[&[u8]]) -> Option<Request> {
         [b"desk", slots, pool] => {
             Some(Request::Desk { slots: number_of(slots, u64::MAX)?, pool: size_of(pool, MOST_POOL)? })
         }
-        [b"open", tram] => Some(Request::Open { tram: ticket_of(tram)? }),
-        [b"add", ticket, chunk] => {
-            Some(Request::Add { ticket: ticket_of(ticket)?, chunk: octets_of(chunk)? })
+        [b"open", tram, tick] => Some(Request::Open { tram: ticket_of(tram)?, tick: ticket_of(tick)? }),
+        [b"add", ticket, tick, chunk] => {
+            Some(Request::Add { ticket: ticket_of(ticket)?, tick: ticket_of(tick)?, chunk: octets_of(chunk)? })
         }
         [b"check", ticket] => Some(Request::Check { ticket: ticket_of(ticket)? }),
         [b"show", ticket] => Some(Request::Show { ticket: ticket_of(ticket)? }),
@@ -174,7 +174,21 @@ pub fn fold_in_line(style: usize, room: usize, octets: &[u8]) -> String {
     format!("fold-in 1 {style} {room} {}", word_of(octets))
 }
 
-/// The line `add TICKET OCTETS`.
+/// The line `add TICKET TICK OCTETS`, at tick 0.
 pub fn add_line(ticket: u32, chunk: &[u8]) -> String {
-    format!("add {ticket} {}", word_of(chunk))
+    add_line_at(ticket, 0, chunk)
+}
+
+/// The line `add TICKET TICK OCTETS`.
+pub fn add_line_at(ticket: u32, tick: u32, chunk: &[u8]) -> String {
+    format!("add {ticket} {tick} {}", word_of(chunk))
+}
+
+/// A line with tick 0 where it is an opening or an add that lacks its tick; any other line as it is.
+pub fn at_tick_0(line: &str) -> String {
+    match line.split(' ').collect::<Vec<&str>>()[..] {
+        ["open", tram] => format!("open {tram} 0"),
+        ["add", ticket, chunk] => format!("add {ticket} 0 {chunk}"),
+        _ => line.to_string(),
+    }
 }

@@ -54,7 +54,7 @@ fn compare_side(side: Side, script: &str, plan: Plan) -> Result<String, String> 
 fn the_own_console_gives_the_same_answers() {
     let counts = compare(Side::Console, SELF, &["console".to_string()], small()).expect("no difference");
     assert!(counts.starts_with(
-        "same answers: protocol 177, readers 2000, line faults 300, names 200, dates 400, alternatives 200, folds 500, texts 1000, labels 1000, 60 lists of "
+        "same answers: protocol 188, readers 2000, line faults 300, names 200, dates 400, alternatives 200, folds 500, texts 1000, labels 1000, 60 lists of "
     ));
 }
 
@@ -73,7 +73,7 @@ fn a_difference_in_a_call_list_comes_with_the_calls_before_it() {
     let report =
         compare_shell("\"$0\" console | sed 's/^ok 16384$/ok 16383/'", plan).expect_err("a difference");
     assert!(report.starts_with("difference in lists, request "), "{report}");
-    assert!(report.contains("after these requests:\ndesk 1 16384\nopen 7\n"));
+    assert!(report.contains("after these requests:\ndesk 1 16384\nopen 7 0\n"));
 }
 
 #[test]

@@ -15,7 +15,7 @@ fn lines_that_are_no_request() {
         "", " ", "judge", "judge ", " judge -", "judge  -", "judge - -", "judge 0", "judge 0g", "JUDGE -",
         "judge\t-", "judge -\r\r", "read 1 -", "read 1 1", "read +1 1 -", "read 70001 1 -", "read 1 70001 -",
         "fold x -", "fold 70001 -", "escape 1 6", "desk 1", "desk 1 655361", "desk 18446744073709551616 0",
-        "open 4294967296", "open -1", "add 1", "held 4294967296", "pool 0 1", "pool 1 0", "nothing 1",
+        "open 4294967296 0", "open 0 4294967296", "open 0", "open -1 0", "add 1", "add 1 61", "held 4294967296", "pool 0 1", "pool 1 0", "nothing 1",
     ] {
         assert_eq!(answers(&[line]), ["bad request"], "{line}");
     }
@@ -30,7 +30,7 @@ fn octets_and_numbers_in_their_spellings() {
         ["ok 0 -", "ok 2 4a4b", "ok 2 5c2c"]
     );
     assert_eq!(answers(&["unescape 0 61"]), ["no 15 1"]);
-    assert_eq!(answers(&["desk 18446744073709551615 0", "open 4294967295"]), ["no 26 0", "no 25 0"]);
+    assert_eq!(answers(&["desk 18446744073709551615 0", "open 4294967295 4294967295"]), ["no 26 0", "no 25 0"]);
 }
 
 #[test]
@@ -44,7 +44,7 @@ fn the_length_of_a_line() {
 #[test]
 fn a_desk_stays_until_the_next_and_a_bad_request_changes_nothing() {
     let requests = [
-        "open 0", "pool 0 0", "desk 1 16384", "open 5", "add 1 6162", "desk 1 655361", "held 1", "show 1",
+        "open 0 0", "pool 0 0", "desk 1 16384", "open 5 0", "add 1 0 6162", "desk 1 655361", "held 1", "show 1",
         "pool 0 3", "pool 16383 1", "pool 16384 0", "pool 16384 1", "desk 0 4", "held 1", "pool 0 4",
         "show 1",
     ];
@@ -72,10 +72,10 @@ fn the_ledgers_console_answers_only_for_a_fresh_desk_with_a_proper_pool() {
     let mut ledger = LedgerConsole::default();
     let mut answer = |line: &str| ledger.answer(line.as_bytes());
     let some = |answer: &str| Some(answer.to_string());
-    assert_eq!(answer("open 0"), None);
+    assert_eq!(answer("open 0 0"), None);
     assert_eq!(answer("desk 2 32768"), some("ok 0"));
-    assert_eq!(answer("open 0"), some("ok 1"));
-    assert_eq!(answer("add 1 41"), some("ok 1"));
+    assert_eq!(answer("open 0 0"), some("ok 1"));
+    assert_eq!(answer("add 1 0 41"), some("ok 1"));
     assert_eq!(answer("check 1"), some("no 4 1"));
     assert_eq!(answer("show 1"), some("41"));
     assert_eq!(answer("show 2"), some("-"));
@@ -84,6 +84,6 @@ fn the_ledgers_console_answers_only_for_a_fresh_desk_with_a_proper_pool() {
     assert_eq!(answer("held 1"), some("no 22 0"));
     for improper in ["desk 0 0", "desk 41 671744", "desk 2 32767", "desk 41 655360"] {
         assert_eq!(answer(improper), None);
-        assert_eq!(answer("open 0"), None);
+        assert_eq!(answer("open 0 0"), None);
     }
 }

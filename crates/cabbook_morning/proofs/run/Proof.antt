@@ -14,11 +14,11 @@ print-titles-requires c κs = tt
 begin-requires : tie.Need-begin-requires
 begin-requires c κs = tt
 
-slice-aggregate-run-rounds : tie.Need-slice-aggregate-run-rounds
-slice-aggregate-run-rounds c = sym (length-replicate {A = ℕ} 655360 0)
+slice-aggregate-run-on : tie.Need-slice-aggregate-run-on
+slice-aggregate-run-on c = sym (length-replicate {A = ℕ} 655360 0)
 
-run-rounds-requires : tie.Need-run-rounds-requires
-run-rounds-requires c κs = tt
+run-on-requires : tie.Need-run-on-requires
+run-on-requires c κs = c .before .before .before .before .pre
 
 print-summary-requires : tie.Need-print-summary-requires
 print-summary-requires c κs = tt
@@ -33,7 +33,7 @@ run-spec =
     widest-requires
     print-titles-requires
     begin-requires
-    slice-aggregate-run-rounds
-    run-rounds-requires
+    slice-aggregate-run-on
+    run-on-requires
     print-summary-requires
     returns)

@@ -12,6 +12,9 @@ Inv-loop pool₀ now₀ k₀ pool now k = length pool ≡ length pool₀
 abbrev μ-loop : tie.MeasureT-loop
 μ-loop pool₀ now₀ k₀ pool now k = 40 - k
 
+begin-round-requires : tie.Need-begin-round-requires Inv-loop μ-loop
+begin-round-requires c κs = search needs
+
 loop-holds : tie.Need-loop-holds Inv-loop μ-loop
 loop-holds c = search needs
 
@@ -39,6 +42,7 @@ run-round-spec =
     (tie.spec
     Inv-loop
     μ-loop
+    begin-round-requires
     loop-holds
     turn-requires
     add-k

@@ -1,5 +1,4 @@
 -- `cabbook_morning::turn` meets its contract. Assumes nothing.
-use mathlib.Core.Path.{refl}
 use borrow.Author.Needs.{needs}
 use Rattle.cabbook_morning.proofs.turn.Statement.{statement}
 use Rattle.cabbook_morning.proofs.turn.Tie as tie
@@ -17,7 +16,8 @@ same-length : tie.Need-same-length
 same-length c = search needs
 
 returns : tie.Need-returns
-returns c = (λ e. (c .take-file .ensures, refl), λ h. absurd (h (c .before .before .if1 .taken)))
+returns c =
+    (λ e. c .before .before .take-file .ensures, λ h. absurd (h (c .before .before .before .before .if1 .taken)))
 
 feed-requires : tie.Need-feed-requires
 feed-requires c κs = search needs
@@ -26,7 +26,8 @@ same-length-2 : tie.Need-same-length-2
 same-length-2 c = search needs
 
 returns-2 : tie.Need-returns-2
-returns-2 c = (λ e. absurd (c .before .before .before .before .if1 .left e), λ h. c .before .before .feed .ensures)
+returns-2 c =
+    (λ e. absurd (c .before .before .before .before .if1 .left e), λ h. c .before .before .feed .ensures)
 
 pub turn-spec : {M : Type 1} → statement M
 turn-spec =

@@ -23,8 +23,8 @@ returns c = rw (lt-ltb _ _ (c .before .before .before .before .if1 .taken)) (c .
 put-done-requires : tie.Need-put-done-requires
 put-done-requires c κs = search needs
 
-cast-t12 : tie.Need-cast-t12
-cast-t12 c = search needs
+cast-t13 : tie.Need-cast-t13
+cast-t13 c = search needs
 
 put-end-requires : tie.Need-put-end-requires
 put-end-requires c κs = search needs
@@ -37,8 +37,8 @@ unfolding nextAnswer
 returns-2 c =
     let put-end = c .before .before .put-end in
     let put-done = c .before .before .before .before .before .before .put-done in
-    let if1 = c .before .before .before .before .before .before .before .before .before .before .if1 in
-    let a = c .before .before .before .before .before .before .before .before .before .before .before .before .args in
+    let if1 = c .before .before .before .before .before .before .before .before .before .before .before .if1 in
+    let a = c .before .before .before .before .before .before .before .before .before .before .before .before .before .args in
     rw (le-ltb _ _ (if1 .left))
     (ap (state (withNext (a .c .desk) (a .ticket)) (a .c .size)) (then (doneText (a .ticket)) lineEnd (page (a .c .at) (now (a .out))) (put-done .ensures) (put-end .ensures)))
 
@@ -50,7 +50,7 @@ answer-next-spec =
     same-length
     returns
     put-done-requires
-    cast-t12
+    cast-t13
     put-end-requires
     same-length-2
     returns-2)

@@ -25,7 +25,7 @@ same-length : tie.Need-same-length
 same-length c = search needs
 
 returns : tie.Need-returns
-returns c = rw (c .before .before .enum-told .given .1) (c .«open» .ensures)
+returns c = rw (c .before .before .before .before .enum-told .given .1) (c .before .before .«open» .ensures)
 
 same-length-2 : tie.Need-same-length-2
 same-length-2 c = search needs

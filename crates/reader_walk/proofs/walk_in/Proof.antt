@@ -96,7 +96,9 @@ returns c =
     (j .last .1 .1 .1 .1 .1 .0, sym (turn (c .before .before .before .before) ∙ stopped-step (j .last .1 .1 .1 .1 .1 .0) (j .result) _ _ _ (c .enum-told .given .1)))
 
 add-at : tie.Need-add-at Inv-loop μ-loop
-add-at c = search needs
+add-at c =
+    let v = c .before .before .before .before .before .before .before .before .before .line-at in
+    omega (arith, v .ensures .2, c .before .before .before .before .before .before .before .before .before .before .before .before .before .before .before .pre .1 .0)
 
 loop-less : tie.Need-loop-less Inv-loop μ-loop
 loop-less c = search needs

@@ -2,7 +2,7 @@
 use mathlib.Core.Path.{_≡_, sym, ap, _∙_}
 use denote.Ref.{now}
 use Rattle.desk_ledger.specs.Ledger.{part, verdict}
-use Rattle.desk_ledger.specs.Desks.{said, deedStep}
+use Rattle.desk_ledger.specs.Desks.{said, askStep}
 use Rattle.replay_script.specs.Scripts.{queryOf}
 use Rattle.replay_call.specs.Stepped.{worldOf}
 use Rattle.replay_call.proofs.CallLaws.{query-judge, query-show, query-held}
@@ -12,19 +12,19 @@ use Rattle.replay_call.proofs.run_query.Tie as tie
 
 -- the answer of each call
 judged : (c : tie.After-judge) → let a = c .before .before .before .before .before .args in
-    deedStep (worldOf (a .desk) (now (a .pool))) (a .t) (queryOf (a .name)) .reply ≡ verdict (c .judge .result)
+    askStep (worldOf (a .desk) (now (a .pool))) (a .t) (queryOf (a .name)) .reply ≡ verdict (c .judge .result)
 judged c =
     let a = c .before .before .before .before .before .args in
     query-judge (worldOf (a .desk) (now (a .pool))) (a .t) (a .name) (c .before .before .if1 .taken) ∙ ap verdict (sym (c .judge .ensures))
 
 shown : (c : tie.After-show) → let a = c .before .before .before .before .before .before .args in
-    deedStep (worldOf (a .desk) (now (a .pool))) (a .t) (queryOf (a .name)) .reply ≡ part (now (c .show .result))
+    askStep (worldOf (a .desk) (now (a .pool))) (a .t) (queryOf (a .name)) .reply ≡ part (now (c .show .result))
 shown c =
     let a = c .before .before .before .before .before .before .args in
     query-show (worldOf (a .desk) (now (a .pool))) (a .t) (a .name) (c .before .before .if2 .taken) ∙ ap part (sym (c .show .ensures .octets))
 
 held : (c : tie.After-held) → let a = c .before .before .before .before .before .before .args in
-    deedStep (worldOf (a .desk) (now (a .pool))) (a .t) (queryOf (a .name)) .reply ≡ said (c .held .result)
+    askStep (worldOf (a .desk) (now (a .pool))) (a .t) (queryOf (a .name)) .reply ≡ said (c .held .result)
 held c =
     let a = c .before .before .before .before .before .before .args in
     query-held (worldOf (a .desk) (now (a .pool))) (a .t) (a .name) (c .before .before .before .if1 .left) (c .before .before .if2 .left) ∙ ap said (sym (c .held .ensures))

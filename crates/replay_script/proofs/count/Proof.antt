@@ -5,7 +5,7 @@ use mathlib.Core.List.{List}
 use native.Mathlib.Omega.{arith}
 use lib.ListN.{length, drop, length-drop}
 use Rattle.replay_script.specs.Scripts.{width, callOf}
-use Rattle.replay_script.specs.Counts.{showing}
+use Rattle.replay_script.specs.Counts.{shows}
 use Rattle.replay_script.proofs.ScriptLaws.{tail-is, Counting, count-start, count-step, count-stop, count-end}
 use Rattle.replay_script.proofs.count.Statement.{statement}
 use Rattle.replay_script.proofs.count.Tie as tie
@@ -27,7 +27,7 @@ step c =
     let l = c .before .before .before .before .before .before in
     let s = l .before .before .args .script .now in
     let w = wide (c .before .before .before) in
-    let k : c .count-show .result ≡ showing (callOf (drop (l .loop .at) s)) = c .count-show .ensures ∙ ap (λ (x : List ℕ). showing (callOf x)) (tail-is s (l .loop .at)) in
+    let k : c .count-show .result ≡ shows (callOf (drop (l .loop .at) s)) = c .count-show .ensures ∙ ap (λ (x : List ℕ). shows (callOf x)) (tail-is s (l .loop .at)) in
     let p : 1 ≤ c .before .before .before .width .result = omega arith in
     rw (w, k) (count-step (l .loop .inv) (c .before .before .before .before .before .loop-test .taken) (rw w at p))
 

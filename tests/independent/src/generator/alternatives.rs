@@ -35,7 +35,8 @@ fn card_of(inner: &[Vec<u8>]) -> Vec<Vec<u8>> {
 
 /// A line of the row with this ALTID.
 fn line_of(row: Row, altid: &str) -> Vec<u8> {
-    let value = ["a", "a", "a", "a:b", ";;;;", ";;;;;;", "a", "M", "1;a:"][row.kind as usize];
+    let values = ["a", "a", "a", "a:b", ";;;;", ";;;;;;", "a", "M", "1;a:", "19850412", "19961022T140000Z"];
+    let value = values[row.kind as usize];
     format!("{}{altid}:{value}", row.name).into_bytes()
 }
 

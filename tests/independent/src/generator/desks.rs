@@ -22,6 +22,9 @@ pub struct DeskCase {
 const NEXT_TICKETS: [u32; 10] =
     [USED_UP, USED_UP, USED_UP - 1, USED_UP - 1, USED_UP - 2, USED_UP - 5, USED_UP - 45, 1, 2, 1_000];
 
+/// Ticks of a desk: the first ones, some later, and the last.
+const TICKS: [u32; 8] = [0, 1, 599, 600, 601, 100_000, u32::MAX - 600, u32::MAX];
+
 /// Desk values without end; one in six is not sound, one in twelve has another pool than its own.
 pub fn desks(seed: u64) -> impl Iterator<Item = DeskCase> {
     let sources = source_inputs();
@@ -40,11 +43,12 @@ pub fn desks(seed: u64) -> impl Iterator<Item = DeskCase> {
 
 /// The ledger at the same value: the open tickets with the octets that the pool holds for them.
 pub fn ledger_of(desk: &Desk, pool: &[u8]) -> Ledger {
-    let mut ledger = Ledger { next_ticket: desk.next_ticket, ..Ledger::new(desk.slots) };
+    let mut ledger = Ledger { next_ticket: desk.next_ticket, tick: desk.tick, ..Ledger::new(desk.slots) };
     for (slot, entry) in desk.entries.iter().enumerate() {
         if let Entry::Open(session) = entry {
             let octets = pool[slot * SLOT_OCTETS..][..session.held].to_vec();
             ledger.open_tickets.insert(session.ticket, octets);
+            ledger.ticks.insert(session.ticket, session.tick);
         }
     }
     ledger
@@ -55,13 +59,16 @@ fn sound_desk(dice: &mut Dice, sources: &[Vec<u8>]) -> (Desk, Vec<u8>) {
     let slots = *dice.pick(&[1, 1, 2, 2, 3, 5, 8, 40]);
     let (_, mut desk) = Desk::new(slots as u64);
     desk.next_ticket = *dice.pick(&NEXT_TICKETS);
+    desk.tick = *dice.pick(&TICKS);
     let mut pool = vec![dice.octet(); slots * SLOT_OCTETS];
     let open_share = *dice.pick(&[0, 1, 3, 4, 4]);
     for slot in 0..slots {
         if dice.below(4) < open_share {
             if let Some(ticket) = unused_ticket(dice, &desk) {
                 let held = fill(dice, &mut pool[slot * SLOT_OCTETS..][..SLOT_OCTETS], sources);
-                desk.entries[slot] = Entry::Open(Session { ticket, tram: dice.octet().into(), held });
+                let behind = *dice.pick(&[0, 0, 1, 300, 598, 599, 600, 601, 5_000]);
+                let tick = desk.tick.saturating_sub(behind);
+                desk.entries[slot] = Entry::Open(Session { ticket, tram: dice.octet().into(), held, tick });
             }
         }
     }
@@ -114,11 +121,12 @@ fn unsound(dice: &mut Dice, mut case: DeskCase) -> DeskCase {
     }
 }
 
-/// Breaks one rule; each arm is one of document 01's words for sound.
+/// Breaks one rule; each arm is one of the papers' words for sound.
 fn break_one_rule(dice: &mut Dice, desk: &mut Desk) {
     let next_ticket = desk.next_ticket;
-    let open = |ticket, held| Entry::Open(Session { ticket, tram: 0, held });
-    match dice.below(9) {
+    let tick = desk.tick;
+    let open = |ticket, held| Entry::Open(Session { ticket, tram: 0, held, tick });
+    match dice.below(11) {
         0 => desk.slots = 0,
         1 => desk.slots = *dice.pick(&[41, 42, usize::MAX]),
         2 => {
@@ -135,6 +143,11 @@ fn break_one_rule(dice: &mut Dice, desk: &mut Desk) {
         5 => desk.entries[0] = open(next_ticket, 0),
         6 => desk.entries[0] = open(next_ticket.max(USED_UP - 1), 0),
         7 => desk.entries[0] = open(next_ticket.saturating_sub(1), SLOT_OCTETS + 1),
+        8 | 9 => {
+            (desk.tick, desk.next_ticket) = (tick.min(u32::MAX - 1), next_ticket.max(2));
+            let ahead = desk.tick + 1;
+            desk.entries[0] = Entry::Open(Session { ticket: desk.next_ticket - 1, tram: 0, held: 0, tick: ahead });
+        }
         _ => (desk.entries, desk.next_ticket) = ([Entry::Free; MOST_SLOTS], 0),
     }
 }

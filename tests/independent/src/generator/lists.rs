@@ -7,7 +7,7 @@ use crate::examples::{desk_examples, m_with, CARD_M};
 use crate::generator::{grammar, input_by_chance, source_inputs};
 use crate::ledger::Ledger;
 use crate::refusal::MOST_OCTETS;
-use crate::requests::add_line;
+use crate::requests::{add_line, add_line_at, at_tick_0};
 
 /// Next tickets that a list starts at: used up, nearly so, and low ones.
 const NEXT_TICKETS: [u32; 7] = [u32::MAX, u32::MAX, u32::MAX - 1, u32::MAX - 2, u32::MAX - 5, 2, 1_000];
@@ -34,6 +34,14 @@ pub fn by_hand() -> Vec<Vec<String>> {
         identifiers_like_tickets(),
         releases_and_their_zeros(),
         tickets_near_their_end(),
+        idle_at_600(),
+        late_clocks(),
+        lowest_ticket_not_slot(),
+        looks_wake_nobody(),
+        ticks_near_their_end(),
+        last_tick(),
+        full_desk_reclaimed(),
+        no_ticket_for_an_idle_slot(),
     ];
     for (slots, pool) in [(1, 16_384), (2, 32_768), (40, 655_360)] {
         lists.push(every_call_on_every_ticket(slots, pool));
@@ -50,9 +58,9 @@ pub fn by_hand() -> Vec<Vec<String>> {
     lists
 }
 
-/// Request lines as owned strings.
+/// Request lines as owned strings, at tick 0 where an opening or an add has none.
 fn owned(lines: &[&str]) -> Vec<String> {
-    lines.iter().map(|line| line.to_string()).collect()
+    lines.iter().map(|line| at_tick_0(line)).collect()
 }
 
 /// The three calls that change nothing.
@@ -121,7 +129,7 @@ fn empty_chunks() -> Vec<String> {
 fn full_desk() -> Vec<String> {
     let mut list = owned(&["desk 40 655360"]);
     for tram in 0..41u32 {
-        list.push(format!("open {}", tram % 3));
+        list.push(format!("open {} 0", tram % 3));
     }
     for ticket in [1, 20, 40] {
         list.push(add_line(ticket, format!("ticket {ticket}").as_bytes()));
@@ -138,7 +146,7 @@ fn slots_used_again() -> Vec<String> {
     for ticket in 1..6u32 {
         list.push(add_line(ticket, CARD_M));
         list.extend(looks(ticket));
-        list.push("open 9".to_string());
+        list.push("open 9 0".to_string());
         list.push(format!("release {ticket}"));
         list.extend(looks(ticket));
         list.extend(owned(&["pool 0 50", "open 9"]));
@@ -148,7 +156,7 @@ fn slots_used_again() -> Vec<String> {
         list.extend([add_line(ticket + 1, &CARD_M[20..])]);
         list.extend(looks(ticket + 1));
         list.push(format!("release {}", ticket + 1));
-        list.push("open 9".to_string());
+        list.push("open 9 0".to_string());
         list.push(format!("release {}", ticket + 2));
     }
     list
@@ -188,12 +196,88 @@ fn releases_and_their_zeros() -> Vec<String> {
     ])
 }
 
+/// An opening 599, 600 and 601 ticks after a session's opening and after its last accepted add.
+fn idle_at_600() -> Vec<String> {
+    owned(&[
+        "desk 1 16384", "open 7 100", "open 7 699", "held 1", "open 7 700", "add 1 700 61", "show 1", "release 1",
+        "add 2 700 6162", "open 7 1299", "add 2 1200 63", "open 7 1799", "show 2", "open 7 1801", "show 3", "pool 0 8",
+        "held 2", "add 3 1801 64", "pool 0 8", "open 7 2400", "open 7 2401", "check 3", "held 4",
+    ])
+}
+
+/// A tick lower than the highest seen counts as that; a refused call moves no tick.
+fn late_clocks() -> Vec<String> {
+    owned(&[
+        "desk 2 32768", "open 1 1000", "open 2 10", "add 1 5 61", "open 3 1599", "add 9 5000 61", "open 3 1599",
+        "add 1 5000 -", "open 3 5000", "held 2", "open 4 0", "open 4 5599", "open 4 5600", "held 1", "held 3", "held 4",
+    ])
+}
+
+/// The lowest ticket is taken, not the lowest slot nor the longest idle.
+fn lowest_ticket_not_slot() -> Vec<String> {
+    owned(&[
+        "desk 3 49152", "open 0 0", "open 0 0", "open 0 0", "add 2 0 6262", "add 3 0 636363", "release 1", "open 0 1",
+        "add 4 1 64", "add 2 5 62", "open 0 605", "held 2", "held 3", "pool 16384 4", "open 0 605", "held 3", "pool 32768 4",
+        "open 0 605", "held 4", "pool 0 4", "open 0 605",
+    ])
+}
+
+/// Judge, show, held and release keep nobody awake and move no tick; an empty add does.
+fn looks_wake_nobody() -> Vec<String> {
+    owned(&[
+        "desk 2 32768", "open 0 0", "open 0 0", "add 1 10 61", "check 1", "show 1", "held 1", "open 0 609", "held 2",
+        "add 3 609 -", "check 3", "open 0 610", "held 1", "held 3", "release 3", "open 0 610", "open 0 1209", "open 0 1210",
+    ])
+}
+
+/// Ticks at and near 4,294,967,295: they do not wrap.
+fn ticks_near_their_end() -> Vec<String> {
+    owned(&[
+        "desk 1 16384", "open 0 4294966694", "open 0 4294967293", "open 0 4294967294", "add 2 4294967295 61",
+        "open 0 0", "open 0 4294967295", "open 0 599", "show 2",
+    ])
+}
+
+/// A session 600 behind the last tick, and numbers past it, which are no ticks.
+fn last_tick() -> Vec<String> {
+    owned(&[
+        "desk 1 16384", "open 0 4294966695", "open 0 4294967294", "open 0 4294967295", "held 1", "open 0 4294967296",
+        "add 2 4294967296 61", "held 2",
+    ])
+}
+
+/// Forty sessions, all idle but some, reclaimed in the order of their tickets.
+fn full_desk_reclaimed() -> Vec<String> {
+    let mut list = owned(&["desk 40 655360"]);
+    for tram in 0..40u32 {
+        list.push(format!("open {tram} {tram}"));
+    }
+    for ticket in [1, 7, 40] {
+        list.push(add_line_at(ticket, 300, b"awake"));
+    }
+    for tick in [599, 600, 601, 601, 602, 700, 700, 899, 900] {
+        list.push(format!("open 0 {tick}"));
+    }
+    list.extend((1..=9).flat_map(looks));
+    list.extend(owned(&["pool 0 8", "pool 16384 8", "pool 98304 8", "held 41", "add 41 900 61", "pool 16384 8"]));
+    list
+}
+
+/// With tickets used up nothing is reclaimed.
+fn no_ticket_for_an_idle_slot() -> Vec<String> {
+    owned(&[
+        "desk 1 16384", "open 0 0", "add 1 0 61", "next 4294967295", "open 0 600", "show 1", "next 4294967294", "open 0 600",
+        "show 1", "held 4294967294", "open 0 1200", "held 4294967294",
+    ])
+}
+
 /// What a list by chance has done so far: the ledger tells which tickets are open.
 struct Caller<'a> {
     dice: &'a mut Dice,
     ledger: Ledger,
     pool: usize,
     large: bool,
+    tick: u32,
     plans: BTreeMap<u32, Vec<u8>>,
     list: Vec<String>,
 }
@@ -231,7 +315,8 @@ fn list_by_chance(dice: &mut Dice, sources: &[Vec<u8>]) -> Vec<String> {
 pub fn calls_by_chance(dice: &mut Dice, ledger: Ledger, pool: usize, sources: &[Vec<u8>]) -> Vec<String> {
     let large = dice.once_in(8);
     let calls = dice.between(5, 60);
-    let mut caller = Caller { dice, ledger, pool, large, plans: BTreeMap::new(), list: Vec::new() };
+    let tick = ledger.tick;
+    let mut caller = Caller { dice, ledger, pool, large, tick, plans: BTreeMap::new(), list: Vec::new() };
     for _ in 0..calls {
         caller.call(sources);
     }
@@ -268,11 +353,32 @@ impl Caller<'_> {
         *self.dice.pick(&open)
     }
 
+    /// The host's tick: mostly a little later, at times by 599 to 601, a late one, or one near the end.
+    fn next_tick(&mut self) -> u32 {
+        let now = self.tick;
+        let step = self.dice.below(300) as u32;
+        let later = [now, now.saturating_add(step), now.saturating_add(599), now.saturating_add(600), now.saturating_add(601)];
+        if self.dice.once_in(9) {
+            return *self.dice.pick(&[0, now.saturating_sub(1), now.saturating_sub(600), now / 2]);
+        }
+        if self.dice.once_in(60) {
+            self.tick = *self.dice.pick(&[u32::MAX, u32::MAX - 1, u32::MAX - 600, u32::MAX - 601]);
+            return self.tick;
+        }
+        self.tick = match self.dice.below(5) {
+            0 => *self.dice.pick(&later),
+            1 => later[0],
+            _ => now.saturating_add(step / 10),
+        };
+        self.tick
+    }
+
     /// Opens with an identifier that others have too, and plans an input for the session.
     fn open(&mut self, sources: &[Vec<u8>]) {
         let tram = *self.dice.pick(&[0, 0, 1, 7, u32::MAX]);
-        self.list.push(format!("open {tram}"));
-        if let Ok(ticket) = self.ledger.open() {
+        let tick = self.next_tick();
+        self.list.push(format!("open {tram} {tick}"));
+        if let Ok(ticket) = self.ledger.open(tick) {
             let plan = match self.dice.once_in(2) {
                 true => grammar::input(self.dice),
                 false => input_by_chance(self.dice, sources),
@@ -295,8 +401,9 @@ impl Caller<'_> {
         } else {
             self.next_piece(ticket)
         };
-        self.list.push(add_line(ticket, &chunk));
-        self.ledger.add(ticket, &chunk).ok();
+        let tick = self.next_tick();
+        self.list.push(add_line_at(ticket, tick, &chunk));
+        self.ledger.add(ticket, &chunk, tick).ok();
     }
 
     /// The next piece of the plan, short or all that is left; nothing once it is used up.

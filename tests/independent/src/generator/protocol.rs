@@ -5,7 +5,7 @@ use crate::hex::word_of;
 
 /// Lines for a console at its start, and after that in this order; several are no requests.
 const LINES: &[&str] = &[
-    "open 0", "add 1 -", "check 1", "show 1", "held 1", "release 1", "pool 0 0", "pool 0 1", "pool 1 0", "",
+    "open 0 0", "add 1 0 -", "open 0", "add 1 -", "check 1", "show 1", "held 1", "release 1", "pool 0 0", "pool 0 1", "pool 1 0", "",
     " ", "-", "judge", "judge ", " judge -", "judge  -", "judge - ", "judge - -", "judge -", "JUDGE -",
     "Judge -", "judges -", "judge --", "judge 0", "judge 000", "judge 0g", "judge g0", "judge 0x41",
     "judge 4 1", "judge\t-", "judge -\r", "judge -\r\r", "judge \r", "\r", "judge 4A4b", "judge 4a4B",
@@ -16,8 +16,8 @@ const LINES: &[&str] = &[
     "fold x -", "fold 99999999999 -", "escape -", "escape 0 -", "escape 0 - -", "unescape -", "unescape 0 -",
     "unescape 1 6", "folds 1 -", "desk", "desk 1", "desk 1 16384", "desk 1 655361",
     "desk 18446744073709551616 16384", "desk x 16384", "desk 1 -1", "desk  16384", "open", "open 0",
-    "open 1 1", "open 4294967296", "open -1", "held 1", "held 01", "held 4294967296", "held", "held 1 1",
-    "add 1", "add 1 6", "add 4294967296 61", "add 1 61", "show 4294967296", "check x", "release 4294967296",
+    "open 0 0", "open 1 1 1", "open 4294967296 0", "open 0 4294967296", "open 0 4294967295", "open -1 0", "open 0 -1", "open 0 x", "held 1", "held 01", "held 4294967296", "held", "held 1 1",
+    "add 1", "add 1 6", "add 1 0 6", "add 4294967296 0 61", "add 1 4294967296 61", "add 1 61", "add 1 4294967295 61", "add 1 0 61 0", "show 4294967296", "check x", "release 4294967296",
     "pool 0 1", "pool 16383 1", "pool 16384 1", "pool 16384 0", "pool 16385 0", "pool 655360 655360",
     "held 18446744073709551617", "desk 18446744073709551617 16384", "read 18446744073709551616 0 -",
     "held 1", "desk 18446744073709551615 16384", "held 1", "next", "next 1 1", "next -", "next 4294967296",

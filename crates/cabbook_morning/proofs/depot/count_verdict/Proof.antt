@@ -12,17 +12,22 @@ enum-told c = search needs
 more-requires : tie.Need-more-requires
 more-requires c κs = search needs
 
-enum-told-2 : tie.Need-enum-told-2
-enum-told-2 c = search needs
+enum-known-v : tie.Need-enum-known-v
+enum-known-v c = search needs
 
 more-requires-2 : tie.Need-more-requires-2
 more-requires-2 c κs = search needs
 
+count-reclaimed-requires : tie.Need-count-reclaimed-requires
+count-reclaimed-requires c κs = search needs
+
 returns : tie.Need-returns
-returns c = rw (c .before .enum-told .given .1, c .more .ensures, c .before .before .before .count-difference .ensures)
+returns c =
+    rw (c .before .enum-told .given .1, c .more .ensures, c .before .before .before .count-difference .ensures)
 
 returns-2 : tie.Need-returns-2
-returns-2 c = rw (c .before .enum-told2 .given .1, c .more2 .ensures, c .before .before .before .count-difference .ensures)
+returns-2 c =
+    rw (c .before .before .before .v .given .1, c .count-reclaimed .ensures, c .before .more2 .ensures, c .before .before .before .before .before .count-difference .ensures)
 
 pub count-verdict-spec : {M : Type 1} → statement M
 count-verdict-spec =
@@ -31,7 +36,8 @@ count-verdict-spec =
     count-difference-requires
     enum-told
     more-requires
-    enum-told-2
+    enum-known-v
     more-requires-2
+    count-reclaimed-requires
     returns
     returns-2)

@@ -29,7 +29,7 @@ same-length c = search needs
 
 returns : tie.Need-returns
 unfolding callStep
-returns c = rw (c .before .before .match .keys1) (c .open .ensures)
+returns c = rw (c .before .before .before .before .match .keys1) (c .before .before .«open» .ensures)
 
 same-length-2 : tie.Need-same-length-2
 same-length-2 c = search needs
