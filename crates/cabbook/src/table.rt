@@ -38,13 +38,29 @@ fn print_fields(copy: &[u8], start: u32, group_length: u32, name_length: u32, va
     printing::send(STDOUT_FILENO, &room, n);
 }
 
-// Prints the row of a record.
-fn print_row(copy: &[u8], r: &[u32]) {
+// The bit of a property that a card has once, 0 for any other.
+fn once_bit(number: usize) -> u64 {
+    match number {
+        property::KIND => 1,
+        property::N => 2,
+        property::BDAY => 4,
+        property::ANNIVERSARY => 8,
+        property::GENDER => 16,
+        property::PRODID => 32,
+        property::REV => 64,
+        property::UID => 128,
+        _ => 0,
+    }
+}
+
+// Prints the row of a record, marked where it is another form of a property that the card has once and that came before; answers the bits
+// of those that came so far.
+fn print_row(copy: &[u8], r: &[u32], seen: u64) -> u64 {
     if r.len() < limit::RECORD_LENGTH {
-        return;
+        return seen;
     }
     if cabbook_tables::fields::is_frame(r[field::PROPERTY]) {
-        return;
+        return 0;
     }
     let start = r[field::START];
     let value_start = r[field::VALUE];
@@ -52,7 +68,12 @@ fn print_row(copy: &[u8], r: &[u32]) {
     let end = wide_number(start) + wide_number(r[field::LENGTH]);
     let value = octets::slices::part(copy, wide_number(value_start), end);
     values::print_value(value, r[field::KIND]);
+    let bit = once_bit(wide_number(r[field::PROPERTY]));
+    if seen & bit != 0 {
+        io::write_all(STDOUT_FILENO, b"  (alternative)");
+    }
     io::write_all(STDOUT_FILENO, b"\n");
+    seen | bit
 }
 
 // Prints the line above a card's rows, at its BEGIN, and answers how many cards there are so far.
@@ -75,10 +96,11 @@ fn print_rows(copy: &[u8], records: &[u32])
 {
     let mut cards: usize = 0;
     let mut at: usize = 0;
+    let mut seen: u64 = 0;
     while limit::RECORD_LENGTH <= records.len() - at {
         cards = print_card(records[at], cards);
         let end = at + limit::RECORD_LENGTH;
-        print_row(copy, &records[at..end]);
+        seen = print_row(copy, &records[at..end], seen);
         at = end;
     }
 }

@@ -26,7 +26,7 @@ messages =
     message refusal.value "value breaks its kind" ∷
     message refusal.laden "group or parameter on BEGIN, VERSION or END" ∷
     message refusal.order "line out of order, or input ends inside a card" ∷
-    message refusal.second "second line of a property that a card has once" ∷
+    message refusal.second "second instance of a property that a card has once" ∷
     message refusal.noFn "no FN in the card" ∷
     message refusal.member "MEMBER without a KIND line that says group" ∷
     message refusal.copyRoom "copy room too small" ∷

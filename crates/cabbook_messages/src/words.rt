@@ -8,7 +8,7 @@ use octets::indices::wide;
 const HEAD: usize = 2;
 
 // tools/messages makes the table from here on.
-const SIZE: usize = 896;
+const SIZE: usize = 900;
 
 const MESSAGES: [u8; SIZE] = *b"\
     \x01\x18input over 16,384 octets\
@@ -19,7 +19,7 @@ const MESSAGES: [u8; SIZE] = *b"\
     \x07\x15value breaks its kind\
     \x08\x2bgroup or parameter on BEGIN, VERSION or END\
     \x09\x2eline out of order, or input ends inside a card\
-    \x0a\x2esecond line of a property that a card has once\
+    \x0a\x32second instance of a property that a card has once\
     \x0b\x11no FN in the card\
     \x0c\x2aMEMBER without a KIND line that says group\
     \x0d\x13copy room too small\

@@ -6,10 +6,10 @@ use Rattle.cabbook.proofs.table.print_rows.Statement.{statement}
 use Rattle.cabbook.proofs.table.print_rows.Tie as tie
 
 abbrev Inv-loop : tie.InvT-loop
-Inv-loop copy records cards₀ at₀ cards at = (at ≤ length records) × (cards ≤ at)
+Inv-loop copy records cards₀ at₀ seen₀ cards at seen = (at ≤ length records) × (cards ≤ at)
 
 abbrev μ-loop : tie.MeasureT-loop
-μ-loop copy records cards₀ at₀ cards at = length records - at
+μ-loop copy records cards₀ at₀ seen₀ cards at seen = length records - at
 
 loop-holds : tie.Need-loop-holds Inv-loop μ-loop
 loop-holds c = search needs
