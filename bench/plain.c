@@ -67,11 +67,11 @@ struct line {
     int has_over, has_scale, has_altid;
 };
 
-/* The line rule. */
+/* The line rule: 0, or the number of the first fault. */
 static int parse(const uint8_t *s, size_t n, struct line *l) {
     size_t i = 0;
     while (i < n && is_named(s[i])) i++;
-    if (i == 0) return 0;
+    if (i == 0) return 40;
     l->group = 0;
     l->name_start = 0;
     if (i < n && s[i] == '.') {
@@ -79,7 +79,7 @@ static int parse(const uint8_t *s, size_t n, struct line *l) {
         i++;
         l->name_start = i;
         while (i < n && is_named(s[i])) i++;
-        if (i == l->name_start) return 0;
+        if (i == l->name_start) return 40;
     }
     l->name_end = i;
     l->params = 0;
@@ -87,7 +87,7 @@ static int parse(const uint8_t *s, size_t n, struct line *l) {
     while (i < n && s[i] == ';') {
         size_t p = ++i;
         while (i < n && is_named(s[i])) i++;
-        if (i == p || i >= n || s[i] != '=') return 0;
+        if (i == p || i >= n || s[i] != '=') return 41;
         int is_value = i - p == 5 && strncasecmp((const char *)s + p, "VALUE", 5) == 0;
         int is_scale = i - p == 8 && strncasecmp((const char *)s + p, "CALSCALE", 8) == 0;
         int is_altid = i - p == 5 && strncasecmp((const char *)s + p, "ALTID", 5) == 0;
@@ -98,7 +98,7 @@ static int parse(const uint8_t *s, size_t n, struct line *l) {
             if (i < n && s[i] == '"') {
                 a = ++i;
                 while (i < n && s[i] != '"') i++;
-                if (i >= n) return 0;
+                if (i >= n) return 42;
                 e = i++;
             } else {
                 while (i < n && s[i] != '"' && s[i] != ';' && s[i] != ':' && s[i] != ',') i++;
@@ -121,12 +121,14 @@ static int parse(const uint8_t *s, size_t n, struct line *l) {
             }
             first = 0;
         } while (i < n && s[i] == ',');
-        if (i >= n || (s[i] != ';' && s[i] != ':')) return 0;
+        if (i >= n) return 43;
+        if (s[i] != ';' && s[i] != ':') return 42;
         l->params++;
     }
-    if (i >= n || s[i] != ':') return 0;
+    if (i >= n) return 43;
+    if (s[i] != ':') return 40;
     l->value = i + 1;
-    return 1;
+    return 0;
 }
 
 static size_t find_row(const uint8_t *s, size_t n) {
@@ -296,7 +298,8 @@ static int is_second(const uint8_t *s, const struct line *l, size_t row, struct 
 static int judge_line(const uint8_t *s, size_t n, struct card *c, uint8_t *kept) {
     struct line l;
     if (first_bad(s, n, 0) < n) return 5;
-    if (!parse(s, n, &l)) return 6;
+    int fault = parse(s, n, &l);
+    if (fault) return fault;
     size_t row = find_row(s + l.name_start, l.name_end - l.name_start);
     if (c->phase == 0 ? row != 1 : c->phase == 1 ? row != 34 : row == 1 || row == 34) return 9;
     const uint8_t *v = s + l.value;
@@ -423,6 +426,24 @@ static size_t fold_line(const uint8_t *s, size_t n, uint8_t *out) {
     return w + (n - i) + 2;
 }
 
+/* Raises the letters of a line's group, name and parameter names. */
+static void raise_names(uint8_t *s, size_t n) {
+    int value = 0, quoted = 0;
+    for (size_t i = 0; i < n; i++) {
+        if (quoted) {
+            quoted = s[i] != '"';
+        } else if (value) {
+            if (s[i] == ':') return;
+            quoted = s[i] == '"';
+            value = s[i] != ';';
+        } else {
+            if (s[i] == ':') return;
+            value = s[i] == '=';
+            if (s[i] >= 'a' && s[i] <= 'z') s[i] -= 32;
+        }
+    }
+}
+
 uint64_t plain_fold(const uint8_t *in, size_t len, uint8_t *out, size_t room) {
     struct card c;
     uint8_t buf[LIMIT];
@@ -439,6 +460,7 @@ uint64_t plain_fold(const uint8_t *in, size_t len, uint8_t *out, size_t room) {
     size_t w = 0;
     for (size_t at = 0; at < len;) {
         size_t end = line_end(in, len, at, buf, &n);
+        raise_names(buf, n);
         w += fold_line(buf, n, out + w);
         at = end + 2;
     }

@@ -128,13 +128,14 @@ fn routine_steps(plan: Plan) -> impl Iterator<Item = Step> {
     let named = names(plan.seed).filter(|line| line.starts_with("judge "));
     let dated = dates(plan.seed).filter(|line| line.starts_with("judge "));
     let tagged = alternatives(plan.seed).filter(|line| !line.starts_with("read "));
+    let raised = folds(plan.seed).filter(|line| line.starts_with("fold "));
     let unescaped = texts(plan.seed).filter(|line| line.starts_with("unescape "));
     (judged.take(plan.readers).map(of("readers")))
         .chain(faulty.take(plan.line_faults).map(of("line faults")))
         .chain(named.take(plan.names).map(of("names")))
         .chain(dated.take(plan.dates).map(of("dates")))
         .chain(tagged.take(plan.alternatives).map(of("alternatives")))
-        .chain(folds(plan.seed).take(plan.folds).map(of("folds")))
+        .chain(raised.take(plan.folds).map(of("folds")))
         .chain(unescaped.take(plan.texts).map(of("texts")))
 }
 

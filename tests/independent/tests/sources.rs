@@ -2,7 +2,7 @@
 
 mod common;
 
-use common::{copy_and_records, folded};
+use common::{copy_and_records, folded_as_read};
 use independent::console::Console;
 use independent::examples::{m_with, source_examples, SourceExample};
 use independent::requests::judge_line;
@@ -48,7 +48,7 @@ fn the_files_are_whole() {
 #[test]
 fn an_accepted_example_reads_the_same_after_folding() {
     for example in accepted() {
-        let form = folded(&example.input, 16_384).expect("a small form");
+        let form = folded_as_read(&example.input, 16_384).expect("a small form");
         assert_eq!(copy_and_records(&form), copy_and_records(&example.input));
     }
 }
