@@ -13,7 +13,7 @@ use Rattle.octets.proofs.Scans.{scan-le}
 use Rattle.octets.specs.Pick.{pick}
 use Rattle.line_folds.specs.Folds.{unfolded}
 use Rattle.line_folds.specs.Logical.{rawLines}
-use Rattle.line_parser.specs.Grammar.{Line, front}
+use Rattle.line_parser.specs.Grammar.{Line, front, render}
 use Rattle.octets.proofs.Bools.{by}
 use Rattle.card_state.specs.State.{Card, Step, Next, Refused as Halted, Flawed, freshCard}
 use Rattle.card_judge.specs.Judge.{judgeLine}
@@ -97,9 +97,9 @@ Within at-start l = Unit {0}
 Within (at-octet o) l = o ≤ length l
 
 -- the place in the raw line is the one that is counted
-placed-so : {l r : List ℕ} → Unbroken l → (w : Where) (q : ℕ) → Placed l r w q → placeIn r w ≡ q
-placed-so u at-start q e = sym e
-placed-so u (at-octet o) q a = sym (placed-only a u)
+placed-so : (l r : List ℕ) → Unbroken l → (w : Where) (q : ℕ) → Placed l r w q → placeIn r w ≡ q
+placed-so l r u at-start q e = sym e
+placed-so l r u (at-octet o) q a = sym (placed-only a u)
 
 so-placed : {l r : List ℕ} → Folded l r → Unbroken l → (w : Where) → Within w l → Placed l r w (placeIn r w)
 so-placed f u at-start h = refl
@@ -107,6 +107,7 @@ so-placed f u (at-octet o) h = placed f u o h
 
 -- an octet that a refusal names is one of the line, or its end
 refused-within : {ys : List Line} {l : List ℕ} {n : ℕ} {w : Where} → LineRefused ys l n w → Within w l
+unfolding render
 refused-within (octet b) = omega (arith, b .inside)
 refused-within (rule h f) = tt
 refused-within (order x h k) = tt
@@ -163,7 +164,7 @@ module _ (i : List ℕ) where
       stop-at ds r es n k w zs ys f (raw-there ds es ls ms r l e c)
       (subst (λ (x : List (List ℕ)). SoFar x k zs ys) (parts-there ds es ls ms r l e c .0) h)
       (subst (λ (x : List ℕ). LineRefused ys x n w) (line-there ds es ls ms r l e c) q)
-      ∙ ap (λ (m : ℕ). Refused n (length (ended ds) + m)) (placed-so (lined-there ds es ls ms r l e c .1) w p a)
+      ∙ ap (λ (m : ℕ). Refused n (length (ended ds) + m)) (placed-so l r (lined-there ds es ls ms r l e c .1) w p a)
   from (unfinished rs ls k zs ys f e h s) = stop-inside k zs ys f (subst (λ (x : List (List ℕ)). SoFar x k zs ys) (lined-only e .1) h) s
 
   -- past 1 to 4 the walk splits the input into its lines
