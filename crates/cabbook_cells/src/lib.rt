@@ -1,5 +1,6 @@
 // Cells: how wide a terminal shows a text, and blanks of that width.
 mod ranges;
+mod unicode;
 
 ghost use mathlib.Core.Path.{_≡_};
 ghost use Prim.Native.Nat.{_+_, _*_, _%_, _<_};

@@ -123,12 +123,12 @@ pub fn put_under(room: &mut [u8], at: usize, s: &[u8], number: u32, place: usize
     if s.len() > limit::READ_ROOM {
         return at;
     }
-    let from = cabbook_positions::line_start(s, place);
-    let end = shown_end(s, number, place, from);
+    let start = cabbook_positions::line_start(s, place);
+    let end = shown_end(s, number, place, start);
     put_marked(
         room,
         at,
-        octets::slices::part(s, from, place),
+        octets::slices::part(s, start, place),
         octets::slices::part(s, place, end),
     )
 }
