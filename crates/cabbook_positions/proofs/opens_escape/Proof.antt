@@ -1,15 +1,11 @@
-use borrow.Author.Needs.{needs}
+-- `cabbook_positions::opens_escape` meets its contract. Assumes nothing.
 use Rattle.cabbook_positions.proofs.opens_escape.Statement.{statement}
 use Rattle.cabbook_positions.proofs.opens_escape.Tie as tie
-use Rattle.cabbook_positions.proofs.opens_escape.Reads as reads
-use Rattle.cabbook_positions.proofs.opens_escape.Lts as lts
 
--- src/lib.rt:164:9
 returns : tie.Need-returns
 returns c =
     rw (c .if1 .taken)
 
--- src/lib.rt:160:1
 returns-2 : tie.Need-returns-2
 returns-2 c =
     rw (c .if1 .left)

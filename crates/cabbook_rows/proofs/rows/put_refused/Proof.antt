@@ -1,3 +1,4 @@
+-- `cabbook_rows::rows::put_refused` meets its contract. Assumes nothing.
 use borrow.Author.Needs.{needs}
 use Rattle.octets.specs.Ascii.{octets}
 use Rattle.program_output.specs.Pages.{page}
@@ -35,7 +36,8 @@ same-length c = search needs
 returns : tie.Need-returns
 unfolding octets
 returns c =
-    (piece _ (piece _ (piece _ (piece _ (piece _ (nothing (page (c .before .before .before .before .before .before .before .before .before .before .before .before .before .before .before .before .before .before .before .before .before .before .before .before .before .before .args .at) (c .before .before .before .before .before .before .before .before .before .before .before .before .before .before .before .before .before .before .before .before .before .before .before .before .before .before .args .room .now))) (c .before .before .before .before .before .before .before .before .before .before .before .before .before .before .before .before .before .before .before .before .before .put-where .ensures)) (c .before .before .before .before .before .before .before .before .before .before .before .before .before .before .before .before .put-all .ensures)) (c .before .before .before .before .before .before .before .before .before .before .before .put-amount .ensures)) (c .before .before .before .before .before .before .before .put-why .ensures)) (c .before .before .put-all2 .ensures)) .sum
+    let a = c .before .before .before .before .before .before .before .before .before .before .before .before .before .before .before .before .before .before .before .before .before .before .before .before .before .before .args in
+    (piece _ (piece _ (piece _ (piece _ (piece _ (nothing (page (a .at) (a .room .now))) (c .before .before .before .before .before .before .before .before .before .before .before .before .before .before .before .before .before .before .before .before .before .put-where .ensures)) (c .before .before .before .before .before .before .before .before .before .before .before .before .before .before .before .before .put-all .ensures)) (c .before .before .before .before .before .before .before .before .before .before .before .put-amount .ensures)) (c .before .before .before .before .before .before .before .put-why .ensures)) (c .before .before .put-all2 .ensures)) .sum
 
 pub put-refused-spec : {M : Type 1} → statement M
 put-refused-spec =

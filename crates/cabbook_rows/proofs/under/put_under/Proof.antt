@@ -1,5 +1,5 @@
+-- `cabbook_rows::under::put_under` meets its contract. Assumes nothing.
 use borrow.Author.Needs.{needs}
-use mathlib.Core.Path.{_∙_, ap}
 use native.Mathlib.Omega.{arith}
 use lib.ListN.{length}
 use borrow.Author.Tests.{lt-ltb, le-ltb}
@@ -11,7 +11,8 @@ use Rattle.cabbook_rows.proofs.under.put_under.Tie as tie
 
 returns : tie.Need-returns
 returns c =
-    rw (lt-ltb 16385 (length (c .before .before .before .args .s .now)) (c .if1 .taken)) (nothing (page (c .before .before .before .args .at) (c .before .before .before .args .room .now)) .sum)
+    let a = c .before .before .before .args in
+    rw (lt-ltb 16385 (length (a .s .now)) (c .if1 .taken)) (nothing (page (a .at) (a .room .now)) .sum)
 
 line-start-requires : tie.Need-line-start-requires
 line-start-requires c κs = search needs
@@ -28,7 +29,9 @@ part-requires-2 c κs = search needs
 
 put-marked-requires : tie.Need-put-marked-requires
 put-marked-requires c κs =
-    (rw (c .before .part .ensures) (omega (arith, part-le (c .before .before .before .before .before .before .before .before .args .s .now) (c .before .before .before .before .line-start .result) (c .before .before .before .before .before .before .before .before .args .place))), rw (c .part2 .ensures) (omega (arith, part-le (c .before .before .before .before .before .before .before .before .args .s .now) (c .before .before .before .before .before .before .before .before .args .place) (c .before .before .before .shown-end .result))))
+    let a = c .before .before .before .before .before .before .before .before .args in
+    let s = a .s .now in
+    (rw (c .before .part .ensures) (omega (arith, part-le s (c .before .before .before .before .line-start .result) (a .place))), rw (c .part2 .ensures) (omega (arith, part-le s (a .place) (c .before .before .before .shown-end .result))))
 
 same-length : tie.Need-same-length
 same-length c = search needs
