@@ -1,13 +1,12 @@
 -- Where an octet of a logical line stands in its raw line: the place that is counted is the one that the plain words give, and no other. Assumes nothing.
 use mathlib.Core.Path.{_≡_, refl, sym, ap, subst, _∙_}
 use mathlib.Core.List.{List, [], _∷_, _++_}
-use mathlib.Core.Logic.{_↔_}
 use Prim.Native.Nat.{ℕ, zero, suc, _+_, _≤_}
 use native.Mathlib.Nat.{zero-add}
 use native.Mathlib.Omega.{arith}
 use lib.ListN.{length, getD}
 use Rattle.line_folds.specs.Places.{keptFrom, placeOf}
-use Rattle.line_laws.specs.Lined.{Blank, Folded, end, octet, fold, At, ends, here, next, past, Unbroken, Lined, no-line, and-then}
+use Rattle.line_laws.specs.Lined.{Blank, Folded, end, octet, fold, At, ends, here, next, past, Unbroken, Lined, and-then}
 use Rattle.line_laws.proofs.LinedLaws.{fold-here, inner-fold}
 
 -- the place of octet o, counted from i on in a list that ends at n
