@@ -1,6 +1,5 @@
 -- `reader_walk::settle` meets its contract. Assumes nothing.
 use borrow.Author.Needs.{needs}
-use mathlib.Core.Path.{ap}
 use Rattle.card_state.specs.Kept.{stepOf}
 use Rattle.reader_walk.proofs.WalkLaws.{settled-step}
 use Rattle.reader_walk.proofs.settle.Statement.{statement}
