@@ -4,12 +4,11 @@ use mathlib.Core.Path.{_≡_, refl, sym, ap, subst, _∙_}
 use mathlib.Core.Bool.{Bool, true, false, _&&_, _||_, false≢true}
 use mathlib.Core.List.{List, [], _∷_, _++_}
 use mathlib.Core.Logic.{_⊎_, inl, inr, ⊎-elim, _↔_}
-use Prim.Native.Nat.{ℕ, zero, suc, _+_, _-_, _%_, _<_, _≤_}
+use Prim.Native.Nat.{ℕ, suc, _+_, _-_, _%_, _<_}
 use native.Mathlib.Nat.{add-zero, zero-add}
 use native.Mathlib.Omega.{arith}
-use lib.Dec.{ltb}
-use lib.ListN.{length, take}
-use borrow.Author.Tests.{ltb-true, ltb-false, eq-eqb, le-leb}
+use lib.ListN.{take}
+use borrow.Author.Tests.{eq-eqb, le-leb}
 use Rattle.octets.specs.Pick.{pick}
 use Rattle.octets.specs.Classes.{letter as isLetter, digit as isDigit}
 use Rattle.octets.specs.Cases.{lower}
@@ -18,6 +17,8 @@ use Rattle.value_kinds.specs.Shapes.{Shape, never, empty, one, _then_, _or_, ma
 use Rattle.value_kinds.specs.declared.Fault.the-variants.{Fits, Breaks}
 use Rattle.octets.proofs.Bools.{by, and-both, or-some}
 use Rattle.value_kinds.proofs.ShapeLaws.{dead-none, derivative-to, fits-from}
+use Rattle.value_laws.specs.Dead.{AreOctets, Dead}
+use Rattle.value_laws.proofs.DeadLaws.{dead-once}
 
 and-none : (s t : Bool) → (s && t) ≡ false → (s ≡ false) ⊎ (t ≡ false)
 and-none true t e = inr e
@@ -74,49 +75,54 @@ figure-here d ds =
     rw (figure-back m, eq-eqb m m refl, le-leb 48 (48 + m) (omega arith), le-leb (48 + m) 57 (omega arith))
 
 -- an octet of each set
-sample : (p : Octets) → (x : ℕ) × (holds p x ≡ true)
+sample : (p : Octets) → (x : ℕ) × (x < 256) × (holds p x ≡ true)
 unfolding holds isLetter isDigit lower
-sample any = (0, refl)
-sample plain = (0, refl)
-sample inner = (0, refl)
-sample escapee = (92, refl)
-sample backslash = (92, refl)
-sample comma = (44, refl)
-sample semicolon = (59, refl)
-sample colon = (58, refl)
-sample letter = (65, refl)
-sample scheme = (65, refl)
-sample graphic = (65, refl)
-sample digit = (48, refl)
-sample sex = (77, refl)
-sample theV = (86, refl)
-sample theC = (67, refl)
-sample theA = (65, refl)
-sample theR = (82, refl)
-sample theD = (68, refl)
-sample four = (52, refl)
-sample point = (46, refl)
-sample nought = (48, refl)
-sample theT = (84, refl)
-sample theZ = (90, refl)
-sample minus = (45, refl)
-sample sign = (43, refl)
-sample (figures d ds) = (48 + d % 10, figure-here d ds)
+sample any = (0, omega arith, refl)
+sample plain = (0, omega arith, refl)
+sample inner = (0, omega arith, refl)
+sample escapee = (92, omega arith, refl)
+sample backslash = (92, omega arith, refl)
+sample comma = (44, omega arith, refl)
+sample semicolon = (59, omega arith, refl)
+sample colon = (58, omega arith, refl)
+sample letter = (65, omega arith, refl)
+sample scheme = (65, omega arith, refl)
+sample graphic = (65, omega arith, refl)
+sample digit = (48, omega arith, refl)
+sample sex = (77, omega arith, refl)
+sample theV = (86, omega arith, refl)
+sample theC = (67, omega arith, refl)
+sample theA = (65, omega arith, refl)
+sample theR = (82, omega arith, refl)
+sample theD = (68, omega arith, refl)
+sample four = (52, omega arith, refl)
+sample point = (46, omega arith, refl)
+sample nought = (48, omega arith, refl)
+sample theT = (84, omega arith, refl)
+sample theZ = (90, omega arith, refl)
+sample minus = (45, omega arith, refl)
+sample sign = (43, omega arith, refl)
+sample (figures d ds) = (48 + d % 10, omega arith, figure-here d ds)
 
--- a shape that is not dead has a text
-dead-some : (r : Shape) → dead r ≡ false → (v : List ℕ) × Matches r v
-unfolding Matches dead joined each
+octets-join : (u v : List ℕ) → AreOctets u → AreOctets v → AreOctets (u ++ v)
+unfolding AreOctets
+octets-join [] v g h = h
+octets-join (x ∷ u) v g h = (g .0, octets-join u v (g .1) h)
+
+-- a shape that is not dead has a text of octets
+dead-some : (r : Shape) → dead r ≡ false → (v : List ℕ) × AreOctets v × Matches r v
+unfolding Matches dead joined each AreOctets
 dead-some never e = absurd (false≢true (sym e))
-dead-some empty e = ([], refl)
-dead-some (one p) e = let x = sample p in (x .0 ∷ [], (x .0, x .1, refl))
+dead-some empty e = ([], tt, refl)
+dead-some (one p) e = let x = sample p in (x .0 ∷ [], (x .1, tt), (x .0, x .2, refl))
 dead-some (a then b) e =
     let h = or-none (dead a) (dead b) e in
     let x = dead-some a (h .0) in
     let y = dead-some b (h .1) in
-    (x .0 ++ y .0, (x .0, y .0, refl, x .1, y .1))
+    (x .0 ++ y .0, octets-join (x .0) (y .0) (x .1) (y .1), (x .0, y .0, refl, x .2, y .2))
 dead-some (a or b) e =
-    ⊎-elim (λ h. let x = dead-some a h in (x .0, inl (x .1))) (λ h. let x = dead-some b h in (x .0, inr (x .1))) (and-none (dead a) (dead b) e)
-dead-some (many a) e = ([], ([], refl, tt))
+    ⊎-elim (λ h. let x = dead-some a h in (x .0, x .1, inl (x .2))) (λ h. let x = dead-some b h in (x .0, x .1, inr (x .2))) (and-none (dead a) (dead b) e)
+dead-some (many a) e = ([], tt, ([], refl, tt))
 
 -- the derivative by an octet
 choose-from : (m : Bool) (p q : Shape) (v : List ℕ) → Matches (pick m (fork p q) p) v → ((m ≡ true) × Matches q v) ⊎ Matches p v
@@ -164,17 +170,14 @@ fits-to r i (x ∷ xs) h =
 pub fits : (r : Shape) (v : List ℕ) → (faultFrom r 0 v ≡ Fits) ↔ Matches r v
 fits r v = (fits-to r 0 v, fits-from r 0 v)
 
--- v does not match, n octets of it have a continuation that does, and one octet more has none
-pub record Broken (r : Shape) (v : List ℕ) (n : ℕ) : Type 0 where
-  pub no-match : Matches r v → ⊥
-  pub inside : n ≤ length v
-  pub goes-on : (w : List ℕ) × Matches r (take n v ++ w)
-  pub no-more : n < length v → (w : List ℕ) → Matches r (take (suc n) v ++ w) → ⊥
+-- v does not match the shape, and breaks off at n
+abbrev pub Broken : Shape → List ℕ → ℕ → Type 0
+Broken r v n = Dead (Matches r) v n
 
 here : (r : Shape) (x : ℕ) (v : List ℕ) → dead r ≡ false → dead (derivative x r) ≡ true → Broken r (x ∷ v) 0
 here r x v e f =
     record {
-      no-match = λ k. dead-none (derivative x r) f v (derivative-to x r v k);
+      unfit = λ k. dead-none (derivative x r) f v (derivative-to x r v k);
       inside = omega arith;
       goes-on = dead-some r e;
       no-more = λ h w k. dead-none (derivative x r) f w (derivative-to x r w k);
@@ -183,9 +186,9 @@ here r x v e f =
 later : (r : Shape) (x : ℕ) (v : List ℕ) (n : ℕ) → Broken (derivative x r) v n → Broken r (x ∷ v) (suc n)
 later r x v n h =
     record {
-      no-match = λ k. h .no-match (derivative-to x r v k);
+      unfit = λ k. h .unfit (derivative-to x r v k);
       inside = omega (arith, h .inside);
-      goes-on = (h .goes-on .0, derivative-from x r (take n v ++ h .goes-on .0) (h .goes-on .1));
+      goes-on = (h .goes-on .0, h .goes-on .1, derivative-from x r (take n v ++ h .goes-on .0) (h .goes-on .2));
       no-more = λ l w k. h .no-more (omega arith) w (derivative-to x r (take (suc n) v ++ w) k);
     }
 
@@ -200,7 +203,7 @@ broken-from r i [] k e h =
       0,
       same-place i k (rw f at h) ∙ sym (add-zero i),
       record {
-        no-match = λ l. no-breaks k (sym h ∙ fits-from r i [] l);
+        unfit = λ l. no-breaks k (sym h ∙ fits-from r i [] l);
         inside = omega arith;
         goes-on = dead-some r e;
         no-more = λ l. absurd (omega arith);
@@ -210,25 +213,6 @@ broken-from r i (x ∷ xs) k e h =
     by (dead (derivative x r))
     (λ f. (0, same-place i k (rw f at h) ∙ sym (add-zero i), here r x xs e f))
     (λ f. let y = broken-from (derivative x r) (i + 1) xs k f (rw f at h) in (suc (y .0), omega (arith, y .1), later r x xs (y .0) (y .2)))
-
--- a longer part of a text is a continuation of a shorter one
-longer : (n m : ℕ) (v w : List ℕ) → n ≤ m → (z : List ℕ) × (take m v ++ w ≡ take n v ++ z)
-longer zero m v w h = (take m v ++ w, refl)
-longer (suc n) zero v w h = absurd (omega arith)
-longer (suc n) (suc m) [] w h = (w, refl)
-longer (suc n) (suc m) (x ∷ v) w h =
-    let k = longer n m v w (omega arith) in
-    (k .0, ap (λ (l : List ℕ). x ∷ l) (k .1))
-
-not-before : (r : Shape) (v : List ℕ) (n m : ℕ) → Broken r v n → Broken r v m → n < m → ⊥
-not-before r v n m g h l =
-    let k = longer (suc n) m v (h .goes-on .0) l in
-    g .no-more (omega (arith, h .inside)) (k .0) (subst (Matches r) (k .1) (h .goes-on .1))
-
-one-place : (r : Shape) (v : List ℕ) (n m : ℕ) → Broken r v n → Broken r v m → n ≡ m
-one-place r v n m g h =
-    by (ltb n m) (λ e. absurd (not-before r v n m g h (ltb-true n m e)))
-    (λ e. by (ltb m n) (λ f. absurd (not-before r v m n h g (ltb-true m n f))) (λ f. omega (arith, ltb-false n m e, ltb-false m n f)))
 
 either : (r : Shape) (i : ℕ) (v : List ℕ) → (faultFrom r i v ≡ Fits) ⊎ ((k : ℕ) × (faultFrom r i v ≡ Breaks k))
 unfolding faultFrom
@@ -247,6 +231,6 @@ breaks r v n e = (to n, from)
     from : Broken r v n → faultFrom r 0 v ≡ Breaks n
     from h =
         ⊎-elim
-        (λ f. absurd (h .no-match (fits-to r 0 v f)))
-        (λ f. f .1 ∙ ap Breaks (one-place r v (f .0) n (to (f .0) (f .1)) h))
+        (λ f. absurd (h .unfit (fits-to r 0 v f)))
+        (λ f. f .1 ∙ ap Breaks (dead-once (Matches r) v (f .0) n (to (f .0) (f .1)) h))
         (either r 0 v)
