@@ -35,7 +35,7 @@ module _ (s : List ℕ) where
       let two : at + 1 + 1 ≡ at + 2 = omega arith in
       let three : at + 2 + 1 ≡ at + 3 = omega arith in
       ap (λ (l : List ℕ). keptFrom at l 0) d ∙ rw f (
-        step (at + 1) 1 (omega arith) ∙ rw two (step (at + 2) 0 (omega arith) ∙ rw three refl))
+      step (at + 1) 1 (omega arith) ∙ rw two (step (at + 2) 0 (omega arith) ∙ rw three refl))
 
   pub kept-none : (at : ℕ) → length s ≤ at → keptFrom at (drop at s) 0 ≡ []
   unfolding keptFrom
