@@ -12,7 +12,7 @@ use Rattle.numbers.specs.Refusals as refusal
 use Rattle.utf8.specs.Characters.{allowed}
 use Rattle.octets.specs.Classes.{quoted}
 use Rattle.octets.specs.Room.{Filled, fill}
-use Rattle.utf8_laws.specs.Texts.{Text, Stops}
+use Rattle.utf8_laws.specs.Texts.{Text, BadAt}
 use Rattle.text_escaping.specs.Escaped.{escaped}
 use Rattle.text.specs.Outcomes.{escapeOutcome, unescapeOutcome}
 use Rattle.text_laws.specs.Stands.{Stands, Faulty}
@@ -76,12 +76,6 @@ pub data FoldBy (i out : List ℕ) : ℕ → ℕ → Type 0 where
   fold-room : {k n : ℕ} (h : InputOf i k n) → length (folded h) ≤ limit.octets → length out < length (folded h) → FoldBy i out refusal.room (length (folded h))
 
 -- ---- text
-
--- allowed characters before p, and none at p
-pub record BadAt (allows : ℕ → Bool) (t : List ℕ) (p : ℕ) : Type 0 where
-  pub inside : p < length t
-  pub before : Text allows (take p t)
-  pub there : Stops allows (drop p t)
 
 -- neither 1 nor 31
 pub record FairBy (allows : ℕ → Bool) (t : List ℕ) : Type 0 where
