@@ -16,6 +16,9 @@ use numbers::property;
 use states::Transitions;
 use value_kinds::Fault;
 
+// The length below which a value is scanned at once, since a look at pairs of octets costs more.
+const SHORT: usize = 32;
+
 // Whether s satisfies its kind: `Breaks` has the first octet from which nothing could, or the end.
 pub fn value_fault(steps: &Transitions, kind: usize, s: &[u8]) -> Fault
     requires { ⌜ Scanner (now steps) ⌝ }
@@ -24,6 +27,11 @@ pub fn value_fault(steps: &Transitions, kind: usize, s: &[u8]) -> Fault
 {
     if value_kinds::fits_at_once(kind, s) {
         return Fault::Fits;
+    }
+    if SHORT <= s.len() {
+        if value_kinds::pairs::fits_by_pairs(kind, s) {
+            return Fault::Fits;
+        }
     }
     let first = scanner::start(kind);
     scanner::scan(steps, first, s)
