@@ -6,9 +6,10 @@ use mathlib.Core.Bool.{Bool, true, false, _||_, false≢true}
 use Prim.Native.Nat.{ℕ}
 use lib.Dec.{eqb}
 use Rattle.octets.specs.Pick.{pick}
+use Rattle.property_table.specs.declared.Edition.{Edition}
 use Rattle.property_table.specs.Rows.{framing}
 use Rattle.value_kinds.specs.Shapes.{Shape, faultFrom}
-use Rattle.value_kinds.specs.Kinds.{shapeOf, vcard, version, kindScan, lineShape, valueScan}
+use Rattle.value_kinds.specs.Kinds.{shapeIn, vcard, version, kindIn, lineShape, valueIn}
 use Rattle.value_automaton.specs.States.{states, stateShape}
 use Rattle.value_automaton.proofs.judge_value.Statement.{statement}
 use Rattle.value_automaton.proofs.judge_value.Tie as tie
@@ -26,14 +27,14 @@ fixed false v true x y z h g = refl
 fixed false true false x y z h g = absurd (false≢true (sym g))
 fixed false false false x y z h g = absurd (false≢true h)
 
-module _ (row k : ℕ) where
-  of-kind : framing row ≡ false → lineShape row k ≡ shapeOf k
+module _ (e : Edition) (row k : ℕ) where
+  of-kind : framing row ≡ false → lineShape e row k ≡ shapeIn e k
   unfolding framing lineShape
-  of-kind h = other (eqb row 1) (eqb row 34) (eqb row 2) vcard version (shapeOf k) h
+  of-kind h = other (eqb row 1) (eqb row 34) (eqb row 2) vcard version (shapeIn e k) h
 
-  of-frame : framing row ≡ true → eqb row 34 ≡ false → lineShape row k ≡ vcard
+  of-frame : framing row ≡ true → eqb row 34 ≡ false → lineShape e row k ≡ vcard
   unfolding framing lineShape
-  of-frame h e = fixed (eqb row 1) (eqb row 34) (eqb row 2) vcard version (shapeOf k) h e
+  of-frame h f = fixed (eqb row 1) (eqb row 34) (eqb row 2) vcard version (shapeIn e k) h f
 
 is-framing-requires : tie.Need-is-framing-requires
 is-framing-requires c κs = search needs
@@ -42,30 +43,30 @@ value-fault-requires : tie.Need-value-fault-requires
 value-fault-requires c κs = search needs
 
 returns : tie.Need-returns
-unfolding valueScan kindScan
+unfolding valueIn kindIn
 returns c =
     let f = c .before .before in
     let a = f .before .before .args in
     c .value-fault .ensures
-    ∙ ap (λ (r : Shape). faultFrom r 0 (a .s .now)) (sym (of-kind (a .row) (a .kind) (sym (f .is-framing .ensures) ∙ not-true (f .is-framing .result) (c .before .if1 .taken))))
+    ∙ ap (λ (r : Shape). faultFrom r 0 (a .s .now)) (sym (of-kind (a .edition) (a .row) (a .kind) (sym (f .is-framing .ensures) ∙ not-true (f .is-framing .result) (c .before .if1 .taken))))
 
 scan-requires : tie.Need-scan-requires
 scan-requires c κs = search needs
 
 returns-2 : tie.Need-returns-2
-unfolding valueScan lineShape stateShape states
+unfolding valueIn lineShape stateShape states
 returns-2 c = rw (c .before .if2 .taken) (c .scan .ensures)
 
 scan-requires-2 : tie.Need-scan-requires-2
 scan-requires-2 c κs = search needs
 
 returns-3 : tie.Need-returns-3
-unfolding valueScan stateShape states
+unfolding valueIn stateShape states
 returns-3 c =
     let f = c .before .before .before in
     let a = f .before .before .args in
     let frames = sym (f .is-framing .ensures) ∙ not-false (f .is-framing .result) (c .before .before .if1 .left) in
-    c .scan2 .ensures ∙ ap (λ (r : Shape). faultFrom r 0 (a .s .now)) (sym (of-frame (a .row) (a .kind) frames (ne-eqb (a .row) 34 (c .before .if2 .left))))
+    c .scan2 .ensures ∙ ap (λ (r : Shape). faultFrom r 0 (a .s .now)) (sym (of-frame (a .edition) (a .row) (a .kind) frames (ne-eqb (a .row) 34 (c .before .if2 .left))))
 
 pub judge-value-spec : {M : Type 1} → statement M
 judge-value-spec =
