@@ -7,6 +7,7 @@ use Prim.Native.Nat.{ℕ, _+_, _*_, _-_, _/_, _%_, _<_, _≤_}
 use native.Mathlib.Omega.{arith}
 use lib.IntN.{ℤ, pos, negℤ}
 use Rattle.numbers.specs.Refusals as refusal
+use Rattle.property_table.specs.declared.Edition.the-variants.{First}
 use Rattle.value_kinds.specs.Kinds.{kindScan}
 use Rattle.value_kinds.specs.declared.Fault.{Fault}
 use Rattle.value_kinds.specs.declared.Fault.the-variants.{Fits as fitting, Breaks as breaking}
@@ -47,12 +48,12 @@ stands-gives (minutes-behind {h = h} {m = m} l k) = ap (λ (n : ℕ). negℤ (po
 
 minutes-from : (v : List ℕ) (z : ℤ) → StandsFor z v → minutesOf v ≡ Minutes z
 unfolding minutesOf
-minutes-from v z h = ap (λ (f : Fault). minutesBy f v) (kind-11 v .1 (stands-offset h)) ∙ ap Minutes (stands-gives h)
+minutes-from v z h = ap (λ (f : Fault). minutesBy f v) (kind-11 First v .1 (stands-offset h)) ∙ ap Minutes (stands-gives h)
 
 by-fault : (v : List ℕ) (z : ℤ) (f : Fault) → kindScan 11 v ≡ f → minutesBy f v ≡ Minutes z → StandsFor z v
 by-fault v z fitting e h =
     let same : signed (isBehind v) (timeOf v) ≡ z = cc in
-    subst (λ (y : ℤ). StandsFor y v) same (offset-stands v (kind-11 v .0 e))
+    subst (λ (y : ℤ). StandsFor y v) same (offset-stands v (kind-11 First v .0 e))
 by-fault v z (breaking o) e h = let n : _≡_ {A = ℕ} 0 1 = cc in absurd (omega arith)
 
 minutes-to : (v : List ℕ) (z : ℤ) → minutesOf v ≡ Minutes z → StandsFor z v
@@ -79,11 +80,11 @@ refused-by v n p fitting e h = let k : _≡_ {A = ℕ} 0 1 = cc in absurd (omega
 refused-by v n p (breaking o) e h = (
   cc,
   cc,
-  λ z s. let q = sym e ∙ kind-11 v .1 (stands-offset s) in let k : _≡_ {A = ℕ} 0 1 = cc in omega arith,
+  λ z s. let q = sym e ∙ kind-11 First v .1 (stands-offset s) in let k : _≡_ {A = ℕ} 0 1 = cc in omega arith,
 )
 
 refused-from : (v : List ℕ) (f : Fault) → kindScan 11 v ≡ f → ((z : ℤ) → StandsFor z v → ⊥) → minutesBy f v ≡ Refused refusal.value 0
-refused-from v fitting e h = absurd (h (signed (isBehind v) (timeOf v)) (offset-stands v (kind-11 v .0 e)))
+refused-from v fitting e h = absurd (h (signed (isBehind v) (timeOf v)) (offset-stands v (kind-11 First v .0 e)))
 refused-from v (breaking o) e h = refl
 
 -- 7 with place 0 is answered exactly where they stand for none
