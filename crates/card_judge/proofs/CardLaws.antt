@@ -21,7 +21,7 @@ use Rattle.property_table.specs.Rows.{isGroup}
 use Rattle.value_kinds.specs.Kinds.{valueScan}
 use Rattle.value_kinds.specs.declared.Fault.{Fault}
 use Rattle.value_kinds.specs.declared.Fault.the-variants.{Fits, Breaks}
-use Rattle.card_state.specs.State.{Card, Step, Next, Refused, inOrder, secondInstance, lineCard, noted, closed}
+use Rattle.card_state.specs.State.{Card, Step, Next, Refused, Flawed, inOrder, secondInstance, lineCard, noted, closed}
 use Rattle.card_line.specs.Parts.{rowOfLine, kindOfLine, altidOf, linePartsBy, linePartsOf}
 use Rattle.card_judge.specs.Judge.{laden, entered, fitting, judgeParts, judgeParsed, judgeLine}
 use Rattle.card_line.specs.declared.Parts.{Parts}
@@ -38,9 +38,13 @@ module _ {C : Type 0} {c : Card} (n p : ℕ) where
   only true s e f = f refl e
   only false s e f = let z : _≡_ {A = ℕ} 0 1 = cc in absurd (omega arith)
 
-fitted : {C : Type 0} {c : Card} (at : ℕ) (f : Fault) (s : Step) → fitting at f s ≡ Next c → (f ≡ Fits → s ≡ Next c → C) → C
-fitted at Fits s e g = g refl e
-fitted at (Breaks n) s e g = let z : _≡_ {A = ℕ} 0 1 = cc in absurd (omega arith)
+  flawless : (t : Bool) (s : Step) → pick t (Flawed n p) s ≡ Next c → (t ≡ false → s ≡ Next c → C) → C
+  flawless true s e f = let z : _≡_ {A = ℕ} 0 1 = cc in absurd (omega arith)
+  flawless false s e f = f refl e
+
+fitted : {C : Type 0} {c : Card} (start : ℕ) (f : Fault) (s : Step) → fitting start f s ≡ Next c → (f ≡ Fits → s ≡ Next c → C) → C
+fitted start Fits s e g = g refl e
+fitted start (Breaks n) s e g = let z : _≡_ {A = ℕ} 0 1 = cc in absurd (omega arith)
 
 -- a line that was passed: it is clean, it has parts, they stand in order, and the state after it is what the card makes of it
 pub record Passed (c : Card) (at : ℕ) (l : List ℕ) (c′ : Card) : Type 0 where
@@ -54,18 +58,18 @@ pub record Passed (c : Card) (at : ℕ) (l : List ℕ) (c′ : Card) : Type 0 wh
   pub after : entered c at (rowOfLine parts) (altidOf parts) (parts .value) ≡ Next c′
 
 with-parts : (c c′ : Card) (at : ℕ) (l : List ℕ) (x : Line) (k : ℕ) → parseLine l ≡ got x k → firstBad (allowed false) l ≡ length l
-    → judgeParts c at (rowOfLine x) (length (x .group)) (length (x .params)) (kindOfLine x) (altidOf x) (x .value) ≡ Next c′ → Passed c at l c′
+    → judgeParts c at (rowOfLine x) (length (x .group)) (length (x .params)) (kindOfLine x) (altidOf x) k (x .value) ≡ Next c′ → Passed c at l c′
 unfolding judgeParts
 with-parts c c′ at l x k p d q =
     only 9 at (inOrder (c .phase) (rowOfLine x)) _ q (λ o q₁.
     unless 8 at (laden (rowOfLine x) (length (x .group)) (length (x .params))) _ q₁ (λ u q₂.
-    fitted at (valueScan (rowOfLine x) (kindOfLine x) (x .value)) _ q₂ (λ f q₃.
+    fitted k (valueScan (rowOfLine x) (kindOfLine x) (x .value)) _ q₂ (λ f q₃.
     record { clean = d; parts = x; start = k; parsed = p; order = o; unladen = u; fits = f; after = q₃ })))
 
 pub passed : (c c′ : Card) (at : ℕ) (l : List ℕ) → judgeLine c at l ≡ Next c′ → Passed c at l c′
 unfolding judgeLine
 passed c c′ at l e =
-    unless 5 at (ltb (firstBad (allowed false) l) (length l)) (judgeParsed c at (parseLine l)) e (λ t q.
+    flawless 5 (firstBad (allowed false) l) (ltb (firstBad (allowed false) l) (length l)) (judgeParsed c at (parseLine l)) e (λ t q.
     by (parseLine l) refl q (omega (arith, ltb-false (firstBad (allowed false) l) (length l) t, bad-le (allowed false) l)))
   where
     by : (m : Parse Line) → parseLine l ≡ m → judgeParsed c at m ≡ Next c′ → firstBad (allowed false) l ≡ length l → Passed c at l c′

@@ -1,9 +1,9 @@
 -- The judgement of a line by what was found of it: its faults and its parts. Assumes nothing.
 use mathlib.Core.Path.{_≡_, refl, sym, ap, _∙_}
 use mathlib.Core.Bool.{Bool, true, false, not}
-use mathlib.Core.List.{List}
+use mathlib.Core.List.{List, [], _∷_}
 use mathlib.Core.Option.{Option}
-use Prim.Native.Nat.{ℕ, _-_, _≤_}
+use Prim.Native.Nat.{ℕ, _+_, _-_, _≤_}
 use native.Mathlib.Omega.{arith}
 use lib.ListN.{length, take, drop, length-drop}
 use lib.Seq.{take-all}
@@ -13,29 +13,45 @@ use Rattle.utf8.specs.Characters.{allowed, firstBad}
 use Rattle.line_parser.specs.Parse.{Parse, got, bad}
 use Rattle.line_parser.specs.Grammar.{Line}
 use Rattle.line_parser.specs.Rule.{parseLine}
-use Rattle.value_kinds.specs.Kinds.{valueScan}
+use Rattle.value_kinds.specs.Shapes.{Shape, nullable, dead, derivative, faultFrom}
+use Rattle.value_kinds.specs.Kinds.{lineShape, valueScan}
 use Rattle.value_kinds.specs.declared.Fault.{Fault}
 use Rattle.value_kinds.specs.declared.Fault.the-variants.{Fits, Breaks}
 use Rattle.card_line.specs.Parts.{altidName, altidOf, paramValue, firstValue, linePartsBy, linePartsOf}
-use Rattle.card_state.specs.State.{Card, Refused, inOrder}
-use Rattle.card_judge.specs.Judge.{laden, broken, entered, fitting, judgeParts, judgeParsed, judgeLine}
+use Rattle.card_state.specs.State.{Card, Step, Refused, inOrder}
+use Rattle.card_judge.specs.Judge.{laden, entered, fitting, judgeParts, judgeParsed, judgeLine}
 use Rattle.card_line.specs.declared.Parts.{Parts}
 use Rattle.card_line.specs.declared.LineParts.the-variants.{Line as line, Fault as fault}
 use Rattle.card_line.proofs.PartLaws.{Read, read-accepted, value-is}
 
 -- the judgement by what the tests of 9, 8 and 7 answer
-pub tests : (c : Card) (at row group params kind : ℕ) (altid : Option (List ℕ)) (v : List ℕ) {o l b : Bool}
-    → o ≡ inOrder (c .phase) row → l ≡ laden row group params → b ≡ broken (valueScan row kind v)
-    → judgeParts c at row group params kind altid v ≡ pick (not o) (Refused 9 at) (pick l (Refused 8 at) (pick b (Refused 7 at) (entered c at row altid v)))
+pub tests : (c : Card) (at row group params kind : ℕ) (altid : Option (List ℕ)) (start : ℕ) (v : List ℕ) {o l : Bool} {f : Fault}
+    → o ≡ inOrder (c .phase) row → l ≡ laden row group params → f ≡ valueScan row kind v
+    → judgeParts c at row group params kind altid start v ≡ pick (not o) (Refused 9 at) (pick l (Refused 8 at) (fitting start f (entered c at row altid v)))
 unfolding judgeParts
-tests c at row group params kind altid v p q r = rw (p, q, r) (by (inOrder (c .phase) row) (laden row group params) (valueScan row kind v))
+tests c at row group params kind altid start v p q r = rw (p, q, r) (by (inOrder (c .phase) row) _)
   where
-    by : (o l : Bool) (f : Fault) → pick o (pick l (Refused 8 at) (fitting at f (entered c at row altid v))) (Refused 9 at)
-        ≡ pick (not o) (Refused 9 at) (pick l (Refused 8 at) (pick (broken f) (Refused 7 at) (entered c at row altid v)))
-    by false l f = refl
-    by true true f = refl
-    by true false Fits = refl
-    by true false (Breaks n) = refl
+    by : (o : Bool) (s : Step) → pick o s (Refused 9 at) ≡ pick (not o) (Refused 9 at) s
+    by false s = refl
+    by true s = refl
+
+-- a fault lies within the value, or at its end
+inside : (r : Shape) (i : ℕ) (v : List ℕ) (k : ℕ) → faultFrom r i v ≡ Breaks k → k ≤ i + length v
+unfolding faultFrom
+inside r i [] k e = by (nullable r) e
+  where
+    by : (t : Bool) → pick t Fits (Breaks i) ≡ Breaks k → k ≤ i + 0
+    by true e = let z : _≡_ {A = ℕ} 0 1 = cc in absurd (omega arith)
+    by false e = let z : i ≡ k = cc in omega arith
+inside r i (x ∷ xs) k e = by (dead (derivative x r)) e (λ f. inside (derivative x r) (i + 1) xs k f)
+  where
+    by : (t : Bool) → pick t (Breaks i) (faultFrom (derivative x r) (i + 1) xs) ≡ Breaks k → (faultFrom (derivative x r) (i + 1) xs ≡ Breaks k → k ≤ i + 1 + length xs) → k ≤ i + length (x ∷ xs)
+    by true e f = let z : i ≡ k = cc in omega arith
+    by false e f = omega (arith, f e)
+
+pub fault-inside : (row kind : ℕ) (v : List ℕ) (k : ℕ) → valueScan row kind v ≡ Breaks k → k ≤ length v
+unfolding valueScan
+fault-inside row kind v k e = omega (arith, inside (lineShape row kind) 0 v k e)
 
 module _ (c : Card) (at : ℕ) (l : List ℕ) (clean : length l ≤ firstBad (allowed false) l) where
   -- whole characters and no control: the line rule decides next
@@ -56,7 +72,7 @@ module _ (c : Card) (at : ℕ) (l : List ℕ) (clean : length l ≤ firstBad (al
   rest v = take-all (length l - v) (drop v l) (rw length-drop (omega arith))
 
   pub judged : (x : Parts) → Read l x
-      → judgeParts c at (x .row) (x .«group_length») (x .«param_count») (x .kind) (firstValue altidName l) (take (length l - x .«value_start») (drop (x .«value_start») l)) ≡ judgeLine c at l
+      → judgeParts c at (x .row) (x .«group_length») (x .«param_count») (x .kind) (firstValue altidName l) (x .«value_start») (take (length l - x .«value_start») (drop (x .«value_start») l)) ≡ judgeLine c at l
   unfolding altidOf paramValue
   judged x r =
       rw (rest (x .«value_start»), r .row, r .group, r .params, r .kind, value-is l (x .«name_end») (read-accepted l x r) altidName, r .value)

@@ -11,11 +11,11 @@ use borrow.Author.Tests.{eqb-true, ne-eqb}
 use Rattle.octets.specs.Pick.{pick}
 use Rattle.octets.proofs.Bools.{by}
 use Rattle.property_table.specs.Rows.{rows, rowAt, single, onceAt, isGroup}
-use Rattle.card_state.specs.State.{Card, Step, Next, Refused, flagOf, onceFlag, isSeen, sameTag, tagOf, tagged, secondInstance, going, lineCard, noted, closed}
+use Rattle.card_state.specs.State.{Card, Step, Next, Refused, Flawed, flagOf, onceFlag, isSeen, sameTag, tagOf, tagged, secondInstance, going, lineCard, noted, closed}
 use Rattle.card_state.specs.Kept.{placesOf, tagAt, Lies, cardOf, stepOf, Holds, goneOn, Keeps}
 use Rattle.card_state.specs.declared.Card.{Card as Kept}
 use Rattle.card_state.specs.declared.Step.{Step as KeptStep}
-use Rattle.card_state.specs.declared.Step.the-variants.{Refused as refused}
+use Rattle.card_state.specs.declared.Step.the-variants.{Refused as refused, Flawed as flawed}
 use Rattle.card_state.proofs.KeptLaws.{holds-more, gone-card, keep-card}
 use Rattle.line_parameters.specs.First.{findFirst}
 use Rattle.line_parameters.specs.declared.First.{First}
@@ -82,6 +82,11 @@ pub stopped : (c : Kept) (store l : List ℕ) (j : Judgement) (n p : ℕ) (s : S
     → (readBy j store l ≡ s) × Keeping c l j
 unfolding Holds stepOf
 stopped c store l j n p s e q = stepped c store l j (refused n p) s e tt q
+
+pub flawed-stop : (c : Kept) (store l : List ℕ) (j : Judgement) (n o : ℕ) (s : Step) → j ≡ unkept (flawed n o) → Flawed n o ≡ s
+    → (readBy j store l ≡ s) × Keeping c l j
+unfolding Holds stepOf
+flawed-stop c store l j n o s e q = stepped c store l j (flawed n o) s e tt q
 
 module _ (c : Kept) (store : List ℕ) (at row : ℕ) (v : List ℕ) where
   abbrev now-card : Card

@@ -1,7 +1,7 @@
 -- The judgement of one logical line within its card, by REFERENCE, The order of refusals: 5, 40 to 43, 9, 8, 7, 10 and, at END, 11, 12. Assumes nothing.
 use Prim.Native.Nat.{ℕ, _+_, _-_, _≤_}
 use mathlib.Core.Path.{_≡_}
-use mathlib.Core.Bool.{Bool, true, false, not, _&&_, _||_}
+use mathlib.Core.Bool.{Bool, false, not, _&&_, _||_}
 use mathlib.Core.List.{List, _++_}
 use mathlib.Core.Option.{Option, none, some}
 use lib.Dec.{eqb, ltb}
@@ -20,7 +20,7 @@ use Rattle.value_kinds.specs.Kinds.{valueScan}
 use Rattle.value_automaton.specs.States.{Scanner}
 use Rattle.value_kinds.specs.declared.Fault.{Fault}
 use Rattle.value_kinds.specs.declared.Fault.the-variants.{Fits, Breaks}
-use Rattle.card_state.specs.State.{Card, Step, Refused, inOrder, noted, closed}
+use Rattle.card_state.specs.State.{Card, Step, Refused, Flawed, inOrder, noted, closed}
 use Rattle.card_state.specs.Kept.{Lies, stepOf, Holds}
 use Rattle.card_state.specs.declared.Card.{Card as Kept}
 use Rattle.card_line.specs.Parts.{rowOfLine, kindOfLine, altidOf}
@@ -32,10 +32,6 @@ use Rattle.card_judge.specs.declared.judge.Judgement.{Judgement}
 abbrev pub Tables : List ℕ → List ℕ → List ℕ → Type 0
 Tables t rows steps = Classes t × Lists rows × Scanner steps
 
--- the place of a value that breaks its kind at an octet of it: the line's start
-abbrev pub valuePlace : ℕ → ℕ → ℕ
-valuePlace at octet = at
-
 -- 8: a group or a parameter on a line that frames a card
 unfoldable pub laden : ℕ → ℕ → ℕ → Bool
 laden row group params = framing row && (not (eqb group 0) || not (eqb params 0))
@@ -44,30 +40,26 @@ laden row group params = framing row && (not (eqb group 0) || not (eqb params 0)
 unfoldable pub entered : Card → ℕ → ℕ → Option (List ℕ) → List ℕ → Step
 entered c at row altid value = pick (eqb row property.end) (closed c at) (noted c at row altid (isGroup value))
 
--- 7: the value breaks its kind
+-- 7: the value, which starts at `start` in the line, breaks its kind at an octet of it, or ends too early
 abbrev pub fitting : ℕ → Fault → Step → Step
-fitting at Fits next = next
-fitting at (Breaks octet) next = Refused refusal.value (valuePlace at octet)
+fitting start Fits next = next
+fitting start (Breaks octet) next = Flawed refusal.value (start + octet)
 
-abbrev pub broken : Fault → Bool
-broken Fits = false
-broken (Breaks octet) = true
-
--- group: the group's length; params: how many parameters
-unfoldable pub judgeParts : Card → ℕ → ℕ → ℕ → ℕ → ℕ → Option (List ℕ) → List ℕ → Step
-judgeParts c at row group params kind altid value =
+-- group: the group's length; params: how many parameters; start: where the value starts in the line
+unfoldable pub judgeParts : Card → ℕ → ℕ → ℕ → ℕ → ℕ → Option (List ℕ) → ℕ → List ℕ → Step
+judgeParts c at row group params kind altid start value =
     pick (inOrder (c .phase) row)
-    (pick (laden row group params) (Refused refusal.laden at) (fitting at (valueScan row kind value) (entered c at row altid value)))
+    (pick (laden row group params) (Refused refusal.laden at) (fitting start (valueScan row kind value) (entered c at row altid value)))
     (Refused refusal.order at)
 
 abbrev pub judgeParsed : Card → ℕ → Parse Line → Step
-judgeParsed c at (got x k) = judgeParts c at (rowOfLine x) (length (x .group)) (length (x .params)) (kindOfLine x) (altidOf x) (x .value)
+judgeParsed c at (got x k) = judgeParts c at (rowOfLine x) (length (x .group)) (length (x .params)) (kindOfLine x) (altidOf x) k (x .value)
 judgeParsed c at (bad e) = Refused e at
 
 -- 5: an octet that is not allowed, or no character; then the fault of the line rule, 40 to 43; then the parts of the line
 unfoldable pub judgeLine : Card → ℕ → List ℕ → Step
 judgeLine c at l =
-    pick (ltb (firstBad (allowed false) l) (length l)) (Refused refusal.badOctet at) (judgeParsed c at (parseLine l))
+    pick (ltb (firstBad (allowed false) l) (length l)) (Flawed refusal.badOctet (firstBad (allowed false) l)) (judgeParsed c at (parseLine l))
 
 -- the octets between two places of a line
 abbrev pub part : ℕ → ℕ → List ℕ → List ℕ

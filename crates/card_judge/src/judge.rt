@@ -3,7 +3,7 @@ ghost use mathlib.Core.Path.{_≡_};
 ghost use mathlib.Core.Bool.{false};
 ghost use mathlib.Core.List.{List};
 ghost use mathlib.Core.Option.{none, some};
-ghost use Prim.Native.Nat.{ℕ, _≤_, _<_};
+ghost use Prim.Native.Nat.{ℕ, _+_, _≤_, _<_};
 ghost use lib.Dec.{eqb};
 ghost use lib.ListN.{length};
 ghost use Rattle.numbers.specs.Limits as limit;
@@ -12,12 +12,10 @@ ghost use Rattle.numbers.specs.Kinds as kinds;
 ghost use Rattle.octets.specs.Pick.{pick};
 ghost use Rattle.octets.specs.Classes.{Classes};
 ghost use Rattle.property_table.specs.Rows.{onceAt, isGroup};
-ghost use Rattle.value_automaton.specs.States.{Scanner};
-ghost use Rattle.value_kinds.specs.Kinds.{valueScan};
 ghost use Rattle.card_line.specs.Parts.{altidName, firstValue, linePartsOf};
 ghost use Rattle.card_state.specs.State.{Next, Counted, inOrder, onceFlag, isSeen, closed};
 ghost use Rattle.card_state.specs.Kept.{Lies, cardOf, stepOf, Holds, goneOn};
-ghost use Rattle.card_judge.specs.Judge.{Tables, laden, broken, entered, judgeParts, judgeLine, part, readBy, Stored, Keeping, Spans};
+ghost use Rattle.card_judge.specs.Judge.{Tables, laden, entered, judgeParts, judgeLine, part, readBy, Stored, Keeping, Spans};
 use card_line::LineParts;
 use card_line::Parts;
 use card_state::Card;
@@ -64,19 +62,6 @@ fn is_laden(x: Parts) -> bool
         return true;
     }
     x.param_count != 0
-}
-
-// Whether a value breaks its kind.
-fn breaks_kind(steps: &Transitions, row: usize, kind: usize, value: &[u8]) -> bool
-    requires { ⌜ Scanner (now steps) ⌝ }
-    requires { ⌜ kind < kinds.count ⌝ }
-    ensures { λ r. ⌜ r ≡ broken (valueScan row kind (now (value .entry))) ⌝ }
-{
-    let f = value_automaton::judge_value(steps, row, kind, value);
-    let Fault::Fits = f else {
-        return true;
-    };
-    false
 }
 
 // Where the ALTID value of a line stands; of a line whose property may stand any number of times it is not looked for.
@@ -202,22 +187,23 @@ fn judge_parts(
     requires { ⌜ Tables (now t) (now rows) (now steps) ⌝ }
     requires { ⌜ LineParts.Line x ≡ linePartsOf (now s) ⌝ }
     requires { ⌜ (x .row < property.count) × (x .kind < kinds.count) ⌝ }
+    requires { ⌜ x .«value_start» + length (now value) ≤ limit.octets ⌝ }
     requires { ⌜ Counted (c .cards) (c .lines) ⌝ }
     requires { ⌜ Stored c (now store) (now s) ⌝ }
-    ensures { λ r. ⌜ readBy r (now (store .entry)) (now (s .entry)) ≡ judgeParts (cardOf c (now (store .entry))) at (x .row) (x .«group_length») (x .«param_count») (x .kind) (firstValue altidName (now (s .entry))) (now (value .entry)) ⌝ }
+    ensures { λ r. ⌜ readBy r (now (store .entry)) (now (s .entry)) ≡ judgeParts (cardOf c (now (store .entry))) at (x .row) (x .«group_length») (x .«param_count») (x .kind) (firstValue altidName (now (s .entry))) (x .«value_start») (now (value .entry)) ⌝ }
     ensures { λ r. ⌜ Keeping c (now (s .entry)) r ⌝ }
 {
     let misplaced = !in_order(c.phase, x.row);
     let laden = is_laden(x);
-    let broken = breaks_kind(steps, x.row, x.kind, value);
+    let fault = value_automaton::judge_value(steps, x.row, x.kind, value);
     if misplaced {
         return unkept(Step::Refused(refusal::ORDER, at));
     }
     if laden {
         return unkept(Step::Refused(refusal::LADEN, at));
     }
-    if broken {
-        return unkept(Step::Refused(refusal::VALUE, at));
+    if let Fault::Breaks(octet) = fault {
+        return unkept(Step::Flawed(refusal::VALUE, x.value_start + octet));
     }
     let once = property_table::once_of(rows, x.row);
     let again = card_state::is_again(c.seen, once);
@@ -240,8 +226,9 @@ pub fn judge_line(
     ensures { λ r. ⌜ readBy r (now (store .entry)) (now (s .entry)) ≡ judgeLine (cardOf c (now (store .entry))) at (now (s .entry)) ⌝ }
     ensures { λ r. ⌜ Keeping c (now (s .entry)) r ⌝ }
 {
-    if utf8_screening::units::first_bad(t, s, false) < s.len() {
-        return unkept(Step::Refused(refusal::BAD_OCTET, at));
+    let bad = utf8_screening::units::first_bad(t, s, false);
+    if bad < s.len() {
+        return unkept(Step::Flawed(refusal::BAD_OCTET, bad));
     }
     match card_line::parts_of(t, rows, s) {
         LineParts::Fault(e) => unkept(Step::Refused(e, at)),

@@ -17,7 +17,7 @@ use Rattle.card_state.specs.State.{Card, Next, freshCard, equal, tagged,
 use Rattle.card_state.specs.Kept.{placesOf, span, placeOf, endOf, tagAt, Inside, Lies, cardOf, stepOf, Holds, noTags, freshKept, goneOn, Keeps}
 use Rattle.card_state.specs.declared.Card.{Card as Kept}
 use Rattle.card_state.specs.declared.Step.{Step as KeptStep}
-use Rattle.card_state.specs.declared.Step.the-variants.{Next as next, Refused as refused}
+use Rattle.card_state.specs.declared.Step.the-variants.{Next as next, Refused as refused, Flawed as flawed}
 
 -- there are eight properties marked *1
 pub once-eight : (row : ℕ) → row < 39 → onceAt row ≤ 8
@@ -99,6 +99,7 @@ pub step-front : (s : KeptStep) (n : ℕ) (a b : List ℕ) → Holds n s → tak
 unfolding Holds stepOf
 step-front (next c) n a b h e = ap Next (card-front c a b (h .0) (front-less (c .used) n a b (h .1) e))
 step-front (refused k p) n a b h e = refl
+step-front (flawed k o) n a b h e = refl
 
 pub inside-at : (ps : List ℕ) (n i : ℕ) → Inside n ps → endOf (getD ps i 0) ≤ n
 unfolding Inside endOf
@@ -125,6 +126,7 @@ pub holds-more : (s : KeptStep) (n m : ℕ) → n ≤ m → Holds n s → Holds 
 unfolding Holds
 holds-more (next c) n m h g = (g .0, omega (arith, g .1))
 holds-more (refused k p) n m h g = tt
+holds-more (flawed k o) n m h g = tt
 
 -- a line that keeps no value leaves the tags
 pub gone-card : (c : Kept) (store : List ℕ) (row : ℕ) (group : Bool) → cardOf (goneOn c row group) store ≡ going (cardOf c store) (cardOf c store .tags) row group

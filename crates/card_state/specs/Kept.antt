@@ -8,11 +8,11 @@ use lib.Bits.{bitOr}
 use lib.Dec.{eqb}
 use lib.ListN.{take, drop, set}
 use Rattle.numbers.specs.Properties as property
-use Rattle.card_state.specs.State.{Card, Step, Next, Refused, beforeBegin, onceFlag, phaseAfter}
+use Rattle.card_state.specs.State.{Card, Step, Next, Refused, Flawed, beforeBegin, onceFlag, phaseAfter}
 use Rattle.card_state.specs.declared.tags.Tags.{Tags}
 use Rattle.card_state.specs.declared.Card.{Card as Kept}
 use Rattle.card_state.specs.declared.Step.{Step as KeptStep}
-use Rattle.card_state.specs.declared.Step.the-variants.{Next as next, Refused as refused}
+use Rattle.card_state.specs.declared.Step.the-variants.{Next as next, Refused as refused, Flawed as flawed}
 
 -- the places, in the order of the properties marked *1
 unfoldable pub placesOf : Tags → List ℕ
@@ -60,11 +60,13 @@ cardOf c store = record {
 unfoldable pub stepOf : List ℕ → KeptStep → Step
 stepOf store (next c) = Next (cardOf c store)
 stepOf store (refused n p) = Refused n p
+stepOf store (flawed n o) = Flawed n o
 
 -- a state whose values end within the first n octets, or a refusal
 unfoldable pub Holds : ℕ → KeptStep → Type 0
 Holds n (next c) = Lies c × (c .used ≤ n)
 Holds n (refused k p) = Unit {0}
+Holds n (flawed k o) = Unit {0}
 
 abbrev pub noTags : Tags
 noTags = record { kind = 0; n = 0; bday = 0; anniversary = 0; gender = 0; prodid = 0; rev = 0; uid = 0 }

@@ -29,10 +29,11 @@ pub record Card : Type 0 where
   pub cards : ℕ
   pub lines : ℕ
 
--- the card after a line, or the refusal's number and place
+-- the card after a line, or the refusal's number and its place in the input, or its number and the octet of the unfolded line
 pub data Step : Type 0 where
   Next : Card → Step
   Refused : ℕ → ℕ → Step
+  Flawed : ℕ → ℕ → Step
 
 -- the counts of a card's state within an input that may still go on: cards that have ended, and lines
 abbrev pub Counted : ℕ → ℕ → Type 0

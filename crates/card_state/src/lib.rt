@@ -43,10 +43,11 @@ pub struct Card {
     pub lines: usize,
 }
 
-// The card after a line, or the refusal's number and place.
+// The card after a line, or the refusal's number and its place in the input, or its number and the octet of the unfolded line.
 pub enum Step {
     Next(Card),
     Refused(u32, usize),
+    Flawed(u32, usize),
 }
 
 // Before the first line.

@@ -4,3 +4,4 @@ pub mod HopLaws
 pub mod QuickLaws
 pub mod LineLaws
 pub mod SpanLaws
+pub mod PlaceLaws

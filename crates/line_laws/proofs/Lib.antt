@@ -4,3 +4,4 @@ pub mod FaultComplete
 pub mod FirstLaws
 pub mod Examples
 pub mod LinedLaws
+pub mod PlacedLaws

@@ -43,7 +43,7 @@ folded-lone (octet {b = b} {r = r} f) h t e = lone-inner b (r ++ t) (h .0) ∙ a
 folded-lone (fold {b = b} {r = r} w f) h t e =
     lone-pair (b ∷ (r ++ t)) ∙ ap (λ (n : ℕ). suc (suc n)) (lone-inner b (r ++ t) (blank-inner b w) ∙ ap suc (folded-lone f h t e))
 
-fold-here : (b : ℕ) (s : List ℕ) → Blank b → foldAt (13 ∷ 10 ∷ b ∷ s) ≡ true
+pub fold-here : (b : ℕ) (s : List ℕ) → Blank b → foldAt (13 ∷ 10 ∷ b ∷ s) ≡ true
 unfolding foldAt
 fold-here b s (inl e) = rw e
 fold-here b s (inr e) = rw e
@@ -52,7 +52,7 @@ no-fold-here : (i : List ℕ) → Unled i → foldAt (13 ∷ 10 ∷ i) ≡ false
 unfolding foldAt Unled
 no-fold-here i h = rw (ne-eqb (hd i) 32 (h .0), ne-eqb (hd i) 9 (h .1))
 
-inner-fold : (b : ℕ) (s : List ℕ) → Inner b → foldAt (b ∷ s) ≡ false
+pub inner-fold : (b : ℕ) (s : List ℕ) → Inner b → foldAt (b ∷ s) ≡ false
 unfolding foldAt
 inner-fold b s h = rw (ne-eqb b 13 (h .0))
 

@@ -1,5 +1,5 @@
 -- Raw lines and logical lines in plain words: folds, ends of lines, and an input split into its lines. Assumes nothing.
-use Prim.Native.Nat.{ℕ}
+use Prim.Native.Nat.{ℕ, suc, _+_}
 use mathlib.Core.Path.{_≡_}
 use mathlib.Core.List.{List, [], _∷_, _++_}
 use mathlib.Core.Logic.{_⊎_}
@@ -14,6 +14,13 @@ pub data Folded : List ℕ → List ℕ → Type 0 where
   end : Folded [] []
   octet : {b : ℕ} {l r : List ℕ} → Folded l r → Folded (b ∷ l) (b ∷ r)
   fold : {b : ℕ} {l r : List ℕ} → Blank b → Folded l r → Folded l (13 ∷ 10 ∷ b ∷ r)
+
+-- octet o of the line l stands at p in r, which is l with folds in it: after all the folds before it; the end of l stands at the end of r
+pub data At : List ℕ → List ℕ → ℕ → ℕ → Type 0 where
+  ends : At [] [] 0 0
+  here : {b : ℕ} {l r : List ℕ} → Folded l r → At (b ∷ l) (b ∷ r) 0 0
+  next : {b o p : ℕ} {l r : List ℕ} → At l r o p → At (b ∷ l) (b ∷ r) (suc o) (suc p)
+  past : {b o p : ℕ} {l r : List ℕ} → Blank b → At l r o p → At l (13 ∷ 10 ∷ b ∷ r) o (3 + p)
 
 -- no octet is CR or LF
 unfoldable pub Unbroken : List ℕ → Type 0

@@ -5,20 +5,28 @@ use lib.ListN.{length, take, drop}
 use Rattle.numbers.specs.Limits as limit
 use Rattle.octets.specs.Room.{overlay}
 use Rattle.line_folds.specs.Folds.{unfolded}
+use Rattle.line_folds.specs.Places.{placeOf}
 use Rattle.card_judge.specs.Judge.{judgeLine}
 use Rattle.card_state.specs.Kept.{Lies}
 use Rattle.card_state.specs.declared.Card.{Card as Kept}
-use Rattle.card_state.specs.State.{Card, Step, Next, Refused as Halted}
+use Rattle.card_state.specs.State.{Card, Step, Next, Refused as Halted, Flawed}
 
 -- a refusal is handed up unchanged
 abbrev pub onward : Step → (Card → Step) → Step
 onward (Next c) f = f c
 onward (Halted n p) f = Halted n p
+onward (Flawed n o) f = Flawed n o
+
+-- the judgement of the line l, which starts at p: a refusal that names an octet of the unfolded line has that octet's place in the input
+abbrev pub settled : ℕ → List ℕ → Step → Step
+settled p l (Next c) = Next c
+settled p l (Halted n q) = Halted n q
+settled p l (Flawed n o) = Halted n (p + placeOf l o)
 
 -- the lines judged one after the other; they are as they came, and p is the place of the first of them in the input as given
 unfoldable pub judgeLines : List (List ℕ) → ℕ → Card → Step
 judgeLines [] p c = Next c
-judgeLines (l ∷ ls) p c = onward (judgeLine c p (unfolded l)) (judgeLines ls (p + length l + 2))
+judgeLines (l ∷ ls) p c = onward (settled p l (judgeLine c p (unfolded l))) (judgeLines ls (p + length l + 2))
 
 -- a list d with xs in the place of as many octets from a place on
 unfoldable pub behind : ℕ → List ℕ → List ℕ → List ℕ

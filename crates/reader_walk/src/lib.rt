@@ -10,7 +10,7 @@ ghost use Rattle.line_folds.specs.Logical.{rawLines};
 ghost use Rattle.card_state.specs.State.{Counted, freshCard};
 ghost use Rattle.card_state.specs.Kept.{cardOf, stepOf, Holds};
 ghost use Rattle.card_judge.specs.Judge.{Tables, judgeLine, readBy, Keeping};
-ghost use Rattle.reader_walk.specs.Walk.{judgeLines, Roomy};
+ghost use Rattle.reader_walk.specs.Walk.{settled, judgeLines, Roomy};
 
 mod keeping;
 
@@ -115,6 +115,18 @@ fn judge_span(
     judge_plain(t, rows, steps, s, scratch, at, c)
 }
 
+// The judgement of the line s, which starts at `at` in the input, with the place in the input of an octet that it names.
+fn settle(step: Step, s: &[u8], at: usize) -> Step
+    requires { ⌜ at + length (now s) ≤ limit.octets ⌝ }
+    ensures { λ r. ⌜ ((store : List ℕ) → stepOf store r ≡ settled at (now (s .entry)) (stepOf store step)) ⌝ }
+{
+    let Step::Flawed(number, octet) = step else {
+        return step;
+    };
+    let place = line_folds::places::place_of(s, octet);
+    Step::Refused(number, at + place)
+}
+
 // An input of at most so many octets is judged with a scratch of as many, since the scratch is made at each call.
 const SHORT: usize = 1024;
 
@@ -139,7 +151,7 @@ fn walk_in(
         let folded = span.cr != end;
         let j = judge_span(t, rows, steps, &s[at..end], folded, scratch, at, c);
         let Step::Next(next) = j else {
-            return j;
+            return settle(j, &s[at..end], at);
         };
         c = next;
         at = end + 2;

@@ -11,7 +11,7 @@ use Rattle.card_state.specs.State.{Step, freshCard}
 use Rattle.card_state.specs.Kept.{Lies, cardOf, stepOf, Holds}
 use Rattle.card_state.proofs.KeptLaws.{none-lie, fresh-card}
 use Rattle.card_judge.proofs.CardLaws.{one-more}
-use Rattle.reader_walk.specs.Walk.{onward, judgeLines}
+use Rattle.reader_walk.specs.Walk.{onward, settled, judgeLines}
 use Rattle.line_folds.proofs.SpanLaws.{whole, part-length}
 use Rattle.reader_walk.proofs.WalkLaws.{judged, stopped-step}
 use Rattle.reader_walk.proofs.walk_in.Statement.{statement}
@@ -26,10 +26,16 @@ abbrev μ-loop : tie.MeasureT-loop
 μ-loop t rows steps s scratch₀ c₀ at₀ scratch c at =
     length s - at
 
+-- the line at hand, as it came
+abbrev line : tie.After-judge-span Inv-loop μ-loop → List ℕ
+line c =
+    let at = c .before .before .before .before .before .before .loop .at in
+    take (c .before .before .before .before .line-at .result .end - at) (drop at (c .before .before .before .before .before .before .before .before .before .before .args .s .now))
+
 -- one turn, judged
 turn : (c : tie.After-judge-span Inv-loop μ-loop)
     → judgeLines (rawLines (c .before .before .before .before .before .before .before .before .before .before .args .s .now)) 0 freshCard
-    ≡ onward (stepOf (c .judge-span .last .1 .1 .1 .1 .1 .0) (c .judge-span .result)) (judgeLines (rawLines (drop (c .before .before .before .before .line-at .result .end + 2) (c .before .before .before .before .before .before .before .before .before .before .args .s .now))) (c .before .before .before .before .line-at .result .end + 2))
+    ≡ onward (settled (c .before .before .before .before .before .before .loop .at) (line c) (stepOf (c .judge-span .last .1 .1 .1 .1 .1 .0) (c .judge-span .result))) (judgeLines (rawLines (drop (c .before .before .before .before .line-at .result .end + 2) (c .before .before .before .before .before .before .before .before .before .before .args .s .now))) (c .before .before .before .before .line-at .result .end + 2))
 turn c =
     let l = c .before .before .before .before .before .before .loop in
     let v = c .before .before .before .before .line-at in
@@ -84,16 +90,33 @@ judge-span-requires c κs =
 enum-known-j : tie.Need-enum-known-j Inv-loop μ-loop
 enum-known-j c = search needs
 
-enum-told : tie.Need-enum-told Inv-loop μ-loop
-enum-told c = search needs
+sub-settle : tie.Need-sub-settle Inv-loop μ-loop
+sub-settle c = search needs
+
+part-settle-start : tie.Need-part-settle-start Inv-loop μ-loop
+part-settle-start c = search needs
+
+part-settle-end : tie.Need-part-settle-end Inv-loop μ-loop
+part-settle-end c = search needs
+
+settle-requires : tie.Need-settle-requires Inv-loop μ-loop
+settle-requires c κs =
+    let c9 = c .before .before .before .before .before .before .before .before in
+    let l = c9 .before .before .loop in
+    let v = c9 .line-at in
+    let s = c9 .before .before .before .before .before .before in
+    let n = part-length (s .args .s .now) (l .at) (v .result .end) (c9 .before .loop-test .taken) (v .ensures .1) (v .ensures .2) in
+    omega (arith, n, c9 .before .loop-test .taken, v .ensures .1, v .ensures .2, s .pre .1 .0)
 
 same-length : tie.Need-same-length Inv-loop μ-loop
 same-length c = search needs
 
 returns : tie.Need-returns Inv-loop μ-loop
 returns c =
-    let j = c .before .before .before .before .judge-span in
-    (j .last .1 .1 .1 .1 .1 .0, sym (turn (c .before .before .before .before) ∙ stopped-step (j .last .1 .1 .1 .1 .1 .0) (j .result) _ _ _ (c .enum-told .given .1)))
+    let c5 = c .before .before .before .before .before in
+    let j = c5 .judge-span in
+    let store = j .last .1 .1 .1 .1 .1 .0 in
+    (store, c .settle .ensures store ∙ sym (turn c5 ∙ stopped-step store _ (line c5) _ (j .result) (c .before .before .match .keys2)))
 
 add-at : tie.Need-add-at Inv-loop μ-loop
 add-at c =
@@ -124,7 +147,7 @@ loop-again c =
       omega (arith, v .ensures .1, l .inv .2, more .0),
       holds .0,
       omega (arith, holds .1, n, l .inv .4, v .ensures .1),
-      turn (c5) ∙ ap (λ (r : Step). onward r (judgeLines (rawLines (drop (v .result .end + 2) (a .s .now))) (v .result .end + 2))) (ap (stepOf (j .last .1 .1 .1 .1 .1 .0)) e),
+      turn c5 ∙ ap (λ (r : Step). onward (settled (l .at) (line c5) r) (judgeLines (rawLines (drop (v .result .end + 2) (a .s .now))) (v .result .end + 2))) (ap (stepOf (j .last .1 .1 .1 .1 .1 .0)) e),
     )
 
 same-length-2 : tie.Need-same-length-2 Inv-loop μ-loop
@@ -150,7 +173,10 @@ walk-in-spec =
     part-judge-span-end
     judge-span-requires
     enum-known-j
-    enum-told
+    sub-settle
+    part-settle-start
+    part-settle-end
+    settle-requires
     same-length
     returns
     add-at

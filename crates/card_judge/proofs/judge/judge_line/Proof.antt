@@ -3,13 +3,15 @@ use borrow.Author.Needs.{needs}
 use borrow.Author.Tests.{lt-ltb}
 use mathlib.Core.Path.{sym, _∙_}
 use mathlib.Core.Bool.{false}
-use lib.ListN.{length}
+use Prim.Native.Nat.{_-_, _≤_}
+use native.Mathlib.Omega.{arith}
+use lib.ListN.{length, take, drop, length-take}
 use Rattle.utf8.specs.Characters.{allowed, firstBad}
 use Rattle.card_line.proofs.PartLaws.{Read, read}
 use Rattle.card_state.specs.Kept.{cardOf}
 use Rattle.card_judge.specs.Judge.{judgeLine}
 use Rattle.card_judge.proofs.JudgeLaws.{refused, judged}
-use Rattle.card_judge.proofs.SettleLaws.{stopped}
+use Rattle.card_judge.proofs.SettleLaws.{stopped, flawed-stop}
 use Rattle.card_judge.proofs.judge.judge_line.Statement.{statement}
 use Rattle.card_judge.proofs.judge.judge_line.Tie as tie
 
@@ -24,8 +26,8 @@ unfolding judgeLine
 returns c =
     let a = c .before .before .before .before .before .args in
     let l = a .s .now in
-    stopped (a .c) (a .store .now) l (c .unkept .result) 5 (a .at) _ (c .unkept .ensures)
-    (simp (lt-ltb (firstBad (allowed false) l) (length l) (rw (← c .before .before .first-bad .ensures) (c .before .if1 .taken))))
+    flawed-stop (a .c) (a .store .now) l (c .unkept .result) 5 _ _ (c .unkept .ensures)
+    (simp (c .before .before .first-bad .ensures, lt-ltb (firstBad (allowed false) l) (length l) (rw (← c .before .before .first-bad .ensures) (c .before .if1 .taken))))
 
 parts-of-requires : tie.Need-parts-of-requires
 parts-of-requires c κs = search needs
@@ -56,7 +58,18 @@ judge-parts-requires : tie.Need-judge-parts-requires
 judge-parts-requires c κs =
     let s = c .before .before .before .before .before .before .before .before .before in
     let x = c .before .before .x .given .1 in
-    (s .pre .0, (sym x ∙ c .before .before .before .before .parts-of .ensures, ((there (c .before) .listed, there (c .before) .low), s .pre .1)))
+    let l = s .args .s .now in
+    let v = c .before .before .x .given .0 .0 .«value_start» in
+    let size : length (take (length l - v) (drop v l)) ≤ length l - v = simp length-take (omega arith) in (
+      s .pre .0,
+      (
+        sym x ∙ c .before .before .before .before .parts-of .ensures,
+        (
+          (there (c .before) .listed, there (c .before) .low),
+          (omega (arith, there (c .before) .inside, size, s .pre .1 .1 .short), s .pre .1),
+        ),
+      ),
+    )
 
 returns-2 : tie.Need-returns-2
 returns-2 c =
