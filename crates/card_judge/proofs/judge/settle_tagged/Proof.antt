@@ -9,15 +9,15 @@ use native.Mathlib.Omega.{arith}
 use lib.ListN.{length}
 use Rattle.card_state.specs.State.{onceFlag, isSeen}
 use Rattle.card_state.specs.Kept.{Holds, Keeps}
-use Rattle.card_state.proofs.KeptLaws.{once-eight, keep-lies}
+use Rattle.card_state.proofs.KeptLaws.{once-ten, keep-lies}
 use Rattle.card_judge.specs.Judge.{part, readBy}
 use Rattle.card_judge.proofs.SettleLaws.{part-size, stepped, stopped, other-second, same-on, first-on}
 use Rattle.card_judge.proofs.judge.settle_tagged.Statement.{statement}
 use Rattle.card_judge.proofs.judge.settle_tagged.Tie as tie
 
--- the property's number is one of eight
-low : (s : tie.Start) → (0 < s .args .once) × (s .args .once ≤ 8)
-low s = (s .pre .1 .1 .0 .0, omega (arith, once-eight (s .args .row) (s .pre .1 .0 .0), s .pre .1 .0 .1 .0))
+-- the property's number is one of ten
+low : (s : tie.Start) → (0 < s .args .once) × (s .args .once ≤ 10)
+low s = (s .pre .1 .1 .0 .0, omega (arith, once-ten (s .args .row) (s .pre .1 .0 .0), s .pre .1 .0 .1 .0))
 
 sub-keep : tie.Need-sub-keep
 sub-keep c = search needs
