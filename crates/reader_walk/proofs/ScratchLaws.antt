@@ -14,6 +14,7 @@ use Rattle.card_state.specs.State.{Card}
 use Rattle.card_state.specs.Kept.{Lies, cardOf, stepOf, Holds}
 use Rattle.card_state.specs.declared.Card.{Card as Kept}
 use Rattle.card_state.proofs.KeptLaws.{card-front, step-front}
+use Rattle.property_table.specs.declared.Edition.{Edition}
 use Rattle.card_judge.specs.Judge.{part, readBy, judgeLine, Keeping}
 use Rattle.card_judge.specs.declared.judge.Judgement.{Judgement}
 use Rattle.card_judge.proofs.SettleLaws.{part-size}
@@ -50,8 +51,8 @@ behind-after a q p h =
     ap (λ (k : ℕ). drop k (take a p ++ overlay q (drop a p))) (sym n) ∙ drop-append-seam (take a p) (overlay q (drop a p))
 
 -- a line l was judged with the front of p as store, and what is to be kept of it was laid behind the front
-module _ (c : Kept) (p q l : List ℕ) (j : Judgement) (at : ℕ) (lies : Lies c) (room : c .used ≤ length p) (keeps : Keeping c l j)
-    (judged : readBy j (take (c .used) p) l ≡ judgeLine (cardOf c (take (c .used) p)) at l) (laid : q ≡ behind (c .used) (part (j .from) (j .to) l) p) where
+module _ (ed : Edition) (c : Kept) (p q l : List ℕ) (j : Judgement) (at : ℕ) (lies : Lies c) (room : c .used ≤ length p) (keeps : Keeping c l j)
+    (judged : readBy j (take (c .used) p) l ≡ judgeLine ed (cardOf c (take (c .used) p)) at l) (laid : q ≡ behind (c .used) (part (j .from) (j .to) l) p) where
   size : length (part (j .from) (j .to) l) ≡ j .to - j .from
   size = part-size (j .from) (j .to) l (keeps .order) (keeps .inside)
 
@@ -65,12 +66,12 @@ module _ (c : Kept) (p q l : List ℕ) (j : Judgement) (at : ℕ) (lies : Lies c
       ∙ behind-front (c .used) (part (j .from) (j .to) l) p room
       ∙ sym (take-all (c .used + (j .to - j .from)) (take (c .used) p ++ part (j .from) (j .to) l) (omega (arith, n)))
 
-  pub span-judged : stepOf q (j .step) ≡ judgeLine (cardOf c p) at l
+  pub span-judged : stepOf q (j .step) ≡ judgeLine ed (cardOf c p) at l
   unfolding readBy
   span-judged =
       step-front (j .step) (c .used + (j .to - j .from)) q (take (c .used) p ++ part (j .from) (j .to) l) (keeps .holds) front
       ∙ judged
-      ∙ ap (λ (k : _). judgeLine k at l) (card-front c (take (c .used) p) p lies (take-all (c .used) (take (c .used) p) (omega (arith, length-take-le (c .used) p room))))
+      ∙ ap (λ (k : _). judgeLine ed k at l) (card-front c (take (c .used) p) p lies (take-all (c .used) (take (c .used) p) (omega (arith, length-take-le (c .used) p room))))
 
 -- the line that was unfolded behind the front of p
 module _ (c : Kept) (p l : List ℕ) (n : ℕ) (lies : Lies c) (room : c .used + length l ≤ length p) (size : n ≡ length l) where
@@ -113,17 +114,17 @@ module _ (c : Kept) (p l : List ℕ) (n : ℕ) (lies : Lies c) (room : c .used +
       ap (take (to - from)) (there ∙ drop-append-le from l (drop (length l) (drop (c .used) p)) (omega arith))
       ∙ take-append-le (to - from) (drop from l) (drop (length l) (drop (c .used) p)) (rw length-drop (omega arith))
 
-  pub folded-judged : (j : Judgement) (at : ℕ) (q : List ℕ) → Keeping c (drop (c .used) (take (c .used + n) laid)) j
+  pub folded-judged : (ed : Edition) (j : Judgement) (at : ℕ) (q : List ℕ) → Keeping c (drop (c .used) (take (c .used + n) laid)) j
       → readBy j (take (c .used) (take (c .used + n) laid)) (drop (c .used) (take (c .used + n) laid))
-      ≡ judgeLine (cardOf c (take (c .used) (take (c .used + n) laid))) at (drop (c .used) (take (c .used + n) laid))
+      ≡ judgeLine ed (cardOf c (take (c .used) (take (c .used + n) laid))) at (drop (c .used) (take (c .used + n) laid))
       → q ≡ behind (c .used) (take (j .to - j .from) (drop (c .used + j .from) laid)) laid
-      → stepOf q (j .step) ≡ judgeLine (cardOf c p) at l
-  folded-judged j at q keeps judged e =
+      → stepOf q (j .step) ≡ judgeLine ed (cardOf c p) at l
+  folded-judged ed j at q keeps judged e =
       let k : Keeping c l j = rw line-is at keeps in
-      let same : readBy j (take (c .used) laid) l ≡ judgeLine (cardOf c (take (c .used) laid)) at l = rw (line-is, store-is) at judged in
-      span-judged c laid q l j at lies (omega (arith, laid-length)) k same
+      let same : readBy j (take (c .used) laid) l ≡ judgeLine ed (cardOf c (take (c .used) laid)) at l = rw (line-is, store-is) at judged in
+      span-judged ed c laid q l j at lies (omega (arith, laid-length)) k same
       (e ∙ ap (λ (x : List ℕ). behind (c .used) x laid) (moved (j .from) (j .to) (k .order) (k .inside)))
-      ∙ ap (λ (x : Card). judgeLine x at l) (card-front c laid p lies (behind-before (c .used) l p within))
+      ∙ ap (λ (x : Card). judgeLine ed x at l) (card-front c laid p lies (behind-before (c .used) l p within))
 
 -- octets moved down one after the other
 module _ (b₀ : List ℕ) (to from n : ℕ) (down : to ≤ from) (room : from + n ≤ length b₀) where

@@ -19,6 +19,7 @@ use card_state::Card;
 use card_state::Step;
 use numbers::limit;
 use octets::classes::ClassTable;
+use property_table::Edition;
 use property_table::rows::PropertyTable;
 use value_automaton::states::Transitions;
 
@@ -27,6 +28,7 @@ fn judge_plain(
     t: &ClassTable,
     rows: &PropertyTable,
     steps: &Transitions,
+    edition: Edition,
     s: &[u8],
     scratch: &mut [u8],
     at: usize,
@@ -35,11 +37,11 @@ fn judge_plain(
     requires { ⌜ Tables (now t) (now rows) (now steps) ⌝ }
     requires { ⌜ Counted (c .cards) (c .lines) ⌝ }
     requires { ⌜ Roomy c (now s) (now scratch) ⌝ }
-    ensures { λ r. ⌜ stepOf (now (scratch .exit)) r ≡ judgeLine (cardOf c (now (scratch .entry))) at (now (s .entry)) ⌝ }
+    ensures { λ r. ⌜ stepOf (now (scratch .exit)) r ≡ judgeLine edition (cardOf c (now (scratch .entry))) at (now (s .entry)) ⌝ }
     ensures { λ r. ⌜ Holds (c .used + length (now (s .entry))) r ⌝ }
 {
     let used = c.used;
-    let j = card_judge::judge::judge_line(t, rows, steps, s, &scratch[..used], at, c);
+    let j = card_judge::judge::judge_line(t, rows, steps, edition, s, &scratch[..used], at, c);
     let from = j.from;
     let to = j.to;
     keeping::keep(scratch, used, &s[from..to]);
@@ -51,6 +53,7 @@ fn judge_behind(
     t: &ClassTable,
     rows: &PropertyTable,
     steps: &Transitions,
+    edition: Edition,
     buffer: &[u8],
     at: usize,
     c: Card,
@@ -58,11 +61,11 @@ fn judge_behind(
     requires { ⌜ Tables (now t) (now rows) (now steps) ⌝ }
     requires { ⌜ Counted (c .cards) (c .lines) ⌝ }
     requires { ⌜ Roomy c [] (now buffer) ⌝ }
-    ensures { λ r. ⌜ readBy r (take (c .used) (now (buffer .entry))) (drop (c .used) (now (buffer .entry))) ≡ judgeLine (cardOf c (take (c .used) (now (buffer .entry)))) at (drop (c .used) (now (buffer .entry))) ⌝ }
+    ensures { λ r. ⌜ readBy r (take (c .used) (now (buffer .entry))) (drop (c .used) (now (buffer .entry))) ≡ judgeLine edition (cardOf c (take (c .used) (now (buffer .entry)))) at (drop (c .used) (now (buffer .entry))) ⌝ }
     ensures { λ r. ⌜ Keeping c (drop (c .used) (now (buffer .entry))) r ⌝ }
 {
     let used = c.used;
-    card_judge::judge::judge_line(t, rows, steps, &buffer[used..], &buffer[..used], at, c)
+    card_judge::judge::judge_line(t, rows, steps, edition, &buffer[used..], &buffer[..used], at, c)
 }
 
 // Judges the line s, which starts at `at` in the input, unfolded behind the values that are kept, and keeps what is to be kept of it.
@@ -70,6 +73,7 @@ fn judge_folded(
     t: &ClassTable,
     rows: &PropertyTable,
     steps: &Transitions,
+    edition: Edition,
     s: &[u8],
     scratch: &mut [u8],
     at: usize,
@@ -78,13 +82,13 @@ fn judge_folded(
     requires { ⌜ Tables (now t) (now rows) (now steps) ⌝ }
     requires { ⌜ Counted (c .cards) (c .lines) ⌝ }
     requires { ⌜ Roomy c (now s) (now scratch) ⌝ }
-    ensures { λ r. ⌜ stepOf (now (scratch .exit)) r ≡ judgeLine (cardOf c (now (scratch .entry))) at (unfolded (now (s .entry))) ⌝ }
+    ensures { λ r. ⌜ stepOf (now (scratch .exit)) r ≡ judgeLine edition (cardOf c (now (scratch .entry))) at (unfolded (now (s .entry))) ⌝ }
     ensures { λ r. ⌜ Holds (c .used + length (now (s .entry))) r ⌝ }
 {
     let used = c.used;
     let n = keeping::unfold_behind(s, scratch, used);
     let end = used + n;
-    let j = judge_behind(t, rows, steps, &scratch[..end], at, c);
+    let j = judge_behind(t, rows, steps, edition, &scratch[..end], at, c);
     let from = used + j.from;
     let n = j.to - j.from;
     keeping::move_down(scratch, used, from, n);
@@ -96,6 +100,7 @@ fn judge_span(
     t: &ClassTable,
     rows: &PropertyTable,
     steps: &Transitions,
+    edition: Edition,
     s: &[u8],
     folded: bool,
     scratch: &mut [u8],
@@ -106,13 +111,13 @@ fn judge_span(
     requires { ⌜ Counted (c .cards) (c .lines) ⌝ }
     requires { ⌜ Roomy c (now s) (now scratch) ⌝ }
     requires { ⌜ (folded ≡ false → unfolded (now s) ≡ now s) ⌝ }
-    ensures { λ r. ⌜ stepOf (now (scratch .exit)) r ≡ judgeLine (cardOf c (now (scratch .entry))) at (unfolded (now (s .entry))) ⌝ }
+    ensures { λ r. ⌜ stepOf (now (scratch .exit)) r ≡ judgeLine edition (cardOf c (now (scratch .entry))) at (unfolded (now (s .entry))) ⌝ }
     ensures { λ r. ⌜ Holds (c .used + length (now (s .entry))) r ⌝ }
 {
     if folded {
-        return judge_folded(t, rows, steps, s, scratch, at, c);
+        return judge_folded(t, rows, steps, edition, s, scratch, at, c);
     }
-    judge_plain(t, rows, steps, s, scratch, at, c)
+    judge_plain(t, rows, steps, edition, s, scratch, at, c)
 }
 
 // The judgement of the line s, which starts at `at` in the input, with the place in the input of an octet that it names.
@@ -135,13 +140,14 @@ fn walk_in(
     t: &ClassTable,
     rows: &PropertyTable,
     steps: &Transitions,
+    edition: Edition,
     s: &[u8],
     scratch: &mut [u8],
 ) -> Step
     requires { ⌜ Tables (now t) (now rows) (now steps) ⌝ }
     requires { ⌜ length (now s) ≤ limit.octets ⌝ }
     requires { ⌜ (length (now s) ≤ length (now scratch)) × (length (now scratch) ≤ limit.octets) ⌝ }
-    ensures { λ r. ⌜ ((store : List ℕ) × (stepOf store r ≡ judgeLines (rawLines (now (s .entry))) 0 freshCard)) ⌝ }
+    ensures { λ r. ⌜ ((store : List ℕ) × (stepOf store r ≡ judgeLines edition (rawLines (now (s .entry))) 0 freshCard)) ⌝ }
 {
     let mut c = card_state::fresh();
     let mut at: usize = 0;
@@ -149,7 +155,7 @@ fn walk_in(
         let span = line_folds::spans::line_at(s, at);
         let end = span.end;
         let folded = span.cr != end;
-        let j = judge_span(t, rows, steps, &s[at..end], folded, scratch, at, c);
+        let j = judge_span(t, rows, steps, edition, &s[at..end], folded, scratch, at, c);
         let Step::Next(next) = j else {
             return settle(j, &s[at..end], at);
         };
@@ -160,15 +166,21 @@ fn walk_in(
 }
 
 // Judges the lines one after the other, up to the first refusal.
-pub fn walk(t: &ClassTable, rows: &PropertyTable, steps: &Transitions, s: &[u8]) -> Step
+pub fn walk(
+    t: &ClassTable,
+    rows: &PropertyTable,
+    steps: &Transitions,
+    edition: Edition,
+    s: &[u8],
+) -> Step
     requires { ⌜ Tables (now t) (now rows) (now steps) ⌝ }
     requires { ⌜ length (now s) ≤ limit.octets ⌝ }
-    ensures { λ r. ⌜ ((store : List ℕ) × (stepOf store r ≡ judgeLines (rawLines (now (s .entry))) 0 freshCard)) ⌝ }
+    ensures { λ r. ⌜ ((store : List ℕ) × (stepOf store r ≡ judgeLines edition (rawLines (now (s .entry))) 0 freshCard)) ⌝ }
 {
     if s.len() <= SHORT {
         let mut scratch = [0u8; SHORT];
-        return walk_in(t, rows, steps, s, &mut scratch);
+        return walk_in(t, rows, steps, edition, s, &mut scratch);
     }
     let mut scratch = [0u8; limit::OCTETS];
-    walk_in(t, rows, steps, s, &mut scratch)
+    walk_in(t, rows, steps, edition, s, &mut scratch)
 }

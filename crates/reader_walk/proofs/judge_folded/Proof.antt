@@ -88,10 +88,10 @@ returns c =
     let keeps = subst (λ (x : List ℕ). Keeping (a .c) (drop (a .c .used) (take (a .c .used + u .result) x)) (j .result)) (u .ensures .1) (j .ensures .1) in
     let judged =
     subst (λ (x : List ℕ). readBy (j .result) (take (a .c .used) (take (a .c .used + u .result) x)) (drop (a .c .used) (take (a .c .used + u .result) x))
-    ≡ judgeLine (cardOf (a .c) (take (a .c .used) (take (a .c .used + u .result) x))) (a .at) (drop (a .c .used) (take (a .c .used + u .result) x))) (u .ensures .1) (j .ensures .0) in
+    ≡ judgeLine (a .edition) (cardOf (a .c) (take (a .c .used) (take (a .c .used + u .result) x))) (a .at) (drop (a .c .used) (take (a .c .used + u .result) x))) (u .ensures .1) (j .ensures .0) in
     let laid =
     subst (λ (x : List ℕ). m .last .0 ≡ behind (a .c .used) (take (j .result .to - j .result .from) (drop (a .c .used + j .result .from) x)) x) (u .ensures .1) (m .ensures) in (
-      folded-judged (a .c) (a .scratch .now) l (u .result) (s .pre .1 .1 .lies) (fits s) (u .ensures .0) (j .result) (a .at) (m .last .0) keeps judged laid,
+      folded-judged (a .c) (a .scratch .now) l (u .result) (s .pre .1 .1 .lies) (fits s) (u .ensures .0) (a .edition) (j .result) (a .at) (m .last .0) keeps judged laid,
       holds-more (j .result .step) (a .c .used + (j .result .to - j .result .from)) (a .c .used + length (a .s .now)) (omega (arith, k .order, k .inside, unfold-shorter (a .s .now))) (k .holds),
     )
 

@@ -43,7 +43,7 @@ returns c =
     let r = s .pre .1 .1 in
     let j = c .before .before .before .before .before .judge-line in
     let k = j .ensures .1 in (
-      span-judged (a .c) (a .scratch .now) _ (a .s .now) (j .result) (a .at) (r .lies) (omega (arith, r .room)) k (j .ensures .0) (c .before .before .keep .ensures),
+      span-judged (a .edition) (a .c) (a .scratch .now) _ (a .s .now) (j .result) (a .at) (r .lies) (omega (arith, r .room)) k (j .ensures .0) (c .before .before .keep .ensures),
       holds-more (j .result .step) (a .c .used + (j .result .to - j .result .from)) (a .c .used + length (a .s .now)) (omega (arith, k .order, k .inside)) (k .holds),
     )
 

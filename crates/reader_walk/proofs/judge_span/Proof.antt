@@ -25,7 +25,7 @@ returns-2 : tie.Need-returns-2
 returns-2 c =
     let s = c .before .before .before .before .before .before .before in
     let j = c .before .before .judge-plain in (
-      j .ensures .0 ∙ ap (judgeLine (cardOf (s .args .c) (s .args .scratch .now)) (s .args .at)) (sym (s .pre .1 .1 .1 (c .before .before .before .before .if1 .left))),
+      j .ensures .0 ∙ ap (judgeLine (s .args .edition) (cardOf (s .args .c) (s .args .scratch .now)) (s .args .at)) (sym (s .pre .1 .1 .1 (c .before .before .before .before .if1 .left))),
       j .ensures .1,
     )
 
