@@ -20,7 +20,7 @@ module _ (P : List ℕ → Type 0) (each : (c c′ : Card) (p : ℕ) (l : List �
   unfolding judgeLines All
   all-judged [] p c c′ e = tt
   all-judged (l ∷ ls) p c c′ e =
-      onward-next (judgeLine c p (unfolded l)) (judgeLines ls (p + length l + 2)) c′ e
+      onward-next p l (judgeLine c p (unfolded l)) (judgeLines ls (p + length l + 2)) c′ e
       (λ d q r. (each c d p (unfolded l) q, all-judged ls (p + length l + 2) d c′ r))
 
   pub all-lines : (i : List ℕ) (k n : ℕ) → judgeOf i ≡ Accepted k n → All P (logicalLines i)

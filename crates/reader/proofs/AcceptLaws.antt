@@ -11,7 +11,7 @@ use Rattle.octets.specs.Pick.{pick}
 use Rattle.octets.proofs.Scans.{scan-le}
 use Rattle.line_folds.specs.Folds.{lineLength}
 use Rattle.line_folds.specs.Logical.{linesBy, rawLines}
-use Rattle.card_state.specs.State.{Card, Step, Next, Refused as Halted, freshCard}
+use Rattle.card_state.specs.State.{Card, Step, Next, Refused as Halted, Flawed, freshCard}
 use Rattle.line_breaks.specs.Lone.{loneStep, firstLone, endsCrLf}
 use Rattle.reader_walk.specs.Walk.{judgeLines}
 use Rattle.reader_walk.proofs.WalkLaws.{counted}
@@ -59,6 +59,7 @@ unfolding verdictOf
 verdict-next m k n (Next c) e f =
     closed m k n (eqb (c .phase) 0) c e (λ t p q. f c refl (eqb-true (c .phase) 0 t) p q)
 verdict-next m k n (Halted a p) e f = clash cc
+verdict-next m k n (Flawed a o) e f = clash cc
 
 module _ (i : List ℕ) (k n : ℕ) where
   passed : (a b t d : Bool) → ltb 16384 (length i) ≡ a → eqb (length i) 0 ≡ b → ltb (firstLone i) (length i) ≡ t → endsCrLf i ≡ d

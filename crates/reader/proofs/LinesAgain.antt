@@ -43,7 +43,7 @@ clean-lines : (ls : List (List ℕ)) (p : ℕ) (c c′ : Card) → judgeLines ls
 unfolding judgeLines Each
 clean-lines [] p c c′ e = tt
 clean-lines (l ∷ ls) p c c′ e =
-    onward-next (judgeLine c p (unfolded l)) (judgeLines ls (p + length l + 2)) c′ e
+    onward-next p l (judgeLine c p (unfolded l)) (judgeLines ls (p + length l + 2)) c′ e
     (λ d q r. (judged-clean c d p (unfolded l) q, clean-lines ls (p + length l + 2) d c′ r))
 
 -- each logical line of an accepted input is clean

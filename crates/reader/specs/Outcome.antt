@@ -10,15 +10,16 @@ use Rattle.octets.specs.Room.{overlay}
 use Rattle.line_folds.specs.Logical.{rawLines, logicalLines}
 use Rattle.reader_walk.specs.Walk.{judgeLines}
 use Rattle.reader_records.specs.Records.{recordsFrom}
-use Rattle.card_state.specs.State.{Step, Next, Refused as Halted, beforeBegin, freshCard}
+use Rattle.card_state.specs.State.{Step, Next, Refused as Halted, Flawed, beforeBegin, freshCard}
 use Rattle.line_breaks.specs.Lone.{firstLone, endsCrLf}
 use Rattle.reader.specs.declared.Verdict.{Verdict}
 use Rattle.reader.specs.declared.Verdict.the-variants.{Accepted, Refused}
 
--- after the last line of an input of n octets: 9 inside a card, else the counts of cards and lines
+-- after the last line of an input of n octets: 9 inside a card, else the counts of cards and lines; a walk leaves no octet of a line to be placed
 unfoldable pub verdictOf : ℕ → Step → Verdict
 verdictOf n (Next c) = pick (eqb (c .phase) beforeBegin) (Accepted (c .cards) (c .lines)) (Refused refusal.order n)
 verdictOf n (Halted k p) = Refused k p
+verdictOf n (Flawed k o) = Refused k o
 
 -- 1, 2, 3, 4 over the whole input, then line by line 5 to 12
 unfoldable pub judgeOf : List ℕ → Verdict

@@ -26,6 +26,7 @@ fn conclude(n: usize, last: Step) -> Verdict
             Verdict::Refused(refusal::ORDER, n)
         }
         Step::Refused(k, p) => Verdict::Refused(k, p),
+        Step::Flawed(k, o) => Verdict::Refused(k, o),
     }
 }
 

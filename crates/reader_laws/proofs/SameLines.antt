@@ -47,7 +47,7 @@ same-judged (l ∷ ls) [] p q c c′ m e = let z : _≡_ {A = ℕ} 0 1 = cc in a
 same-judged (l ∷ ls) (y ∷ ys) p q c c′ m e =
     let h : unfolded y ≡ unfolded l = cc in
     let t : map unfolded ys ≡ map unfolded ls = cc in
-    onward-next (judgeLine c p (unfolded l)) (judgeLines ls (p + length l + 2)) c′ e
+    onward-next p l (judgeLine c p (unfolded l)) (judgeLines ls (p + length l + 2)) c′ e
     (λ d j r. ap (λ (s : Step). onward s (judgeLines ys (q + length y + 2))) (ap (judgeLine c q) h ∙ any-place c d p q (unfolded l) j)
     ∙ same-judged ls ys (p + length l + 2) (q + length y + 2) d c′ t r)
 

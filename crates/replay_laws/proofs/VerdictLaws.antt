@@ -28,7 +28,7 @@ cards-few [] p c c′ e =
     let q : c ≡ c′ = cc in
     omega (arith, ap (λ (x : Card). x .cards) q)
 cards-few (l ∷ ls) p c c′ e =
-    onward-next (judgeLine c p (unfolded l)) (judgeLines ls (p + length l + 2)) c′ e
+    onward-next p l (judgeLine c p (unfolded l)) (judgeLines ls (p + length l + 2)) c′ e
     (λ d q r. omega (arith, one-more c d p (unfolded l) q, cards-few ls (p + length l + 2) d c′ r))
 
 pub verdict-small : (i : List ℕ) → Small (verdict (judgeOf i))

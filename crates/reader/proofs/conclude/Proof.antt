@@ -17,6 +17,9 @@ returns c store =
 enum-known-last-2 : tie.Need-enum-known-last-2
 enum-known-last-2 c = search needs
 
+enum-known-last-3 : tie.Need-enum-known-last-3
+enum-known-last-3 c = search needs
+
 returns-2 : tie.Need-returns-2
 unfolding verdictOf stepOf cardOf
 returns-2 c store =
@@ -27,5 +30,10 @@ unfolding verdictOf stepOf
 returns-3 c store =
     simp (c .before .last2 .given .1)
 
+returns-4 : tie.Need-returns-4
+unfolding verdictOf stepOf
+returns-4 c store =
+    simp (c .before .last3 .given .1)
+
 pub conclude-spec : {M : Type 1} → statement M
-conclude-spec = tie.close (tie.spec enum-known-last returns enum-known-last-2 returns-2 returns-3)
+conclude-spec = tie.close (tie.spec enum-known-last returns enum-known-last-2 enum-known-last-3 returns-2 returns-3 returns-4)
