@@ -13,13 +13,13 @@ use Rattle.octets.specs.Room.{Filled, refuse, fill, fillBounded}
 use Rattle.octets.specs.declared.rooms.Written.the-variants.{Wrote, Refused}
 use Rattle.utf8.proofs.Chars.{bad-le}
 use Rattle.octets.proofs.Scans.{scan-le}
-use Rattle.utf8_laws.proofs.Utf8.{bad-place, bad-nowhere}
+use Rattle.utf8_laws.proofs.Utf8.{bad-at, bad-at-only, bad-nowhere}
 use Rattle.text_escaping.specs.Escaped.{escaped}
 use Rattle.text_unescaping.specs.Unescaped.{textStep, firstFault, unescaped}
 use Rattle.text.specs.Outcomes.{checked, faultless, escapeOutcome, unescapeOutcome}
 use Rattle.text_laws.specs.Stands.{Stands, Faulty}
 use Rattle.text_laws.proofs.StandsLaws.{stands-exactly, fault-found, fault-first}
-use Rattle.demands.specs.Demand1.{BadAt, FairBy, UnfairBy, long, octet, EscapeBy, no-text, escape-over, escape-room, UnescapeBy, not-text, fault, text-room}
+use Rattle.demands.specs.Demand1.{FairBy, UnfairBy, long, octet, EscapeBy, no-text, escape-over, escape-room, UnescapeBy, not-text, fault, text-room}
 use Rattle.demands.proofs.Refusing.{FillingByCase as Filling, clash, Telling, first}
 
 -- refusals of an entry that writes octets
@@ -52,14 +52,6 @@ bounded-told By xs out n p e y z =
 -- ---- 1 and 31
 
 module _ (allows : ℕ → Bool) (t out : List ℕ) where
-  bad-there : firstBad allows t < length t → BadAt allows t (firstBad allows t)
-  bad-there h =
-      let w = bad-place allows t (firstBad allows t) .0 refl in
-      record { inside = h; before = w .1; there = w .2 }
-
-  bad-is : {p : ℕ} → BadAt allows t p → firstBad allows t ≡ p
-  bad-is {p} b = let h = b .inside in bad-place allows t p .1 (omega arith, b .before, b .there)
-
   fair : length t ≤ 16384 → length t ≤ firstBad allows t → FairBy allows t
   fair s h = record { short = s; clean = bad-nowhere allows t .0 (omega (arith, bad-le allows t)) }
 
@@ -73,13 +65,13 @@ module _ (allows : ℕ → Bool) (t out : List ℕ) where
       first (written-tells out) By (ltb 16384 (length t)) 1 16384 n p _ e (λ a. y 1 16384 (long (ltb-true 16384 (length t) a))) (λ a f.
       let s = ltb-false 16384 (length t) a in
       first (written-tells out) By (ltb (firstBad allows t) (length t)) 31 (firstBad allows t) n p left f
-      (λ b. y 31 (firstBad allows t) (octet s (bad-there (ltb-true (firstBad allows t) (length t) b))))
+      (λ b. y 31 (firstBad allows t) (octet s (bad-at allows t (ltb-true (firstBad allows t) (length t) b))))
       (λ b g. x (fair s (ltb-false (firstBad allows t) (length t) b)) g))
 
   pub checked-unfair : (left : Filled) (n p : ℕ) → UnfairBy allows t n p → checked allows t out left ≡ refuse n p out
   unfolding checked
   checked-unfair left n p (long h) = rw (lt-ltb 16384 (length t) h)
-  checked-unfair left n p (octet s b) = rw (le-ltb 16384 (length t) s, bad-is b, lt-ltb p (length t) (b .inside))
+  checked-unfair left n p (octet s b) = rw (le-ltb 16384 (length t) s, bad-at-only allows t b, lt-ltb p (length t) (b .inside))
 
   pub checked-fair : (left : Filled) → FairBy allows t → checked allows t out left ≡ left
   unfolding checked

@@ -77,12 +77,6 @@ pub data FoldBy (i out : List ℕ) : ℕ → ℕ → Type 0 where
 
 -- ---- text
 
--- allowed characters before p, and none at p
-pub record BadAt (allows : ℕ → Bool) (t : List ℕ) (p : ℕ) : Type 0 where
-  pub inside : p < length t
-  pub before : Text allows (take p t)
-  pub there : Stops allows (drop p t)
-
 -- neither 1 nor 31
 pub record FairBy (allows : ℕ → Bool) (t : List ℕ) : Type 0 where
   pub short : length t ≤ limit.octets

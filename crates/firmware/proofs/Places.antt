@@ -15,30 +15,32 @@ use Rattle.line_parser.specs.Grammar.{Line}
 use Rattle.line_parser.specs.Rule.{parseLine}
 use Rattle.line_folds.specs.Folds.{lineLength, unfolded}
 use Rattle.line_folds.specs.Logical.{linesBy, rawLines}
+use Rattle.line_folds.proofs.PlaceLaws.{place-inside}
 use Rattle.value_kinds.specs.Kinds.{valueScan}
 use Rattle.value_kinds.specs.declared.Fault.{Fault}
 use Rattle.value_kinds.specs.declared.Fault.the-variants.{Fits, Breaks}
-use Rattle.card_state.specs.State.{Card, Step, Next, Refused as Halted, freshCard, inOrder, secondInstance, noted, closed}
+use Rattle.card_state.specs.State.{Card, Step, Next, Refused as Halted, Flawed, freshCard, inOrder, secondInstance, noted, closed}
 use Rattle.card_line.specs.Parts.{rowOfLine, kindOfLine, altidOf}
 use Rattle.card_judge.specs.Judge.{laden, entered, fitting, judgeParts, judgeParsed, judgeLine}
 use Rattle.line_breaks.specs.Lone.{firstLone, endsCrLf}
-use Rattle.reader_walk.specs.Walk.{onward, judgeLines}
+use Rattle.reader_walk.specs.Walk.{onward, settled, judgeLines}
 use Rattle.reader.specs.Outcome.{verdictOf, judgeOf}
 use Rattle.reader.specs.declared.Verdict.{Verdict}
 use Rattle.reader.specs.declared.Verdict.the-variants.{Accepted, Refused}
 
--- a refusal of a line is at its start
+-- a refusal of a line is at its start, or names an octet
 abbrev At : ℕ → Step → Type 0
 At p (Next c) = Unit {0}
 At p (Halted n q) = q ≡ p
+At p (Flawed n o) = Unit {0}
 
 at-pick : (p : ℕ) (t : Bool) (a b : Step) → At p a → At p b → At p (pick t a b)
 at-pick p true a b x y = x
 at-pick p false a b x y = y
 
-at-fitting : (p : ℕ) (f : Fault) (s : Step) → At p s → At p (fitting p f s)
-at-fitting p Fits s x = x
-at-fitting p (Breaks n) s x = refl
+at-fitting : (p start : ℕ) (f : Fault) (s : Step) → At p s → At p (fitting start f s)
+at-fitting p start Fits s x = x
+at-fitting p start (Breaks n) s x = tt
 
 at-entered : (c : Card) (p row : ℕ) (altid : Option (List ℕ)) (v : List ℕ) → At p (entered c p row altid v)
 unfolding entered closed noted
@@ -53,12 +55,12 @@ at-parsed c p (bad e) = refl
 at-parsed c p (got x k) =
     at-pick p (inOrder (c .phase) (rowOfLine x)) _ _
     (at-pick p (laden (rowOfLine x) (length (x .group)) (length (x .params))) _ _ refl
-    (at-fitting p (valueScan (rowOfLine x) (kindOfLine x) (x .value)) _ (at-entered c p (rowOfLine x) (altidOf x) (x .value))))
+    (at-fitting p k (valueScan (rowOfLine x) (kindOfLine x) (x .value)) _ (at-entered c p (rowOfLine x) (altidOf x) (x .value))))
     refl
 
 at-line : (c : Card) (p : ℕ) (l : List ℕ) → At p (judgeLine c p l)
 unfolding judgeLine
-at-line c p l = at-pick p (ltb (firstBad (allowed false) l) (length l)) _ _ refl (at-parsed c p (parseLine l))
+at-line c p l = at-pick p (ltb (firstBad (allowed false) l) (length l)) _ _ tt (at-parsed c p (parseLine l))
 
 -- the octets of lines with their ends
 unfoldable total : List (List ℕ) → ℕ
@@ -68,20 +70,24 @@ total (l ∷ ls) = length l + 2 + total ls
 abbrev UpTo : ℕ → Step → Type 0
 UpTo q (Next c) = Unit {0}
 UpTo q (Halted n p) = p ≤ q
+UpTo q (Flawed n o) = o ≤ q
 
-up-onward : (p q : ℕ) (r : Step) (f : Card → Step) → At p r → p ≤ q → ((c : Card) → UpTo q (f c)) → UpTo q (onward r f)
-up-onward p q (Next c) f a h g = g c
-up-onward p q (Halted n x) f a h g = omega arith
+-- the octet lies in the line, or is its end
+up-onward : (p q : ℕ) (l : List ℕ) (r : Step) (f : Card → Step) → At p r → p + length l ≤ q → ((c : Card) → UpTo q (f c)) → UpTo q (onward (settled p l r) f)
+up-onward p q l (Next c) f a h g = g c
+up-onward p q l (Halted n x) f a h g = omega arith
+up-onward p q l (Flawed n o) f a h g = omega (arith, place-inside l o)
 
 up-more : (q r : ℕ) (s : Step) → q ≤ r → UpTo q s → UpTo r s
 up-more q r (Next c) h u = tt
 up-more q r (Halted n p) h u = omega arith
+up-more q r (Flawed n o) h u = omega arith
 
 up-lines : (ls : List (List ℕ)) (p : ℕ) (c : Card) → UpTo (p + total ls) (judgeLines ls p c)
 unfolding judgeLines total
 up-lines [] p c = tt
 up-lines (l ∷ ls) p c =
-    up-onward p (p + (length l + 2 + total ls)) (judgeLine c p (unfolded l)) (judgeLines ls (p + length l + 2)) (at-line c p (unfolded l)) (omega arith)
+    up-onward p (p + (length l + 2 + total ls)) l (judgeLine c p (unfolded l)) (judgeLines ls (p + length l + 2)) (at-line c p (unfolded l)) (omega arith)
     (λ c′. up-more (p + length l + 2 + total ls) (p + (length l + 2 + total ls)) (judgeLines ls (p + length l + 2) c′) (omega arith) (up-lines ls (p + length l + 2) c′))
 
 total-none : (n : ℕ) (l : List ℕ) → length l ≡ 0 → total (linesBy n l) ≡ 0
@@ -112,6 +118,7 @@ total-raw i = total-by (length i) i
 verdict-low : (n q : ℕ) (s : Step) → UpTo q s → (k p : ℕ) → verdictOf n s ≡ Refused k p → n ≤ q → p ≤ q
 unfolding verdictOf
 verdict-low n q (Halted m x) u k p e h = let w : x ≡ p = cc in omega arith
+verdict-low n q (Flawed m x) u k p e h = let w : x ≡ p = cc in omega arith
 verdict-low n q (Next c) u k p e h = by (eqb (c .phase) 0) e
   where
     by : (t : Bool) → pick t (Accepted (c .cards) (c .lines)) (Refused 9 n) ≡ Refused k p → p ≤ q

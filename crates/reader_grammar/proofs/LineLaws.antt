@@ -3,13 +3,14 @@ use mathlib.Core.Path.{_≡_, refl, sym, ap, subst, _∙_}
 use mathlib.Core.Bool.{Bool, true, false, not, _&&_, _||_, false≢true}
 use mathlib.Core.List.{List, [], _∷_}
 use mathlib.Core.Logic.{inl, inr}
-use Prim.Native.Nat.{ℕ, _≤_}
+use Prim.Native.Nat.{ℕ, _+_, _≤_}
 use native.Mathlib.Omega.{arith}
 use lib.Dec.{eqb, ltb}
 use lib.ListN.{length}
-use borrow.Author.Tests.{eqb-true, eqb-false, eq-eqb, ne-eqb}
+use borrow.Author.Tests.{eqb-true, eqb-false, eq-eqb, ne-eqb, lt-ltb, ltb-true}
 use Rattle.octets.specs.Pick.{pick}
 use Rattle.utf8.specs.Characters.{allowed, firstBad}
+use Rattle.utf8_laws.proofs.Utf8.{bad-at, bad-at-only}
 use Rattle.line_parser.specs.Parse.{Parse, got, bad}
 use Rattle.line_parser.specs.Grammar.{Line, front}
 use Rattle.line_parser.specs.Rule.{parseLine}
@@ -20,12 +21,13 @@ use Rattle.value_kinds.specs.Kinds.{valueScan}
 use Rattle.value_kinds.specs.declared.Fault.{Fault}
 use Rattle.value_kinds.specs.declared.Fault.the-variants.{Fits, Breaks}
 use Rattle.octets.proofs.Bools.{by}
-use Rattle.card_state.specs.State.{Card, Step, Next, Refused, inOrder, noted, closed}
+use Rattle.card_state.specs.State.{Card, Step, Next, Refused, Flawed, inOrder, noted, closed}
 use Rattle.card_line.specs.Parts.{rowOfLine, kindOfLine, altidOf}
+use Rattle.card_line.proofs.PartLaws.{kind-of-line}
 use Rattle.card_judge.specs.Judge.{laden, entered, fitting, judgeParts, judgeParsed, judgeLine}
 use Rattle.reader_grammar.specs.Cards.{Clean, Bare, ofRow, linesOf, saysGroup, groupLines, any, sameInstance}
-use Rattle.reader_grammar.specs.Refusals.{Reads, InPlace, Framing, Unladen, Sound, LineRefused, octet, rule, order, laden as heavy, value, second, nameless, no-group}
-use Rattle.reader_grammar.proofs.ValueLaws.{value-fits, clean-law}
+use Rattle.reader_grammar.specs.Refusals.{Reads, InPlace, Framing, Unladen, Sound, Where, at-start, at-octet, LineRefused, octet, rule, order, laden as heavy, value, second, nameless, no-group}
+use Rattle.reader_grammar.proofs.ValueLaws.{value-fits, value-dead, clean-law}
 use Rattle.reader_grammar.proofs.Known.{any-some, any-none, apart-law, Known, Joins, order-law, lineCard, endCard, note-next, note-second, close-next, close-nameless, close-groupless}
 
 -- BEGIN, VERSION and END
@@ -72,9 +74,14 @@ end-often : single 2 ≡ false
 unfolding single rowAt rows
 end-often = refl
 
+-- a refusal of a line that starts at p, with its place
+abbrev pub stopped : ℕ → ℕ → Where → Step
+stopped p n at-start = Refused n p
+stopped p n (at-octet o) = Flawed n o
+
 -- what a judged line leads to, after the card's lines ys: a refusal at its place, another state of the card, or the card's end
 pub data Judged (c : Card) (ys : List Line) (at : ℕ) (l : List ℕ) : Step → Type 0 where
-  refused : {n : ℕ} → LineRefused ys l n → Judged c ys at l (Refused n at)
+  refused : {n : ℕ} {w : Where} → LineRefused ys l n w → Judged c ys at l (stopped at n w)
   goes-on : (x : Line) → Sound ys l x → (rowOfLine x ≡ 2 → ⊥) → Joins ys x
       → Judged c ys at l (Next (lineCard c x))
   ends : (x : Line) → Sound ys l x → rowOfLine x ≡ 2 → 1 ≤ linesOf 6 ys → (1 ≤ linesOf 24 ys → 1 ≤ groupLines ys)
@@ -82,7 +89,7 @@ pub data Judged (c : Card) (ys : List Line) (at : ℕ) (l : List ℕ) : Step →
 
 module _ (c : Card) (ys : List Line) (k : Known c ys) (at : ℕ) (l : List ℕ) where
   abbrev judgedParts : Line → Step
-  judgedParts x = judgeParts c at (rowOfLine x) (length (x .group)) (length (x .params)) (kindOfLine x) (altidOf x) (x .value)
+  judgedParts x = judgeParts c at (rowOfLine x) (length (x .group)) (length (x .params)) (kindOfLine x) (altidOf x) (length (front x)) (x .value)
 
   after-clean : Clean l → judgeLine c at l ≡ judgeParsed c at (parseLine l)
   unfolding judgeLine
@@ -96,18 +103,18 @@ module _ (c : Card) (ys : List Line) (k : Known c ys) (at : ℕ) (l : List ℕ) 
   after-order : (x : Line) → Reads l x → InPlace ys x
       → judgeLine c at l
       ≡ pick (laden (rowOfLine x) (length (x .group)) (length (x .params))) (Refused 8 at)
-      (fitting at (valueScan (rowOfLine x) (kindOfLine x) (x .value)) (entered c at (rowOfLine x) (altidOf x) (x .value)))
+      (fitting (length (front x)) (valueScan (rowOfLine x) (kindOfLine x) (x .value)) (entered c at (rowOfLine x) (altidOf x) (x .value)))
   unfolding judgeParts
   after-order x r h = after-reads x r ∙ rw (order-law c ys x k .1 h)
 
   after-laden : (x : Line) → Reads l x → InPlace ys x → Unladen x
-      → judgeLine c at l ≡ fitting at (valueScan (rowOfLine x) (kindOfLine x) (x .value)) (entered c at (rowOfLine x) (altidOf x) (x .value))
+      → judgeLine c at l ≡ fitting (length (front x)) (valueScan (rowOfLine x) (kindOfLine x) (x .value)) (entered c at (rowOfLine x) (altidOf x) (x .value))
   after-laden x r h u = after-order x r h ∙ rw (unladen-from x u)
 
   after-value : (x : Line) → Sound ys l x → judgeLine c at l ≡ entered c at (rowOfLine x) (altidOf x) (x .value)
   after-value x s =
       after-laden x (s .reads) (s .place) (s .unladen)
-      ∙ ap (λ (f : Fault). fitting at f (entered c at (rowOfLine x) (altidOf x) (x .value))) (value-fits (rowOfLine x) (kindOfLine x) (x .value) .1 (s .fits))
+      ∙ ap (λ (f : Fault). fitting (length (front x)) f (entered c at (rowOfLine x) (altidOf x) (x .value))) (value-fits (rowOfLine x) (kindOfLine x) (x .value) .1 (s .fits))
 
   at-end : (x : Line) → Sound ys l x → rowOfLine x ≡ 2 → judgeLine c at l ≡ closed c at
   unfolding entered
@@ -125,20 +132,17 @@ module _ (c : Card) (ys : List Line) (k : Known c ys) (at : ℕ) (l : List ℕ) 
   abbrev fails : {A : Type 0} (t : Bool) → (t ≡ true → A) → (A → ⊥) → t ≡ false
   fails t f g = by t (λ e. absurd (g (f e))) (λ e. e)
 
-  broken : (f : Fault) (s : Step) → (f ≡ Fits → ⊥) → fitting at f s ≡ Refused 7 at
-  broken Fits s g = absurd (g refl)
-  broken (Breaks n) s g = refl
-
-  refusal : {n : ℕ} → LineRefused ys l n → judgeLine c at l ≡ Refused n at
+  refusal : {n : ℕ} {w : Where} → LineRefused ys l n w → judgeLine c at l ≡ stopped at n w
   unfolding judgeLine judgeParts
-  refusal (octet f) = rw (passes (ltb (firstBad (allowed false) l) (length l)) (clean-law l .0) f)
+  refusal (octet {o = o} b) = rw (bad-at-only (allowed false) l b, lt-ltb o (length l) (b .inside))
   refusal (rule {e} h f) = after-clean h ∙ ap (judgeParsed c at) (first-fault-law l e .1 f)
   refusal (order x r f) = after-reads x r ∙ rw (fails (inOrder (c .phase) (rowOfLine x)) (order-law c ys x k .0) f)
   refusal (heavy x r h f) =
       after-order x r h ∙ rw (passes (laden (rowOfLine x) (length (x .group)) (length (x .params))) (unladen-to x) f)
-  refusal (value x r h u f) =
+  refusal (value {o = o} x r h u d) =
       after-laden x r h u
-      ∙ broken (valueScan (rowOfLine x) (kindOfLine x) (x .value)) _ (λ e. f (value-fits (rowOfLine x) (kindOfLine x) (x .value) .0 e))
+      ∙ ap (λ (g : Fault). fitting (length (front x)) g (entered c at (rowOfLine x) (altidOf x) (x .value)))
+      (value-dead (rowOfLine x) (kindOfLine x) (x .value) o (kind-of-line x) .1 d)
   refusal (second x s e h f) =
       at-line x s (λ r. false≢true (sym end-often ∙ sym (ap single r) ∙ e)) ∙ note-second c ys k at x e h (apart-law x ys .1 f)
   refusal (nameless x s e h) = at-end x s e ∙ close-nameless c ys k at x h
@@ -177,10 +181,7 @@ module _ (c : Card) (ys : List Line) (k : Known c ys) (at : ℕ) (l : List ℕ) 
   value-decided x r h u Fits e =
       let s : Sound ys l x = record { reads = r; place = h; unladen = u; fits = value-fits (rowOfLine x) (kindOfLine x) (x .value) .0 e } in
       by (eqb (rowOfLine x) 2) (λ t. end-decided x s (eqb-true (rowOfLine x) 2 t)) (λ t. line-decided x s (eqb-false (rowOfLine x) 2 t))
-  value-decided x r h u (Breaks n) e = (
-    Refused 7 at,
-    refused (value x r h u (λ f. let q = sym e ∙ value-fits (rowOfLine x) (kindOfLine x) (x .value) .1 f in let z : _≡_ {A = ℕ} 0 1 = cc in omega arith)),
-  )
+  value-decided x r h u (Breaks o) e = (Flawed 7 (length (front x) + o), refused (value x r h u (value-dead (rowOfLine x) (kindOfLine x) (x .value) o (kind-of-line x) .0 e)))
 
   reads-decided : (x : Line) → Reads l x → Decided
   reads-decided x r =
@@ -202,5 +203,5 @@ module _ (c : Card) (ys : List Line) (k : Known c ys) (at : ℕ) (l : List ℕ) 
   pub decided : Decided
   decided =
       by (ltb (firstBad (allowed false) l) (length l))
-      (λ t. (Refused 5 at, refused (octet (λ h. false≢true (sym (clean-law l .1 h) ∙ t)))))
+      (λ t. (Flawed 5 (firstBad (allowed false) l), refused (octet (bad-at (allowed false) l (ltb-true (firstBad (allowed false) l) (length l) t)))))
       (λ t. parse-decided (clean-law l .0 t) (parseLine l) refl)

@@ -6,7 +6,7 @@ use mathlib.Core.Logic.{inl, inr}
 use native.Mathlib.Omega.{arith}
 use Rattle.line_parser.specs.Grammar.{Line}
 use Rattle.line_laws.proofs.FirstLaws.{first-number}
-use Rattle.reader_grammar.specs.Refusals.{Judging, LineRefused, octet, rule, order, laden, value, second, nameless, no-group, RefusedBy, long, empty, lone, unended, line, unfinished}
+use Rattle.reader_grammar.specs.Refusals.{Judging, Where, LineRefused, octet, rule, order, laden, value, second, nameless, no-group, RefusedBy, long, empty, lone, unended, line, unfinished}
 
 low : {n : ℕ} → 1 ≤ n → n ≤ 5 → Judging n
 low h k = inl (h, k)
@@ -14,7 +14,7 @@ low h k = inl (h, k)
 middle : {n : ℕ} → 7 ≤ n → n ≤ 12 → Judging n
 middle h k = inr (inl (h, k))
 
-line-number : {ys : List Line} {l : List ℕ} {n : ℕ} → LineRefused ys l n → Judging n
+line-number : {ys : List Line} {l : List ℕ} {n : ℕ} {w : Where} → LineRefused ys l n w → Judging n
 line-number (octet h) = low (omega arith) (omega arith)
 line-number (rule h f) = inr (inr (first-number f))
 line-number (order x h k) = middle (omega arith) (omega arith)
@@ -29,7 +29,7 @@ refusal-number (long h) = low (omega arith) (omega arith)
 refusal-number (empty h) = low (omega arith) (omega arith)
 refusal-number (lone h k m f) = low (omega arith) (omega arith)
 refusal-number (unended h k m g) = low (omega arith) (omega arith)
-refusal-number (line ds es ls ms r l m k zs ys f q c s h) = line-number h
+refusal-number (line ds es ls ms r l m k q w zs ys f e c s h p) = line-number h
 refusal-number (unfinished rs ls k zs ys f e s h) = middle (omega arith) (omega arith)
 
 at-most : {n : ℕ} → Judging n → n ≤ 43

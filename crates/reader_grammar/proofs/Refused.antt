@@ -13,21 +13,22 @@ use Rattle.octets.proofs.Scans.{scan-le}
 use Rattle.octets.specs.Pick.{pick}
 use Rattle.line_folds.specs.Folds.{unfolded}
 use Rattle.line_folds.specs.Logical.{rawLines}
-use Rattle.line_parser.specs.Grammar.{Line}
+use Rattle.line_parser.specs.Grammar.{Line, front, render}
 use Rattle.octets.proofs.Bools.{by}
-use Rattle.card_state.specs.State.{Card, Step, Next, Refused as Halted, freshCard}
+use Rattle.card_state.specs.State.{Card, Step, Next, Refused as Halted, Flawed, freshCard}
 use Rattle.card_judge.specs.Judge.{judgeLine}
 use Rattle.line_breaks.specs.Lone.{loneStep, firstLone, endsCrLf}
-use Rattle.reader_walk.specs.Walk.{onward, judgeLines}
+use Rattle.reader_walk.specs.Walk.{onward, settled, judgeLines}
 use Rattle.reader.specs.Outcome.{verdictOf, judgeOf, ended}
 use Rattle.reader.specs.declared.Verdict.the-variants.{Accepted, Refused}
 use Rattle.reader_laws.proofs.LoneLaws.{lone-here, lone-none}
-use Rattle.line_laws.specs.Lined.{Lined, EndsCrLf}
-use Rattle.reader_grammar.specs.Refusals.{Framed, SoFar, LineRefused, RefusedBy, long, empty, lone, unended, line, unfinished}
+use Rattle.line_laws.specs.Lined.{Folded, Unbroken, Lined, EndsCrLf}
+use Rattle.line_laws.proofs.PlacedLaws.{placed, placed-only, lined-there}
+use Rattle.reader_grammar.specs.Refusals.{Framed, SoFar, Where, at-start, at-octet, LineRefused, octet, rule, order, laden, value, second, nameless, no-group, Placed, RefusedBy, long, empty, lone, unended, line, unfinished}
 use Rattle.reader_grammar.proofs.Known.{phaseOf, Known, fresh-known}
 use Rattle.reader_grammar.proofs.LineLaws.{refused, outcome}
 use Rattle.reader_grammar.proofs.Runs.{steps-run, prefix-run}
-use Rattle.reader_grammar.proofs.Walks.{Walked, finished, stopped}
+use Rattle.reader_grammar.proofs.Walks.{placeIn, settled-place, Walked, finished, stopped}
 use Rattle.reader_grammar.proofs.PairedLaws.{lone-within, paired-law, lone-first}
 use Rattle.line_laws.proofs.LinedLaws.{ends-law, lined-law, lined-only}
 use Rattle.reader_grammar.proofs.Accepted.{judge-framed, walk-all, phase-none}
@@ -38,6 +39,7 @@ after-line : (ds es : List (List ℕ)) (p q : ℕ) (d : Card) → p + length (en
     → onward s (judgeLines ds p) ≡ Next d → onward s (judgeLines (ds ++ es) p) ≡ judgeLines es q d
 after-line ds es p q d n (Next c) ih h = ih c h ∙ ap (λ (m : ℕ). judgeLines es m d) n
 after-line ds es p q d n (Halted m r) ih h = let z : _≡_ {A = ℕ} 0 1 = cc in absurd (omega arith)
+after-line ds es p q d n (Flawed m o) ih h = let z : _≡_ {A = ℕ} 0 1 = cc in absurd (omega arith)
 
 judge-after : (ds es : List (List ℕ)) (at : ℕ) (c d : Card) → judgeLines ds at c ≡ Next d
     → judgeLines (ds ++ es) at c ≡ judgeLines es (at + length (ended ds)) d
@@ -47,7 +49,7 @@ judge-after [] es at c d e =
     rw (add-zero at, q)
 judge-after (l ∷ ds) es at c d e =
     let n : at + length l + 2 + length (ended ds) ≡ at + length (l ++ (13 ∷ 10 ∷ ended ds)) = omega (arith, length-append l (13 ∷ 10 ∷ ended ds)) in
-    after-line ds es (at + length l + 2) (at + length (l ++ (13 ∷ 10 ∷ ended ds))) d n (judgeLine c at (unfolded l))
+    after-line ds es (at + length l + 2) (at + length (l ++ (13 ∷ 10 ∷ ended ds))) d n (settled at l (judgeLine c at (unfolded l)))
     (λ b h. judge-after ds es (at + length l + 2) b d h) e
 
 -- the lines so far lead to a state that knows the card's lines
@@ -89,18 +91,45 @@ module _ {i : List ℕ} (ds es ls ms : List (List ℕ)) (r l : List ℕ) (h : Li
   line-there : l ≡ unfolded r
   line-there = let e = parts-there .1 in cc
 
+-- an octet of the line, or its end
+abbrev Within : Where → List ℕ → Type 0
+Within at-start l = Unit {0}
+Within (at-octet o) l = o ≤ length l
+
+-- the place in the raw line is the one that is counted
+placed-so : (l r : List ℕ) → Unbroken l → (w : Where) (q : ℕ) → Placed l r w q → placeIn r w ≡ q
+placed-so l r u at-start q e = sym e
+placed-so l r u (at-octet o) q a = sym (placed-only a u)
+
+so-placed : {l r : List ℕ} → Folded l r → Unbroken l → (w : Where) → Within w l → Placed l r w (placeIn r w)
+so-placed f u at-start h = refl
+so-placed f u (at-octet o) h = placed f u o h
+
+-- an octet that a refusal names is one of the line, or its end
+refused-within : {ys : List Line} {l : List ℕ} {n : ℕ} {w : Where} → LineRefused ys l n w → Within w l
+unfolding render
+refused-within (octet b) = omega (arith, b .inside)
+refused-within (rule h f) = tt
+refused-within (order x h k) = tt
+refused-within (laden x h k m) = tt
+refused-within (value {o = o} x h k m d) =
+    omega (arith, d .inside, ap length (h .text), length-append (front x) (x .value))
+refused-within (second x h k m f) = tt
+refused-within (nameless x h k m) = tt
+refused-within (no-group x h k m g f) = tt
+
 module _ (i : List ℕ) where
-  stop-at : (ds : List (List ℕ)) (l : List ℕ) (es : List (List ℕ)) (n k : ℕ) (zs ys : List Line) → Framed i → rawLines i ≡ ds ++ (l ∷ es)
-      → SoFar (map unfolded ds) k zs ys → LineRefused ys (unfolded l) n → judgeOf i ≡ Refused n (length (ended ds))
+  stop-at : (ds : List (List ℕ)) (l : List ℕ) (es : List (List ℕ)) (n k : ℕ) (w : Where) (zs ys : List Line) → Framed i → rawLines i ≡ ds ++ (l ∷ es)
+      → SoFar (map unfolded ds) k zs ys → LineRefused ys (unfolded l) n w → judgeOf i ≡ Refused n (length (ended ds) + placeIn l w)
   unfolding judgeLines verdictOf
-  stop-at ds l es n k zs ys f e h r =
+  stop-at ds l es n k w zs ys f e h r =
       let d = led ds k zs ys h in
       let at = 0 + length (ended ds) in
       let o = outcome (d .0) ys (d .2) at (unfolded l) (refused r) in
       judge-framed i f
       ∙ ap (λ (ls : List (List ℕ)). verdictOf (length i) (judgeLines ls 0 freshCard)) e
-      ∙ ap (verdictOf (length i)) (judge-after ds (l ∷ es) 0 freshCard (d .0) (d .1) ∙ ap (λ (s : Step). onward s (judgeLines es (at + length l + 2))) o)
-      ∙ ap (Refused n) (zero-add (length (ended ds)))
+      ∙ ap (verdictOf (length i)) (judge-after ds (l ∷ es) 0 freshCard (d .0) (d .1) ∙ ap (λ (s : Step). onward s (judgeLines es (at + length l + 2))) (ap (settled at l) o ∙ settled-place at n l w))
+      ∙ ap (λ (p : ℕ). Refused n (p + placeIn l w)) (zero-add (length (ended ds)))
 
   stop-inside : (k : ℕ) (zs ys : List Line) → Framed i → SoFar (map unfolded (rawLines i)) k zs ys → 0 < length ys → judgeOf i ≡ Refused 9 (length i)
   unfolding verdictOf
@@ -131,10 +160,11 @@ module _ (i : List ℕ) where
         le-ltb (firstLone i) (length i) (omega (arith, paired-law i .1 f)),
         open-end e,
       )
-  from (line ds es ls ms r l n k zs ys f e c h q) =
-      stop-at ds r es n k zs ys f (raw-there ds es ls ms r l e c)
+  from (line ds es ls ms r l n k p w zs ys f e c h q a) =
+      stop-at ds r es n k w zs ys f (raw-there ds es ls ms r l e c)
       (subst (λ (x : List (List ℕ)). SoFar x k zs ys) (parts-there ds es ls ms r l e c .0) h)
-      (subst (λ (x : List ℕ). LineRefused ys x n) (line-there ds es ls ms r l e c) q)
+      (subst (λ (x : List ℕ). LineRefused ys x n w) (line-there ds es ls ms r l e c) q)
+      ∙ ap (λ (m : ℕ). Refused n (length (ended ds) + m)) (placed-so l r (lined-there ds es ls ms r l e c .1) w p a)
   from (unfinished rs ls k zs ys f e h s) = stop-inside k zs ys f (subst (λ (x : List (List ℕ)). SoFar x k zs ys) (lined-only e .1) h) s
 
   -- past 1 to 4 the walk splits the input into its lines
@@ -152,12 +182,14 @@ module _ (i : List ℕ) where
           let a : 9 ≡ n = cc in
           let b : length i ≡ p = cc in
           rw (← a, ← b) (unfinished (rawLines i) (map unfolded (rawLines i)) (r .k) (r .zs) (r .ys) f (split-so f) (r .lines) (has-some (r .ys) (λ z. eqb-false (c .phase) 0 q (r .known .phase ∙ z))))
-  walked-to f (stopped ds l es {n = m} q r h) n p e =
+  walked-to f (stopped ds l es {n = m} {w = x} q r h) n p e =
       let a : m ≡ n = cc in
-      let b : length (ended ds) ≡ p = cc in
+      let b : length (ended ds) + placeIn l x ≡ p = cc in
       let w : Lined i (ds ++ (l ∷ es)) (map unfolded ds ++ (unfolded l ∷ map unfolded es))
       = subst (λ (x : List (List ℕ)). Lined i (ds ++ (l ∷ es)) x) (map-append unfolded ds (l ∷ es)) (subst (λ (x : List (List ℕ)). Lined i x (map unfolded x)) q (split-so f)) in
-      rw (← a, ← b) (line ds es (map unfolded ds) (map unfolded es) l (unfolded l) m (r .k) (r .zs) (r .ys) f w (length-map ds unfolded) (r .lines) h)
+      let s = lined-there ds es (map unfolded ds) (map unfolded es) l (unfolded l) w (length-map ds unfolded) in
+      rw (← a, ← b) (line ds es (map unfolded ds) (map unfolded es) l (unfolded l) m (r .k) (placeIn l x) x (r .zs) (r .ys) f w (length-map ds unfolded) (r .lines) h
+      (so-placed (s .0) (s .1) x (refused-within h)))
 
   to-by : (n p : ℕ) (a b c d : Bool) → ltb 16384 (length i) ≡ a → eqb (length i) 0 ≡ b → ltb (firstLone i) (length i) ≡ c → endsCrLf i ≡ d
       → pick a (Refused 1 16384) (pick b (Refused 2 0) (pick c (Refused 3 (firstLone i))

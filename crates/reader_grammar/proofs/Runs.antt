@@ -13,7 +13,7 @@ use Rattle.octets.proofs.Bools.{by}
 use Rattle.card_line.specs.Parts.{rowOfLine}
 use Rattle.card_judge.specs.Judge.{judgeLine}
 use Rattle.card_state.specs.State.{Card, Step, Next, lineCard as nextCard}
-use Rattle.reader_walk.specs.Walk.{onward, judgeLines}
+use Rattle.reader_walk.specs.Walk.{onward, settled, judgeLines}
 use Rattle.reader_grammar.specs.Cards.{Readable, Begins, Versions, Inside, count, linesOf, groupLines, any, sameInstance, instances, Once, Inner, CardLines, card, Cards, none, more}
 use Rattle.reader_grammar.specs.Refusals.{Begun, nothing, first, within, Sound}
 use Rattle.reader_grammar.proofs.Known.{Known, Joins, line-known, end-known}
@@ -42,7 +42,7 @@ steps-run (step f s) [] at e = nil-cons e
 steps-run (step {c = c} {x = x} {xs = xs} f s) (l ∷ ls) at e =
     let a : unfolded l ≡ render x = cc in
     let b : map unfolded ls ≡ map render xs = cc in
-    ap (λ (r : Step). onward r (judgeLines ls (at + length l + 2))) (ap (judgeLine c at) a ∙ f at) ∙ steps-run s ls (at + length l + 2) b
+    ap (λ (r : Step). onward (settled at l r) (judgeLines ls (at + length l + 2))) (ap (judgeLine c at) a ∙ f at) ∙ steps-run s ls (at + length l + 2) b
 
 -- from the state c the lines xs lead to a state that knows ys, with k cards more
 pub record Led (c : Card) (xs ys : List Line) (k : ℕ) : Type 0 where

@@ -4,7 +4,7 @@ use mathlib.Core.Path.{_≡_, sym, subst, _∙_}
 use mathlib.Core.Bool.{false}
 use mathlib.Core.List.{List}
 use mathlib.Core.Logic.{_↔_}
-use Prim.Native.Nat.{ℕ, zero, suc}
+use Prim.Native.Nat.{ℕ, zero, suc, _<_}
 use native.Mathlib.Omega.{arith}
 use lib.Dec.{eqb, ltb}
 use lib.ListN.{length}
@@ -12,11 +12,14 @@ use borrow.Author.Tests.{le-ltb, ltb-false, eqb-true, eqb-false}
 use Rattle.utf8.specs.Characters.{allowed, firstBad}
 use Rattle.utf8.proofs.Chars.{bad-le}
 use Rattle.utf8_laws.proofs.Utf8.{allowed-only}
-use Rattle.value_kinds.specs.Kinds.{shapeOf, kindScan, valueScan}
+use Rattle.numbers.specs.Kinds as kinds
+use Rattle.value_kinds.specs.Kinds.{shapeOf, lineShape, kindScan, valueScan}
 use Rattle.value_kinds.specs.Shapes.{Matches}
-use Rattle.value_kinds.specs.declared.Fault.the-variants.{Fits}
+use Rattle.value_kinds.specs.declared.Fault.the-variants.{Fits, Breaks}
 use Rattle.octets.proofs.Bools.{by}
-use Rattle.value_laws.proofs.KindLaws.{fits-kind}
+use Rattle.value_laws.specs.Dead.{Dead}
+use Rattle.value_laws.proofs.DeadLaws.{dead-alike}
+use Rattle.value_laws.proofs.KindLaws.{fits-kind, fits-line, breaks-line}
 use Rattle.value_laws.proofs.DateWords.{kind-9, kind-10, kind-11}
 use Rattle.value_laws.proofs.Plain.{kind-0, kind-1, kind-2, kind-3, kind-4, kind-5, kind-6, kind-7, kind-8, fixed-begin, fixed-end, fixed-version, by-kind}
 use Rattle.reader_grammar.specs.Values.{OfKind, anything, text, texts, uri, five, seven, components, gender, pidmap, date, timestamp, offset, Fitting}
@@ -81,6 +84,16 @@ module _ (row k : ℕ) (v : List ℕ) where
 
   pub value-fits : (valueScan row k v ≡ Fits) ↔ Fitting row k v
   value-fits = (value-to, value-from)
+
+-- a value breaks off where the scan says so, by every continuation
+pub value-dead : (row k : ℕ) (v : List ℕ) (o : ℕ) → k < kinds.count → (valueScan row k v ≡ Breaks o) ↔ Dead (Fitting row k) v o
+value-dead row k v o h =
+    let b = breaks-line row k v o h in
+    let same : (w : List ℕ) → Matches (lineShape row k) w ↔ Fitting row k w =
+    λ w. (λ m. value-fits row k w .0 (fits-line row k w .1 m), λ m. fits-line row k w .0 (value-fits row k w .1 m)) in (
+      λ e. dead-alike (Matches (lineShape row k)) (Fitting row k) same v o (b .0 e),
+      λ d. b .1 (dead-alike (Fitting row k) (Matches (lineShape row k)) (λ w. (same w .1, same w .0)) v o d),
+    )
 
 -- no octet of the line is bad exactly where it is clean
 pub clean-law : (l : List ℕ) → (ltb (firstBad (allowed false) l) (length l) ≡ false) ↔ Clean l

@@ -7,14 +7,15 @@ use native.Mathlib.Omega.{arith}
 use lib.ListN.{length, length-append}
 use lib.Seq.{append-snoc}
 use Rattle.line_folds.specs.Folds.{unfolded}
+use Rattle.line_folds.specs.Places.{placeOf}
 use Rattle.line_parser.specs.Grammar.{Line, Each, render}
 use Rattle.card_state.specs.State.{Card, Step, Next, Refused, freshCard, lineCard as nextCard}
-use Rattle.reader_walk.specs.Walk.{onward, judgeLines}
+use Rattle.reader_walk.specs.Walk.{onward, settled, judgeLines}
 use Rattle.reader.specs.Outcome.{ended}
 use Rattle.reader_grammar.specs.Cards.{Readable, CardLines, Cards, none, more}
-use Rattle.reader_grammar.specs.Refusals.{Begun, nothing, SoFar, Sound, LineRefused}
+use Rattle.reader_grammar.specs.Refusals.{Begun, nothing, SoFar, Sound, Where, at-start, at-octet, LineRefused}
 use Rattle.reader_grammar.proofs.Known.{Known, Joins, fresh-known, lineCard, line-known, endCard, end-known}
-use Rattle.reader_grammar.proofs.LineLaws.{Judged, refused, goes-on, ends, outcome, decided}
+use Rattle.reader_grammar.proofs.LineLaws.{stopped as halted, Judged, refused, goes-on, ends, outcome, decided}
 use Rattle.reader_grammar.proofs.BegunLaws.{each-join, Stands, begun-next, begun-end}
 
 -- one card more at the end
@@ -92,17 +93,28 @@ module _ (ds : List (List ℕ)) (c : Card) (r : Reached ds c) (l : List ℕ) (x 
         count = rw q at counted;
       }
 
+-- a place counted from the start of the raw line r
+abbrev pub placeIn : List ℕ → Where → ℕ
+placeIn r at-start = 0
+placeIn r (at-octet o) = placeOf r o
+
+-- where a refusal of the raw line r, which starts at p, has its place in the input
+pub settled-place : (p n : ℕ) (r : List ℕ) (w : Where) → settled p r (halted p n w) ≡ Refused n (p + placeIn r w)
+settled-place p n r at-start = ap (Refused n) (omega arith)
+settled-place p n r (at-octet o) = refl
+
 -- what the walk over all the lines comes to
 pub data Walked (all : List (List ℕ)) : Step → Type 0 where
   finished : {c : Card} → Reached all c → Walked all (Next c)
-  stopped : (ds : List (List ℕ)) (l : List ℕ) (es : List (List ℕ)) {c : Card} {n : ℕ} → all ≡ ds ++ (l ∷ es) → (r : Reached ds c)
-      → LineRefused (r .ys) (unfolded l) n → Walked all (Refused n (length (ended ds)))
+  stopped : (ds : List (List ℕ)) (l : List ℕ) (es : List (List ℕ)) {c : Card} {n : ℕ} {w : Where} → all ≡ ds ++ (l ∷ es) → (r : Reached ds c)
+      → LineRefused (r .ys) (unfolded l) n w → Walked all (Refused n (length (ended ds) + placeIn l w))
 
 -- one line further
 turn : (ds : List (List ℕ)) (l : List ℕ) (es : List (List ℕ)) (c : Card) (r : Reached ds c) (f : Card → Step) {s : Step}
     → Judged c (r .ys) (length (ended ds)) (unfolded l) s
-    → ((d : Card) → Reached (ds ++ (l ∷ [])) d → Walked (ds ++ (l ∷ es)) (f d)) → Walked (ds ++ (l ∷ es)) (onward s f)
-turn ds l es c r f (refused h) ih = stopped ds l es refl r h
+    → ((d : Card) → Reached (ds ++ (l ∷ [])) d → Walked (ds ++ (l ∷ es)) (f d)) → Walked (ds ++ (l ∷ es)) (onward (settled (length (ended ds)) l s) f)
+turn ds l es c r f (refused {n = n} {w = w} h) ih =
+    subst (λ (s : Step). Walked (ds ++ (l ∷ es)) (onward s f)) (sym (settled-place (length (ended ds)) n l w)) (stopped ds l es refl r h)
 turn ds l es c r f (goes-on x s e h) ih = ih (lineCard c x) (line-reached ds c r l x s h (begun-next x (r .lines .begun) (stands s) e h))
 turn ds l es c r f (ends x s e h g) ih = ih (endCard c) (end-reached ds c r l x s (begun-end x (r .lines .begun) (stands s) e h g))
 
@@ -124,6 +136,6 @@ walk [] ds c r = subst (λ (a : List (List ℕ)). Walked a (Next c)) (sym (appen
 walk (l ∷ es) ds c r =
     let j = decided c (r .ys) (r .known) (length (ended ds)) (unfolded l) in
     let f = judgeLines es (length (ended ds) + length l + 2) in
-    subst (λ (s : Step). Walked (ds ++ (l ∷ es)) (onward s f))
+    subst (λ (s : Step). Walked (ds ++ (l ∷ es)) (onward (settled (length (ended ds)) l s) f))
     (sym (outcome c (r .ys) (r .known) (length (ended ds)) (unfolded l) (j .1)))
     (turn ds l es c r f (j .1) (λ d q. rw (append-snoc ds l es, start-next ds l) at (walk es (ds ++ (l ∷ [])) d q)))

@@ -1,20 +1,23 @@
 -- Which inputs are refused, with which number and place, by REFERENCE, Refusals and The order of refusals. Assumes nothing.
-use Prim.Native.Nat.{ℕ, _<_, _≤_}
+use Prim.Native.Nat.{ℕ, _+_, _<_, _≤_}
 use mathlib.Core.Path.{_≡_}
-use mathlib.Core.Bool.{true}
+use mathlib.Core.Bool.{true, false}
 use mathlib.Core.List.{List, [], _∷_, _++_, map}
 use mathlib.Core.Logic.{_⊎_}
 use lib.ListN.{length}
 use Rattle.numbers.specs.Limits as limit
 use Rattle.numbers.specs.Refusals as refusal
 use Rattle.numbers.specs.Properties as property
-use Rattle.line_parser.specs.Grammar.{Line, Each, render}
+use Rattle.utf8.specs.Characters.{allowed}
+use Rattle.utf8_laws.specs.Texts.{BadAt}
+use Rattle.line_parser.specs.Grammar.{Line, Each, front, render}
 use Rattle.property_table.specs.Rows.{single}
 use Rattle.card_line.specs.Parts.{rowOfLine, kindOfLine}
 use Rattle.reader.specs.Outcome.{ended}
 use Rattle.reader_laws.specs.Lone.{Lone}
+use Rattle.value_laws.specs.Dead.{Dead}
 use Rattle.reader_grammar.specs.Values.{Fitting}
-use Rattle.line_laws.specs.Lined.{Lined, EndsCrLf}
+use Rattle.line_laws.specs.Lined.{At, Lined, EndsCrLf}
 use Rattle.line_laws.specs.FirstFault.{FirstFault}
 use Rattle.reader_grammar.specs.Cards.{Clean, Readable, Bare, Begins, Versions, Inner, OneInstance, Cards, linesOf, groupLines}
 
@@ -68,26 +71,38 @@ pub record Sound (ys : List Line) (l : List ℕ) (x : Line) : Type 0 where
   pub unladen : Unladen x
   pub fits : Fitting (rowOfLine x) (kindOfLine x) (x .value)
 
--- the refusals of a line l after the card's lines ys, each where none before it holds: 5, 40 to 43, 9, 8, 7, 10 and, at END, 11, 12
-pub data LineRefused (ys : List Line) (l : List ℕ) : ℕ → Type 0 where
-  octet : (Clean l → ⊥) → LineRefused ys l refusal.badOctet
-  rule : {e : ℕ} → Clean l → FirstFault e l → LineRefused ys l e
-  order : (x : Line) → Reads l x → (InPlace ys x → ⊥) → LineRefused ys l refusal.order
-  laden : (x : Line) → Reads l x → InPlace ys x → (Unladen x → ⊥) → LineRefused ys l refusal.laden
-  value : (x : Line) → Reads l x → InPlace ys x → Unladen x → (Fitting (rowOfLine x) (kindOfLine x) (x .value) → ⊥) → LineRefused ys l refusal.value
-  second : (x : Line) → Sound ys l x → single (rowOfLine x) ≡ true → 1 ≤ linesOf (rowOfLine x) ys → Each (λ y. OneInstance y x → ⊥) ys → LineRefused ys l refusal.second
-  nameless : (x : Line) → Sound ys l x → rowOfLine x ≡ property.end → linesOf property.fn ys ≡ 0 → LineRefused ys l refusal.noFn
-  no-group : (x : Line) → Sound ys l x → rowOfLine x ≡ property.end → 1 ≤ linesOf property.fn ys → 1 ≤ linesOf property.member ys → groupLines ys ≡ 0 → LineRefused ys l refusal.member
+-- where a line's refusal has its place: at the line's start, or at an octet of the unfolded line
+pub data Where : Type 0 where
+  at-start : Where
+  at-octet : ℕ → Where
 
--- 1, 2, 3, 4 over the whole input; then the first line that is refused, its raw line r, its logical line l, at its start; then 9 where the input
+-- the refusals of a line l after the card's lines ys, each where none before it holds: 5, 40 to 43, 9, 8, 7, 10 and, at END, 11, 12;
+-- 5 names the first octet that is no allowed character's, 7 the first octet from which no continuation of the value fits, or the line's end
+pub data LineRefused (ys : List Line) (l : List ℕ) : ℕ → Where → Type 0 where
+  octet : {o : ℕ} → BadAt (allowed false) l o → LineRefused ys l refusal.badOctet (at-octet o)
+  rule : {e : ℕ} → Clean l → FirstFault e l → LineRefused ys l e at-start
+  order : (x : Line) → Reads l x → (InPlace ys x → ⊥) → LineRefused ys l refusal.order at-start
+  laden : (x : Line) → Reads l x → InPlace ys x → (Unladen x → ⊥) → LineRefused ys l refusal.laden at-start
+  value : {o : ℕ} (x : Line) → Reads l x → InPlace ys x → Unladen x → Dead (Fitting (rowOfLine x) (kindOfLine x)) (x .value) o
+      → LineRefused ys l refusal.value (at-octet (length (front x) + o))
+  second : (x : Line) → Sound ys l x → single (rowOfLine x) ≡ true → 1 ≤ linesOf (rowOfLine x) ys → Each (λ y. OneInstance y x → ⊥) ys → LineRefused ys l refusal.second at-start
+  nameless : (x : Line) → Sound ys l x → rowOfLine x ≡ property.end → linesOf property.fn ys ≡ 0 → LineRefused ys l refusal.noFn at-start
+  no-group : (x : Line) → Sound ys l x → rowOfLine x ≡ property.end → 1 ≤ linesOf property.fn ys → 1 ≤ linesOf property.member ys → groupLines ys ≡ 0 → LineRefused ys l refusal.member at-start
+
+-- that place counted from the start of the raw line r, which is l with folds in it
+abbrev pub Placed : List ℕ → List ℕ → Where → ℕ → Type 0
+Placed l r at-start q = q ≡ 0
+Placed l r (at-octet o) q = At l r o q
+
+-- 1, 2, 3, 4 over the whole input; then the first line that is refused, its raw line r, its logical line l, at its place; then 9 where the input
 -- ends inside a card
 pub data RefusedBy (i : List ℕ) : ℕ → ℕ → Type 0 where
   long : limit.octets < length i → RefusedBy i refusal.tooLong limit.octets
   empty : length i ≡ 0 → RefusedBy i refusal.empty 0
   lone : {p : ℕ} → length i ≤ limit.octets → 0 < length i → Lone i p → ((q : ℕ) → q < p → Lone i q → ⊥) → RefusedBy i refusal.loneCrOrLf p
   unended : length i ≤ limit.octets → 0 < length i → Paired i → (EndsCrLf i → ⊥) → RefusedBy i refusal.noEnd (length i)
-  line : (ds es ls ms : List (List ℕ)) (r l : List ℕ) (n k : ℕ) (zs ys : List Line) → Framed i → Lined i (ds ++ (r ∷ es)) (ls ++ (l ∷ ms)) → length ls ≡ length ds
-      → SoFar ls k zs ys → LineRefused ys l n → RefusedBy i n (length (ended ds))
+  line : (ds es ls ms : List (List ℕ)) (r l : List ℕ) (n k q : ℕ) (w : Where) (zs ys : List Line) → Framed i → Lined i (ds ++ (r ∷ es)) (ls ++ (l ∷ ms)) → length ls ≡ length ds
+      → SoFar ls k zs ys → LineRefused ys l n w → Placed l r w q → RefusedBy i n (length (ended ds) + q)
   unfinished : (rs ls : List (List ℕ)) (k : ℕ) (zs ys : List Line) → Framed i → Lined i rs ls → SoFar ls k zs ys → 0 < length ys → RefusedBy i refusal.order (length i)
 
 -- the numbers of these refusals: 1 to 5, 7 to 12, and 40 to 43; 6 is none of them

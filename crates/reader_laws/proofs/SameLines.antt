@@ -12,7 +12,7 @@ use Rattle.line_folds.specs.Logical.{rawLines, logicalLines}
 use Rattle.card_state.specs.State.{Card, Step, Next, freshCard}
 use Rattle.card_judge.specs.Judge.{judgeLine}
 use Rattle.line_breaks.specs.Lone.{firstLone, endsCrLf}
-use Rattle.reader_walk.specs.Walk.{onward, judgeLines}
+use Rattle.reader_walk.specs.Walk.{onward, settled, judgeLines}
 use Rattle.reader.specs.Outcome.{verdictOf, judgeOf, copyOf, recordsOf}
 use Rattle.reader.specs.declared.Verdict.the-variants.{Accepted}
 use Rattle.reader_walk.proofs.WalkLaws.{onward-next}
@@ -48,7 +48,7 @@ same-judged (l ∷ ls) (y ∷ ys) p q c c′ m e =
     let h : unfolded y ≡ unfolded l = cc in
     let t : map unfolded ys ≡ map unfolded ls = cc in
     onward-next p l (judgeLine c p (unfolded l)) (judgeLines ls (p + length l + 2)) c′ e
-    (λ d j r. ap (λ (s : Step). onward s (judgeLines ys (q + length y + 2))) (ap (judgeLine c q) h ∙ any-place c d p q (unfolded l) j)
+    (λ d j r. ap (λ (s : Step). onward (settled q y s) (judgeLines ys (q + length y + 2))) (ap (judgeLine c q) h ∙ any-place c d p q (unfolded l) j)
     ∙ same-judged ls ys (p + length l + 2) (q + length y + 2) d c′ t r)
 
 -- an input with the same logical lines, which passes 1 to 4, is accepted with the same counts

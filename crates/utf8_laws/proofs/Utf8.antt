@@ -1,6 +1,6 @@
 -- RFC 3629, section 4: `charLength` and `firstBad` say of every list what the grammar says. No list is left out: a number above
 -- 255 is in no range of the grammar. Assumes nothing.
-use Prim.Native.Nat.{ℕ, zero, suc, _≤_}
+use Prim.Native.Nat.{ℕ, zero, suc, _<_, _≤_}
 use mathlib.Core.Path.{_≡_, refl, _∙_}
 use mathlib.Core.Logic.{_↔_}
 use mathlib.Core.Bool.{Bool, true, false}
@@ -13,7 +13,7 @@ use Rattle.octets.specs.Classes.{valued}
 use Rattle.utf8.specs.Characters.{lengthBy, second, tail, rest, charLength, allowed, unit, firstBad}
 use Rattle.utf8.specs.Rfc3629.{Characters}
 use Rattle.utf8.proofs.Chars.{bad-le}
-use Rattle.utf8_laws.specs.Texts.{Begins, Text, Stops, Each}
+use Rattle.utf8_laws.specs.Texts.{Begins, Text, Stops, BadAt, Each}
 use Rattle.utf8_laws.proofs.Starts.{char-found, char-parts}
 use Rattle.utf8_laws.proofs.Walks.{begins, stops-zero, bad-none, place-parts, past-prefix, text-of, text-characters, text-each, allowed-high}
 
@@ -47,6 +47,13 @@ module _ (p : ℕ → Bool) (l : List ℕ) where
     λ e. rw take-length at (place-parts p l (length l) e .1),
     λ t. omega (arith, bad-longest (length l) (omega arith) (rw take-length t), bad-le p l),
   )
+
+  -- a place within the list is answered exactly where a character is bad
+  pub bad-at : firstBad p l < length l → BadAt p l (firstBad p l)
+  bad-at h = let w = bad-place (firstBad p l) .0 refl in record { inside = h; before = w .1; there = w .2 }
+
+  pub bad-at-only : {k : ℕ} → BadAt p l k → firstBad p l ≡ k
+  bad-at-only {k} b = let h = b .inside in bad-place k .1 (omega arith, b .before, b .there)
 
 -- with the octets of a value (and LF) allowed, exactly at UTF8-octets of allowed octets
 pub allowed-only : (lf : Bool) (l : List ℕ) → (firstBad (allowed lf) l ≡ length l) ↔ (Characters l × Each (allowed lf) l)

@@ -1,4 +1,4 @@
--- The minutes that an offset's octets give are those that it stands for, and it stands for no others. Assumes nothing.
+-- The minutes that an offset's octets give are those that it stands for, and it stands for no others; other octets are refused where they break off. Assumes nothing.
 use mathlib.Core.Path.{_≡_, refl, sym, ap, subst, _∙_}
 use mathlib.Core.Bool.{true, false}
 use mathlib.Core.List.{List, [], _∷_, _++_}
@@ -8,12 +8,16 @@ use native.Mathlib.Omega.{arith}
 use lib.IntN.{ℤ, pos, negℤ}
 use Rattle.numbers.specs.Refusals as refusal
 use Rattle.property_table.specs.declared.Edition.the-variants.{First}
-use Rattle.value_kinds.specs.Kinds.{kindScan}
+use Rattle.value_kinds.specs.Shapes.{Matches}
+use Rattle.value_kinds.specs.Kinds.{shapeIn, kindScan}
 use Rattle.value_kinds.specs.declared.Fault.{Fault}
 use Rattle.value_kinds.specs.declared.Fault.the-variants.{Fits as fitting, Breaks as breaking}
 use Rattle.value_offsets.specs.Minutes.{digitAt, pairAt, timeOf, isBehind, signed, minutesBy, minutesOf}
 use Rattle.value_offsets.specs.declared.Offset.the-variants.{Minutes, Refused}
 use Rattle.value_laws.specs.Calendar.{two, Offset, offset-hours, offset-minutes, StandsFor, hours-ahead, minutes-ahead, hours-behind, minutes-behind, Within}
+use Rattle.value_laws.specs.Dead.{Dead}
+use Rattle.value_laws.proofs.DeadLaws.{dead-alike}
+use Rattle.value_laws.proofs.KindLaws.{fits-kind, breaks-kind}
 use Rattle.value_laws.proofs.DateWords.{kind-11}
 
 time-hours : (s h : ℕ) → timeOf (s ∷ two h) ≡ h * 60
@@ -74,23 +78,23 @@ range-law (minutes-ahead {h = h} {m = m} l k) = (h * 60 + m, omega arith, inl re
 range-law (hours-behind {h = h} l) = (h * 60, omega arith, inr refl)
 range-law (minutes-behind {h = h} {m = m} l k) = (h * 60 + m, omega arith, inr refl)
 
-refused-by : (v : List ℕ) (n p : ℕ) (f : Fault) → kindScan 11 v ≡ f → minutesBy f v ≡ Refused n p
-    → (n ≡ refusal.value) × (p ≡ 0) × ((z : ℤ) → StandsFor z v → ⊥)
-refused-by v n p fitting e h = let k : _≡_ {A = ℕ} 0 1 = cc in absurd (omega arith)
-refused-by v n p (breaking o) e h = (
-  cc,
-  cc,
-  λ z s. let q = sym e ∙ kind-11 First v .1 (stands-offset s) in let k : _≡_ {A = ℕ} 0 1 = cc in omega arith,
-)
+-- the scan breaks off where an offset does
+breaks-offset : (v : List ℕ) (o : ℕ) → (kindScan 11 v ≡ breaking o) ↔ Dead Offset v o
+breaks-offset v o =
+    let b = breaks-kind First 11 v o (omega arith) in
+    let same : (w : List ℕ) → Matches (shapeIn First 11) w ↔ Offset w = λ w. (λ m. kind-11 First w .0 (fits-kind First 11 w .1 m), λ m. fits-kind First 11 w .0 (kind-11 First w .1 m)) in (
+      λ e. dead-alike (Matches (shapeIn First 11)) Offset same v o (b .0 e),
+      λ h. b .1 (dead-alike Offset (Matches (shapeIn First 11)) (λ w. (same w .1, same w .0)) v o h),
+    )
 
-refused-from : (v : List ℕ) (f : Fault) → kindScan 11 v ≡ f → ((z : ℤ) → StandsFor z v → ⊥) → minutesBy f v ≡ Refused refusal.value 0
-refused-from v fitting e h = absurd (h (signed (isBehind v) (timeOf v)) (offset-stands v (kind-11 First v .0 e)))
-refused-from v (breaking o) e h = refl
+refused-to : (v : List ℕ) (n p : ℕ) (f : Fault) → kindScan 11 v ≡ f → minutesBy f v ≡ Refused n p → (n ≡ refusal.value) × Dead Offset v p
+refused-to v n p fitting e h = let k : _≡_ {A = ℕ} 0 1 = cc in absurd (omega arith)
+refused-to v n p (breaking o) e h = let q : o ≡ p = cc in (cc, breaks-offset v p .0 (e ∙ ap breaking q))
 
--- 7 with place 0 is answered exactly where they stand for none
-pub no-minutes : (v : List ℕ) (n p : ℕ) → (minutesOf v ≡ Refused n p) ↔ ((n ≡ refusal.value) × (p ≡ 0) × ((z : ℤ) → StandsFor z v → ⊥))
+-- 7 is answered exactly where they are no offset, with the first octet from which no continuation is one
+pub no-minutes : (v : List ℕ) (n p : ℕ) → (minutesOf v ≡ Refused n p) ↔ ((n ≡ refusal.value) × Dead Offset v p)
 unfolding minutesOf
 no-minutes v n p = (
-  λ h. refused-by v n p (kindScan 11 v) refl h,
-  λ h. rw (h .0, h .1) (refused-from v (kindScan 11 v) refl (h .2)),
+  λ h. refused-to v n p (kindScan 11 v) refl h,
+  λ h. rw (h .0) (ap (λ (f : Fault). minutesBy f v) (breaks-offset v p .1 (h .1))),
 )

@@ -7,9 +7,8 @@ use mathlib.Core.Logic.{_⊎_, inl, inr, ⊎-elim, _↔_}
 use Prim.Native.Nat.{ℕ, zero, suc, _+_, _-_, _%_, _<_, _≤_}
 use native.Mathlib.Nat.{add-zero, zero-add}
 use native.Mathlib.Omega.{arith}
-use lib.Dec.{ltb}
 use lib.ListN.{length, take}
-use borrow.Author.Tests.{ltb-true, ltb-false, eq-eqb, le-leb}
+use borrow.Author.Tests.{eq-eqb, le-leb}
 use Rattle.octets.specs.Pick.{pick}
 use Rattle.octets.specs.Classes.{letter as isLetter, digit as isDigit}
 use Rattle.octets.specs.Cases.{lower}
@@ -18,6 +17,8 @@ use Rattle.value_kinds.specs.Shapes.{Shape, never, empty, one, _then_, _or_, ma
 use Rattle.value_kinds.specs.declared.Fault.the-variants.{Fits, Breaks}
 use Rattle.octets.proofs.Bools.{by, and-both, or-some}
 use Rattle.value_kinds.proofs.ShapeLaws.{dead-none, derivative-to, fits-from}
+use Rattle.value_laws.specs.Dead.{Dead}
+use Rattle.value_laws.proofs.DeadLaws.{dead-once}
 
 and-none : (s t : Bool) → (s && t) ≡ false → (s ≡ false) ⊎ (t ≡ false)
 and-none true t e = inr e
@@ -164,17 +165,14 @@ fits-to r i (x ∷ xs) h =
 pub fits : (r : Shape) (v : List ℕ) → (faultFrom r 0 v ≡ Fits) ↔ Matches r v
 fits r v = (fits-to r 0 v, fits-from r 0 v)
 
--- v does not match, n octets of it have a continuation that does, and one octet more has none
-pub record Broken (r : Shape) (v : List ℕ) (n : ℕ) : Type 0 where
-  pub no-match : Matches r v → ⊥
-  pub inside : n ≤ length v
-  pub goes-on : (w : List ℕ) × Matches r (take n v ++ w)
-  pub no-more : n < length v → (w : List ℕ) → Matches r (take (suc n) v ++ w) → ⊥
+-- v does not match the shape, and breaks off at n
+abbrev pub Broken : Shape → List ℕ → ℕ → Type 0
+Broken r v n = Dead (Matches r) v n
 
 here : (r : Shape) (x : ℕ) (v : List ℕ) → dead r ≡ false → dead (derivative x r) ≡ true → Broken r (x ∷ v) 0
 here r x v e f =
     record {
-      no-match = λ k. dead-none (derivative x r) f v (derivative-to x r v k);
+      unfit = λ k. dead-none (derivative x r) f v (derivative-to x r v k);
       inside = omega arith;
       goes-on = dead-some r e;
       no-more = λ h w k. dead-none (derivative x r) f w (derivative-to x r w k);
@@ -183,7 +181,7 @@ here r x v e f =
 later : (r : Shape) (x : ℕ) (v : List ℕ) (n : ℕ) → Broken (derivative x r) v n → Broken r (x ∷ v) (suc n)
 later r x v n h =
     record {
-      no-match = λ k. h .no-match (derivative-to x r v k);
+      unfit = λ k. h .unfit (derivative-to x r v k);
       inside = omega (arith, h .inside);
       goes-on = (h .goes-on .0, derivative-from x r (take n v ++ h .goes-on .0) (h .goes-on .1));
       no-more = λ l w k. h .no-more (omega arith) w (derivative-to x r (take (suc n) v ++ w) k);
@@ -200,7 +198,7 @@ broken-from r i [] k e h =
       0,
       same-place i k (rw f at h) ∙ sym (add-zero i),
       record {
-        no-match = λ l. no-breaks k (sym h ∙ fits-from r i [] l);
+        unfit = λ l. no-breaks k (sym h ∙ fits-from r i [] l);
         inside = omega arith;
         goes-on = dead-some r e;
         no-more = λ l. absurd (omega arith);
@@ -210,25 +208,6 @@ broken-from r i (x ∷ xs) k e h =
     by (dead (derivative x r))
     (λ f. (0, same-place i k (rw f at h) ∙ sym (add-zero i), here r x xs e f))
     (λ f. let y = broken-from (derivative x r) (i + 1) xs k f (rw f at h) in (suc (y .0), omega (arith, y .1), later r x xs (y .0) (y .2)))
-
--- a longer part of a text is a continuation of a shorter one
-longer : (n m : ℕ) (v w : List ℕ) → n ≤ m → (z : List ℕ) × (take m v ++ w ≡ take n v ++ z)
-longer zero m v w h = (take m v ++ w, refl)
-longer (suc n) zero v w h = absurd (omega arith)
-longer (suc n) (suc m) [] w h = (w, refl)
-longer (suc n) (suc m) (x ∷ v) w h =
-    let k = longer n m v w (omega arith) in
-    (k .0, ap (λ (l : List ℕ). x ∷ l) (k .1))
-
-not-before : (r : Shape) (v : List ℕ) (n m : ℕ) → Broken r v n → Broken r v m → n < m → ⊥
-not-before r v n m g h l =
-    let k = longer (suc n) m v (h .goes-on .0) l in
-    g .no-more (omega (arith, h .inside)) (k .0) (subst (Matches r) (k .1) (h .goes-on .1))
-
-one-place : (r : Shape) (v : List ℕ) (n m : ℕ) → Broken r v n → Broken r v m → n ≡ m
-one-place r v n m g h =
-    by (ltb n m) (λ e. absurd (not-before r v n m g h (ltb-true n m e)))
-    (λ e. by (ltb m n) (λ f. absurd (not-before r v m n h g (ltb-true m n f))) (λ f. omega (arith, ltb-false n m e, ltb-false m n f)))
 
 either : (r : Shape) (i : ℕ) (v : List ℕ) → (faultFrom r i v ≡ Fits) ⊎ ((k : ℕ) × (faultFrom r i v ≡ Breaks k))
 unfolding faultFrom
@@ -247,6 +226,6 @@ breaks r v n e = (to n, from)
     from : Broken r v n → faultFrom r 0 v ≡ Breaks n
     from h =
         ⊎-elim
-        (λ f. absurd (h .no-match (fits-to r 0 v f)))
-        (λ f. f .1 ∙ ap Breaks (one-place r v (f .0) n (to (f .0) (f .1)) h))
+        (λ f. absurd (h .unfit (fits-to r 0 v f)))
+        (λ f. f .1 ∙ ap Breaks (dead-once (Matches r) v (f .0) n (to (f .0) (f .1)) h))
         (either r 0 v)

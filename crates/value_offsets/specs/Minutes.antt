@@ -43,10 +43,10 @@ abbrev pub Bounded : Offset → Type 0
 Bounded (Minutes z) = natAbs z ≤ mostMinutes
 Bounded (Refused n p) = Unit {0}
 
--- 7 where the value is no offset
+-- 7 where the value is no offset, at the octet where it breaks the kind, or at its end
 abbrev pub minutesBy : Fault → List ℕ → Offset
 minutesBy Fits v = Minutes (signed (isBehind v) (timeOf v))
-minutesBy (Breaks o) v = Refused refusal.value 0
+minutesBy (Breaks o) v = Refused refusal.value o
 
 unfoldable pub minutesOf : List ℕ → Offset
 minutesOf v = minutesBy (kindScan kind.offset v) v

@@ -7,7 +7,7 @@ use numbers::refusal;
 use property_table::Edition;
 use value_kinds::Fault;
 
-// The minutes that an offset is ahead of UTC, below 0 where it is behind; or the refusal, with its place.
+// The minutes that an offset is ahead of UTC, below 0 where it is behind; or the refusal, with its place in the value.
 pub enum Offset {
     Minutes(i32),
     Refused(u32, usize),
@@ -71,15 +71,16 @@ fn signed(behind: bool, n: u32) -> i32
     z
 }
 
-// The minutes that the octets of an offset stand for, or that they are none.
+// The minutes that the octets of an offset stand for, or the first octet from which no continuation makes them one; their length where
+// they only end too early.
 pub fn minutes(value: &[u8]) -> Offset
     ensures { λ r. ⌜ r ≡ minutesOf (now (value .entry)) ⌝ }
     ensures { λ r. ⌜ Bounded r ⌝ }
 {
     let steps = value_automaton::scanner::table();
     let f = value_automaton::value_fault(&steps, Edition::First, kind::OFFSET, value);
-    let Fault::Fits = f else {
-        return Offset::Refused(refusal::VALUE, 0);
-    };
+    if let Fault::Breaks(octet) = f {
+        return Offset::Refused(refusal::VALUE, octet);
+    }
     Offset::Minutes(signed(is_behind(value), time_of(value)))
 }

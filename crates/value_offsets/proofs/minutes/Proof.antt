@@ -18,15 +18,15 @@ table-requires c κs = search needs
 value-fault-requires : tie.Need-value-fault-requires
 value-fault-requires c κs = search needs
 
-enum-told : tie.Need-enum-told
-enum-told c = search needs
-
-enum-told-2 : tie.Need-enum-told-2
-enum-told-2 c = search needs
+enum-known-f : tie.Need-enum-known-f
+enum-known-f c = search needs
 
 returns : tie.Need-returns
 unfolding minutesOf
-returns c = (simp (sym (c .before .before .value-fault .ensures) ∙ c .enum-told2 .given .1), tt)
+returns c = (simp (sym (c .before .before .before .value-fault .ensures) ∙ c .before .f .given .1), tt)
+
+enum-told : tie.Need-enum-told
+enum-told c = search needs
 
 is-behind-requires : tie.Need-is-behind-requires
 is-behind-requires c κs = search needs
@@ -57,9 +57,9 @@ minutes-spec =
     (tie.spec
     table-requires
     value-fault-requires
-    enum-told
-    enum-told-2
+    enum-known-f
     returns
+    enum-told
     is-behind-requires
     time-of-requires
     signed-requires
