@@ -25,9 +25,9 @@ enum gerstebolk_refusal {
     GERSTEBOLK_EMPTY = 2,            /* no octet */
     GERSTEBOLK_LONE_CR_OR_LF = 3,    /* CR without LF, or LF without CR; place of the octet */
     GERSTEBOLK_NO_END = 4,           /* the last two octets aren't CR LF; place the input's length */
-    GERSTEBOLK_BAD_OCTET = 5,        /* a control, or no UTF-8, in a logical line; from here to 12, and for 40 to 43, the place is a line's start */
-    GERSTEBOLK_VALUE = 7,            /* the value breaks its kind */
-    GERSTEBOLK_LADEN = 8,            /* a group or a parameter on BEGIN, VERSION or END */
+    GERSTEBOLK_BAD_OCTET = 5,        /* a control, or no UTF-8, in a logical line; place of the control, or of the bad character's first octet */
+    GERSTEBOLK_VALUE = 7,            /* the value breaks its kind; place of the first octet from which nothing could satisfy it, or of the line's CR */
+    GERSTEBOLK_LADEN = 8,            /* a group or a parameter on BEGIN, VERSION or END; from here to 12, and for 40 to 43, the place is a line's start */
     GERSTEBOLK_ORDER = 9,            /* a line out of order; or the input ends inside a card, place its length */
     GERSTEBOLK_SECOND = 10,          /* a second instance of a property that may stand once */
     GERSTEBOLK_NO_FN = 11,           /* no FN in the card; place of its END line */

@@ -1,4 +1,4 @@
--- The marked worked examples, proved as one statement over their table: by computing a test of it. Assumes nothing.
+-- The marked worked examples and those of named octets, each proved as one statement over its table: by computing a test of it. Assumes nothing.
 use Prim.Native.Nat.{ℕ}
 use mathlib.Core.Path.{_≡_, refl, ap}
 use mathlib.Core.List.{List}
@@ -16,6 +16,7 @@ use Rattle.text_unescaping.specs.Unescaped as unescaped
 use Rattle.text.specs.Outcomes as texts
 use Rattle.line_breaks.specs.Lone as lone
 use Rattle.line_folds.specs.Folds as folds
+use Rattle.line_folds.specs.Places as places
 use Rattle.line_folds.specs.Logical as logical
 use Rattle.line_parser.specs.Grammar as grammar
 use Rattle.line_parser.specs.Grammar.{Each}
@@ -52,7 +53,7 @@ use Rattle.desk_slots.specs.Slots as slots
 use Rattle.desk.specs.Steps as desk
 use Rattle.desk_ledger.specs.Ledger as ledger
 use Rattle.desk_ledger.specs.Ticks as ticks
-use Rattle.demands.specs.Examples.{Holds, marked, cardM, foldedM, recordsM, rowsM, Merged, smallName, capitalName}
+use Rattle.demands.specs.Examples.{Holds, marked, named, cardM, foldedM, recordsM, rowsM, Merged, smallName, capitalName}
 use Rattle.demands.proofs.Tested.{sameNumbers, sameAnswers, allHold, tested}
 
 -- ---- what the examples compute by: to unfold a name of this part is to unfold what its own line names
@@ -78,7 +79,7 @@ unfolding unescaped.code unescaped.meant unescaped.escapeAt unescaped.textStep u
 by-escapes = tt
 
 by-folds : Unit {0}
-unfolding folds.foldAt folds.lineStep folds.lineLength folds.passed folds.kept folds.unfolded logical.linesBy logical.rawLines logical.logicalLines
+unfolding folds.foldAt folds.lineStep folds.lineLength folds.passed folds.kept folds.unfolded places.keptFrom places.placeOf logical.linesBy logical.rawLines logical.logicalLines
 by-folds = tt
 
 by-lines : Unit {0}
@@ -157,6 +158,13 @@ all-hold = refl
 
 pub examples : Each Holds marked
 examples = tested marked all-hold
+
+named-hold : allHold named ≡ true
+unfolding by-octets by-scans by-characters by-text by-escapes by-folds by-lines by-rule by-kinds by-dates by-shapes by-table by-cards by-tags by-judge by-reader by-folder by-styles by-report by-print by-desk by-calls by-examples
+named-hold = refl
+
+pub named-examples : Each Holds named
+named-examples = tested named named-hold
 
 -- In the raised style equal octets don't tell equal copies.
 pub merged : Merged smallName capitalName (replicate 160 0)

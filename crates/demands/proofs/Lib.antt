@@ -9,5 +9,6 @@ pub mod Reports
 pub mod Exact
 pub mod Labels
 pub mod Dates
+pub mod Octets
 pub mod Total
 pub mod Whole

@@ -10,6 +10,7 @@ use Rattle.demands.proofs.Total.{demand1}
 use Rattle.demands.proofs.Exact.{demand2}
 use Rattle.demands.proofs.Labels.{labels}
 use Rattle.demands.proofs.Dates.{demand4}
+use Rattle.demands.proofs.Octets.{demand5}
 
 pub demands : Demands
 demands =
@@ -19,6 +20,7 @@ demands =
       separate = demand3;
       separate-as-asked = demand3-as-asked;
       dated = demand4;
+      named = demand5;
       labels = labels;
       granted = grants;
       replays = replays;

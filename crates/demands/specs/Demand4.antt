@@ -13,6 +13,7 @@ use Rattle.value_kinds.specs.declared.Fault.the-variants.{Fits}
 use Rattle.value_offsets.specs.Minutes.{minutesOf}
 use Rattle.value_offsets.specs.declared.Offset.the-variants.{Minutes, Refused}
 use Rattle.value_laws.specs.Calendar.{DateAndOrTime, Timestamp, Offset, StandsFor, Within}
+use Rattle.value_laws.specs.Dead.{Dead}
 use Rattle.value_laws.specs.LineKinds.{KindOf}
 use Rattle.value_laws.specs.DateExamples.{DateExamples}
 use Rattle.card_line.specs.Parts.{paramValue, rowOfLine, kindOfLine}
@@ -28,7 +29,7 @@ pub record Demand4 : Type 0 where
   pub minutes : (v : List ℕ) (z : ℤ) → (minutesOf v ≡ Minutes z) ↔ StandsFor z v
   pub one-meaning : (v : List ℕ) (y z : ℤ) → StandsFor y v → StandsFor z v → y ≡ z
   pub range : {z : ℤ} {v : List ℕ} → StandsFor z v → Within 1439 z
-  -- and exactly what stands for none is 7, with place 0
-  pub refuses : (v : List ℕ) (n p : ℕ) → (minutesOf v ≡ Refused n p) ↔ ((n ≡ refusal.value) × (p ≡ 0) × ((z : ℤ) → StandsFor z v → ⊥))
+  -- and exactly what is none is 7, with the first octet from which no continuation is one
+  pub refuses : (v : List ℕ) (n p : ℕ) → (minutesOf v ≡ Refused n p) ↔ ((n ≡ refusal.value) × Dead Offset v p)
   -- both sides of every limit, and the examples of RFC 6350, section 4.3
   pub examples : DateExamples

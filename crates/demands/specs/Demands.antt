@@ -1,4 +1,4 @@
--- The three demands, dates, labels, what a granted call does, the claim of demand 3 of a program that makes the calls, the claims of the report,
+-- The three demands, dates, the exact octet, labels, what a granted call does, the claim of demand 3 of a program that makes the calls, the claims of the report,
 -- the rows that a name is compared with, and the marked examples, side by side. Assumes nothing.
 use Prim.Native.Nat.{ℕ}
 use mathlib.Core.List.{List}
@@ -13,6 +13,7 @@ use Rattle.demands.specs.Demand1.{Demand1}
 use Rattle.demands.specs.Demand2.{Demand2}
 use Rattle.demands.specs.Labels.{Labels}
 use Rattle.demands.specs.Demand4.{Demand4}
+use Rattle.demands.specs.Demand5.{Demand5}
 
 pub record Demands : Type 0 where
   pub total : Demand1
@@ -21,6 +22,7 @@ pub record Demands : Type 0 where
   pub separate : Demand3
   pub separate-as-asked : Demand3AsAsked
   pub dated : Demand4
+  pub named : Demand5
   pub granted : Granted
   pub replays : Replays
   pub reports : Reports

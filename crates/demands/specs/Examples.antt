@@ -122,10 +122,10 @@ marked =
     asM foldedM ∷
     refuses (start ++ line "END:VCARD") 11 26 ∷
     refuses (start ++ line "FN:A") 9 32 ∷
-    refuses (line "BEGIN:VCARD" ++ (line "VERSION:3.0" ++ (line "FN:A" ++ line "END:VCARD"))) 7 13 ∷
+    refuses (line "BEGIN:VCARD" ++ (line "VERSION:3.0" ++ (line "FN:A" ++ line "END:VCARD"))) 7 21 ∷
     refuses (octets "BEGIN:VCARD" ++ (10 ∷ (line "VERSION:4.0" ++ (line "FN:A" ++ line "END:VCARD")))) 3 11 ∷
     refuses (cardWith (line fullName ++ line fullName)) 10 64 ∷
-    refuses (cardWith (line "N:Doe;J")) 7 32 ∷
+    refuses (cardWith (line "N:Doe;J")) 7 39 ∷
     refuses (cardWith (line "N;ALTID=1:;;;;" ++ line "N:;;;;")) 10 48 ∷
     folding AsRead (cardWith (line "N;ALTID=1:;;;;" ++ line "N;ALTID=1:;;;;")) 75 (cardWith (line "N;ALTID=1:;;;;" ++ line "N;ALTID=1:;;;;")) ∷
     folding AsRead (note 75 end) 120 (note 75 end) ∷
@@ -138,6 +138,46 @@ marked =
     unescapes (octets "a,b") (replicate 8 0) (refused 30 1) (replicate 8 0) ∷
     reports (cardM ∷ []) (replicate 70 0) (told 68) (rowsM ++ replicate 2 0) ∷
     turns 2 (opensAt 0 0 ∷ opensAt 0 0 ∷ asksOf 1 releasing ∷ opensAt 0 0 ∷ []) (1 ∷ 2 ∷ 0 ∷ 3 ∷ []) 0 (record { ticket = 3; tram = 0; held = 0 }) ∷
+    []
+
+-- a line after FN in card M is refused with that number, at that octet of it as it came
+abbrev flawed : List ℕ → ℕ → ℕ → Example
+flawed l n o = refuses (cardWith (l ++ end)) n (32 + o)
+
+-- a fold
+abbrev fold : List ℕ
+fold = end ++ 32 ∷ []
+
+-- where 5 and 7 name an octet: by kind, at the end of a value that ends too early, and through folds; 8, 10 and 40 keep the line's start
+abbrev pub named : List Example
+named =
+    flawed (octets "NOTE:\\x") 7 6 ∷
+    flawed (octets "NOTE:a\\") 7 7 ∷
+    flawed (octets "NOTE:a,b") 7 6 ∷
+    flawed (octets "N:;;;;;") 7 6 ∷
+    flawed (octets "UID:1") 7 4 ∷
+    flawed (octets "UID:ab") 7 6 ∷
+    flawed (octets "GENDER:MX") 7 8 ∷
+    flawed (octets "CLIENTPIDMAP:1;") 7 15 ∷
+    flawed (octets "BDAY:20230229") 7 12 ∷
+    flawed (octets "BDAY:20230230") 7 11 ∷
+    flawed (octets "BDAY:20230431") 7 12 ∷
+    flawed (octets "BDAY:198513") 7 10 ∷
+    flawed (octets "BDAY:19852") 7 9 ∷
+    flawed (octets "BDAY:T102261") 7 11 ∷
+    flawed (octets "REV:19961022T1400") 7 17 ∷
+    refuses (line "BEGIN:VCARDS") 7 11 ∷
+    flawed (octets "N:Do" ++ (fold ++ octets "e;J")) 7 10 ∷
+    flawed (octets "N:Doe;J" ++ fold) 7 10 ∷
+    flawed (octets "NOTE:a" ++ (fold ++ octets ",b")) 7 9 ∷
+    flawed (octets "NOTE:a," ++ (fold ++ octets "b")) 7 6 ∷
+    flawed (octets "FN:a" ++ (0xE2 ∷ 0x82 ∷ 0x00 ∷ [])) 5 4 ∷
+    flawed (octets "FN:" ++ (fold ++ (0x80 ∷ []))) 5 6 ∷
+    flawed (octets "FN:" ++ (0xC3 ∷ (fold ++ octets "b"))) 5 3 ∷
+    flawed (octets "FN:a" ++ (0x7F ∷ [])) 5 4 ∷
+    flawed (octets "N;ALTID=1:;;;;" ++ (end ++ octets "N:;;;;")) 10 16 ∷
+    flawed (octets "VERSION:4.0") 9 0 ∷
+    flawed (octets "F N:a") 40 0 ∷
     []
 
 -- raised, two inputs whose copies differ are written to equal octets

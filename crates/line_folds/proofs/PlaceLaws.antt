@@ -6,8 +6,10 @@ use Prim.Native.Nat.{ℕ, zero, suc, pred, _+_, _-_, _<_, _≤_}
 use native.Mathlib.Numerals.{add-one}
 use native.Mathlib.Nat.{zero-add}
 use native.Mathlib.Omega.{arith}
+use lib.Dec.{ltb}
 use lib.ListN.{length, getD, drop, drop-of-length-le}
 use lib.Seq.{drop-cons}
+use borrow.Author.Tests.{ltb-true, ltb-false}
 use Rattle.octets.specs.Pick.{pick}
 use Rattle.octets.specs.Scan.{gather}
 use Rattle.octets.proofs.Bools.{by}
@@ -35,7 +37,7 @@ module _ (s : List ℕ) where
       let two : at + 1 + 1 ≡ at + 2 = omega arith in
       let three : at + 2 + 1 ≡ at + 3 = omega arith in
       ap (λ (l : List ℕ). keptFrom at l 0) d ∙ rw f (
-        step (at + 1) 1 (omega arith) ∙ rw two (step (at + 2) 0 (omega arith) ∙ rw three refl))
+      step (at + 1) 1 (omega arith) ∙ rw two (step (at + 2) 0 (omega arith) ∙ rw three refl))
 
   pub kept-none : (at : ℕ) → length s ≤ at → keptFrom at (drop at s) 0 ≡ []
   unfolding keptFrom
@@ -135,3 +137,8 @@ rises i (x ∷ xs) zero n h o p lt le =
 pub place-rising : (l : List ℕ) (o p : ℕ) → o < p → p ≤ length (unfolded l) → placeOf l o < placeOf l p
 unfolding placeOf
 place-rising l o p lt le = rises 0 l 0 (length l) (omega arith) o p lt (rw (kept-count l) le)
+
+-- every place is in the line, or its end
+pub place-inside : (l : List ℕ) (o : ℕ) → placeOf l o ≤ length l
+place-inside l o =
+    by (ltb o (length (unfolded l))) (λ e. omega (arith, place-octet l o (ltb-true o (length (unfolded l)) e) .1)) (λ e. omega (arith, place-end l o (ltb-false o (length (unfolded l)) e)))

@@ -3,8 +3,8 @@ ghost use mathlib.Core.Path.{_≡_};
 ghost use Prim.Native.Nat.{_≤_};
 ghost use lib.ListN.{length};
 ghost use Rattle.line_folds.specs.Places.{placeOf};
-use crate::spans::fold_at;
 use crate::spans::FOLD_LENGTH;
+use crate::spans::fold_at;
 
 // The place of octet o of the line s without its folds; the end of s where it has no such octet.
 pub fn place_of(s: &[u8], o: usize) -> usize

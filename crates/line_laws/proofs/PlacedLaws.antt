@@ -59,6 +59,23 @@ pub placed-only : {l r : List ℕ} {o p : ℕ} → At l r o p → Unbroken l →
 unfolding placeOf
 placed-only {l} {r} {o} {p} a u = sym (only a u 0 (length r) (omega arith) ∙ zero-add p)
 
+-- what stands there is that octet of the line and its CR
+pub octet-same : {l r : List ℕ} {o p : ℕ} → At l r o p → (t : List ℕ) → getD (r ++ (13 ∷ t)) p 0 ≡ getD (l ++ (13 ∷ [])) o 0
+octet-same ends t = refl
+octet-same (here f) t = refl
+octet-same (next a) t = octet-same a t
+octet-same (past {b = b} {p = p} {r = r} w a) t = ap (λ (n : ℕ). getD (13 ∷ 10 ∷ b ∷ (r ++ (13 ∷ t))) n 0) (three p) ∙ octet-same a t
+  where
+    three : (p : ℕ) → 3 + p ≡ suc (suc (suc p))
+    three p = omega arith
+
+-- the end of the line stands at the end of the raw line
+pub end-same : {l r : List ℕ} {o p : ℕ} → At l r o p → length l ≤ o → p ≡ length r
+end-same ends h = refl
+end-same (here f) h = absurd (omega arith)
+end-same (next a) h = ap suc (end-same a (omega arith))
+end-same (past {p = p} w a) h = omega (arith, end-same a h)
+
 -- an input's lines at one place: the logical line has no CR and no LF, and is the raw one without its folds
 pub lined-there : {i : List ℕ} (ds es ls ms : List (List ℕ)) (r l : List ℕ) → Lined i (ds ++ (r ∷ es)) (ls ++ (l ∷ ms)) → length ls ≡ length ds → Folded l r × Unbroken l
 lined-there [] es [] ms r l (and-then f u v h) n = (f, u)

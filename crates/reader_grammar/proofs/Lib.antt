@@ -12,4 +12,5 @@ pub mod FoldLaws
 pub mod Accepted
 pub mod RecordLaws
 pub mod Refused
+pub mod OctetLaws
 pub mod Numbers

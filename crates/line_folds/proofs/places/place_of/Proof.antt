@@ -64,9 +64,11 @@ loop-again-2 : tie.Need-loop-again-2 Inv-loop μ-loop
 loop-again-2 c =
     let l = c .before .before .before .before .loop in
     let s = c .before .before .before .before .before .before .args .s .now in
-    let n = length s in
-    (omega arith, l .inv .1 ∙ ap (λ (ps : List ℕ). getD ps (l .left) n) (kept-here s (l .at) (c .before .before .before .loop-test .taken) (sym (c .before .before .fold-at .ensures) ∙ c .before .if1 .left))
-    ∙ past (l .left) (l .at) (keptFrom (l .at + 1) (drop (l .at + 1) s) 0) n (c .if2 .left))
+    let n = length s in (
+      omega arith,
+      l .inv .1 ∙ ap (λ (ps : List ℕ). getD ps (l .left) n) (kept-here s (l .at) (c .before .before .before .loop-test .taken) (sym (c .before .before .fold-at .ensures) ∙ c .before .if1 .left))
+          ∙ past (l .left) (l .at) (keptFrom (l .at + 1) (drop (l .at + 1) s) 0) n (c .if2 .left),
+    )
 
 returns-2 : tie.Need-returns-2 Inv-loop μ-loop
 returns-2 c =
