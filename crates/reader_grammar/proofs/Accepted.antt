@@ -81,7 +81,7 @@ module _ (ed : Edition) where
   some-lines (more {ys = ys} (card {b = b} {v = v} {z = e} {xs = xs} f g x y) c) h = omega arith
 
   module _ (i : List ℕ) (k n : ℕ) where
-    to : (judgeIn ed) i ≡ Accepted k n → InputIn ed i k n
+    to : judgeIn ed i ≡ Accepted k n → InputIn ed i k n
     unfolding logicalLines
     to e =
         let a = accepting ed i k n e in
@@ -89,7 +89,7 @@ module _ (ed : Edition) where
         let some : 0 < length i = omega (arith, a .some) in
         let none-left : r .ys ≡ [] = phase-none (r .ys) (sym (r .known .phase) ∙ a .outside) in
         let whole : r .zs ≡ r .zs ++ r .ys = sym (append-nil (r .zs)) ∙ ap (λ (ys : List Line). r .zs ++ ys) (sym none-left) in
-        let cards : (Cards ed) k (r .zs ++ r .ys) = subst (λ (m : ℕ). Cards ed m (r .zs ++ r .ys)) (sym (r .cards) ∙ a .cards) (subst (Cards ed (r .k)) whole (r .lines .cards)) in
+        let cards : Cards ed k (r .zs ++ r .ys) = subst (λ (m : ℕ). Cards ed m (r .zs ++ r .ys)) (sym (r .cards) ∙ a .cards) (subst (Cards ed (r .k)) whole (r .lines .cards)) in
         record {
           short = a .short;
           lines = r .zs ++ r .ys;
@@ -105,11 +105,11 @@ module _ (ed : Edition) where
     accepts c p q r = rw (eq-eqb (c .phase) 0 p, q, r)
 
     -- its logical lines are the lines
-    pub lines-law : (h : (InputIn ed) i k n) → logicalLines i ≡ map render (h .lines)
+    pub lines-law : (h : InputIn ed i k n) → logicalLines i ≡ map render (h .lines)
     unfolding logicalLines
     lines-law h = written-lines (h .written) (h .readable)
 
-    framed : (InputIn ed) i k n → Framed i
+    framed : InputIn ed i k n → Framed i
     framed h =
         let e = written-ends (h .written) (some-lines (h .cards) (h .some)) in
         record {
@@ -119,7 +119,7 @@ module _ (ed : Edition) where
           ends = e;
         }
 
-    from : (InputIn ed) i k n → judgeIn ed i ≡ Accepted k n
+    from : InputIn ed i k n → judgeIn ed i ≡ Accepted k n
     unfolding logicalLines phaseOf
     from h =
         let l = cards-run ed (h .cards) (h .readable) freshCard (fresh-known ed) in
@@ -142,5 +142,5 @@ module _ (ed : Edition) where
       ap (λ (z : Line). z ∷ xs) (line-unique x y (r .0 .formed) (s .0 .formed) a) ∙ ap (λ (zs : List Line). y ∷ zs) (same-lines xs ys (r .1) (s .1) b)
 
   -- an input has one reading
-  pub one-reading : (i : List ℕ) (k m n p : ℕ) (h : (InputIn ed) i k n) (g : (InputIn ed) i m p) → h .lines ≡ g .lines
+  pub one-reading : (i : List ℕ) (k m n p : ℕ) (h : InputIn ed i k n) (g : InputIn ed i m p) → h .lines ≡ g .lines
   one-reading i k m n p h g = same-lines (h .lines) (g .lines) (h .readable) (g .readable) (sym (lines-law i k n h) ∙ lines-law i m p g)

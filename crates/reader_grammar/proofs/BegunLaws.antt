@@ -32,9 +32,9 @@ module _ (ed : Edition) where
 
   -- a line that may stand where it stands: in its place, no 8, no 7
   pub record Stands (ys : List Line) (x : Line) : Type 0 where
-    pub place : (InPlace ed) ys x
-    pub unladen : (Unladen ed) x
-    pub fits : (Fitting ed) (rowOfLine ed x) (kindOfLine ed x) (x .value)
+    pub place : InPlace ed ys x
+    pub unladen : Unladen ed x
+    pub fits : Fitting ed (rowOfLine ed x) (kindOfLine ed x) (x .value)
 
   pub begin-stands : (x : Line) → Begins ed x → Stands [] x
   unfolding InPlace
@@ -125,7 +125,7 @@ module _ (ed : Edition) where
         by (any (ofRow ed row) ys)
         (λ o.
         let some : 1 ≤ linesOf ed (rowOfLine ed x) ys = rw q (any-some ed (ofRow ed row) ys o) in
-        let all : (linesOf ed) (rowOfLine ed x) (b ∷ v ∷ ys) ≡ linesOf ed (rowOfLine ed x) ys = frame-rows (rowOfLine ed x) b v ys (g .begin) (g .version) begins versions in
+        let all : linesOf ed (rowOfLine ed x) (b ∷ v ∷ ys) ≡ linesOf ed (rowOfLine ed x) ys = frame-rows (rowOfLine ed x) b v ys (g .begin) (g .version) begins versions in
         let m : any (sameInstance ed x) ys ≡ true = sym (frame-any b v ys begins versions g) ∙ f (ap single q ∙ e) (omega (arith, all)) in
         rw (t, m) (omega (arith, h .once row e)))
         (λ o. rw t (omega (arith, instances-few ed row [] ys, none-lines row ys o, one-more (not (any (sameInstance ed x) ys))))))

@@ -26,7 +26,7 @@ module _ (ed : Edition) where
   counts-more true n m = omega arith
   counts-more false n m = refl
 
-  pub instances-append : (row : ℕ) (ys xs zs : List Line) → instances ed row ys (xs ++ zs) ≡ instances ed row ys xs + (instances ed) row (ys ++ xs) zs
+  pub instances-append : (row : ℕ) (ys xs zs : List Line) → instances ed row ys (xs ++ zs) ≡ instances ed row ys xs + instances ed row (ys ++ xs) zs
   unfolding instances
   instances-append row ys [] zs = rw (append-nil ys) (omega arith)
   instances-append row ys (x ∷ xs) zs =

@@ -107,13 +107,13 @@ module _ (ed : Edition) where
   unfolding sameInstance sameTag
   instance-law x y = (to, from)
     where
-      to : (sameInstance ed) x y ≡ true → OneInstance ed y x
+      to : sameInstance ed x y ≡ true → OneInstance ed y x
       to e =
           let h = and-both (eqb (rowOfLine ed y) (rowOfLine ed x)) (sameTag (altidOf y) (altidOf x)) e in
           let t = same-tag (altidOf y) (altidOf x) (h .1) in
           alike (eqb-true (rowOfLine ed y) (rowOfLine ed x) (h .0)) (t .1) (t .2)
 
-      from : (OneInstance ed) y x → sameInstance ed x y ≡ true
+      from : OneInstance ed y x → sameInstance ed x y ≡ true
       from (alike {v = v} r a b) = rw (eq-eqb (rowOfLine ed y) (rowOfLine ed x) r, a, b) (is-equal v)
 
   apart-to : (x : Line) (ys : List Line) → any (sameInstance ed x) ys ≡ false → Each (λ y. OneInstance ed y x → ⊥) ys
@@ -317,7 +317,7 @@ module _ (ed : Edition) where
         other-then row h e (λ r. false≢true (sym (or-none-right (any (ofRow ed row) ys) (ofRow ed row x) g) ∙ eq-eqb (rowOfLine ed x) row r))
         ∙ k .blank row h e (or-none-left (any (ofRow ed row) ys) (ofRow ed row x) g)
 
-    pub line-known : (InPlace ed) ys x → Known (lineCard c x) (ys ++ (x ∷ []))
+    pub line-known : InPlace ed ys x → Known (lineCard c x) (ys ++ (x ∷ []))
     unfolding nextCard
     line-known h = record {
       phase = phase-next ys x h;
@@ -378,7 +378,7 @@ module _ (ed : Edition) where
         grouped true e = ap not (some-any (saysGroup ed) ys (f (any-some (ofRow ed 24) ys e)))
         grouped false e = refl
 
-    pub close-nameless : (linesOf ed) 6 ys ≡ 0 → closed c at ≡ Refused 11 at
+    pub close-nameless : linesOf ed 6 ys ≡ 0 → closed c at ≡ Refused 11 at
     unfolding closed
     close-nameless h = rw (k .named, none-any (ofRow ed 6) ys h)
 

@@ -63,7 +63,7 @@ module _ (ed : Edition) where
         go true false p q e = absurd (false≢true (sym e))
         go false b p q e = absurd (false≢true (sym e))
 
-    unladen-from : (Unladen ed) x → laden (rowOfLine ed x) (length (x .group)) (length (x .params)) ≡ false
+    unladen-from : Unladen ed x → laden (rowOfLine ed x) (length (x .group)) (length (x .params)) ≡ false
     unfolding laden
     unladen-from f = go (framing (rowOfLine ed x)) refl
       where
@@ -89,7 +89,7 @@ module _ (ed : Edition) where
     ends : (x : Line) → Sound ed ys l x → rowOfLine ed x ≡ 2 → 1 ≤ linesOf ed 6 ys → (1 ≤ linesOf ed 24 ys → 1 ≤ groupLines ed ys)
         → Judged c ys at l (Next (endCard ed c))
 
-  module _ (c : Card) (ys : List Line) (k : (Known ed) c ys) (at : ℕ) (l : List ℕ) where
+  module _ (c : Card) (ys : List Line) (k : Known ed c ys) (at : ℕ) (l : List ℕ) where
     abbrev judgedParts : Line → Step
     judgedParts x = judgeParts ed c at (rowOfLine ed x) (length (x .group)) (length (x .params)) (kindOfLine ed x) (altidOf x) (length (front x)) (x .value)
 
@@ -181,7 +181,7 @@ module _ (ed : Edition) where
 
     value-decided : (x : Line) → Reads l x → InPlace ed ys x → Unladen ed x → (f : Fault) → valueIn ed (rowOfLine ed x) (kindOfLine ed x) (x .value) ≡ f → Decided
     value-decided x r h u Fits e =
-        let s : (Sound ed) ys l x = record { reads = r; place = h; unladen = u; fits = value-fits ed (rowOfLine ed x) (kindOfLine ed x) (x .value) .0 e } in
+        let s : Sound ed ys l x = record { reads = r; place = h; unladen = u; fits = value-fits ed (rowOfLine ed x) (kindOfLine ed x) (x .value) .0 e } in
         by (eqb (rowOfLine ed x) 2) (λ t. end-decided x s (eqb-true (rowOfLine ed x) 2 t)) (λ t. line-decided x s (eqb-false (rowOfLine ed x) 2 t))
     value-decided x r h u (Breaks o) e = (Flawed 7 (length (front x) + o), refused (value x r h u (value-dead ed (rowOfLine ed x) (kindOfLine ed x) (x .value) o (kind-of-line ed x) .0 e)))
 

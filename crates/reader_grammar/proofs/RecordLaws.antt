@@ -61,11 +61,11 @@ module _ (ed : Edition) where
     group-length = let f = parts-fit ed (render x) _ (ap (linePartsBy ed) parsed) in omega (arith, f .0, f .2)
 
     pub numbers : (at : ℕ) → recordOf ed at (render x)
-        ≡ rowOfLine ed x ∷ at ∷ length (render x) ∷ length (x .group) ∷ length (x .name) ∷ length (x .params) ∷ (at + length (front x)) ∷ (kindOfLine ed) x ∷ []
+        ≡ rowOfLine ed x ∷ at ∷ length (render x) ∷ length (x .group) ∷ length (x .name) ∷ length (x .params) ∷ (at + length (front x)) ∷ kindOfLine ed x ∷ []
     unfolding recordOf linePartsOf recordBy
     numbers at =
         ap (recordBy at (length (render x))) (ap (linePartsBy ed) parsed)
-        ∙ ap (λ (n : ℕ). rowOfLine ed x ∷ at ∷ length (render x) ∷ length (x .group) ∷ n ∷ length (x .params) ∷ (at + length (front x)) ∷ (kindOfLine ed) x ∷ []) name-length
+        ∙ ap (λ (n : ℕ). rowOfLine ed x ∷ at ∷ length (render x) ∷ length (x .group) ∷ n ∷ length (x .params) ∷ (at + length (front x)) ∷ kindOfLine ed x ∷ []) name-length
 
     tells : (pre rest : List ℕ) → Tells ed (pre ++ (render x ++ (13 ∷ 10 ∷ rest))) (length pre) x (recordOf ed (length pre) (render x))
     tells pre rest =
@@ -99,17 +99,17 @@ module _ (ed : Edition) where
       let n : length past ≡ length pre + length (render x) + 2 = omega (arith, length-append pre line, length-append (render x) (13 ∷ 10 ∷ [])) in
       let there : copy ≡ past ++ (others ++ rest) =
       here ∙ sym (append-assoc pre line (others ++ rest) ∙ ap (λ (l : List ℕ). pre ++ l) (append-assoc (render x) (13 ∷ 10 ∷ []) (others ++ rest))) in
-      let first : (Tells ed) copy (length pre) x (recordOf ed (length pre) (render x)) = rw here (tells x (r .0 .formed) pre (others ++ rest)) in
+      let first : Tells ed copy (length pre) x (recordOf ed (length pre) (render x)) = rw here (tells x (r .0 .formed) pre (others ++ rest)) in
       more first
       (subst (λ (w : ℕ). Records ed copy w xs (recordsFrom ed w (map render xs))) n (records-from xs past rest copy (r .1) there))
 
   -- the copy is the lines in order, each ended by CR LF
-  pub copy-law : (i : List ℕ) (k n : ℕ) (h : (InputIn ed) i k n) → copyOf i ≡ ended (map render (h .lines))
+  pub copy-law : (i : List ℕ) (k n : ℕ) (h : InputIn ed i k n) → copyOf i ≡ ended (map render (h .lines))
   unfolding copyOf
   copy-law i k n h = ap ended (lines-law ed i k n h)
 
   -- and the records tell of them, whatever stands after the copy
-  pub records-law : (i : List ℕ) (k n : ℕ) (h : (InputIn ed) i k n) (rest : List ℕ) → Records ed (copyOf i ++ rest) 0 (h .lines) (recordsIn ed i)
+  pub records-law : (i : List ℕ) (k n : ℕ) (h : InputIn ed i k n) (rest : List ℕ) → Records ed (copyOf i ++ rest) 0 (h .lines) (recordsIn ed i)
   unfolding recordsIn
   records-law i k n h rest =
       rw (lines-law ed i k n h) (records-from (h .lines) [] rest (copyOf i ++ rest) (h .readable) (ap (λ (c : List ℕ). c ++ rest) (copy-law i k n h)))

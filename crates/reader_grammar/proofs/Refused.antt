@@ -122,7 +122,7 @@ module _ (ed : Edition) where
 
   module _ (i : List ℕ) where
     stop-at : (ds : List (List ℕ)) (l : List ℕ) (es : List (List ℕ)) (n k : ℕ) (w : Where) (zs ys : List Line) → Framed i → rawLines i ≡ ds ++ (l ∷ es)
-        → SoFar ed (map unfolded ds) k zs ys → LineRefused ed ys (unfolded l) n w → judgeIn ed i ≡ Refused n (length (ended ds) + (placeIn ed) l w)
+        → SoFar ed (map unfolded ds) k zs ys → LineRefused ed ys (unfolded l) n w → judgeIn ed i ≡ Refused n (length (ended ds) + placeIn ed l w)
     unfolding judgeLines verdictOf
     stop-at ds l es n k w zs ys f e h r =
         let d = led ds k zs ys h in
@@ -131,7 +131,7 @@ module _ (ed : Edition) where
         judge-framed ed i f
         ∙ ap (λ (ls : List (List ℕ)). verdictOf (length i) (judgeLines ed ls 0 freshCard)) e
         ∙ ap (verdictOf (length i)) (judge-after ds (l ∷ es) 0 freshCard (d .0) (d .1) ∙ ap (λ (s : Step). onward s (judgeLines ed es (at + length l + 2))) (ap (settled at l) o ∙ settled-place ed at n l w))
-        ∙ ap (λ (p : ℕ). Refused n (p + (placeIn ed) l w)) (zero-add (length (ended ds)))
+        ∙ ap (λ (p : ℕ). Refused n (p + placeIn ed l w)) (zero-add (length (ended ds)))
 
     stop-inside : (k : ℕ) (zs ys : List Line) → Framed i → SoFar ed (map unfolded (rawLines i)) k zs ys → 0 < length ys → judgeIn ed i ≡ Refused 9 (length i)
     unfolding verdictOf
@@ -186,7 +186,7 @@ module _ (ed : Edition) where
             rw (← a, ← b) (unfinished (rawLines i) (map unfolded (rawLines i)) (r .k) (r .zs) (r .ys) f (split-so f) (r .lines) (has-some (r .ys) (λ z. eqb-false (c .phase) 0 q (r .known .phase ∙ z))))
     walked-to f (stopped ds l es {n = m} {w = x} q r h) n p e =
         let a : m ≡ n = cc in
-        let b : length (ended ds) + (placeIn ed) l x ≡ p = cc in
+        let b : length (ended ds) + placeIn ed l x ≡ p = cc in
         let w : Lined i (ds ++ (l ∷ es)) (map unfolded ds ++ (unfolded l ∷ map unfolded es))
         = subst (λ (x : List (List ℕ)). Lined i (ds ++ (l ∷ es)) x) (map-append unfolded ds (l ∷ es)) (subst (λ (x : List (List ℕ)). Lined i x (map unfolded x)) q (split-so f)) in
         let s = lined-there ds es (map unfolded ds) (map unfolded es) l (unfolded l) w (length-map ds unfolded) in

@@ -50,7 +50,7 @@ module _ (ed : Edition) where
   pub record Led (c : Card) (xs ys : List Line) (k : ℕ) : Type 0 where
     pub card : Card
     pub steps : Steps c xs card
-    pub known : (Known ed) card ys
+    pub known : Known ed card ys
     pub cards : card .cards ≡ c .cards + k
     pub lines : card .lines ≡ c .lines + length xs
 
@@ -66,8 +66,8 @@ module _ (ed : Edition) where
     lines = omega (arith, a .lines, b .lines, length-append xs vs);
   }
 
-  module _ (c : Card) (ys : List Line) (h : (Known ed) c ys) (x : Line) (r : Readable x) (s : (Stands ed) ys x) where
-    sound : (Sound ed) ys (render x) x
+  module _ (c : Card) (ys : List Line) (h : Known ed c ys) (x : Line) (r : Readable x) (s : Stands ed ys x) where
+    sound : Sound ed ys (render x) x
     sound = record { reads = record { text = refl; readable = r }; place = s .place; unladen = s .unladen; fits = s .fits }
 
     led-line : (rowOfLine ed x ≡ 2 → ⊥) → Joins ed ys x → Led c (x ∷ []) (ys ++ (x ∷ [])) 0
@@ -80,7 +80,7 @@ module _ (ed : Edition) where
       lines = refl;
     }
 
-    led-end : (rowOfLine ed) x ≡ 2 → 1 ≤ linesOf ed 6 ys → (1 ≤ linesOf ed 24 ys → 1 ≤ groupLines ed ys) → Led c (x ∷ []) [] 1
+    led-end : rowOfLine ed x ≡ 2 → 1 ≤ linesOf ed 6 ys → (1 ≤ linesOf ed 24 ys → 1 ≤ groupLines ed ys) → Led c (x ∷ []) [] 1
     led-end e n m = record {
       card = _;
       steps = step (λ at. outcome ed c ys h at (render x) (ends x sound e n m)) stop;
@@ -89,7 +89,7 @@ module _ (ed : Edition) where
       lines = refl;
     }
 
-  module _ (b v : Line) (begins : (Begins ed) b) (versions : (Versions ed) v) where
+  module _ (b v : Line) (begins : Begins ed b) (versions : Versions ed v) where
     -- a line of a property marked *1 is of the instance of those before it
     first-of : (done rest : List Line) (x : Line) → Inside ed x → Once ed (done ++ (x ∷ rest)) → Joins ed (b ∷ v ∷ done) x
     unfolding instances any
@@ -102,7 +102,7 @@ module _ (ed : Edition) where
         frame-any ed x b v done begins versions i
         ∙ by (any (sameInstance ed x) done) (λ t. t)
         (λ t.
-        let more : (instances ed) row done (x ∷ rest) ≡ suc (instances ed row (done ++ (x ∷ [])) rest) = rw (eq-eqb row row refl, t) in
+        let more : instances ed row done (x ∷ rest) ≡ suc (instances ed row (done ++ (x ∷ [])) rest) = rw (eq-eqb row row refl, t) in
         absurd (omega arith))
 
     inner-run : (rest done : List Line) → Each Readable rest → Each (Inside ed) rest → Once ed (done ++ rest)
@@ -122,7 +122,7 @@ module _ (ed : Edition) where
   -- BEGIN is no line of VERSION's row
   no-line : (b v : Line) → Begins ed b → Versions ed v → 1 ≤ linesOf ed (rowOfLine ed v) (b ∷ []) → ⊥
   unfolding count
-  no-line b v h g n = let z : (linesOf ed) (rowOfLine ed v) (b ∷ []) ≡ 0 = rw (g .row, h .row) in omega arith
+  no-line b v h g n = let z : linesOf ed (rowOfLine ed v) (b ∷ []) ≡ 0 = rw (g .row, h .row) in omega arith
 
   within-run : (b v : Line) (ys : List Line) → Begins ed b → Versions ed v → Inner ed ys → Each Readable (b ∷ v ∷ ys) → (c : Card) → Known ed c []
       → Led c (b ∷ v ∷ ys) (b ∷ v ∷ ys) 0

@@ -65,7 +65,7 @@ module _ (ed : Edition) where
     abbrev scanned : ℕ → Type 0
     scanned n = valueIn ed n k v ≡ Fits
 
-    value-to : (valueIn ed) row k v ≡ Fits → Fitting ed row k v
+    value-to : valueIn ed row k v ≡ Fits → Fitting ed row k v
     value-to e = record {
       begin = λ r. fixed-begin ed k v .0 (subst scanned r e);
       end = λ r. fixed-end ed k v .0 (subst scanned r e);
@@ -73,7 +73,7 @@ module _ (ed : Edition) where
       other = λ a b c. kind-to k v (sym (by-kind ed row k v a b c) ∙ e);
     }
 
-    value-from : (Fitting ed) row k v → valueIn ed row k v ≡ Fits
+    value-from : Fitting ed row k v → valueIn ed row k v ≡ Fits
     value-from f =
         by (eqb row 1) (λ a. let r = eqb-true row 1 a in subst scanned (sym r) (fixed-begin ed k v .1 (f .begin r)))
         (λ a. by (eqb row 2) (λ b. let r = eqb-true row 2 b in subst scanned (sym r) (fixed-end ed k v .1 (f .end r)))

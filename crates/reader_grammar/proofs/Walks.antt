@@ -30,8 +30,8 @@ module _ (ed : Edition) where
     pub k : ℕ
     pub zs : List Line
     pub ys : List Line
-    pub lines : (SoFar ed) (map unfolded ds) k zs ys
-    pub known : (Known ed) c ys
+    pub lines : SoFar ed (map unfolded ds) k zs ys
+    pub known : Known ed c ys
     pub cards : c .cards ≡ k
     pub count : c .lines ≡ length (zs ++ ys)
 
@@ -50,7 +50,7 @@ module _ (ed : Edition) where
   stands : {ys : List Line} {l : List ℕ} {x : Line} → Sound ed ys l x → Stands ed ys x
   stands s = record { place = s .place; unladen = s .unladen; fits = s .fits }
 
-  module _ (ds : List (List ℕ)) (c : Card) (r : Reached ds c) (l : List ℕ) (x : Line) (s : (Sound ed) (r .ys) (unfolded l) x) where
+  module _ (ds : List (List ℕ)) (c : Card) (r : Reached ds c) (l : List ℕ) (x : Line) (s : Sound ed (r .ys) (unfolded l) x) where
     abbrev all : List Line
     all = r .zs ++ r .ys
 
@@ -68,7 +68,7 @@ module _ (ed : Edition) where
     counted : c .lines + 1 ≡ length (all ++ (x ∷ []))
     counted = omega (arith, r .count, length-append all (x ∷ []))
 
-    line-reached : (Joins ed) (r .ys) x → Begun ed (r .ys ++ (x ∷ [])) → Reached (ds ++ (l ∷ [])) (lineCard ed c x)
+    line-reached : Joins ed (r .ys) x → Begun ed (r .ys ++ (x ∷ [])) → Reached (ds ++ (l ∷ [])) (lineCard ed c x)
     unfolding nextCard
     line-reached j b =
         let q = append-assoc (r .zs) (r .ys) (x ∷ []) in
@@ -82,7 +82,7 @@ module _ (ed : Edition) where
           count = rw q at counted;
         }
 
-    end-reached : (CardLines ed) (r .ys ++ (x ∷ [])) → Reached (ds ++ (l ∷ [])) (endCard ed c)
+    end-reached : CardLines ed (r .ys ++ (x ∷ [])) → Reached (ds ++ (l ∷ [])) (endCard ed c)
     end-reached b =
         let q = append-assoc (r .zs) (r .ys) (x ∷ []) ∙ sym (append-nil (r .zs ++ (r .ys ++ (x ∷ [])))) in
         record {

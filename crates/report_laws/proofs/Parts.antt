@@ -16,7 +16,7 @@ use Rattle.line_parser.proofs.ParseLaws.{next-inv}
 use Rattle.line_parameters.proofs.Law.{line-law}
 use Rattle.property_table.specs.Rows.{rowOf}
 use Rattle.card_line.specs.Parts.{rowOfLine}
-use Rattle.card_line.proofs.PartLaws.{row-of-line}
+use Rattle.property_table.proofs.RowLaws.{row-low}
 use Rattle.reader.specs.Outcome.{judgeOf}
 use Rattle.reader.specs.declared.Verdict.{Verdict}
 use Rattle.reader.specs.declared.Verdict.the-variants.{Accepted, Refused}
@@ -57,10 +57,10 @@ lines-with m (x ∷ xs) r =
 
 -- no line has a number that is no row's
 no-lines : (m : ℕ) (xs : List Line) → 39 ≤ m → count (ofRow First m) xs ≡ 0
-unfolding count
+unfolding count rowOfLine
 no-lines m [] h = refl
 no-lines m (x ∷ xs) h =
-    rw (ne-eqb (rowOfLine First x) m (λ e. omega (arith, row-of-line First x))) (no-lines m xs h)
+    rw (ne-eqb (rowOfLine First x) m (λ e. omega (arith, row-low First (x .name)))) (no-lines m xs h)
 
 -- what is counted of a number that is no row's
 pub counts-past : (ls : List (List ℕ)) (m : ℕ) → 39 ≤ m → getD (lineCounts ls) m 0 ≡ 0

@@ -13,7 +13,7 @@ use Rattle.line_folds.specs.Folds.{unfolded}
 use Rattle.line_folds.specs.Logical.{rawLines, logicalLines}
 use Rattle.line_parser.specs.Parse.{Parse, got, bad}
 use Rattle.line_parser.specs.Rule.{Head, head}
-use Rattle.card_line.proofs.PartLaws.{row-low}
+use Rattle.property_table.proofs.RowLaws.{row-low}
 use Rattle.reader.specs.Outcome.{judgeOf}
 use Rattle.reader.specs.declared.Verdict.{Verdict}
 use Rattle.reader.specs.declared.Verdict.the-variants.{Accepted, Refused}
@@ -77,7 +77,7 @@ unfolding rowOfName
 row-below l = by (head l)
   where
     by : (m : Parse Head) → rowBy m < 39
-    by (got h k) = row-low (h .name)
+    by (got h k) = row-low First (h .name)
     by (bad e) = omega arith
 
 lines-sum : (ls : List (List ℕ)) → sumOver (λ m. linesWith m ls) (numbersFrom 0 39) ≡ length ls

@@ -3,7 +3,7 @@ use mathlib.Core.Path.{_≡_, refl, sym, ap, subst, _∙_}
 use mathlib.Core.Bool.{true, false, false≢true}
 use mathlib.Core.List.{List, [], _∷_}
 use mathlib.Core.Logic.{_↔_}
-use Prim.Native.Nat.{ℕ, zero, suc, _+_, _-_, _<_}
+use Prim.Native.Nat.{ℕ, zero, suc, _+_, _-_, _<_, _≤_}
 use native.Mathlib.Omega.{arith}
 use lib.Dec.{eqb}
 use borrow.Author.Tests.{eq-eqb, eqb-true}
@@ -50,7 +50,8 @@ module _ (e : Edition) (v : List ℕ) where
       (λ g. let z = one-row v m n (omega arith) (omega arith) g f in absurd (omega arith))
       (λ g. search-next e v m low g ∙ reach d (m + 1) n (omega arith) h f)
 
-  named : (d m n : ℕ) → m + d ≡ rowCount e → 0 < n → searchFrom e v m ≡ n → (n < rowCount e) × (same v (rowAt n .name) ≡ true)
+  -- a row that the search finds from row m on has the name, and is no row before m
+  pub named : (d m n : ℕ) → m + d ≡ rowCount e → 0 < n → searchFrom e v m ≡ n → (n < rowCount e) × (same v (rowAt n .name) ≡ true) × (m ≤ n)
   named zero m n q p f =
       let over : m ≡ rowCount e = omega arith in
       let none : n ≡ 0 = sym f ∙ ap (searchFrom e v) over ∙ search-none e v in
@@ -58,11 +59,11 @@ module _ (e : Edition) (v : List ℕ) where
   named (suc d) m n q p f =
       let low : m < rowCount e = omega arith in
       by (same v (rowAt m .name))
-      (λ g. let here : m ≡ n = sym (search-found e v m low g) ∙ f in (omega arith, subst (λ (k : ℕ). same v (rowAt k .name) ≡ true) here g))
-      (λ g. named d (m + 1) n (omega arith) p (sym (search-next e v m low g) ∙ f))
+      (λ g. let here : m ≡ n = sym (search-found e v m low g) ∙ f in (omega arith, subst (λ (k : ℕ). same v (rowAt k .name) ≡ true) here g, omega arith))
+      (λ g. let k = named d (m + 1) n (omega arith) p (sym (search-next e v m low g) ∙ f) in (k .0, k .1, omega (arith, k .2)))
 
   listed : (n : ℕ) → 0 < n → rowOf e v ≡ n → (n < rowCount e) × (same v (rowAt n .name) ≡ true)
-  listed n p f = let some = has-row e in named (rowCount e - 1) 1 n (omega arith) p (sym (search-start e v) ∙ f)
+  listed n p f = let some = has-row e in let k = named (rowCount e - 1) 1 n (omega arith) p (sym (search-start e v) ∙ f) in (k .0, k .1)
 
   -- a listed row is found exactly by its name without case
   pub found : (n : ℕ) → 0 < n → n < rowCount e → (rowOf e v ≡ n) ↔ (same v (rowAt n .name) ≡ true)
