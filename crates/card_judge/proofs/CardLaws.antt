@@ -70,7 +70,7 @@ with-parts ed c c′ at l x k p d q =
 pub passed : (ed : Edition) (c c′ : Card) (at : ℕ) (l : List ℕ) → judgeLine ed c at l ≡ Next c′ → Passed ed c at l c′
 unfolding judgeLine
 passed ed c c′ at l e =
-    flawless 5 (firstBad (allowed false) l) (ltb (firstBad (allowed false) l) (length l)) (judgeParsed ed c at (parseLine l)) e (λ t q.
+    flawless 5 _ (ltb (firstBad (allowed false) l) (length l)) (judgeParsed ed c at (parseLine l)) e (λ t q.
     by (parseLine l) refl q (omega (arith, ltb-false (firstBad (allowed false) l) (length l) t, bad-le (allowed false) l)))
   where
     by : (m : Parse Line) → parseLine l ≡ m → judgeParsed ed c at m ≡ Next c′ → firstBad (allowed false) l ≡ length l → Passed ed c at l c′

@@ -2,6 +2,7 @@
 use Rattle.line_folds.proofs.PlaceLaws.{place-rising}
 use Rattle.line_laws.proofs.PlacedLaws.{placed, placed-only, end-same}
 use Rattle.value_laws.proofs.DeadLaws.{dead-once}
+use Rattle.reader_grammar.specs.Values.{Fitting}
 use Rattle.reader_grammar.proofs.OctetLaws.{octet-there, dead-not-in-character}
 use Rattle.demands.specs.Demand5.{Demand5}
 use Rattle.demands.proofs.Examples.{named-examples}
@@ -9,7 +10,7 @@ use Rattle.demands.proofs.Examples.{named-examples}
 pub demand5 : Demand5
 demand5 =
     record {
-      dead-once = dead-once;
+      dead-once = λ row k. dead-once (Fitting row k);
       whole = dead-not-in-character;
       placed = placed;
       nowhere-else = placed-only;

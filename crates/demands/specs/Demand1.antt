@@ -12,7 +12,7 @@ use Rattle.numbers.specs.Refusals as refusal
 use Rattle.utf8.specs.Characters.{allowed}
 use Rattle.octets.specs.Classes.{quoted}
 use Rattle.octets.specs.Room.{Filled, fill}
-use Rattle.utf8_laws.specs.Texts.{Text, Stops}
+use Rattle.utf8_laws.specs.Texts.{Text, BadAt}
 use Rattle.text_escaping.specs.Escaped.{escaped}
 use Rattle.text.specs.Outcomes.{escapeOutcome, unescapeOutcome}
 use Rattle.text_laws.specs.Stands.{Stands, Faulty}

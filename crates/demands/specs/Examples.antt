@@ -1,5 +1,5 @@
 -- The examples of REFERENCE, Worked examples that are marked (*): inputs, and what the entries' outcome definitions give for each. Assumes nothing.
-use Prim.Native.Nat.{ℕ, _-_}
+use Prim.Native.Nat.{ℕ, _+_, _-_}
 use Prim.Native.String.{String}
 use mathlib.Core.Path.{_≡_}
 use mathlib.Core.List.{List, [], _∷_, _++_, map}
