@@ -69,7 +69,7 @@ with-parts c c′ at l x k p d q =
 pub passed : (c c′ : Card) (at : ℕ) (l : List ℕ) → judgeLine c at l ≡ Next c′ → Passed c at l c′
 unfolding judgeLine
 passed c c′ at l e =
-    flawless 5 (firstBad (allowed false) l) (ltb (firstBad (allowed false) l) (length l)) (judgeParsed c at (parseLine l)) e (λ t q.
+    flawless 5 _ (ltb (firstBad (allowed false) l) (length l)) (judgeParsed c at (parseLine l)) e (λ t q.
     by (parseLine l) refl q (omega (arith, ltb-false (firstBad (allowed false) l) (length l) t, bad-le (allowed false) l)))
   where
     by : (m : Parse Line) → parseLine l ≡ m → judgeParsed c at m ≡ Next c′ → firstBad (allowed false) l ≡ length l → Passed c at l c′

@@ -27,7 +27,19 @@ counted-past : (i b : ℕ) (r : List ℕ) (o n : ℕ) → Blank b → counted i 
 unfolding keptFrom
 counted-past i b r o n w = rw (fold-here b r w)
 
--- the place that is counted stands there by the plain words
+-- a place by the plain words is the one that is counted
+only : {l r : List ℕ} {o p : ℕ} → At l r o p → Unbroken l → (i n : ℕ) → n ≡ i + length r → counted i r o n ≡ i + p
+unfolding Unbroken keptFrom
+only ends u i n e = e
+only (here {b = b} {r = r} f) u i n e = counted-here i b r n (u .0) ∙ omega arith
+only (next {b = b} {o = o} {r = r} a) u i n e = counted-next i b r o n (u .0) ∙ only a (u .1) (i + 1) n (omega arith) ∙ omega arith
+only (past {b = b} {o = o} {r = r} w a) u i n e = counted-past i b r o n w ∙ only a u (i + 1 + 1 + 1) n (omega arith) ∙ omega arith
+
+pub placed-only : {l r : List ℕ} {o p : ℕ} → At l r o p → Unbroken l → p ≡ placeOf r o
+unfolding placeOf
+placed-only {l} {r} {o} {p} a u = sym (only a u 0 (length r) (omega arith) ∙ zero-add p)
+
+-- and the place that is counted is one by the plain words
 there : {l r : List ℕ} → Folded l r → Unbroken l → (o i n : ℕ) → o ≤ length l → n ≡ i + length r → (q : ℕ) × At l r o q × (counted i r o n ≡ i + q)
 unfolding Unbroken keptFrom
 there end u zero i n h e = (0, ends, e)
@@ -46,18 +58,6 @@ unfolding placeOf
 placed {l} {r} f u o h =
     let k = there f u o 0 (length r) h (omega arith) in
     subst (At l r o) (sym (k .2 ∙ zero-add (k .0))) (k .1)
-
--- and nowhere else
-only : {l r : List ℕ} {o p : ℕ} → At l r o p → Unbroken l → (i n : ℕ) → n ≡ i + length r → counted i r o n ≡ i + p
-unfolding Unbroken keptFrom
-only ends u i n e = e
-only (here {b = b} {r = r} f) u i n e = counted-here i b r n (u .0) ∙ omega arith
-only (next {b = b} {o = o} {r = r} a) u i n e = counted-next i b r o n (u .0) ∙ only a (u .1) (i + 1) n (omega arith) ∙ omega arith
-only (past {b = b} {o = o} {r = r} w a) u i n e = counted-past i b r o n w ∙ only a u (i + 1 + 1 + 1) n (omega arith) ∙ omega arith
-
-pub placed-only : {l r : List ℕ} {o p : ℕ} → At l r o p → Unbroken l → p ≡ placeOf r o
-unfolding placeOf
-placed-only {l} {r} {o} {p} a u = sym (only a u 0 (length r) (omega arith) ∙ zero-add p)
 
 -- what stands there is that octet of the line and its CR
 pub octet-same : {l r : List ℕ} {o p : ℕ} → At l r o p → (t : List ℕ) → getD (r ++ (13 ∷ t)) p 0 ≡ getD (l ++ (13 ∷ [])) o 0

@@ -18,11 +18,11 @@ loneCrOrLf = 3
 abbrev pub noEnd : ℕ
 noEnd = 4
 
--- a logical line with an octet 00-08, 0A-1F or 7F, or with octets that are not UTF-8; at the line's start
+-- a logical line with an octet 00-08, 0A-1F or 7F, or with octets that are not UTF-8; at that octet, or at the bad character's first
 abbrev pub badOctet : ℕ
 badOctet = 5
 
--- a value that breaks its kind; at the line's start
+-- a value that breaks its kind; at the first octet from which no continuation satisfies it, or at the CR that ends the line
 abbrev pub value : ℕ
 value = 7
 

@@ -12,10 +12,10 @@ pub const LONE_CR_OR_LF: u32 = 3;
 // The last two octets of the input are not CR LF; at the input's length.
 pub const NO_END: u32 = 4;
 
-// A logical line with an octet 00-08, 0A-1F or 7F, or with octets that are not UTF-8; at the line's start.
+// A logical line with an octet 00-08, 0A-1F or 7F, or with octets that are not UTF-8; at that octet, or at the bad character's first.
 pub const BAD_OCTET: u32 = 5;
 
-// A value that breaks its kind; at the line's start.
+// A value that breaks its kind; at the first octet from which no continuation satisfies it, or at the CR that ends the line.
 pub const VALUE: u32 = 7;
 
 // A group or a parameter on BEGIN, VERSION or END; at the line's start.

@@ -115,7 +115,7 @@ module _ (row k : ℕ) (low : k < kinds.count) where
       let m : suc o ≡ length u + 2 = omega arith in
       let two : take (suc o) v ≡ u ++ (a ∷ b ∷ []) = ap (λ (s : List ℕ). take (suc o) s) e ∙ ap (λ (m : ℕ). take m (u ++ (a ∷ b ∷ t))) m ∙ take-append-add u (a ∷ b ∷ t) 2 in
       let w = d .goes-on .0 in
-      let f : Fitting row k (u ++ (a ∷ w)) = subst (Fitting row k) (ap (λ (s : List ℕ). s ++ w) one ∙ append-assoc u (a ∷ []) w) (d .goes-on .1) in
+      let f : Fitting row k (u ++ (a ∷ w)) = subst (Fitting row k) (ap (λ (s : List ℕ). s ++ w) one ∙ append-assoc u (a ∷ []) w) (d .goes-on .2) in
       d .no-more (omega arith) w (subst (Fitting row k) (sym (ap (λ (s : List ℕ). s ++ w) two ∙ append-assoc u (a ∷ b ∷ []) w)) (another a b ha hb u w f))
 
   -- where a value of whole characters breaks off, a character starts or the value ends

@@ -5,6 +5,9 @@ ghost use Rattle.octets.specs.Classes.{bit};
 ghost use Rattle.octets.specs.Counts.{allIn, count};
 ghost use Rattle.value_kinds.specs.Octets.{neither, graphic, semicolon, holds};
 ghost use Rattle.value_kinds.specs.AtOnce.{lacking, divided, fitsAtOnce};
+
+pub mod pairs;
+
 use numbers::kind;
 
 // A value fits, or the first octet from which nothing could, or the end.

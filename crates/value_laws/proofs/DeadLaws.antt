@@ -23,7 +23,7 @@ module _ (P : List ℕ → Type 0) (v : List ℕ) (n m : ℕ) where
   not-before : Dead P v n → Dead P v m → n < m → ⊥
   not-before g h l =
       let k = longer (suc n) m v (h .goes-on .0) l in
-      g .no-more (omega (arith, h .inside)) (k .0) (subst P (k .1) (h .goes-on .1))
+      g .no-more (omega (arith, h .inside)) (k .0) (subst P (k .1) (h .goes-on .2))
 
 -- it is one octet, or the end
 pub dead-once : (P : List ℕ → Type 0) (v : List ℕ) (n m : ℕ) → Dead P v n → Dead P v m → n ≡ m
@@ -37,6 +37,6 @@ dead-alike P Q f v o h =
     record {
       unfit = λ q. h .unfit (f v .1 q);
       inside = h .inside;
-      goes-on = (h .goes-on .0, f _ .0 (h .goes-on .1));
+      goes-on = (h .goes-on .0, h .goes-on .1, f _ .0 (h .goes-on .2));
       no-more = λ l w q. h .no-more l w (f _ .1 q);
     }

@@ -17,7 +17,7 @@ use Rattle.value_kinds.specs.Shapes.{Shape, never, empty, one, _then_, _or_, ma
 use Rattle.value_kinds.specs.declared.Fault.the-variants.{Fits, Breaks}
 use Rattle.octets.proofs.Bools.{by, and-both, or-some}
 use Rattle.value_kinds.proofs.ShapeLaws.{dead-none, derivative-to, fits-from}
-use Rattle.value_laws.specs.Dead.{Dead}
+use Rattle.value_laws.specs.Dead.{AreOctets, Dead}
 use Rattle.value_laws.proofs.DeadLaws.{dead-once}
 
 and-none : (s t : Bool) → (s && t) ≡ false → (s ≡ false) ⊎ (t ≡ false)
@@ -75,49 +75,54 @@ figure-here d ds =
     rw (figure-back m, eq-eqb m m refl, le-leb 48 (48 + m) (omega arith), le-leb (48 + m) 57 (omega arith))
 
 -- an octet of each set
-sample : (p : Octets) → (x : ℕ) × (holds p x ≡ true)
+sample : (p : Octets) → (x : ℕ) × (x < 256) × (holds p x ≡ true)
 unfolding holds isLetter isDigit lower
-sample any = (0, refl)
-sample plain = (0, refl)
-sample inner = (0, refl)
-sample escapee = (92, refl)
-sample backslash = (92, refl)
-sample comma = (44, refl)
-sample semicolon = (59, refl)
-sample colon = (58, refl)
-sample letter = (65, refl)
-sample scheme = (65, refl)
-sample graphic = (65, refl)
-sample digit = (48, refl)
-sample sex = (77, refl)
-sample theV = (86, refl)
-sample theC = (67, refl)
-sample theA = (65, refl)
-sample theR = (82, refl)
-sample theD = (68, refl)
-sample four = (52, refl)
-sample point = (46, refl)
-sample nought = (48, refl)
-sample theT = (84, refl)
-sample theZ = (90, refl)
-sample minus = (45, refl)
-sample sign = (43, refl)
-sample (figures d ds) = (48 + d % 10, figure-here d ds)
+sample any = (0, omega arith, refl)
+sample plain = (0, omega arith, refl)
+sample inner = (0, omega arith, refl)
+sample escapee = (92, omega arith, refl)
+sample backslash = (92, omega arith, refl)
+sample comma = (44, omega arith, refl)
+sample semicolon = (59, omega arith, refl)
+sample colon = (58, omega arith, refl)
+sample letter = (65, omega arith, refl)
+sample scheme = (65, omega arith, refl)
+sample graphic = (65, omega arith, refl)
+sample digit = (48, omega arith, refl)
+sample sex = (77, omega arith, refl)
+sample theV = (86, omega arith, refl)
+sample theC = (67, omega arith, refl)
+sample theA = (65, omega arith, refl)
+sample theR = (82, omega arith, refl)
+sample theD = (68, omega arith, refl)
+sample four = (52, omega arith, refl)
+sample point = (46, omega arith, refl)
+sample nought = (48, omega arith, refl)
+sample theT = (84, omega arith, refl)
+sample theZ = (90, omega arith, refl)
+sample minus = (45, omega arith, refl)
+sample sign = (43, omega arith, refl)
+sample (figures d ds) = (48 + d % 10, omega arith, figure-here d ds)
 
--- a shape that is not dead has a text
-dead-some : (r : Shape) → dead r ≡ false → (v : List ℕ) × Matches r v
-unfolding Matches dead joined each
+octets-join : (u v : List ℕ) → AreOctets u → AreOctets v → AreOctets (u ++ v)
+unfolding AreOctets
+octets-join [] v g h = h
+octets-join (x ∷ u) v g h = (g .0, octets-join u v (g .1) h)
+
+-- a shape that is not dead has a text of octets
+dead-some : (r : Shape) → dead r ≡ false → (v : List ℕ) × AreOctets v × Matches r v
+unfolding Matches dead joined each AreOctets
 dead-some never e = absurd (false≢true (sym e))
-dead-some empty e = ([], refl)
-dead-some (one p) e = let x = sample p in (x .0 ∷ [], (x .0, x .1, refl))
+dead-some empty e = ([], tt, refl)
+dead-some (one p) e = let x = sample p in (x .0 ∷ [], (x .1, tt), (x .0, x .2, refl))
 dead-some (a then b) e =
     let h = or-none (dead a) (dead b) e in
     let x = dead-some a (h .0) in
     let y = dead-some b (h .1) in
-    (x .0 ++ y .0, (x .0, y .0, refl, x .1, y .1))
+    (x .0 ++ y .0, octets-join (x .0) (y .0) (x .1) (y .1), (x .0, y .0, refl, x .2, y .2))
 dead-some (a or b) e =
-    ⊎-elim (λ h. let x = dead-some a h in (x .0, inl (x .1))) (λ h. let x = dead-some b h in (x .0, inr (x .1))) (and-none (dead a) (dead b) e)
-dead-some (many a) e = ([], ([], refl, tt))
+    ⊎-elim (λ h. let x = dead-some a h in (x .0, x .1, inl (x .2))) (λ h. let x = dead-some b h in (x .0, x .1, inr (x .2))) (and-none (dead a) (dead b) e)
+dead-some (many a) e = ([], tt, ([], refl, tt))
 
 -- the derivative by an octet
 choose-from : (m : Bool) (p q : Shape) (v : List ℕ) → Matches (pick m (fork p q) p) v → ((m ≡ true) × Matches q v) ⊎ Matches p v
@@ -183,7 +188,7 @@ later r x v n h =
     record {
       unfit = λ k. h .unfit (derivative-to x r v k);
       inside = omega (arith, h .inside);
-      goes-on = (h .goes-on .0, derivative-from x r (take n v ++ h .goes-on .0) (h .goes-on .1));
+      goes-on = (h .goes-on .0, h .goes-on .1, derivative-from x r (take n v ++ h .goes-on .0) (h .goes-on .2));
       no-more = λ l w k. h .no-more (omega arith) w (derivative-to x r (take (suc n) v ++ w) k);
     }
 

@@ -1,4 +1,4 @@
--- `text_unescaping::all_pairs` meets its contract. Assumes nothing.
+-- `text_marks::pairs::all_settled` meets its contract. Assumes nothing.
 use borrow.Author.Needs.{needs}
 use mathlib.Core.Path.{_≡_, refl, sym, ap, _∙_}
 use mathlib.Core.Bool.{Bool, _&&_}
@@ -7,17 +7,17 @@ use native.Mathlib.Omega.{arith}
 use lib.Dec.{eqb}
 use lib.ListN.{length, drop}
 use borrow.Author.Tests.{eq-eqb, ne-eqb}
-use Rattle.text_unescaping.specs.Pairs.{settled}
-use Rattle.text_unescaping.proofs.PairLaws.{settled-step, settled-end}
-use Rattle.text_unescaping.proofs.all_pairs.Statement.{statement}
-use Rattle.text_unescaping.proofs.all_pairs.Tie as tie
+use Rattle.text_marks.specs.Pairs.{settled}
+use Rattle.text_marks.proofs.PairLaws.{settled-step, settled-end}
+use Rattle.text_marks.proofs.pairs.all_settled.Statement.{statement}
+use Rattle.text_marks.proofs.pairs.all_settled.Tie as tie
 
 abbrev Inv-loop : tie.InvT-loop
-Inv-loop s bad₀ before₀ i₀ bad before i =
-    (i ≤ length s) × (settled 0 s ≡ (eqb bad 0 && settled before (drop i s)))
+Inv-loop s listed bad₀ before₀ i₀ bad before i =
+    (i ≤ length s) × (settled listed 0 s ≡ (eqb bad 0 && settled listed before (drop i s)))
 
 abbrev μ-loop : tie.MeasureT-loop
-μ-loop s bad₀ before₀ i₀ bad before i =
+μ-loop s listed bad₀ before₀ i₀ bad before i =
     length s - i
 
 loop-holds : tie.Need-loop-holds Inv-loop μ-loop
@@ -42,20 +42,23 @@ loop-less c = search needs
 loop-again : tie.Need-loop-again Inv-loop μ-loop
 loop-again c =
     let l = c .before .before .before .before .loop in
-    (omega arith, l .inv .1 ∙ settled-step (c .before .before .before .before .before .before .args .s .now) (l .i) (c .before .before .before .loop-test .taken) (l .before) (l .bad) (c .before .pair-bit .result) (c .before .pair-bit .ensures))
+    let a = c .before .before .before .before .before .before .args in
+    (omega arith, l .inv .1 ∙ settled-step (a .listed) (a .s .now) (l .i) (c .before .before .before .loop-test .taken) (l .before) (l .bad) (c .before .pair-bit .result) (c .before .pair-bit .ensures))
 
 returns : tie.Need-returns Inv-loop μ-loop
 returns c =
     let l = c .before .before .loop in
-    sym (l .inv .1 ∙ ap (λ (t : Bool). t && settled (l .before) (drop (l .i) (c .before .before .before .before .args .s .now))) (ne-eqb (l .bad) 0 (c .if1 .taken)))
+    let a = c .before .before .before .before .args in
+    sym (l .inv .1 ∙ ap (λ (t : Bool). t && settled (a .listed) (l .before) (drop (l .i) (a .s .now))) (ne-eqb (l .bad) 0 (c .if1 .taken)))
 
 returns-2 : tie.Need-returns-2 Inv-loop μ-loop
 returns-2 c =
     let l = c .before .before .loop in
-    sym (l .inv .1 ∙ ap (λ (t : Bool). t && settled (l .before) (drop (l .i) (c .before .before .before .before .args .s .now))) (eq-eqb (l .bad) 0 (c .if1 .left)) ∙ settled-end (c .before .before .before .before .args .s .now) (l .i) (c .before .loop-test .left) (l .before))
+    let a = c .before .before .before .before .args in
+    sym (l .inv .1 ∙ ap (λ (t : Bool). t && settled (a .listed) (l .before) (drop (l .i) (a .s .now))) (eq-eqb (l .bad) 0 (c .if1 .left)) ∙ settled-end (a .listed) (a .s .now) (l .i) (c .before .loop-test .left) (l .before))
 
-pub all-pairs-spec : {M : Type 1} → statement M
-all-pairs-spec =
+pub all-settled-spec : {M : Type 1} → statement M
+all-settled-spec =
     tie.close
     (tie.spec
     Inv-loop
