@@ -256,6 +256,80 @@ static int fits(const uint8_t *s, size_t n, int kind) {
     }
 }
 
+/* First octet at which a text breaks, with so many bare semicolons at most; its length where none does. */
+static size_t text_break(const uint8_t *s, size_t n, int commas, size_t semis) {
+    for (size_t i = 0; i < n; i++) {
+        if (s[i] == '\\') {
+            i++;
+            if (i < n && s[i] != '\\' && s[i] != ',' && s[i] != ';' && s[i] != 'n' && s[i] != 'N') return i;
+        } else if (s[i] == ',' && !commas) {
+            return i;
+        } else if (s[i] == ';' && semis-- == 0) {
+            return i;
+        }
+    }
+    return n;
+}
+
+static size_t uri_break(const uint8_t *s, size_t n) {
+    size_t i = 0;
+    if (n > 0 && !is_letter(s[0])) return 0;
+    while (i < n && (is_letter(s[i]) || is_digit(s[i]) || s[i] == '+' || s[i] == '-' || s[i] == '.')) i++;
+    if (i < n && s[i] != ':') return i;
+    while (i < n && s[i] >= 0x21 && s[i] <= 0x7E) i++;
+    return i;
+}
+
+static size_t word_break(const uint8_t *s, size_t n, const char *word) {
+    size_t i = 0;
+    while (i < n && word[i] && (s[i] == (uint8_t)word[i] || (is_letter(s[i]) && (s[i] & 0xDF) == (uint8_t)word[i]))) i++;
+    return i;
+}
+
+/* Whether some date, stamp or offset starts with these octets: the ends of a few values are tried. */
+static int goes_on(const uint8_t *s, size_t n, int kind) {
+    static const char *values[] = {"00001101T000000", "00001130T000000", "00001101", "00001130", "0000", "--01", "+0000"};
+    uint8_t whole[64];
+    if (n > 40) return 0;
+    memcpy(whole, s, n);
+    for (size_t v = 0; v < sizeof values / sizeof values[0]; v++)
+        for (const char *end = values[v];; end++) {
+            memcpy(whole + n, end, strlen(end));
+            if (fits(whole, n + strlen(end), kind)) return 1;
+            if (!*end) break;
+        }
+    return 0;
+}
+
+/* First octet of an unfit value from which no octets that follow make it fit; its length where it only ends too early. */
+static size_t value_break(const uint8_t *s, size_t n, size_t row, int kind) {
+    size_t i = 0;
+    if (row == 1 || row == 2) return word_break(s, n, "VCARD");
+    if (row == 34) return word_break(s, n, "4.0");
+    switch (kind) {
+    case 1: case 6: return text_break(s, n, 0, n);
+    case 2: return text_break(s, n, 1, n);
+    case 3: return uri_break(s, n);
+    case 4: return text_break(s, n, 1, 4);
+    case 5: return text_break(s, n, 1, 6);
+    case 7:
+        if (n > 0 && s[0] != ';') {
+            uint8_t c = s[0] & 0xDF;
+            if (c != 'M' && c != 'F' && c != 'O' && c != 'N' && c != 'U') return 0;
+            i = 1;
+        }
+        if (i < n && s[i] != ';') return i;
+        return i + 1 + text_break(s + i + 1, n - i - 1, 0, n);
+    case 8:
+        while (i < n && is_digit(s[i])) i++;
+        if (i == n || i == 0 || s[i] != ';') return i;
+        return i + 1 + uri_break(s + i + 1, n - i - 1);
+    default:
+        while (i < n && goes_on(s, i + 1, kind)) i++;
+        return i;
+    }
+}
+
 static int says(const uint8_t *s, size_t at, size_t n, const char *text) { return n == strlen(text) && strncasecmp((const char *)s + at, text, n) == 0; }
 
 static int kind_of(const uint8_t *s, const struct line *l, size_t row) {
@@ -294,20 +368,22 @@ static int is_second(const uint8_t *s, const struct line *l, size_t row, struct 
     return 0;
 }
 
-/* 0, or the refusal of one logical line. */
-static int judge_line(const uint8_t *s, size_t n, struct card *c, uint8_t *kept) {
+/* 0, or the refusal of one logical line; of 5 and 7 the octet of the line too. */
+static int judge_line(const uint8_t *s, size_t n, struct card *c, uint8_t *kept, size_t *octet) {
     struct line l;
-    if (first_bad(s, n, 0) < n) return 5;
+    *octet = first_bad(s, n, 0);
+    if (*octet < n) return 5;
     int fault = parse(s, n, &l);
     if (fault) return fault;
     size_t row = find_row(s + l.name_start, l.name_end - l.name_start);
     if (c->phase == 0 ? row != 1 : c->phase == 1 ? row != 34 : row == 1 || row == 34) return 9;
     const uint8_t *v = s + l.value;
     size_t m = n - l.value;
-    if (row == 1 || row == 2 || row == 34) {
-        if (l.group || l.params) return 8;
-        if (row == 34 ? !(m == 3 && memcmp(v, "4.0", 3) == 0) : !(m == 5 && strncasecmp((const char *)v, "VCARD", 5) == 0)) return 7;
-    } else if (!fits(v, m, kind_of(s, &l, row))) {
+    int frame = row == 1 || row == 2 || row == 34;
+    if (frame && (l.group || l.params)) return 8;
+    int kind = frame ? 0 : kind_of(s, &l, row);
+    if (row == 34 ? !(m == 3 && memcmp(v, "4.0", 3) == 0) : frame ? !(m == 5 && strncasecmp((const char *)v, "VCARD", 5) == 0) : !fits(v, m, kind)) {
+        *octet = l.value + value_break(v, m, row, kind);
         return 7;
     }
     if (rows[row].once && is_second(s, &l, row, c, kept)) return 10;
@@ -345,6 +421,14 @@ static size_t line_end(const uint8_t *in, size_t len, size_t at, uint8_t *buf, s
     return i;
 }
 
+/* Where the octet of the logical line at `at` stands, or the CR that ends it. */
+static size_t place_of(const uint8_t *in, size_t len, size_t at, size_t octet) {
+    for (size_t i = at;; i++) {
+        while (in[i] == 13 && i + 2 < len && (in[i + 2] == ' ' || in[i + 2] == 9)) i += 3;
+        if (in[i] == 13 || octet-- == 0) return i;
+    }
+}
+
 static uint64_t judge_all(const uint8_t *in, size_t len, struct card *c) {
     uint8_t buf[LIMIT], kept[LIMIT];
     if (len > LIMIT) return REFUSE(1, LIMIT);
@@ -360,9 +444,9 @@ static uint64_t judge_all(const uint8_t *in, size_t len, struct card *c) {
     if (len < 2 || in[len - 2] != 13 || in[len - 1] != 10) return REFUSE(4, len);
     memset(c, 0, sizeof *c);
     for (size_t at = 0; at < len;) {
-        size_t n, end = line_end(in, len, at, buf, &n);
-        int r = judge_line(buf, n, c, kept);
-        if (r) return REFUSE(r, at);
+        size_t n, octet, end = line_end(in, len, at, buf, &n);
+        int r = judge_line(buf, n, c, kept, &octet);
+        if (r) return REFUSE(r, r == 5 || r == 7 ? place_of(in, len, at, octet) : at);
         at = end + 2;
     }
     if (c->phase) return REFUSE(9, len);

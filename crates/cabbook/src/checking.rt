@@ -1,4 +1,4 @@
-// `check`: a row a file, and under a refusal the logical line that it is about.
+// `check`: a row a file, and under a refusal the logical line that it is about, with a caret.
 ghost use Rattle.cabbook.specs.Numbers.{Status};
 use crate::printing;
 use cabbook_tables::status;
@@ -23,7 +23,7 @@ fn print_no_line(is_inside: bool) {
     io::write_all(STDOUT_FILENO, b"    (the end of the file)\n");
 }
 
-// Prints the logical line in which a refusal's place lies; nothing where the input is too long or empty.
+// Prints the logical line in which a refusal's place lies, and a caret under the place; nothing where the input is too long or empty.
 fn print_under(s: &[u8], number: u32, place: usize) {
     if number == refusal::TOO_LONG || number == refusal::EMPTY {
         return;
@@ -34,7 +34,7 @@ fn print_under(s: &[u8], number: u32, place: usize) {
         return;
     }
     let mut room = io::buffer();
-    let n = cabbook_rows::under::put_under(&mut room, 0, line);
+    let n = cabbook_rows::under::put_under(&mut room, 0, s, number, place);
     printing::send(STDOUT_FILENO, &room, n);
 }
 

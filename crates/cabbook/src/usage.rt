@@ -9,7 +9,7 @@ use libc::STDOUT_FILENO;
 fn print_commands(to: i32) {
     io::write_all(
         to,
-        b"  cabbook check [--edition N] FILE..  judge each file, a row a file\n",
+        b"  cabbook check [--edition N] FILE..  judge each file; a caret shows the octet\n",
     );
     io::write_all(
         to,
@@ -65,7 +65,11 @@ pub fn print_help() -> u8
     print_commands(STDOUT_FILENO);
     io::write_all(
         STDOUT_FILENO,
-        b"\nFILE - is standard input. Exit status: 0 all accepted, 1 something refused,\n",
+        b"\nA refusal is FILE:LINE:COLUMN: refused NUMBER: WORDS, so that editors can jump to it.\n",
+    );
+    io::write_all(
+        STDOUT_FILENO,
+        b"FILE - is standard input. Exit status: 0 all accepted, 1 something refused,\n",
     );
     io::write_all(
         STDOUT_FILENO,

@@ -1,3 +1,4 @@
-// Refusals and counts in words, added to a page.
+// Refusals and counts in words, and what a value should be, added to a page.
 pub mod sentences;
+pub mod wants;
 pub mod words;

@@ -1,7 +1,7 @@
 -- Counting octets one by one, and going back place by place. Assumes nothing.
 use mathlib.Core.Path.{_≡_, refl, _∙_}
 use mathlib.Core.Bool.{Bool, true, false}
-use mathlib.Core.List.{List}
+use mathlib.Core.List.{List, [], _∷_}
 use Prim.Native.Nat.{ℕ, zero, suc, _+_, _-_, _<_, _≤_}
 use native.Mathlib.Numerals.{add-one}
 use native.Mathlib.Omega.{arith}
@@ -24,6 +24,16 @@ module _ (p : ℕ → Bool) (s : List ℕ) (i : ℕ) where
   pub count-end : length s ≤ i → count p (drop i s) ≡ 0
   unfolding count
   count-end h = rw (drop-of-length-le s h)
+
+one-more : (b : Bool) (n m : ℕ) → n ≤ m → pick b 1 0 + n ≤ suc m
+one-more true n m h = omega arith
+one-more false n m h = omega arith
+
+-- no more octets pass than there are
+pub count-le : (p : ℕ → Bool) (s : List ℕ) → count p s ≤ length s
+unfolding count
+count-le p [] = omega arith
+count-le p (x ∷ xs) = one-more (p x) (count p xs) (length xs) (count-le p xs)
 
 pub back-here : (p : ℕ → Bool) (i : ℕ) → 0 < i → p i ≡ true → backTo p i ≡ i
 unfolding backTo

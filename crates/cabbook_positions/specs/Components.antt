@@ -1,7 +1,7 @@
--- Where a component of a value ends. Assumes nothing.
+-- Where a component of a value ends, and whether an escape is open. Assumes nothing.
 use Prim.Native.Nat.{ℕ}
-use mathlib.Core.Bool.{Bool, _&&_, _||_}
-use mathlib.Core.List.{List}
+use mathlib.Core.Bool.{Bool, false, _&&_, _||_}
+use mathlib.Core.List.{List, [], _∷_}
 use lib.Dec.{eqb, ltb}
 use lib.ListN.{length, getD}
 use Rattle.octets.specs.Pick.{pick}
@@ -18,3 +18,12 @@ bareStep semicolons l = bareAt semicolons (getD l 0 0) (length l)
 -- the length of the component with which a value starts
 unfoldable pub bareLength : Bool → List ℕ → ℕ
 bareLength semicolons l = scan (bareStep semicolons) l 0
+
+-- after an octet a backslash waits for the next: it is one, and none waited for it
+abbrev pub opened : Bool → ℕ → Bool
+opened waits x = pick waits false (eqb x 92)
+
+-- after these octets a backslash waits for the next, where one did before them or not
+unfoldable pub openAfter : Bool → List ℕ → Bool
+openAfter waits [] = waits
+openAfter waits (x ∷ xs) = openAfter (opened waits x) xs

@@ -29,6 +29,10 @@ backTo p (suc k) = pick (p (suc k)) (suc k) (backTo p k)
 abbrev pub opens : List ℕ → ℕ → Bool
 opens s i = (eqb (getD s (i - 1) 0) 10 && eqb (getD s (i - 2) 0) 13) && not (eqb (getD s i 0) 32 || eqb (getD s i 0) 9)
 
+-- a physical line starts at i, which is not 0: LF stands before it
+abbrev pub begins : List ℕ → ℕ → Bool
+begins s i = isLf (getD s (i - 1) 0)
+
 -- a character starts at i
 abbrev pub starts : List ℕ → ℕ → Bool
 starts s i = isFirst (getD s i 0)

@@ -1,11 +1,12 @@
-// Positions in a text as a person counts them: lines, characters, where a line or a character starts, and where a component ends.
+// Positions in a text as a person counts them: lines, characters, where a line or a character starts, where a component ends, and open escapes.
 ghost use mathlib.Core.Path.{_≡_};
+ghost use mathlib.Core.Bool.{false};
 ghost use Prim.Native.Nat.{_+_, _-_, _≤_, _<_, min};
 ghost use lib.Dec.{ltb};
 ghost use lib.ListN.{length, drop};
 ghost use Rattle.octets.specs.Pick.{pick};
-ghost use Rattle.cabbook_positions.specs.Positions.{count, isLf, isFirst, backTo, opens, starts};
-ghost use Rattle.cabbook_positions.specs.Components.{bareStep, bareLength};
+ghost use Rattle.cabbook_positions.specs.Positions.{count, isLf, isFirst, backTo, opens, begins, starts};
+ghost use Rattle.cabbook_positions.specs.Components.{bareStep, bareLength, opened, openAfter};
 
 // The place before a place, or 0.
 pub fn before(place: usize) -> usize
@@ -86,6 +87,20 @@ pub fn line_start(s: &[u8], place: usize) -> usize
     0
 }
 
+// The start of the physical line in which a place lies; of the last one where the place is past the end.
+pub fn row_start(s: &[u8], place: usize) -> usize
+    ensures { λ r. ⌜ r ≡ backTo (begins (now (s .entry))) (min place (length (now (s .entry)))) ⌝ }
+{
+    let mut i = octets::slices::least(place, s.len());
+    while i > 0 {
+        if s[i - 1] == b'\n' {
+            return i;
+        }
+        i -= 1;
+    }
+    0
+}
+
 // The start of the character in which a place lies; the length where the place is past the end.
 pub fn character_start(s: &[u8], place: usize) -> usize
     ensures { λ r. ⌜ (r ≡ pick (ltb place (length (now (s .entry)))) (backTo (starts (now (s .entry))) place) (length (now (s .entry)))) × (r ≤ length (now (s .entry))) ⌝ }
@@ -140,4 +155,27 @@ pub fn component(s: &[u8], semicolons: bool) -> usize
         i += n;
     }
     i
+}
+
+// Whether a backslash waits for its octet after an octet, where one did before it or not.
+fn opens_escape(waits: bool, octet: u8) -> bool
+    ensures { λ r. ⌜ r ≡ opened waits octet ⌝ }
+{
+    if waits {
+        return false;
+    }
+    octet == b'\\'
+}
+
+// Whether a text ends with a backslash that waits for its octet.
+pub fn ends_in_escape(s: &[u8]) -> bool
+    ensures { λ r. ⌜ r ≡ openAfter false (now (s .entry)) ⌝ }
+{
+    let mut waits = false;
+    let mut i: usize = 0;
+    while i < s.len() {
+        waits = opens_escape(waits, s[i]);
+        i += 1;
+    }
+    waits
 }

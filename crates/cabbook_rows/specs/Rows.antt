@@ -4,9 +4,9 @@ use mathlib.Core.List.{List, _++_}
 use lib.ListN.{length}
 use Rattle.octets.specs.Ascii.{octets}
 use Rattle.octets.specs.Slices.{part}
-use Rattle.cabbook_positions.specs.Positions.{count, isLf}
+use Rattle.cabbook_positions.specs.Positions.{count, isLf, isFirst, backTo, begins}
 use Rattle.cabbook_columns.specs.Visible.{visible}
-use Rattle.cabbook_messages.specs.Sentences.{amount, counted, refusal}
+use Rattle.cabbook_messages.specs.Sentences.{amount, counted}
 use Rattle.cabbook_rows.specs.Faults.{why}
 
 -- the start of a row: the file's name
@@ -21,8 +21,13 @@ acceptedRow path cards lines =
 abbrev pub lineOf : List ℕ → ℕ → ℕ
 lineOf s place = 1 + count isLf (part s 0 (min place (length s)))
 
-abbrev pub reason : List ℕ → ℕ → ℕ → List ℕ
-reason s number place = octets ", line " ++ amount (lineOf s place) (octets ": ") ++ why s number place ++ octets "\n"
+-- the column of a place in its physical line: 1, and 1 more for each character before it there
+abbrev pub columnOf : List ℕ → ℕ → ℕ
+columnOf s place = count isFirst (part s (backTo (begins s) (min place (length s))) (min place (length s))) + 1
+
+-- where a place lies in a file
+abbrev pub location : List ℕ → List ℕ → ℕ → List ℕ
+location path s place = visible path ++ octets ":" ++ amount (lineOf s place) (octets ":") ++ amount (columnOf s place) (octets ": ")
 
 abbrev pub refusedRow : List ℕ → List ℕ → ℕ → ℕ → List ℕ
-refusedRow path s number place = named path ++ refusal number place ++ reason s number place
+refusedRow path s number place = location path s place ++ octets "refused " ++ amount number (octets ": ") ++ why s number place ++ octets "\n"

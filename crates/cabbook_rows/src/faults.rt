@@ -3,6 +3,7 @@ ghost use mathlib.Core.Path.{_≡_};
 ghost use Rattle.program_output.specs.Pages.{page, added};
 ghost use Rattle.cabbook_rows.specs.Faults.{about, nameWords, paramWords, quoteWords, colonWords, faultWords, isFault, rawWords, why};
 use crate::under;
+use crate::values;
 use line_parser::at_fault;
 use line_parser::at_fault::AtFault;
 use line_parser::at_fault::QuoteFault;
@@ -15,7 +16,7 @@ fn put_about(room: &mut [u8], at: usize, before: &[u8], name: &[u8], after: &[u8
     ensures { λ r. ⌜ page r (now (room .exit)) ≡ added (about (now (before .entry)) (now (name .entry)) (now (after .entry))) (page at (now (room .entry))) ⌝ }
 {
     let before_end = program_output::put_all(room, at, before);
-    let name_end = under::put_cut(room, before_end, name);
+    let name_end = under::put_cut(room, before_end, name, under::NAME);
     program_output::put_all(room, name_end, after)
 }
 
@@ -135,12 +136,15 @@ fn put_raw(room: &mut [u8], at: usize, line: &[u8], number: u32) -> usize
     put_fault(room, at, part(&text, 0, n), number)
 }
 
-// Adds why octets are refused: what is wrong with the line in which the place lies, or the words of the refusal.
+// Adds why octets are refused: what is wrong with the line in which the place lies, what its value should be, or the words of the refusal.
 pub(crate) fn put_why(room: &mut [u8], at: usize, s: &[u8], number: u32, place: usize) -> usize
     ensures { λ r. ⌜ page r (now (room .exit)) ≡ added (why (now (s .entry)) number place) (page at (now (room .entry))) ⌝ }
 {
     if is_fault(number) {
         return put_raw(room, at, under::offending(s, number, place), number);
+    }
+    if number == refusal::VALUE {
+        return values::put_wanted(room, at, s, place);
     }
     cabbook_messages::words::put_words(room, at, number)
 }

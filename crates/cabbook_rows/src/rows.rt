@@ -1,7 +1,7 @@
-// The row of a file: what it holds, or why it is refused.
+// The row of a file: what it holds, or where and why it is refused.
 ghost use mathlib.Core.Path.{_≡_};
 ghost use Rattle.program_output.specs.Pages.{page, added};
-ghost use Rattle.cabbook_rows.specs.Rows.{named, acceptedRow, lineOf, reason, refusedRow};
+ghost use Rattle.cabbook_rows.specs.Rows.{named, acceptedRow, lineOf, columnOf, location, refusedRow};
 use crate::faults;
 use cabbook_messages::sentences;
 
@@ -32,14 +32,23 @@ fn line_of(s: &[u8], place: usize) -> usize
     cabbook_positions::line_number(octets::slices::part(s, 0, end))
 }
 
-// Adds the line in which a refusal's place lies, and why it is refused.
-fn put_reason(room: &mut [u8], at: usize, s: &[u8], number: u32, place: usize) -> usize
-    ensures { λ r. ⌜ page r (now (room .exit)) ≡ added (reason (now (s .entry)) number place) (page at (now (room .entry))) ⌝ }
+// The column of a place in its physical line, by characters from 1 on.
+fn column_of(s: &[u8], place: usize) -> usize
+    ensures { λ r. ⌜ r ≡ columnOf (now (s .entry)) place ⌝ }
 {
-    let start = program_output::put_all(room, at, b", line ");
-    let number_end = sentences::put_amount(room, start, line_of(s, place), b": ");
-    let why_end = faults::put_why(room, number_end, s, number, place);
-    program_output::put_all(room, why_end, b"\n")
+    let end = octets::slices::least(place, s.len());
+    let start = cabbook_positions::row_start(s, place);
+    cabbook_positions::characters(octets::slices::part(s, start, end)) + 1
+}
+
+// Adds where a place lies in a file, as `FILE:LINE:COLUMN: `.
+fn put_where(room: &mut [u8], at: usize, path: &[u8], s: &[u8], place: usize) -> usize
+    ensures { λ r. ⌜ page r (now (room .exit)) ≡ added (location (now (path .entry)) (now (s .entry)) place) (page at (now (room .entry))) ⌝ }
+{
+    let path_end = cabbook_columns::visible::put_visible(room, at, path);
+    let colon_end = program_output::put_all(room, path_end, b":");
+    let line_end = sentences::put_amount(room, colon_end, line_of(s, place), b":");
+    sentences::put_amount(room, line_end, column_of(s, place), b": ")
 }
 
 // Adds the row of a file with these octets that is refused.
@@ -53,7 +62,9 @@ pub fn put_refused(
 ) -> usize
     ensures { λ r. ⌜ page r (now (room .exit)) ≡ added (refusedRow (now (path .entry)) (now (s .entry)) number place) (page at (now (room .entry))) ⌝ }
 {
-    let name_end = put_name(room, at, path);
-    let refusal_end = sentences::put_refusal(room, name_end, number, place);
-    put_reason(room, refusal_end, s, number, place)
+    let where_end = put_where(room, at, path, s, place);
+    let start = program_output::put_all(room, where_end, b"refused ");
+    let number_end = sentences::put_amount(room, start, number as usize, b": ");
+    let why_end = faults::put_why(room, number_end, s, number, place);
+    program_output::put_all(room, why_end, b"\n")
 }

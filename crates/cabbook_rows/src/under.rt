@@ -1,14 +1,21 @@
-// The line under a refusal: the logical line in which the refusal's place lies, cut where it is long.
+// What stands under a refusal: the logical line in which its place lies, cut around the place where it is long, and a caret under the place.
 ghost use mathlib.Core.Path.{_≡_};
 ghost use Prim.Native.Nat.{_≤_};
 ghost use lib.ListN.{length};
+ghost use Rattle.numbers.specs.Limits as limit;
 ghost use Rattle.program_output.specs.Pages.{page, added};
-ghost use Rattle.cabbook_rows.specs.Under.{shownEnd, offending, cut, underLine};
+ghost use Rattle.cabbook_rows.specs.Under.{shownEnd, offending, cut, tailAt, lastPart, lastBlanks, restLine, marked, underLines};
 use numbers::limit;
 use numbers::refusal;
 
-// The most octets of a line that are shown.
-const CUT: usize = 120;
+// The most octets of a name that are shown.
+pub(crate) const NAME: usize = 120;
+
+// The most octets of a line that are shown before a place, but for the rest of a character.
+const BEFORE: usize = 72;
+
+// The most octets of a line that are shown from a place on.
+const AFTER: usize = 48;
 
 // Where the part of a line that is shown ends: past a lone CR or LF where that is refused, else at the line's end.
 fn shown_end(s: &[u8], number: u32, place: usize, from: usize) -> usize
@@ -33,29 +40,95 @@ pub fn offending(s: &[u8], number: u32, place: usize) -> &[u8]
     octets::slices::part(s, from, end)
 }
 
-// Adds a line; a longer one than that is cut at a character, and three points stand for the rest.
-pub(crate) fn put_cut(room: &mut [u8], at: usize, line: &[u8]) -> usize
-    ensures { λ r. ⌜ page r (now (room .exit)) ≡ added (cut (now (line .entry))) (page at (now (room .entry))) ⌝ }
+// Adds the first octets of a text, so many at most; a longer one is cut at a character, and three points stand for the rest.
+pub(crate) fn put_cut(room: &mut [u8], at: usize, text: &[u8], most: usize) -> usize
+    ensures { λ r. ⌜ page r (now (room .exit)) ≡ added (cut most (now (text .entry))) (page at (now (room .entry))) ⌝ }
 {
-    let end = cabbook_positions::character_start(line, CUT);
+    let end = cabbook_positions::character_start(text, most);
     let text_end = cabbook_columns::visible::put_visible(
         room,
         at,
-        octets::slices::part(line, 0, end),
+        octets::slices::part(text, 0, end),
     );
-    program_output::put_unless(room, text_end, end == line.len(), b"...")
+    program_output::put_unless(room, text_end, end == text.len(), b"...")
 }
 
-// Adds a logical line without its folds; nothing where it is longer than a text that was read.
-pub fn put_under(room: &mut [u8], at: usize, line: &[u8]) -> usize
-    ensures { λ r. ⌜ page r (now (room .exit)) ≡ added (underLine (now (line .entry))) (page at (now (room .entry))) ⌝ }
+// Where the part of a text starts that is shown before a place.
+fn tail_start(text: &[u8]) -> usize
+    ensures { λ r. ⌜ r ≡ tailAt (now (text .entry)) ⌝ }
 {
-    if line.len() > limit::READ_ROOM {
+    if text.len() <= BEFORE {
+        return 0;
+    }
+    cabbook_positions::character_start(text, text.len() - BEFORE)
+}
+
+// Adds the last octets of a text; three points stand for what comes before them.
+fn put_last(room: &mut [u8], at: usize, text: &[u8]) -> usize
+    ensures { λ r. ⌜ page r (now (room .exit)) ≡ added (lastPart (now (text .entry))) (page at (now (room .entry))) ⌝ }
+{
+    let from = tail_start(text);
+    let points_end = program_output::put_unless(room, at, from == 0, b"...");
+    cabbook_columns::visible::put_visible(
+        room,
+        points_end,
+        octets::slices::part(text, from, text.len()),
+    )
+}
+
+// Adds blanks as wide as the last octets of a text are shown.
+fn put_last_blanks(room: &mut [u8], at: usize, text: &[u8]) -> usize
+    ensures { λ r. ⌜ page r (now (room .exit)) ≡ added (lastBlanks (now (text .entry))) (page at (now (room .entry))) ⌝ }
+{
+    let from = tail_start(text);
+    let points_end = program_output::put_unless(room, at, from == 0, b"   ");
+    cabbook_cells::put_blanks(
+        room,
+        points_end,
+        octets::slices::part(text, from, text.len()),
+    )
+}
+
+// Adds the rest of a line without its folds, and ends the line.
+fn put_rest(room: &mut [u8], at: usize, raw: &[u8]) -> usize
+    requires { ⌜ length (now raw) ≤ limit.readRoom ⌝ }
+    ensures { λ r. ⌜ page r (now (room .exit)) ≡ added (restLine (now (raw .entry))) (page at (now (room .entry))) ⌝ }
+{
+    let mut text = [0u8; limit::READ_ROOM];
+    let n = line_unfolding::unfold(raw, &mut text);
+    let end = put_cut(room, at, octets::slices::part(&text, 0, n), AFTER);
+    program_output::put_all(room, end, b"\n")
+}
+
+// Adds a line of two parts without their folds, and under it a caret where the second part starts.
+fn put_marked(room: &mut [u8], at: usize, before: &[u8], after: &[u8]) -> usize
+    requires { ⌜ (length (now before) ≤ limit.readRoom) × (length (now after) ≤ limit.readRoom) ⌝ }
+    ensures { λ r. ⌜ page r (now (room .exit)) ≡ added (marked (now (before .entry)) (now (after .entry))) (page at (now (room .entry))) ⌝ }
+{
+    let mut text = [0u8; limit::READ_ROOM];
+    let n = line_unfolding::unfold(before, &mut text);
+    let left = octets::slices::part(&text, 0, n);
+    let start = program_output::put_all(room, at, b"    ");
+    let left_end = put_last(room, start, left);
+    let line_end = put_rest(room, left_end, after);
+    let under = program_output::put_all(room, line_end, b"    ");
+    let caret = put_last_blanks(room, under, left);
+    program_output::put_all(room, caret, b"^\n")
+}
+
+// Adds the logical line in which a refusal's place lies, and a caret under the place; nothing where the text is longer than one that was read.
+pub fn put_under(room: &mut [u8], at: usize, s: &[u8], number: u32, place: usize) -> usize
+    ensures { λ r. ⌜ page r (now (room .exit)) ≡ added (underLines (now (s .entry)) number place) (page at (now (room .entry))) ⌝ }
+{
+    if s.len() > limit::READ_ROOM {
         return at;
     }
-    let mut text = [0u8; limit::READ_ROOM];
-    let n = line_unfolding::unfold(line, &mut text);
-    let start = program_output::put_all(room, at, b"    ");
-    let end = put_cut(room, start, octets::slices::part(&text, 0, n));
-    program_output::put_all(room, end, b"\n")
+    let from = cabbook_positions::line_start(s, place);
+    let end = shown_end(s, number, place, from);
+    put_marked(
+        room,
+        at,
+        octets::slices::part(s, from, place),
+        octets::slices::part(s, place, end),
+    )
 }

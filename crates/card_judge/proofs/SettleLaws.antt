@@ -3,27 +3,29 @@ use mathlib.Core.Path.{_≡_, refl, sym, ap, subst, _∙_}
 use mathlib.Core.Bool.{Bool, true, false, not, _&&_, false≢true}
 use mathlib.Core.List.{List, _++_, map, append-nil}
 use mathlib.Core.Option.{Option, none, some}
+use mathlib.Core.Logic.{_⊎_, inl, inr}
 use Prim.Native.Nat.{ℕ, zero, suc, _+_, _-_, _<_, _≤_}
 use native.Mathlib.Omega.{arith}
 use lib.Dec.{eqb}
 use lib.ListN.{length, drop, length-take, length-drop}
 use borrow.Author.Tests.{eqb-true, ne-eqb}
 use Rattle.octets.specs.Pick.{pick}
-use Rattle.octets.proofs.Bools.{by}
+use Rattle.octets.proofs.Bools.{by, and-both}
 use Rattle.property_table.specs.Rows.{rows, newer, allRows, rowAt, single, onceAt, isGroup}
 use Rattle.card_state.specs.State.{Card, Step, Next, Refused, Flawed, flagOf, onceFlag, isSeen, sameTag, tagOf, tagged, secondInstance, going, lineCard, noted, closed}
 use Rattle.card_state.specs.Kept.{placesOf, tagAt, Lies, cardOf, stepOf, Holds, goneOn, Keeps}
 use Rattle.card_state.specs.declared.Card.{Card as Kept}
 use Rattle.card_state.specs.declared.Step.{Step as KeptStep}
 use Rattle.card_state.specs.declared.Step.the-variants.{Refused as refused, Flawed as flawed}
-use Rattle.card_state.proofs.KeptLaws.{holds-more, gone-card, keep-card}
+use Rattle.card_state.proofs.KeptLaws.{holds-more, keep-lies, gone-card, keep-card}
 use Rattle.line_parameters.specs.First.{findFirst}
 use Rattle.line_parameters.specs.declared.First.{First}
 use Rattle.line_parameters.specs.declared.First.the-variants.{Between, Nothing}
 use Rattle.card_line.specs.Parts.{Accepted, firstValue}
 use Rattle.card_line.proofs.PartLaws.{value-missing, value-there}
-use Rattle.card_judge.specs.Judge.{entered, part, readBy, Keeping, Spans}
+use Rattle.card_judge.specs.Judge.{entered, part, readBy, Keeping, Spans, Told, Takes}
 use Rattle.card_judge.specs.declared.judge.Judgement.{Judgement}
+use Rattle.card_judge.specs.declared.judge.Instance.{Instance}
 
 -- END is not marked *1
 end-often : onceAt 2 ≡ 0
@@ -33,10 +35,14 @@ end-often = refl
 not-end : (row : ℕ) → (onceAt row ≡ 0 → ⊥) → eqb row 2 ≡ false
 not-end row h = by (eqb row 2) (λ e. absurd (h (ap onceAt (eqb-true row 2 e) ∙ end-often))) (λ e. e)
 
--- a row of which a line was seen is marked *1
+-- a property of which a line was seen is marked *1
+seen-some : (k s : ℕ) → isSeen (flagOf k) s ≡ true → k ≡ 0 → ⊥
+unfolding isSeen flagOf
+seen-some k s h e = let z : false ≡ true = rw e at h in false≢true z
+
 seen-once : (row s : ℕ) → isSeen (onceFlag row) s ≡ true → onceAt row ≡ 0 → ⊥
-unfolding isSeen onceFlag flagOf
-seen-once row s h e = let z : false ≡ true = rw e at h in false≢true z
+unfolding onceFlag
+seen-once row s h = seen-some (onceAt row) s h
 
 none-same : (a : Option (List ℕ)) → sameTag a none ≡ false
 unfolding sameTag
@@ -70,7 +76,7 @@ part-size from to l g h = simp (length-take, length-drop) (omega arith)
 abbrev unkept : KeptStep → Judgement
 unkept st = record { step = st; from = 0; to = 0 }
 
-pub stepped : (c : Kept) (store l : List ℕ) (j : Judgement) (st : KeptStep) (s : Step) → j ≡ unkept st → Holds (c .used) st → stepOf store st ≡ s
+stepped : (c : Kept) (store l : List ℕ) (j : Judgement) (st : KeptStep) (s : Step) → j ≡ unkept st → Holds (c .used) st → stepOf store st ≡ s
     → (readBy j store l ≡ s) × Keeping c l j
 unfolding readBy
 stepped c store l j st s e h q = rw e (
@@ -107,31 +113,6 @@ module _ (c : Kept) (store : List ℕ) (at row : ℕ) (v : List ℕ) where
   unfolding entered noted secondInstance cardOf
   entered-second a h e = sym (rw (not-end row (seen-once row (c .seen) h), h, e))
 
-  -- no ALTID
-  pub plain-second : (a : Option (List ℕ)) → isSeen (onceFlag row) (c .seen) ≡ true → pick (eqb (onceAt row) 0) none a ≡ none
-      → Refused 10 at ≡ entered now-card at row a v
-  plain-second a h e =
-      let n : a ≡ none = sym (looked-for (onceAt row) a (seen-once row (c .seen) h)) ∙ e in
-      entered-second a h (ap (sameTag (tagOf (now-card .tags) (onceAt row))) n ∙ none-same (tagOf (now-card .tags) (onceAt row)))
-
-  pub plain-on : (a : Option (List ℕ)) → isSeen (onceFlag row) (c .seen) ≡ false → pick (eqb (onceAt row) 0) none a ≡ none
-      → on ≡ entered now-card at row a v
-  unfolding secondInstance cardOf
-  plain-on a h e = entered-on a (rw h) (rw h (tagged-none (map (tagAt store) (placesOf (c .tags))) (onceAt row) a e))
-
-  -- an ALTID, of a line that is not the first
-  module _ (w : List ℕ) (k : ℕ) (here : k ≡ onceAt row) (seen : isSeen (onceFlag row) (c .seen) ≡ true) where
-    tag : (b : Bool) → b ≡ sameTag (tagOf (map (tagAt store) (placesOf (c .tags))) k) (some w) → sameTag (tagOf (now-card .tags) (onceAt row)) (some w) ≡ b
-    unfolding cardOf
-    tag b e = rw (← here) (sym e)
-
-    pub other-second : (b : Bool) → b ≡ sameTag (tagOf (map (tagAt store) (placesOf (c .tags))) k) (some w) → b ≡ false → Refused 10 at ≡ entered now-card at row (some w) v
-    other-second b e f = entered-second (some w) seen (tag b e ∙ f)
-
-    pub same-on : (b : Bool) → b ≡ sameTag (tagOf (map (tagAt store) (placesOf (c .tags))) k) (some w) → b ≡ true → on ≡ entered now-card at row (some w) v
-    unfolding secondInstance cardOf
-    same-on b e f = let t = tag b e ∙ f in entered-on (some w) (rw (seen, t)) (rw seen)
-
   -- an ALTID, of the first line
   module _ (r : Kept) (w : List ℕ) (k : ℕ) (here : k ≡ onceAt row) (unseen : isSeen (onceFlag row) (c .seen) ≡ false)
       (keeps : Keeps c k (length w) r) (lies : Lies c) (short : length w ≤ 16384) (all : length store ≡ c .used) (some-k : 0 < k) where
@@ -142,8 +123,118 @@ module _ (c : Kept) (store : List ℕ) (at row : ℕ) (v : List ℕ) where
         ∙ ap (λ (d : Card). going d (d .tags) row (isGroup v)) (keep-card c r k (length w) keeps lies short store w all refl some-k)
         ∙ rw (unseen, ← here)
 
-    pub first-on : pick (eqb row 2) (closed (cardOf r (store ++ w)) at) (Next (cardOf (goneOn r row (isGroup v)) (store ++ w))) ≡ entered now-card at row (some w) v
+    first-on : pick (eqb row 2) (closed (cardOf r (store ++ w)) at) (Next (cardOf (goneOn r row (isGroup v)) (store ++ w))) ≡ entered now-card at row (some w) v
     unfolding entered noted secondInstance cardOf
     first-on =
         let inside : eqb row 2 ≡ false = not-end row (λ e. omega (arith, here)) in
         rw (inside, unseen) (ap Next kept-next)
+
+-- what a line l of the k-th property marked *1, or of any other (0), with the ALTID value a makes of its instance
+module _ (c : Kept) (store l : List ℕ) (k : ℕ) (a : Option (List ℕ)) (again : Bool) (known : again ≡ isSeen (flagOf k) (c .seen)) where
+  abbrev kept-tag : Option (List ℕ)
+  kept-tag = tagOf (map (tagAt store) (placesOf (c .tags))) k
+
+  second-none : (b : Bool) → again ≡ b → pick (eqb k 0) none a ≡ none → b ≡ b && not (sameTag kept-tag a)
+  second-none false e n = refl
+  second-none true e n =
+      let missing : a ≡ none = sym (looked-for k a (seen-some k (c .seen) (sym known ∙ e))) ∙ n in
+      rw (missing, none-same kept-tag)
+
+  pub told-none : pick (eqb k 0) none a ≡ none → Told c store l k a (record { second = again; keeps = false; from = 0; to = 0 })
+  told-none n = record {
+    order = omega arith;
+    inside = omega arith;
+    second = rw (← known) (second-none again refl n);
+    first = λ h. absurd (false≢true h);
+    other = λ h. ((refl, refl), inr n);
+  }
+
+  pub told-first : (from to : ℕ) → from ≤ to → to ≤ length l → again ≡ false → pick (eqb k 0) none a ≡ some (part from to l)
+      → Told c store l k a (record { second = false; keeps = true; from = from; to = to })
+  told-first from to g h e q = record {
+    order = g;
+    inside = h;
+    second = rw (← known, e);
+    first = λ z. (sym known ∙ e, found-once k a (part from to l) q);
+    other = λ z. absurd (false≢true (sym z));
+  }
+
+  pub told-again : (w : List ℕ) (same : Bool) → again ≡ true → pick (eqb k 0) none a ≡ some w → same ≡ sameTag kept-tag (some w)
+      → Told c store l k a (record { second = not same; keeps = false; from = 0; to = 0 })
+  told-again w same e q h = record {
+    order = omega arith;
+    inside = omega arith;
+    second = rw (← known, e, found-once k a w q .1) (ap not h);
+    first = λ z. absurd (false≢true z);
+    other = λ z. ((refl, refl), inl (sym known ∙ e));
+  }
+
+-- what is known of a line l of the k-th property marked *1, or of any other (0), with the ALTID value a
+module _ (c : Kept) (store l : List ℕ) (k : ℕ) (a : Option (List ℕ)) (i : Instance) (told : Told c store l k a i) where
+  abbrev seen : Bool
+  seen = isSeen (flagOf k) (c .seen)
+
+  abbrev tags : List (Option (List ℕ))
+  tags = map (tagAt store) (placesOf (c .tags))
+
+  -- a line whose value is not kept leaves the tags
+  stays : (seen ≡ true) ⊎ (pick (eqb k 0) none a ≡ none) → pick seen tags (tagged tags k a) ≡ tags
+  stays (inl e) = rw e
+  stays (inr e) = by seen (λ q. rw q) (λ q. rw q (tagged-none tags k a e))
+
+  -- the state r has the line's value, where it is to be kept
+  module _ (r : Kept) (takes : Takes c k i r) (lies : Lies c) (short : c .used + length l ≤ 16384) where
+    size-low : i .to - i .from ≤ 16384
+    size-low = omega (arith, told .inside, short)
+
+    pub takes-lies : Lies r
+    takes-lies = by (i .keeps) (λ h. keep-lies c r k _ (takes .value h) lies size-low) (λ h. subst Lies (sym (takes .none h)) lies)
+
+    pub takes-counts : (r .cards ≡ c .cards) × (r .lines ≡ c .lines)
+    takes-counts =
+        by (i .keeps) (λ h. (takes .value h .cards, takes .value h .lines))
+        (λ h. (ap (λ (d : Kept). d .cards) (takes .none h), ap (λ (d : Kept). d .lines) (takes .none h)))
+
+    pub takes-used : r .used ≡ c .used + (i .to - i .from)
+    takes-used =
+        by (i .keeps) (λ h. takes .value h .used)
+        (λ h. ap (λ (d : Kept). d .used) (takes .none h) ∙ omega (arith, told .other h .0 .0, told .other h .0 .1))
+
+  module _ (at row : ℕ) (v : List ℕ) (here : k ≡ onceAt row) where
+    seen-row : (b : Bool) → seen ≡ b → isSeen (onceFlag row) (c .seen) ≡ b
+    unfolding onceFlag
+    seen-row b e = rw (← here) e
+
+    second-row : (b : Bool) → i .second ≡ b → secondInstance (cardOf c store) row a ≡ b
+    unfolding secondInstance cardOf onceFlag
+    second-row b e = rw (← here) (sym (told .second) ∙ e)
+
+    pub told-second : i .second ≡ true → Refused 10 at ≡ entered (cardOf c store) at row a v
+    unfolding entered noted
+    told-second e =
+        let both = and-both seen _ (sym (told .second) ∙ e) in
+        sym (rw (not-end row (seen-once row (c .seen) (seen-row true (both .0))), second-row true e))
+
+    module _ (r : Kept) (takes : Takes c k i r) (lies : Lies c) (short : c .used + length l ≤ 16384) (all : length store ≡ c .used) (one : i .second ≡ false) where
+      abbrev kept : List ℕ
+      kept = store ++ part (i .from) (i .to) l
+
+      abbrev gone : Step
+      gone = pick (eqb row 2) (closed (cardOf r kept) at) (Next (cardOf (goneOn r row (isGroup v)) kept))
+
+      first-gone : i .keeps ≡ true → gone ≡ entered (cardOf c store) at row a v
+      first-gone h =
+          let f = told .first h in
+          let size = part-size (i .from) (i .to) l (told .order) (told .inside) in
+          first-on c store at row v r (part (i .from) (i .to) l) k here (seen-row false (f .0))
+          (subst (λ (n : ℕ). Keeps c k n r) (sym size) (takes .value h)) lies (omega (arith, size, told .inside, short)) all (f .1 .0)
+          ∙ ap (λ (z : Option (List ℕ)). entered (cardOf c store) at row z v) (sym (f .1 .1))
+
+      other-gone : i .keeps ≡ false → gone ≡ entered (cardOf c store) at row a v
+      unfolding cardOf onceFlag
+      other-gone h =
+          let o = told .other h in
+          rw (takes .none h, o .0 .0, o .0 .1, append-nil store) (entered-on c store at row v a (second-row false one) (rw (← here) (stays (o .1))))
+
+      pub told-on : gone ≡ entered (cardOf c store) at row a v
+      told-on = by (i .keeps) first-gone other-gone

@@ -1,9 +1,10 @@
 -- The judgement of one logical line within its card, by REFERENCE, The order of refusals: 5, 40 to 43, 9, 8, 7, 10 and, at END, 11, 12. Assumes nothing.
-use Prim.Native.Nat.{ℕ, _+_, _-_, _≤_}
+use Prim.Native.Nat.{ℕ, _+_, _-_, _<_, _≤_}
 use mathlib.Core.Path.{_≡_}
-use mathlib.Core.Bool.{Bool, false, not, _&&_, _||_}
-use mathlib.Core.List.{List, _++_}
+use mathlib.Core.Bool.{Bool, true, false, not, _&&_, _||_}
+use mathlib.Core.List.{List, _++_, map}
 use mathlib.Core.Option.{Option, none, some}
+use mathlib.Core.Logic.{_⊎_}
 use lib.Dec.{eqb, ltb}
 use lib.ListN.{length, take, drop}
 use Rattle.numbers.specs.Limits as limit
@@ -21,8 +22,8 @@ use Rattle.value_kinds.specs.Kinds.{valueIn}
 use Rattle.value_automaton.specs.States.{Scanner}
 use Rattle.value_kinds.specs.declared.Fault.{Fault}
 use Rattle.value_kinds.specs.declared.Fault.the-variants.{Fits, Breaks}
-use Rattle.card_state.specs.State.{Card, Step, Refused, Flawed, inOrder, noted, closed}
-use Rattle.card_state.specs.Kept.{Lies, stepOf, Holds}
+use Rattle.card_state.specs.State.{Card, Step, Refused, Flawed, inOrder, flagOf, isSeen, sameTag, tagOf, noted, closed}
+use Rattle.card_state.specs.Kept.{placesOf, tagAt, Lies, stepOf, Holds, Keeps}
 use Rattle.card_state.specs.declared.Card.{Card as Kept}
 use Rattle.card_line.specs.Parts.{rowOfLine, kindOfLine, altidOf, linePartsOf}
 use Rattle.card_line.specs.declared.Parts.{Parts}
@@ -30,6 +31,7 @@ use Rattle.card_line.specs.declared.LineParts.the-variants.{Line as line}
 use Rattle.line_parameters.specs.declared.First.{First}
 use Rattle.line_parameters.specs.declared.First.the-variants.{Between, Nothing}
 use Rattle.card_judge.specs.declared.judge.Judgement.{Judgement}
+use Rattle.card_judge.specs.declared.judge.Instance.{Instance}
 
 -- the lent tables are those of classes, properties and transitions
 abbrev pub Tables : List ℕ → List ℕ → List ℕ → Type 0
@@ -92,3 +94,17 @@ pub record Keeping (c : Kept) (l : List ℕ) (j : Judgement) : Type 0 where
 abbrev pub Spans : First → List ℕ → Option (List ℕ) → Type 0
 Spans (Between a e) l o = (a ≤ e) × (e ≤ length l) × (o ≡ some (part a e l))
 Spans Nothing l o = o ≡ none
+
+-- what a line l of the k-th property marked *1, or of any other (0), with this ALTID value makes of its instance
+pub record Told (c : Kept) (store l : List ℕ) (k : ℕ) (altid : Option (List ℕ)) (i : Instance) : Type 0 where
+  pub order : i .from ≤ i .to
+  pub inside : i .to ≤ length l
+  pub second : i .second ≡ (isSeen (flagOf k) (c .seen) && not (sameTag (tagOf (map (tagAt store) (placesOf (c .tags))) k) altid))
+  pub first : i .keeps ≡ true → (isSeen (flagOf k) (c .seen) ≡ false) × ((0 < k) × (altid ≡ some (part (i .from) (i .to) l)))
+  pub other : i .keeps ≡ false
+      → ((i .from ≡ 0) × (i .to ≡ 0)) × ((isSeen (flagOf k) (c .seen) ≡ true) ⊎ (pick (eqb k 0) none altid ≡ none))
+
+-- the state r is c with the line's value kept, where it is to be kept
+pub record Takes (c : Kept) (k : ℕ) (i : Instance) (r : Kept) : Type 0 where
+  pub value : i .keeps ≡ true → Keeps c k (i .to - i .from) r
+  pub none : i .keeps ≡ false → r ≡ c

@@ -1,9 +1,9 @@
 // The judgement of one logical line within its card: refusals 5 to 12 in the order of REFERENCE, The order of refusals.
 ghost use mathlib.Core.Path.{_≡_};
-ghost use mathlib.Core.Bool.{false};
+ghost use mathlib.Core.Bool.{true};
 ghost use mathlib.Core.List.{List};
-ghost use mathlib.Core.Option.{none, some};
-ghost use Prim.Native.Nat.{ℕ, _+_, _≤_, _<_};
+ghost use mathlib.Core.Option.{none};
+ghost use Prim.Native.Nat.{ℕ, _+_, _-_, _≤_, _<_};
 ghost use lib.Dec.{eqb};
 ghost use lib.ListN.{length};
 ghost use Rattle.numbers.specs.Limits as limit;
@@ -13,9 +13,9 @@ ghost use Rattle.octets.specs.Pick.{pick};
 ghost use Rattle.octets.specs.Classes.{Classes};
 ghost use Rattle.property_table.specs.Rows.{onceAt, isGroup};
 ghost use Rattle.card_line.specs.Parts.{altidName, firstValue};
-ghost use Rattle.card_state.specs.State.{Next, Counted, inOrder, onceFlag, isSeen, closed};
+ghost use Rattle.card_state.specs.State.{Next, Counted, singles, inOrder, flagOf, onceFlag, isSeen, closed};
 ghost use Rattle.card_state.specs.Kept.{Lies, cardOf, stepOf, Holds, goneOn};
-ghost use Rattle.card_judge.specs.Judge.{Tables, Parted, laden, entered, judgeParts, judgeLine, part, readBy, Stored, Keeping, Spans};
+ghost use Rattle.card_judge.specs.Judge.{Tables, Parted, laden, entered, judgeParts, judgeLine, readBy, Stored, Keeping, Spans, Told, Takes};
 use card_line::LineParts;
 use card_line::Parts;
 use card_state::Card;
@@ -107,38 +107,59 @@ fn enter(c: Card, at: usize, row: usize, once: usize, value: &[u8]) -> Step
     Step::Next(card_state::note(c, row, once, group))
 }
 
-// A line with an ALTID, from `from` to `to`, of a property that a card has at most once: it is of the first line's instance, starts a
-// second one (10), or is the first line itself, whose value is to be kept.
-fn settle_tagged(
-    s: &[u8],
-    value: &[u8],
-    row: usize,
-    once: usize,
-    again: bool,
+// What the ALTID of a line makes of its property's instance.
+struct Instance {
+    // It starts a second one.
+    second: bool,
+    // It is the first line, with an ALTID from `from` to `to` that is to be kept; else both are 0.
+    keeps: bool,
     from: usize,
     to: usize,
-    store: &[u8],
-    at: usize,
-    c: Card,
-) -> Judgement
-    requires { ⌜ (from ≤ to) × (to ≤ length (now s)) ⌝ }
-    requires { ⌜ (row < property.all) × ((once ≡ onceAt row) × (once ≤ limit.flags)) ⌝ }
-    requires { ⌜ (0 < once) × (again ≡ isSeen (onceFlag row) (c .seen)) ⌝ }
-    requires { ⌜ Counted (c .cards) (c .lines) ⌝ }
+}
+
+// What a line of the k-th property that a card has at most once, or of any other (0), is by the ALTID that was found in it.
+fn instance_of(s: &[u8], f: First, k: usize, again: bool, store: &[u8], c: Card) -> Instance
+    requires { ⌜ Spans f (now s) (pick (eqb k 0) none (firstValue altidName (now s))) ⌝ }
+    requires { ⌜ (k ≤ singles) × (again ≡ isSeen (flagOf k) (c .seen)) ⌝ }
     requires { ⌜ Stored c (now store) (now s) ⌝ }
-    ensures { λ r. ⌜ readBy r (now (store .entry)) (now (s .entry)) ≡ entered (cardOf c (now (store .entry))) at row (some (part from to (now (s .entry)))) (now (value .entry)) ⌝ }
-    ensures { λ r. ⌜ Keeping c (now (s .entry)) r ⌝ }
+    ensures { λ r. ⌜ Told c (now (store .entry)) (now (s .entry)) k (firstValue altidName (now (s .entry))) r ⌝ }
 {
+    let First::Between { start, end } = f else {
+        return Instance {
+            second: again,
+            keeps: false,
+            from: 0,
+            to: 0,
+        };
+    };
     if !again {
-        let kept = card_state::tags::keep(c, once, to - from);
-        let step = enter(kept, at, row, once, value);
-        return Judgement { step, from, to };
+        return Instance {
+            second: false,
+            keeps: true,
+            from: start,
+            to: end,
+        };
     }
     let tags = c.tags;
-    if !card_state::tags::is_kept(tags, once, store, &s[from..to]) {
-        return unkept(Step::Refused(refusal::SECOND, at));
+    let same = card_state::tags::is_kept(tags, k, store, &s[start..end]);
+    Instance {
+        second: !same,
+        keeps: false,
+        from: 0,
+        to: 0,
     }
-    unkept(enter(c, at, row, once, value))
+}
+
+// The state with the ALTID value of the line, where it is to be kept.
+fn with_value(c: Card, k: usize, i: Instance) -> Card
+    requires { ⌜ (i .from ≤ i .to) × (c .used + (i .to - i .from) ≤ limit.octets) ⌝ }
+    requires { ⌜ (i .keeps ≡ true → (0 < k) × (k ≤ singles)) ⌝ }
+    ensures { λ r. ⌜ Takes c k i r ⌝ }
+{
+    if i.keeps {
+        return card_state::tags::keep(c, k, i.to - i.from);
+    }
+    c
 }
 
 // A line that fits its place and its kind: 10 where it starts a second instance, and at END the checks of the card.
@@ -164,13 +185,17 @@ fn settle(
 {
     let row = x.row;
     let f = altid_at(t, s, x, once);
-    let First::Between { start, end } = f else {
-        if again {
-            return unkept(Step::Refused(refusal::SECOND, at));
-        }
-        return unkept(enter(c, at, row, once, value));
-    };
-    settle_tagged(s, value, row, once, again, start, end, store, at, c)
+    let i = instance_of(s, f, once, again, store, c);
+    if i.second {
+        return unkept(Step::Refused(refusal::SECOND, at));
+    }
+    let kept = with_value(c, once, i);
+    let step = enter(kept, at, row, once, value);
+    Judgement {
+        step,
+        from: i.from,
+        to: i.to,
+    }
 }
 
 // The checks of a line whose parts are known: 9, 8, 7, 10, and at END those of the card.

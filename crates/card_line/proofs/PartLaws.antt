@@ -27,10 +27,11 @@ use Rattle.line_parameters.proofs.Law.{line-law}
 use Rattle.line_parameters.proofs.PlacesLaw.{places-law}
 use Rattle.line_parameters.proofs.FirstLaw.{first-law}
 use Rattle.octets.specs.Pick.{pick}
+use Rattle.octets.proofs.Upto.{upto, alike}
 use Rattle.octets.specs.Cases.{same}
 use Rattle.octets.specs.Ascii.{octets}
 use Rattle.property_table.specs.declared.Edition.{Edition}
-use Rattle.property_table.specs.Rows.{rowOf, kindAt, ruleAt, kindNamed, says, valueKind, dateKind, zoneKind, lineKind, valueName, calscaleName}
+use Rattle.property_table.specs.Rows.{rows, newer, allRows, rowAt, rowOf, kindAt, framing, takesValue, ruleAt, kindNamed, says, valueKind, dateKind, zoneKind, lineKind, valueName, calscaleName}
 use Rattle.property_table.proofs.RowLaws.{count-low, row-low, kind-low}
 use Rattle.card_line.specs.Parts.{octetsOf, paramValue, rowOfLine, kindOfLine, faultOf, Accepted, firstValue, valueBy, linePartsBy, linePartsOf}
 use Rattle.card_line.specs.declared.Parts.{Parts}
@@ -113,6 +114,24 @@ module _ (l : List ℕ) (end : ℕ) (a : Accepted l end) (name : List ℕ) where
 
   pub value-there : (i j : ℕ) → asked ≡ Between i j → Part l i j (firstValue name l)
   value-there i j e = rw value-is (some-by l (firstNamed name (a .parts .params)) asked i j found e)
+
+-- a line without parameters has no value of one
+unnamed : (l : List ℕ) (end : ℕ) (a : Accepted l end) (name : List ℕ) → length (a .parts .params) ≡ 0 → firstValue name l ≡ none
+unfolding firstNamed
+unnamed l end a name e = value-is l end a name ∙ by (a .parts .params) e
+  where
+    by : (ps : List Param) → length ps ≡ 0 → octetsOf (firstNamed name ps) ≡ none
+    by [] e = refl
+    by (p ∷ ps) e = absurd (omega arith)
+
+pub uncounted : (l : List ℕ) (g n c v : ℕ) → Known l g n c v → c ≡ 0 → (name : List ℕ) → firstValue name l ≡ none
+unfolding accepted
+uncounted l g n c v k e name = unnamed l n (accepted l g n c v k) name (sym (k .placed .count) ∙ e)
+
+-- so it has its row's own kind
+pub own-kind : (row : ℕ) (value calscale : Option (List ℕ)) → row < 44 → value ≡ none → calscale ≡ none → kindAt row ≡ lineKind row value calscale
+unfolding upto lineKind ruleAt takesValue framing kindAt rowAt rows newer allRows valueKind dateKind zoneKind says
+own-kind row value calscale h e f = rw (e, f) (alike kindAt (λ n. lineKind n none none) 44 refl row h)
 
 -- the parts of a line
 pub parts-by : (ed : Edition) (l : List ℕ) (g n c v : ℕ) (k : Known l g n c v) (row kind : ℕ) → row ≡ rowOfLine ed (k .parts)
@@ -223,11 +242,5 @@ read ed l x h = by (parseLine l) refl h
 abbrev pub read-accepted : (ed : Edition) (l : List ℕ) (x : Parts) → Read ed l x → Accepted l (x .«name_end»)
 read-accepted ed l x r = record { parts = r .parts; start = x .«value_start»; parsed = r .parsed; ends = r .ends }
 
--- a line without parameters has no value of one
 pub no-params : (ed : Edition) (l : List ℕ) (x : Parts) → (r : Read ed l x) → (name : List ℕ) → x .«param_count» ≡ 0 → firstValue name l ≡ none
-unfolding firstNamed
-no-params ed l x r name e = value-is l (x .«name_end») (read-accepted ed l x r) name ∙ by (r .parts .params) (sym (r .params) ∙ e)
-  where
-    by : (ps : List Param) → length ps ≡ 0 → octetsOf (firstNamed name ps) ≡ none
-    by [] e = refl
-    by (p ∷ ps) e = absurd (omega arith)
+no-params ed l x r name e = unnamed l (x .«name_end») (read-accepted ed l x r) name (sym (r .params) ∙ e)

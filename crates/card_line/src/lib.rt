@@ -1,6 +1,8 @@
 // The parts of a line: its property's row, where its group, name and value stand, and the kind of its value.
 ghost use mathlib.Core.Path.{_≡_};
-ghost use Prim.Native.Nat.{_≤_, _<_};
+ghost use mathlib.Core.List.{List};
+ghost use mathlib.Core.Option.{none};
+ghost use Prim.Native.Nat.{ℕ, _≤_, _<_};
 ghost use lib.ListN.{length};
 ghost use Rattle.numbers.specs.Limits as limit;
 ghost use Rattle.numbers.specs.Properties as property;
@@ -119,15 +121,26 @@ fn kind_by_zone(t: &ClassTable, s: &[u8], name_end: usize) -> usize
     kind_by_value(t, s, name_end, kind::TEXT)
 }
 
-// The kind of the value of a line of the row whose name ends at `name_end`.
-fn kind_at(t: &ClassTable, rows: &PropertyTable, s: &[u8], row: usize, name_end: usize) -> usize
+// The kind of the value of a line of the row whose name ends at `name_end`: the row's own where it has no parameter.
+fn kind_at(
+    t: &ClassTable,
+    rows: &PropertyTable,
+    s: &[u8],
+    row: usize,
+    name_end: usize,
+    param_count: usize,
+) -> usize
     requires { ⌜ Classes (now t) ⌝ }
     requires { ⌜ Lists (now rows) ⌝ }
     requires { ⌜ row < property.all ⌝ }
     requires { ⌜ Accepted (now s) «name_end» ⌝ }
+    requires { ⌜ («param_count» ≡ 0 → (name : List ℕ) → firstValue name (now s) ≡ none) ⌝ }
     ensures { λ r. ⌜ r ≡ lineKind row (firstValue valueName (now (s .entry))) (firstValue calscaleName (now (s .entry))) ⌝ }
 {
     let own = property_table::kind_of(rows, row);
+    if param_count == 0 {
+        return own;
+    }
     match property_table::rule_of(rows, row) {
         property_table::BY_ROW => own,
         property_table::BY_VALUE => kind_by_value(t, s, name_end, own),
@@ -160,7 +173,7 @@ pub fn parts_of(
     };
     let start = name_start(group_length);
     let row = property_table::find_row(rows, edition, &s[start..name_end]);
-    let kind = kind_at(t, rows, s, row, name_end);
+    let kind = kind_at(t, rows, s, row, name_end, param_count);
     LineParts::Line(Parts {
         row,
         group_length,

@@ -27,6 +27,9 @@ pub const INSIDE: u32 = 2;
 
 // What is known of the card that is being read.
 pub struct Card {
+    // The cards that have ended, and the lines that were judged.
+    pub cards: usize,
+    pub lines: usize,
     // How far it has come: BEFORE_BEGIN, BEFORE_VERSION or INSIDE.
     pub phase: u32,
     // The flags of the single properties that stand in the card so far.
@@ -38,9 +41,6 @@ pub struct Card {
     pub has_fn: bool,
     pub has_member: bool,
     pub is_group: bool,
-    // The cards that have ended, and the lines that were judged.
-    pub cards: usize,
-    pub lines: usize,
 }
 
 // The card after a line, or the refusal's number and its place in the input, or its number and the octet of the unfolded line.
@@ -56,6 +56,8 @@ pub fn fresh() -> Card
 {
     let tags = tags::none();
     Card {
+        cards: 0,
+        lines: 0,
         phase: BEFORE_BEGIN,
         seen: 0,
         tags,
@@ -63,8 +65,6 @@ pub fn fresh() -> Card
         has_fn: false,
         has_member: false,
         is_group: false,
-        cards: 0,
-        lines: 0,
     }
 }
 
@@ -151,6 +151,8 @@ pub fn note(c: Card, row: usize, once: usize, group: bool) -> Card
     let grouped = says_group(row, group);
     let tags = c.tags;
     Card {
+        cards: c.cards,
+        lines: c.lines + 1,
         phase: phase_after(row),
         seen: c.seen | flag_of(once),
         tags,
@@ -158,7 +160,5 @@ pub fn note(c: Card, row: usize, once: usize, group: bool) -> Card
         has_fn: either(c.has_fn, row == property::FN),
         has_member: either(c.has_member, row == property::MEMBER),
         is_group: either(c.is_group, grouped),
-        cards: c.cards,
-        lines: c.lines + 1,
     }
 }

@@ -1,6 +1,6 @@
 -- Ticks beside the entries: the one that counts, which is ahead of another, and when a session is idle. Assumes nothing.
 use Prim.Native.Nat.{ℕ, _+_}
-use mathlib.Core.Bool.{Bool, true, false}
+use mathlib.Core.Bool.{Bool, false}
 use lib.Dec.{ltb, leb, eqb}
 use Rattle.octets.specs.Pick.{pick}
 use Rattle.desk_entries.specs.Entries.{ticketOf}
@@ -25,9 +25,6 @@ idleTicket s tick now = pick (idle tick now) (ticketOf s) 0
 -- a ticket that is not 0 has a tick above the highest
 abbrev pub ahead : ℕ → ℕ → ℕ → Bool
 ahead ticket tick highest = pick (eqb ticket 0) false (ltb highest tick)
-
-abbrev pub goesAhead : Bool → ℕ → ℕ → ℕ → Bool
-goesAhead already ticket tick highest = pick already true (ahead ticket tick highest)
 
 -- the same at a position of tickets and ticks
 abbrev pub aheadBy : (ℕ → ℕ) → (ℕ → ℕ) → ℕ → ℕ → Bool

@@ -71,11 +71,14 @@ pub fn stands(tickets: &[u32; limit::SLOTS], t: u32, n: usize) -> bool
     }
 }
 
-// Tells the same as `stands`, at once for a ticket that is higher than all of them.
+// Tells the same as `stands`, at once for 0 and for a ticket that is higher than all of them.
 pub fn repeats(tickets: &[u32; limit::SLOTS], t: u32, n: usize, highest: u32) -> bool
     requires { ⌜ (n ≤ limit.slots) × AtMost (column (now tickets)) n highest ⌝ }
     ensures { λ r. ⌜ r ≡ among (column (now (tickets .entry))) t n ⌝ }
 {
+    if t == 0 {
+        return false;
+    }
     if highest < t {
         return false;
     }

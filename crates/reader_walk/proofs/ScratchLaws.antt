@@ -1,12 +1,14 @@
 -- What a state keeps at the front of the scratch when a line was judged behind it, and an octet moved down. Assumes nothing.
 use mathlib.Core.Path.{_≡_, refl, sym, ap, _∙_}
+use mathlib.Core.Bool.{Bool, true, false}
 use mathlib.Core.List.{List, [], _∷_, _++_, append-nil, append-assoc}
 use Prim.Native.Nat.{ℕ, suc, _+_, _-_, _<_, _≤_}
 use native.Mathlib.Numerals.{add-one}
 use native.Mathlib.Omega.{arith}
-use lib.ListN.{length, getD, take, drop, set, length-take, length-drop, length-append, drop-of-length-le}
+use lib.ListN.{length, getD, take, drop, set, length-take, length-drop, length-append, take-append-drop, drop-of-length-le}
 use lib.Seq.{take-append-le, take-append-seam, drop-append-seam, drop-append-le, drop-append-add, length-take-le, take-all, drop-cons, take-suc, getD-drop, drop-drop, take-length}
 use borrow.Rule.Slice.PartMut.{putMid}
+use Rattle.octets.specs.Pick.{pick}
 use Rattle.octets.specs.Room.{overlay}
 use Rattle.octets.proofs.Writes.{Written, put, finish}
 use Rattle.octets.proofs.PieceLaws.{put-one}
@@ -29,6 +31,10 @@ put-behind p q e a h w =
     let y : drop (length p - a) (drop a p) ≡ [] = drop-of-length-le (drop a p) k in
     let z : e ≡ overlay q (drop a p) = rw x at w in
     rw (z, y, append-nil)
+
+pub behind-none : (a : ℕ) (p : List ℕ) → behind a [] p ≡ p
+unfolding behind
+behind-none a p = take-append-drop a p
 
 -- what was laid behind the first octets stands there
 pub behind-front : (a : ℕ) (q p : List ℕ) → a ≤ length p → take (a + length q) (behind a q p) ≡ take a p ++ q
@@ -114,17 +120,35 @@ module _ (c : Kept) (p l : List ℕ) (n : ℕ) (lies : Lies c) (room : c .used +
       ap (take (to - from)) (there ∙ drop-append-le from l (drop (length l) (drop (c .used) p)) (omega arith))
       ∙ take-append-le (to - from) (drop from l) (drop (length l) (drop (c .used) p)) (rw length-drop (omega arith))
 
-  pub folded-judged : (ed : Edition) (j : Judgement) (at : ℕ) (q : List ℕ) → Keeping c (drop (c .used) (take (c .used + n) laid)) j
-      → readBy j (take (c .used) (take (c .used + n) laid)) (drop (c .used) (take (c .used + n) laid))
-      ≡ judgeLine ed (cardOf c (take (c .used) (take (c .used + n) laid))) at (drop (c .used) (take (c .used + n) laid))
-      → q ≡ behind (c .used) (take (j .to - j .from) (drop (c .used + j .from) laid)) laid
+-- the line at hand, l: s itself, or laid behind the front of p
+module _ (c : Kept) (p s l : List ℕ) (lies : Lies c) (room : c .used + length l ≤ length p) where
+  abbrev hand : Bool → List ℕ
+  hand folded = pick folded l []
+
+  pub hand-room : (folded : Bool) → c .used + length (hand folded) ≤ length p
+  hand-room true = room
+  hand-room false = omega arith
+
+  pub hand-line : (folded : Bool) → (folded ≡ false → l ≡ s)
+      → pick folded (drop (c .used) (take (c .used + length (hand folded)) (behind (c .used) (hand folded) p))) s ≡ l
+  hand-line true e = line-is c p l (length l) lies room refl
+  hand-line false e = sym (e refl)
+
+  hand-part : (folded : Bool) → (folded ≡ false → l ≡ s) → (from to : ℕ) → from ≤ to → to ≤ length l
+      → part from to (pick folded (drop (c .used) (behind (c .used) (hand folded) p)) s) ≡ part from to l
+  hand-part true e from to g h = ap (take (to - from)) (drop-drop from (c .used) (behind (c .used) l p)) ∙ moved c p l (length l) lies room refl from to g h
+  hand-part false e from to g h = ap (part from to) (sym (e refl))
+
+  pub hand-judged : (ed : Edition) (folded : Bool) → (folded ≡ false → l ≡ s) → (j : Judgement) (at : ℕ) (q : List ℕ) → Keeping c l j
+      → readBy j (take (c .used) (behind (c .used) (hand folded) p)) l ≡ judgeLine ed (cardOf c (take (c .used) (behind (c .used) (hand folded) p))) at l
+      → q ≡ behind (c .used) (part (j .from) (j .to) (pick folded (drop (c .used) (behind (c .used) (hand folded) p)) s)) (behind (c .used) (hand folded) p)
       → stepOf q (j .step) ≡ judgeLine ed (cardOf c p) at l
-  folded-judged ed j at q keeps judged e =
-      let k : Keeping c l j = rw line-is at keeps in
-      let same : readBy j (take (c .used) laid) l ≡ judgeLine ed (cardOf c (take (c .used) laid)) at l = rw (line-is, store-is) at judged in
-      span-judged ed c laid q l j at lies (omega (arith, laid-length)) k same
-      (e ∙ ap (λ (x : List ℕ). behind (c .used) x laid) (moved (j .from) (j .to) (k .order) (k .inside)))
-      ∙ ap (λ (x : Card). judgeLine ed x at l) (card-front c laid p lies (behind-before (c .used) l p within))
+  hand-judged ed folded e j at q keeps judged there =
+      let y = hand folded in
+      let laid = behind (c .used) y p in
+      span-judged ed c laid q l j at lies (omega (arith, hand-room folded, laid-length c p y (length y) lies (hand-room folded) refl)) keeps judged
+      (there ∙ ap (λ (x : List ℕ). behind (c .used) x laid) (hand-part folded e (j .from) (j .to) (keeps .order) (keeps .inside)))
+      ∙ ap (λ (x : Card). judgeLine ed x at l) (card-front c laid p lies (behind-before (c .used) y p (omega (arith, hand-room folded))))
 
 -- octets moved down one after the other
 module _ (b₀ : List ℕ) (to from n : ℕ) (down : to ≤ from) (room : from + n ≤ length b₀) where

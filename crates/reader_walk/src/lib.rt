@@ -5,12 +5,13 @@ ghost use mathlib.Core.List.{List, []};
 ghost use Prim.Native.Nat.{ℕ, _+_, _≤_};
 ghost use lib.ListN.{length, take, drop};
 ghost use Rattle.numbers.specs.Limits as limit;
+ghost use Rattle.octets.specs.Pick.{pick};
 ghost use Rattle.line_folds.specs.Folds.{unfolded};
 ghost use Rattle.line_folds.specs.Logical.{rawLines};
 ghost use Rattle.card_state.specs.State.{Counted, freshCard};
 ghost use Rattle.card_state.specs.Kept.{cardOf, stepOf, Holds};
-ghost use Rattle.card_judge.specs.Judge.{Tables, judgeLine, readBy, Keeping};
-ghost use Rattle.reader_walk.specs.Walk.{settled, judgeLines, Roomy};
+ghost use Rattle.card_judge.specs.Judge.{Tables, judgeLine, part, readBy, Keeping};
+ghost use Rattle.reader_walk.specs.Walk.{settled, judgeLines, behind, Roomy};
 
 mod keeping;
 
@@ -23,79 +24,59 @@ use property_table::Edition;
 use property_table::rows::PropertyTable;
 use value_automaton::states::Transitions;
 
-// Judges the line s, which has no fold and starts at `at` in the input, and keeps what is to be kept of it.
-fn judge_plain(
+// Unfolds a line that has a fold behind the first `used` octets, and answers how many octets it wrote.
+fn lay_behind(s: &[u8], folded: bool, scratch: &mut [u8], used: usize) -> usize
+    requires { ⌜ used + length (unfolded (now s)) ≤ length (now scratch) ⌝ }
+    ensures { λ r. ⌜ r ≡ length (pick folded (unfolded (now (s .entry))) []) ⌝ }
+    ensures { λ _. ⌜ now (scratch .exit) ≡ behind used (pick folded (unfolded (now (s .entry))) []) (now (scratch .entry)) ⌝ }
+{
+    if folded {
+        return keeping::unfold_behind(s, scratch, used);
+    }
+    0
+}
+
+// Judges the line at hand, which starts at `at` in the input: where it has a fold, it stands in the buffer behind the values that are kept.
+// The two calls differ in one argument, so that they are compiled to one, and that into the walk.
+fn judge_at_hand(
     t: &ClassTable,
     rows: &PropertyTable,
     steps: &Transitions,
     edition: Edition,
     s: &[u8],
-    scratch: &mut [u8],
-    at: usize,
-    c: Card,
-) -> Step
-    requires { ⌜ Tables (now t) (now rows) (now steps) ⌝ }
-    requires { ⌜ Counted (c .cards) (c .lines) ⌝ }
-    requires { ⌜ Roomy c (now s) (now scratch) ⌝ }
-    ensures { λ r. ⌜ stepOf (now (scratch .exit)) r ≡ judgeLine edition (cardOf c (now (scratch .entry))) at (now (s .entry)) ⌝ }
-    ensures { λ r. ⌜ Holds (c .used + length (now (s .entry))) r ⌝ }
-{
-    let used = c.used;
-    let j = card_judge::judge::judge_line(t, rows, steps, edition, s, &scratch[..used], at, c);
-    let from = j.from;
-    let to = j.to;
-    keeping::keep(scratch, used, &s[from..to]);
-    j.step
-}
-
-// Judges the line that stands in the buffer behind the values that the state keeps; it starts at `at` in the input.
-fn judge_behind(
-    t: &ClassTable,
-    rows: &PropertyTable,
-    steps: &Transitions,
-    edition: Edition,
+    folded: bool,
     buffer: &[u8],
     at: usize,
     c: Card,
 ) -> Judgement
     requires { ⌜ Tables (now t) (now rows) (now steps) ⌝ }
     requires { ⌜ Counted (c .cards) (c .lines) ⌝ }
-    requires { ⌜ Roomy c [] (now buffer) ⌝ }
-    ensures { λ r. ⌜ readBy r (take (c .used) (now (buffer .entry))) (drop (c .used) (now (buffer .entry))) ≡ judgeLine edition (cardOf c (take (c .used) (now (buffer .entry)))) at (drop (c .used) (now (buffer .entry))) ⌝ }
-    ensures { λ r. ⌜ Keeping c (drop (c .used) (now (buffer .entry))) r ⌝ }
+    requires { ⌜ Roomy c [] (now buffer) × (c .used + length (now s) ≤ limit.octets) ⌝ }
+    ensures { λ r. ⌜ readBy r (take (c .used) (now (buffer .entry))) (pick folded (drop (c .used) (now (buffer .entry))) (now (s .entry))) ≡ judgeLine edition (cardOf c (take (c .used) (now (buffer .entry)))) at (pick folded (drop (c .used) (now (buffer .entry))) (now (s .entry))) ⌝ }
+    ensures { λ r. ⌜ Keeping c (pick folded (drop (c .used) (now (buffer .entry))) (now (s .entry))) r ⌝ }
 {
     let used = c.used;
-    card_judge::judge::judge_line(t, rows, steps, edition, &buffer[used..], &buffer[..used], at, c)
+    let store = &buffer[..used];
+    if folded {
+        return card_judge::judge::judge_line(t, rows, steps, edition, &buffer[used..], store, at, c);
+    }
+    card_judge::judge::judge_line(t, rows, steps, edition, s, store, at, c)
 }
 
-// Judges the line s, which starts at `at` in the input, unfolded behind the values that are kept, and keeps what is to be kept of it.
-fn judge_folded(
-    t: &ClassTable,
-    rows: &PropertyTable,
-    steps: &Transitions,
-    edition: Edition,
-    s: &[u8],
-    scratch: &mut [u8],
-    at: usize,
-    c: Card,
-) -> Step
-    requires { ⌜ Tables (now t) (now rows) (now steps) ⌝ }
-    requires { ⌜ Counted (c .cards) (c .lines) ⌝ }
-    requires { ⌜ Roomy c (now s) (now scratch) ⌝ }
-    ensures { λ r. ⌜ stepOf (now (scratch .exit)) r ≡ judgeLine edition (cardOf c (now (scratch .entry))) at (unfolded (now (s .entry))) ⌝ }
-    ensures { λ r. ⌜ Holds (c .used + length (now (s .entry))) r ⌝ }
+// Copies the octets from `from` up to `to` of the line at hand behind the first `used` octets.
+fn keep_part(s: &[u8], folded: bool, scratch: &mut [u8], used: usize, from: usize, to: usize)
+    requires { ⌜ (from ≤ to) × (used + to ≤ length (now scratch)) ⌝ }
+    requires { ⌜ (folded ≡ false → to ≤ length (now s)) ⌝ }
+    ensures { λ _. ⌜ now (scratch .exit) ≡ behind used (part from to (pick folded (drop used (now (scratch .entry))) (now (s .entry)))) (now (scratch .entry)) ⌝ }
 {
-    let used = c.used;
-    let n = keeping::unfold_behind(s, scratch, used);
-    let end = used + n;
-    let j = judge_behind(t, rows, steps, edition, &scratch[..end], at, c);
-    let from = used + j.from;
-    let n = j.to - j.from;
-    keeping::move_down(scratch, used, from, n);
-    j.step
+    if folded {
+        keeping::move_down(scratch, used, used + from, to - from);
+        return;
+    }
+    keeping::keep(scratch, used, &s[from..to]);
 }
 
-// Judges the logical line s, which starts at `at` in the input: as it is where it has no fold, else unfolded.
+// Judges the logical line s, which starts at `at` in the input: as it is where it has no fold, else unfolded; and keeps what is to be kept of it.
 fn judge_span(
     t: &ClassTable,
     rows: &PropertyTable,
@@ -114,10 +95,14 @@ fn judge_span(
     ensures { λ r. ⌜ stepOf (now (scratch .exit)) r ≡ judgeLine edition (cardOf c (now (scratch .entry))) at (unfolded (now (s .entry))) ⌝ }
     ensures { λ r. ⌜ Holds (c .used + length (now (s .entry))) r ⌝ }
 {
-    if folded {
-        return judge_folded(t, rows, steps, edition, s, scratch, at, c);
-    }
-    judge_plain(t, rows, steps, edition, s, scratch, at, c)
+    let used = c.used;
+    let n = lay_behind(s, folded, scratch, used);
+    let end = used + n;
+    let j = judge_at_hand(t, rows, steps, edition, s, folded, &scratch[..end], at, c);
+    let from = j.from;
+    let to = j.to;
+    keep_part(s, folded, scratch, used, from, to);
+    j.step
 }
 
 // The judgement of the line s, which starts at `at` in the input, with the place in the input of an octet that it names.

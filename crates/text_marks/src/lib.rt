@@ -1,5 +1,6 @@
-// What is seen in a text: whether an octet is not plain, and whether one is a backslash, a comma or one of two octets more; and counts.
+// What is seen in a text: whether an octet is not plain, or is a backslash, a comma or one of two octets more; counts and pairs.
 pub mod counts;
+pub mod pairs;
 
 ghost use mathlib.Core.Path.{_≡_};
 ghost use mathlib.Core.List.{[], _∷_};

@@ -1,4 +1,3 @@
 -- The definitions that the contracts of `text_unescaping` cite. Assumes nothing.
 pub mod Unescaped
-pub mod Pairs
 pub mod Measured

@@ -1,13 +1,10 @@
 // Text with escapes: its first fault, how many octets it stands for, and writing those.
 ghost use mathlib.Core.Path.{_≡_};
-ghost use mathlib.Core.Bool.{true};
 ghost use Prim.Native.Nat.{_+_, _<_, _≤_};
 ghost use lib.ListN.{length, drop};
 ghost use Rattle.numbers.specs.Limits as limit;
-ghost use Rattle.octets.specs.Classes.{bit};
 ghost use Rattle.octets.specs.Room.{overlay};
 ghost use Rattle.text_unescaping.specs.Unescaped.{code, meant, escapeAt, firstFault, unescaped};
-ghost use Rattle.text_unescaping.specs.Pairs.{unsettled, settled};
 ghost use Rattle.text_unescaping.specs.Measured.{measured};
 
 // The length below which a text is measured escape by escape.
@@ -67,32 +64,6 @@ fn meant_by(b: u8) -> u8
     b
 }
 
-// 1 for an octet that is no end of an escape after a backslash, or a bare comma after any other octet; 0 for any other.
-fn pair_bit(before: u8, b: u8) -> u8
-    ensures { λ r. ⌜ r ≡ bit (unsettled before b) 1 ⌝ }
-{
-    let coded = ((b == b',') as u8 | (b == b';') as u8) | ((b == b'n') as u8 | (b == b'N') as u8);
-    ((before == b'\\') as u8 & (coded == 0) as u8) | ((before != b'\\') as u8 & (b == b',') as u8)
-}
-
-// Whether each octet fits the one before it: one pass with no early exit, so that it compiles to vector instructions.
-fn all_pairs(s: &[u8]) -> bool
-    ensures { λ r. ⌜ r ≡ settled 0 (now (s .entry)) ⌝ }
-{
-    let mut bad: u8 = 0;
-    let mut before: u8 = 0;
-    let mut i: usize = 0;
-    while i < s.len() {
-        bad = bad | pair_bit(before, s[i]);
-        before = s[i];
-        i += 1;
-    }
-    if bad != 0 {
-        return false;
-    }
-    before != b'\\'
-}
-
 // Measures a text, escape by escape.
 fn measure_each(text: &[u8]) -> Measured
     ensures { λ r. ⌜ r ≡ measured (now (text .entry)) ⌝ }
@@ -126,7 +97,7 @@ pub fn measure(text: &[u8]) -> Measured
     if text.len() < SHORT {
         return measure_each(text);
     }
-    if all_pairs(text) {
+    if text_marks::pairs::all_settled(text, false) {
         let kept = text.len() - text_marks::counts::backslashes(text);
         return Measured::Octets(kept);
     }

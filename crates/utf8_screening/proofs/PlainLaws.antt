@@ -1,21 +1,21 @@
 -- The laws of plain octets. Assumes nothing.
 use mathlib.Core.Path.{_≡_, refl, sym, ap, _∙_}
-use mathlib.Core.Bool.{Bool, true, false, not, _&&_, _||_, and-true, or-true}
+use mathlib.Core.Bool.{Bool, true, false, not, _&&_, _||_, and-true, and-false, and-assoc, or-true}
 use mathlib.Core.List.{List, [], _∷_, _++_}
 use Prim.Native.Nat.{ℕ, suc, _+_, _-_, _<_, _≤_, zero}
 use native.Mathlib.Numerals.{add-one}
 use native.Mathlib.Omega.{arith}
 use lib.Dec.{eqb, ltb}
-use lib.Bits.{bitOr}
-use lib.ListN.{length, getD, take, drop, drop-of-length-le, length-drop, take-append-drop}
-use lib.Seq.{drop-cons, drop-drop, length-take-le}
+use lib.Bits.{bitOr, or-zero-l}
+use lib.ListN.{length, getD, take, drop, drop-of-length-le, length-take, length-drop, take-append-drop}
+use lib.Seq.{drop-cons, drop-drop, length-take-le, getD-take, getD-drop, take-all}
 use native.Mathlib.Nat.{zero-add, add-zero, suc-add}
 use borrow.Author.Tests.{ne-eqb, eqb-true, ltb-false, lt-ltb, le-ltb, le-leb}
 use Rattle.octets.specs.Classes.{bit, has, valued, valueMask}
 use Rattle.octets.proofs.Masks.{has-valued}
 use Rattle.octets.proofs.Marks.{mark-step}
 use Rattle.octets.specs.Scan.{after, scan}
-use Rattle.octets.proofs.Bools.{clash}
+use Rattle.octets.proofs.Bools.{clash, by, and-both}
 use Rattle.utf8.proofs.Chars.{ascii, char-at, unit-yes, unit-inside, bad-step}
 use Rattle.utf8.specs.Characters.{lengthBy, second, tail, allowed, unit, firstBad}
 use Rattle.utf8_screening.specs.Plain.{odd, allPlain, Strides, Easy, Reached}
@@ -30,9 +30,75 @@ module _ (s : List ℕ) (i : ℕ) where
   plain-step h a x e =
       ap (λ (t : Bool). eqb a 0 && t) (plain-at h) ∙ mark-step a x (odd (getD s i 0)) (allPlain (drop (i + 1) s)) e
 
+  -- one octet at a time: r is its mark
+  module _ (h : i < length s) (r : ℕ) (e : r ≡ bit (odd (getD s i 0)) 1) where
+    pub plain-one : r ≡ 0 → allPlain (drop i s) ≡ allPlain (drop (i + 1) s)
+    plain-one z = plain-step h 0 r e ∙ ap (λ (n : ℕ). eqb (bitOr 0 n) 0 && allPlain (drop (i + 1) s)) z
+
+    pub plain-odd : (r ≡ 0 → ⊥) → allPlain (drop i s) ≡ false
+    plain-odd z = plain-step h 0 r e ∙ ap (λ (t : Bool). t && allPlain (drop (i + 1) s)) (ap (λ (n : ℕ). eqb n 0) (or-zero-l r) ∙ ne-eqb r 0 z)
+
   pub plain-end : length s ≤ i → (a : ℕ) → (eqb a 0 && allPlain (drop i s)) ≡ eqb a 0
   unfolding allPlain
   plain-end h a = rw (drop-of-length-le s h, and-true)
+
+  pub plain-none : length s ≤ i → allPlain (drop i s) ≡ true
+  plain-none h = plain-end h 0
+
+-- a text is plain where its first n octets and the others are
+plain-append : (a b : List ℕ) → allPlain (a ++ b) ≡ (allPlain a && allPlain b)
+unfolding allPlain
+plain-append [] b = refl
+plain-append (x ∷ xs) b = ap (λ (t : Bool). not (odd x) && t) (plain-append xs b) ∙ sym (and-assoc (not (odd x)) (allPlain xs) (allPlain b))
+
+plain-cut : (n : ℕ) (s : List ℕ) → allPlain s ≡ (allPlain (take n s) && allPlain (drop n s))
+plain-cut n s = ap allPlain (sym (take-append-drop n s)) ∙ plain-append (take n s) (drop n s)
+
+module _ (s : List ℕ) (i n : ℕ) where
+  plain-cut-at : allPlain (drop i s) ≡ (allPlain (take n (drop i s)) && allPlain (drop (i + n) s))
+  plain-cut-at = rw (← drop-drop n i s) (plain-cut n (drop i s))
+
+  pub plain-pass : allPlain (take n (drop i s)) ≡ true → allPlain (drop i s) ≡ allPlain (drop (i + n) s)
+  plain-pass e = plain-cut-at ∙ ap (λ (t : Bool). t && allPlain (drop (i + n) s)) e
+
+  pub plain-fail : allPlain (take n (drop i s)) ≡ false → allPlain (drop i s) ≡ false
+  plain-fail e = plain-cut-at ∙ ap (λ (t : Bool). t && allPlain (drop (i + n) s)) e
+
+-- where the octets before i are plain, a look at the octets from j on may begin before i
+plain-back : (s : List ℕ) (j i : ℕ) → j ≤ i → allPlain s ≡ allPlain (drop i s) → allPlain s ≡ allPlain (drop j s)
+plain-back s j i h e = by (allPlain s) (λ t. t ∙ sym (and-both (allPlain (take j s)) (allPlain (drop j s)) (sym (plain-cut j s) ∙ t) .1)) (λ f. f ∙ sym (unplain (sym e ∙ f)))
+  where
+    k : j + (i - j) ≡ i
+    k = omega arith
+
+    unplain : allPlain (drop i s) ≡ false → allPlain (drop j s) ≡ false
+    unplain f =
+        plain-cut-at s j (i - j) ∙ ap (λ (m : ℕ). allPlain (take (i - j) (drop j s)) && allPlain (drop m s)) k
+        ∙ ap (λ (t : Bool). allPlain (take (i - j) (drop j s)) && t) f ∙ and-false (allPlain (take (i - j) (drop j s)))
+
+-- so the last look may be at the last n octets
+pub plain-last : (s : List ℕ) (j n i : ℕ) → length s ≤ j + n → j ≤ i → allPlain s ≡ allPlain (drop i s)
+    → allPlain (take n (drop j s)) ≡ allPlain s
+plain-last s j n i l h e =
+    let d : length (drop j s) ≤ n = rw (length-drop j s) (omega arith) in
+    ap allPlain (take-all n (drop j s) d) ∙ sym (plain-back s j i h e)
+
+-- a look at n octets from i on, whose marks are gathered in a
+module _ (s : List ℕ) (i n : ℕ) (h : i + n ≤ length s) where
+  look-length : length (take n (drop i s)) ≡ n
+  look-length = simp (length-take, length-drop) (omega arith)
+
+  pub look-step : (k a x : ℕ) → k < n → x ≡ bit (odd (getD s (i + k) 0)) 1
+      → allPlain (take n (drop i s)) ≡ (eqb a 0 && allPlain (drop k (take n (drop i s))))
+      → allPlain (take n (drop i s)) ≡ (eqb (bitOr a x) 0 && allPlain (drop (k + 1) (take n (drop i s))))
+  look-step k a x l e q = q ∙ plain-step (take n (drop i s)) k (rw look-length l) a x (e ∙ at)
+    where
+      at : bit (odd (getD s (i + k) 0)) 1 ≡ bit (odd (getD (take n (drop i s)) k 0)) 1
+      at = rw (getD-take, getD-drop)
+
+  pub look-end : (k a : ℕ) → n ≤ k → allPlain (take n (drop i s)) ≡ (eqb a 0 && allPlain (drop k (take n (drop i s))))
+      → eqb a 0 ≡ allPlain (take n (drop i s))
+  look-end k a l q = sym (q ∙ plain-end (take n (drop i s)) k (rw look-length l) a)
 
 -- plain text has no octet that is not allowed
 plain-octet : (x : ℕ) → odd x ≡ false → (x < 127) × (valued x ≡ true)

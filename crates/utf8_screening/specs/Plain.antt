@@ -27,6 +27,13 @@ pub record Reached (s : List ℕ) (n : ℕ) : Type 0 where
 unfoldable pub odd : ℕ → Bool
 odd b = ltb 0x7E b || (ltb b 0x20 && not (eqb b ascii.tab))
 
+-- how many octets are looked at together, and how many of a text shorter than that
+abbrev pub block : ℕ
+block = 16
+
+abbrev pub half : ℕ
+half = 8
+
 -- each octet is a tab or one of 20-7E
 unfoldable pub allPlain : List ℕ → Bool
 allPlain [] = true

@@ -5,6 +5,7 @@ ghost use lib.ListN.{length, drop};
 ghost use Rattle.octets.specs.Classes.{Classes};
 ghost use Rattle.utf8.specs.Characters.{allowed, unit, firstBad};
 ghost use Rattle.utf8_screening.specs.Plain.{Strides};
+use crate::plain::BLOCK;
 use octets::classes::ClassTable;
 
 // The length of the character at i, or 0 where none or a control starts there; tab is no such control, and LF is none where lf is set.
@@ -29,9 +30,6 @@ pub fn unit_length(t: &ClassTable, s: &[u8], i: usize, lf: bool) -> usize
     utf8::char_length(s, i)
 }
 
-// How many plain octets the exact scan passes at once.
-const BLOCK: usize = 16;
-
 // How far the exact scan goes at i: over sixteen plain octets at once, or over one character; 0 where none or a control starts there.
 fn stride(t: &ClassTable, s: &[u8], i: usize, lf: bool) -> usize
     requires { ⌜ Classes (now t) ⌝ }
@@ -39,8 +37,7 @@ fn stride(t: &ClassTable, s: &[u8], i: usize, lf: bool) -> usize
     ensures { λ r. ⌜ Strides (allowed lf) (now (s .entry)) i r ⌝ }
 {
     if BLOCK <= s.len() - i {
-        let end = i + BLOCK;
-        if crate::plain::all_plain(&s[i..end]) {
+        if crate::plain::is_plain_block(s, i) {
             return BLOCK;
         }
     }

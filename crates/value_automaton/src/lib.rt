@@ -1,8 +1,12 @@
 // Whether a value satisfies its kind, and if not, from which octet on nothing could.
 ghost use mathlib.Core.Path.{_≡_};
+ghost use mathlib.Core.Bool.{true};
 ghost use Prim.Native.Nat.{_<_};
 ghost use Rattle.numbers.specs.Kinds as kinds;
-ghost use Rattle.value_kinds.specs.Kinds.{kindIn, valueIn};
+ghost use Rattle.octets.specs.Classes.{bit};
+ghost use Rattle.value_kinds.specs.Octets.{neither};
+ghost use Rattle.value_kinds.specs.Shapes.{Matches};
+ghost use Rattle.value_kinds.specs.Kinds.{kindIn, valueIn, vcard, version};
 ghost use Rattle.value_automaton.specs.States.{Scanner};
 
 pub mod scanner;
@@ -13,6 +17,9 @@ use property_table::Edition;
 use states::Transitions;
 use value_kinds::Fault;
 
+// The length below which a value is scanned at once, since a look at pairs of octets costs more.
+const SHORT: usize = 32;
+
 // Whether s satisfies its kind: `Breaks` has the first octet from which nothing could, or the end.
 pub fn value_fault(steps: &Transitions, edition: Edition, kind: usize, s: &[u8]) -> Fault
     requires { ⌜ Scanner (now steps) ⌝ }
@@ -22,8 +29,44 @@ pub fn value_fault(steps: &Transitions, edition: Edition, kind: usize, s: &[u8])
     if value_kinds::fits_at_once(edition, kind, s) {
         return Fault::Fits;
     }
+    if SHORT <= s.len() {
+        if value_kinds::pairs::fits_by_pairs(kind, s) {
+            return Fault::Fits;
+        }
+    }
     let first = scanner::start(edition, kind);
     scanner::scan(steps, first, s)
+}
+
+// 0 for the octets a and b, else 1.
+fn other_bit(a: u8, b: u8, x: u8) -> u8
+    ensures { λ r. ⌜ r ≡ bit (neither a b x) 1 ⌝ }
+{
+    (x != a) as u8 & (x != b) as u8
+}
+
+// True only where s is VCARD in any case.
+fn is_vcard(s: &[u8]) -> bool
+    ensures { λ r. ⌜ (r ≡ true → Matches vcard (now (s .entry))) ⌝ }
+{
+    if s.len() != 5 {
+        return false;
+    }
+    let vc = other_bit(b'V', b'v', s[0]) | other_bit(b'C', b'c', s[1]);
+    let ard = other_bit(b'A', b'a', s[2])
+        | other_bit(b'R', b'r', s[3])
+        | other_bit(b'D', b'd', s[4]);
+    vc | ard == 0
+}
+
+// True only where s is 4.0.
+fn is_four(s: &[u8]) -> bool
+    ensures { λ r. ⌜ (r ≡ true → Matches version (now (s .entry))) ⌝ }
+{
+    if s.len() != 3 {
+        return false;
+    }
+    (s[0] != b'4') as u8 | (s[1] != b'.') as u8 | (s[2] != b'0') as u8 == 0
 }
 
 // Whether s satisfies what its row asks: VCARD on BEGIN and END, 4.0 on VERSION, else the line's kind.
@@ -36,7 +79,13 @@ pub fn judge_value(steps: &Transitions, edition: Edition, row: usize, kind: usiz
         return value_fault(steps, edition, kind, s);
     }
     if row == property::VERSION {
+        if is_four(s) {
+            return Fault::Fits;
+        }
         return scanner::scan(steps, states::VERSION, s);
+    }
+    if is_vcard(s) {
+        return Fault::Fits;
     }
     scanner::scan(steps, states::VCARD, s)
 }

@@ -66,7 +66,7 @@ module _ (mark own : Octets) where
       ⊎-elim (λ k. cut x xs k rest) (λ k. grow x xs k rest) (f x (h .0))
 
 -- an octet that is no backslash is a comma or plain; a plain one is a semicolon or one that every text takes bare
-comma-or : (x : ℕ) → neither 92 92 x ≡ true → (holds comma x ≡ true) ⊎ (holds plain x ≡ true)
+pub comma-or : (x : ℕ) → neither 92 92 x ≡ true → (holds comma x ≡ true) ⊎ (holds plain x ≡ true)
 unfolding holds
 comma-or x e = two (eqb x 92) (eqb x 44) e
   where
@@ -195,7 +195,7 @@ at-once-address First v h = at-once-parts v 6 0 h
 at-once-address Second v h = at-once-parts v 6 11 h
 
 -- a choice by the kind's number that is true: of the kind, or of the others
-chosen : {A : Type 0} (k n : ℕ) (a b : Bool) → (k ≡ n → a ≡ true → A) → (b ≡ true → A) → pick (eqb k n) a b ≡ true → A
+pub chosen : {A : Type 0} (k n : ℕ) (a b : Bool) → (k ≡ n → a ≡ true → A) → (b ≡ true → A) → pick (eqb k n) a b ≡ true → A
 chosen k n a b f g e =
     by (eqb k n) (λ q. f (eqb-true k n q) (sym (ap (λ (t : Bool). pick t a b) q) ∙ e)) (λ q. g (sym (ap (λ (t : Bool). pick t a b) q) ∙ e))
 

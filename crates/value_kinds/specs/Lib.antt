@@ -4,3 +4,4 @@ pub mod Shapes
 pub mod Dates
 pub mod Kinds
 pub mod AtOnce
+pub mod ByPairs

@@ -6,6 +6,9 @@ ghost use Rattle.octets.specs.Counts.{allIn, count};
 ghost use Rattle.value_kinds.specs.Octets.{neither, graphic, semicolon, holds};
 ghost use Rattle.value_kinds.specs.Kinds.{mostOfName, mostOfAddress};
 ghost use Rattle.value_kinds.specs.AtOnce.{lacking, divided, fitsAtOnce};
+
+pub mod pairs;
+
 use numbers::kind;
 use property_table::Edition;
 

@@ -2,11 +2,11 @@
 
 use crate::characters::first_fault;
 use crate::content::{parse, ContentLine};
-use crate::kinds::fits;
 use crate::line_faults::fault_of;
 use crate::lines::LogicalLine;
 use crate::properties::{first_value, is_frame, kind_of, row_of, Row, BEGIN, END, FN, KIND, MEMBER, VERSION};
 use crate::refusal::{refuse, Refusal};
+use crate::wanted::Wanted;
 
 /// A logical line that passed its checks, with what its record says of it.
 #[derive(Clone, Debug, PartialEq, Eq)]
@@ -36,8 +36,8 @@ impl Card {
 
     /// Checks 5, 40 to 43, 9, 8, 7, 10 of the line and, at END, 11 and 12; then counts it in.
     pub fn take(&mut self, line: LogicalLine) -> Result<AcceptedLine, Refusal> {
-        if first_fault(&line.octets, |octet| !is_control(octet)).is_some() {
-            return refuse(5, line.start);
+        if let Some(fault) = first_fault(&line.octets, |octet| !is_control(octet)) {
+            return refuse(5, line.place(fault));
         }
         if let Some(fault) = fault_of(&line.octets) {
             return refuse(fault, line.start);
@@ -51,8 +51,9 @@ impl Card {
             return refuse(8, line.start);
         }
         let kind = kind_of(row, &parts.parameters);
-        if !value_fits(row, kind, &parts.value) {
-            return refuse(7, line.start);
+        let wanted = wanted_of(row, kind);
+        if !wanted.fits(&parts.value) {
+            return refuse(7, line.place(parts.value_start + wanted.first_dead(&parts.value)));
         }
         let altid = first_value(&parts.parameters, "ALTID").cloned();
         let starts = row.single && self.starts_an_instance(row, &altid);
@@ -112,11 +113,11 @@ fn is_control(octet: u8) -> bool {
     matches!(octet, 0x00..=0x08 | 0x0A..=0x1F | 0x7F)
 }
 
-/// BEGIN, END and VERSION have fixed values; any other line's value fits its kind.
-fn value_fits(row: Row, kind: u32, value: &[u8]) -> bool {
+/// BEGIN, END and VERSION have fixed values; any other line's value has its kind.
+fn wanted_of(row: Row, kind: u32) -> Wanted {
     match row.number {
-        BEGIN | END => value.eq_ignore_ascii_case(b"VCARD"),
-        VERSION => value == b"4.0",
-        _ => fits(kind, value),
+        BEGIN | END => Wanted::Vcard,
+        VERSION => Wanted::Version,
+        _ => Wanted::Kind(kind),
     }
 }

@@ -14,6 +14,7 @@ use crate::generator::labels::labels;
 use crate::generator::line_faults::line_faults;
 use crate::generator::lists::lists;
 use crate::generator::names::names;
+use crate::generator::octets::octets;
 use crate::generator::protocol::protocol;
 use crate::generator::readers;
 use crate::generator::reports::reports;
@@ -28,6 +29,7 @@ pub struct Plan {
     pub line_faults: usize,
     pub names: usize,
     pub dates: usize,
+    pub octets: usize,
     pub alternatives: usize,
     pub folds: usize,
     pub texts: usize,
@@ -47,6 +49,7 @@ impl Default for Plan {
             line_faults: 30_000,
             names: 30_000,
             dates: 60_000,
+            octets: 40_000,
             alternatives: 30_000,
             folds: 10_000,
             texts: 80_000,
@@ -77,6 +80,7 @@ pub fn steps(plan: Plan) -> impl Iterator<Item = Step> {
         .chain(line_faults(plan.seed).take(plan.line_faults).map(of("line faults")))
         .chain(names(plan.seed).take(plan.names).map(of("names")))
         .chain(dates(plan.seed).take(plan.dates).map(of("dates")))
+        .chain(octets(plan.seed).take(plan.octets).map(of("octets")))
         .chain(alternatives(plan.seed).take(plan.alternatives).map(of("alternatives")))
         .chain(folds(plan.seed).take(plan.folds).map(of("folds")))
         .chain(texts(plan.seed).take(plan.texts).map(of("texts")))
@@ -127,6 +131,7 @@ fn routine_steps(plan: Plan) -> impl Iterator<Item = Step> {
     let faulty = line_faults(plan.seed).filter(|line| !line.starts_with("read "));
     let named = names(plan.seed).filter(|line| line.starts_with("judge "));
     let dated = dates(plan.seed).filter(|line| line.starts_with("judge "));
+    let placed = octets(plan.seed).filter(|line| line.starts_with("judge ") || line.starts_with("fold "));
     let tagged = alternatives(plan.seed).filter(|line| !line.starts_with("read "));
     let raised = folds(plan.seed).filter(|line| line.starts_with("fold "));
     let unescaped = texts(plan.seed).filter(|line| line.starts_with("unescape "));
@@ -134,6 +139,7 @@ fn routine_steps(plan: Plan) -> impl Iterator<Item = Step> {
         .chain(faulty.take(plan.line_faults).map(of("line faults")))
         .chain(named.take(plan.names).map(of("names")))
         .chain(dated.take(plan.dates).map(of("dates")))
+        .chain(placed.take(plan.octets).map(of("octets")))
         .chain(tagged.take(plan.alternatives).map(of("alternatives")))
         .chain(raised.take(plan.folds).map(of("folds")))
         .chain(unescaped.take(plan.texts).map(of("texts")))

@@ -1,6 +1,7 @@
 // Knows dates, times and offsets by RFC 6350, section 4.3 with erratum 3484, and the days of each month.
 
 use crate::refusal::{refuse, Refusal};
+use crate::wanted::Wanted;
 
 /// Kind 9: a date, a time after `T`, or a date that leaves nothing out at its end, with its time.
 pub fn is_date_and_or_time(value: &[u8]) -> bool {
@@ -22,15 +23,23 @@ pub fn is_timestamp(value: &[u8]) -> bool {
 
 /// Kind 11: a sign, an hour, and a minute or none.
 pub fn is_offset(value: &[u8]) -> bool {
-    minutes(value).is_ok()
+    minutes_of(value).is_some()
 }
 
-/// The minutes that an offset is ahead of UTC, or the refusal.
+/// The minutes that an offset is ahead of UTC, or the refusal with its first dead octet.
 pub fn minutes(value: &[u8]) -> Result<i32, Refusal> {
+    match minutes_of(value) {
+        Some(minutes) => Ok(minutes),
+        None => refuse(7, Wanted::Kind(11).first_dead(value)),
+    }
+}
+
+/// The minutes that an offset is ahead of UTC, if these octets are one.
+fn minutes_of(value: &[u8]) -> Option<i32> {
     let (sign, time) = match value {
         [b'+', time @ ..] => (1, time),
         [b'-', time @ ..] => (-1, time),
-        _ => return refuse(7, 0),
+        _ => return None,
     };
     let hour_and_minute = match time.len() {
         2 => (number(time), Some(0)),
@@ -38,8 +47,8 @@ pub fn minutes(value: &[u8]) -> Result<i32, Refusal> {
         _ => (None, None),
     };
     match hour_and_minute {
-        (Some(hour @ 0..=23), Some(minute @ 0..=59)) => Ok(sign * (60 * hour + minute)),
-        _ => refuse(7, 0),
+        (Some(hour @ 0..=23), Some(minute @ 0..=59)) => Some(sign * (60 * hour + minute)),
+        _ => None,
     }
 }
 

@@ -110,10 +110,10 @@ pub fn reader_examples() -> Vec<PaperExample> {
         one("(*) M with a fold, copy and records", read_line(43, 32, folded_m), &m_read),
         one("(*) M without FN", judge_line(without_fn), "no 11 26"),
         one("(*) M without END", judge_line(without_end), "no 9 32"),
-        one("(*) VERSION:3.0", judge_line(version_3), "no 7 13"),
+        one("(*) VERSION:3.0", judge_line(version_3), "no 7 21"),
         one("(*) LF alone after the first line's text", judge_line(lone_lf), "no 3 11"),
         one("(*) N twice after FN", judge_line(&m_with(two_names)), "no 10 64"),
-        one("(*) N:Doe;J", judge_line(&m_with(b"N:Doe;J")), "no 7 32"),
+        one("(*) N:Doe;J", judge_line(&m_with(b"N:Doe;J")), "no 7 39"),
         one("BDAY without colon", judge_line(&m_with(b"BDAY;19531015T231000Z")), "no 41 32"),
     ]
 }

@@ -27,3 +27,4 @@ pub mod report;
 pub mod requests;
 pub mod survey;
 pub mod text;
+pub mod wanted;

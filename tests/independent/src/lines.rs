@@ -1,10 +1,25 @@
 // Knows physical and logical lines: line ends, folds, and unfolding on octets.
 
-/// A logical line: where its first physical line starts in the input, and its unfolded octets.
+/// A logical line: where its first physical line starts in the input, its unfolded octets with the place of each in the input, and the place
+/// of the CR that ends it.
 #[derive(Clone, Debug, PartialEq, Eq)]
 pub struct LogicalLine {
     pub start: usize,
     pub octets: Vec<u8>,
+    pub places: Vec<usize>,
+    pub end: usize,
+}
+
+impl LogicalLine {
+    /// A line of which nothing is read yet.
+    fn starting(start: usize) -> LogicalLine {
+        LogicalLine { start, octets: Vec::new(), places: Vec::new(), end: start }
+    }
+
+    /// Where this octet of the unfolded line stands in the input; past the last octet it is the CR.
+    pub fn place(&self, index: usize) -> usize {
+        self.places.get(index).copied().unwrap_or(self.end)
+    }
 }
 
 /// The first CR without LF after it, or LF without CR before it.
@@ -20,17 +35,19 @@ pub fn first_lone_line_end(input: &[u8]) -> Option<usize> {
 /// Each CR LF is looked at once (READINGS A2).
 pub fn logical_lines(input: &[u8]) -> Vec<LogicalLine> {
     let mut lines = Vec::new();
-    let mut line = LogicalLine { start: 0, octets: Vec::new() };
+    let mut line = LogicalLine::starting(0);
     let mut at = 0;
     while at < input.len() {
         if is_fold(&input[at..]) {
             at += 3;
         } else if input[at..].starts_with(b"\r\n") {
-            at += 2;
+            line.end = at;
             lines.push(line);
-            line = LogicalLine { start: at, octets: Vec::new() };
+            at += 2;
+            line = LogicalLine::starting(at);
         } else {
             line.octets.push(input[at]);
+            line.places.push(at);
             at += 1;
         }
     }

@@ -11,6 +11,7 @@ const NOTHING: Plan = Plan {
     line_faults: 0,
     names: 0,
     dates: 0,
+    octets: 0,
     alternatives: 0,
     folds: 0,
     texts: 0,
@@ -29,6 +30,7 @@ fn small() -> Plan {
         line_faults: 300,
         names: 200,
         dates: 400,
+        octets: 400,
         alternatives: 200,
         folds: 500,
         texts: 1_000,
@@ -54,7 +56,7 @@ fn compare_side(side: Side, script: &str, plan: Plan) -> Result<String, String> 
 fn the_own_console_gives_the_same_answers() {
     let counts = compare(Side::Console, SELF, &["console".to_string()], small()).expect("no difference");
     assert!(counts.starts_with(
-        "same answers: protocol 188, readers 2000, line faults 300, names 200, dates 400, alternatives 200, folds 500, texts 1000, labels 1000, 60 lists of "
+        "same answers: protocol 188, readers 2000, line faults 300, names 200, dates 400, octets 400, alternatives 200, folds 500, texts 1000, labels 1000, 60 lists of "
     ));
 }
 
@@ -106,7 +108,7 @@ fn the_c_routines_are_asked_for_what_they_answer() {
     let same = compare_side(Side::Routines, counts_alone, plan);
     assert_eq!(
         same,
-        Ok("same answers: readers 2000, line faults 300, names 200, dates 400, alternatives 200, folds 500".to_string())
+        Ok("same answers: readers 2000, line faults 300, names 200, dates 400, octets 400, alternatives 200, folds 500".to_string())
     );
     let lines_too = compare_side(Side::Routines, "\"$0\" console", plan).expect_err("a difference");
     assert!(lines_too.starts_with("difference in readers, request 1\nrequest:\njudge "), "{lines_too}");
@@ -114,7 +116,7 @@ fn the_c_routines_are_asked_for_what_they_answer() {
     let report = compare_side(Side::Routines, &touched, plan).expect_err("a difference");
     assert!(report.starts_with("difference in folds, request "), "{report}");
     assert!(report.contains("request:\nfold ") && report.ends_with(" touched"), "{report}");
-    let unescapes = Plan { readers: 0, line_faults: 0, names: 0, dates: 0, alternatives: 0, folds: 0, ..small() };
+    let unescapes = Plan { readers: 0, line_faults: 0, names: 0, dates: 0, octets: 0, alternatives: 0, folds: 0, ..small() };
     let same = compare_side(Side::Routines, "\"$0\" console", unescapes);
     assert_eq!(same, Ok("same answers: texts 1000".to_string()));
 }

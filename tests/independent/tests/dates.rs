@@ -53,22 +53,24 @@ fn r4_1_value_and_calscale_set_the_kind() {
     ] {
         assert_eq!(line_kind(line), kind, "{line}");
     }
-    assert_eq!(line_verdict("REV;VALUE=text:x"), Err((7, 32)));
-    assert_eq!(line_verdict("BDAY;VALUE=date:x"), Err((7, 32)));
+    assert_eq!(line_verdict("REV;VALUE=text:x"), Err((7, 47)));
+    assert_eq!(line_verdict("BDAY;VALUE=date:x"), Err((7, 48)));
 }
 
 #[test]
 fn r4_3_forms_that_are_not_taken() {
-    for date in [
-        "198504", "1985-04-12", "1985T10", "--04T10", "T-22Z", "T24", "", "1985-04T10", "19850412t10", "19850412T10z",
-        "19850412,19850413", "19850412T-22", "T--00Z",
+    for (date, octet) in [
+        ("198504", 6), ("1985-04-12", 7), ("1985T10", 4), ("--04T10", 4), ("T-22Z", 4), ("T24", 2), ("", 0), ("1985-04T10", 7),
+        ("19850412t10", 8), ("19850412T10z", 11), ("19850412,19850413", 8), ("19850412T-22", 9), ("T--00Z", 5),
     ] {
-        assert_eq!(line_verdict(&format!("BDAY:{date}")), Err((7, 32)), "{date}");
+        assert_eq!(line_verdict(&format!("BDAY:{date}")), Err((7, 37 + octet)), "{date}");
     }
-    for stamp in ["19961022", "19961022T1400", "--1022T140000", "1996", "T140000", ""] {
-        assert_eq!(line_verdict(&format!("REV:{stamp}")), Err((7, 32)), "{stamp}");
+    for (stamp, octet) in
+        [("19961022", 8), ("19961022T1400", 13), ("--1022T140000", 0), ("1996", 4), ("T140000", 0), ("", 0)]
+    {
+        assert_eq!(line_verdict(&format!("REV:{stamp}")), Err((7, 36 + octet)), "{stamp}");
     }
-    assert_eq!(line_verdict("TZ;VALUE=utc-offset:Z"), Err((7, 32)));
+    assert_eq!(line_verdict("TZ;VALUE=utc-offset:Z"), Err((7, 52)));
 }
 
 #[test]
@@ -76,10 +78,11 @@ fn r4_4_limits() {
     for date in ["---31", "--0229", "00000229", "20000229", "20240229", "T--60", "T235960", "T0000+2359", "--1231", "9999"] {
         assert_eq!(line_kind(&format!("BDAY:{date}")), 9, "{date}");
     }
-    for date in [
-        "---32", "---00", "--0230", "--0431", "19000229", "20230229", "T--61", "T2360", "T10+2400", "--1301", "--0001", "--0100",
+    for (date, octet) in [
+        ("---32", 4), ("---00", 4), ("--0230", 4), ("--0431", 5), ("19000229", 7), ("20230229", 7), ("T--61", 4), ("T2360", 3),
+        ("T10+2400", 5), ("--1301", 3), ("--0001", 3), ("--0100", 5),
     ] {
-        assert_eq!(line_verdict(&format!("BDAY:{date}")), Err((7, 32)), "{date}");
+        assert_eq!(line_verdict(&format!("BDAY:{date}")), Err((7, 37 + octet)), "{date}");
     }
 }
 
@@ -88,7 +91,9 @@ fn r4_5_minutes() {
     for (value, count) in [("-0500", -300), ("-05", -300), ("-0000", 0), ("+00", 0), ("+2359", 1439), ("-2359", -1439)] {
         assert_eq!(offset(value), Ok(count), "{value}");
     }
-    for value in ["-2400", "+2400", "05", "-050", "", "Z", "-0560", "+5", "-05:00"] {
-        assert_eq!(offset(value), Err((7, 0)), "{value}");
+    for (value, octet) in
+        [("-2400", 2), ("+2400", 2), ("05", 0), ("-050", 4), ("", 0), ("Z", 0), ("-0560", 3), ("+5", 1), ("-05:00", 3), ("-05000", 5)]
+    {
+        assert_eq!(offset(value), Err((7, octet)), "{value}");
     }
 }

@@ -17,6 +17,7 @@ use independent::generator::{
     lists,
     lists::lists,
     names::{names, names_by_hand, LONGEST},
+    octets::octets,
     readers, reports,
     reports::reports,
     texts,
@@ -68,6 +69,41 @@ fn dates_reach_both_sides_of_every_kind() {
     for kind in 9..=11 {
         assert!(survey.kinds.get(&kind).is_some_and(|&count| count >= 500), "{kind}: {survey}");
     }
+}
+
+#[test]
+fn octets_reach_5_and_7_of_every_kind_and_accept_every_kind() {
+    for word in ["judge ", "read ", "fold "] {
+        let survey = survey(octets(1).take(40_000).filter(|line| line.starts_with(word)));
+        assert!(times(&survey, 5) >= 1_000 && times(&survey, 7) >= 3_000, "{word}: {survey}");
+        assert!(survey.accepted >= 1_500 && survey.bad_requests == 0, "{word}: {survey}");
+    }
+    let survey = survey(octets(1).take(40_000));
+    for kind in 0..=11 {
+        assert!(survey.kinds.get(&kind).is_some_and(|&count| count >= 20), "{kind}: {survey}");
+    }
+}
+
+/// The octets of an input that is asked for.
+fn input_of(line: &str) -> Vec<u8> {
+    octets_of(line.rsplit(' ').next().expect("a word").as_bytes()).expect("octets")
+}
+
+#[test]
+fn octets_point_at_octets_and_at_ends_with_folds_right_before() {
+    let mut after_a_fold = [0, 0];
+    let mut ends = [0, 0];
+    for line in octets(1).take(40_000).filter(|line| line.starts_with("judge ")) {
+        let answer = Console::default().answer(line.as_bytes());
+        let words: Vec<&str> = answer.split(' ').collect();
+        let ["no", number @ ("5" | "7"), place] = words.as_slice() else { continue };
+        let (input, place): (Vec<u8>, usize) = (input_of(&line), place.parse().expect("a place"));
+        let which = usize::from(*number == "7");
+        after_a_fold[which] += usize::from(input[..place].ends_with(b"\r\n ") || input[..place].ends_with(b"\r\n\t"));
+        ends[which] += usize::from(input[place] == b'\r');
+    }
+    assert!(after_a_fold[0] >= 100 && after_a_fold[1] >= 300, "{after_a_fold:?}");
+    assert!(ends[0] == 0 && ends[1] >= 500, "{ends:?}");
 }
 
 #[test]
@@ -285,6 +321,7 @@ fn a_family_of_0_is_left_out() {
         line_faults: 0,
         names: 0,
         dates: 0,
+        octets: 0,
         alternatives: 0,
         folds: 0,
         texts: 5,

@@ -24,9 +24,10 @@ fn octets_of_a_line() {
     for octet in 0..=255u8 {
         let expected = match octet {
             b'\t' | 0x20..=0x7E if octet != b',' && octet != b'\\' => Ok((1, 5)),
-            b',' | b'\\' => Err((7, 32)),
+            b',' => Err((7, 38)),
+            b'\\' => Err((7, 39)),
             b'\r' | b'\n' => Err((3, 38)),
-            _ => Err((5, 32)),
+            _ => Err((5, 38)),
         };
         assert_eq!(verdict(&m_with(&[b'N', b'O', b'T', b'E', b':', b'a', octet])), expected, "{octet}");
     }
@@ -158,9 +159,9 @@ fn frame_lines() {
         verdict(format!("{begin}\r\n{version}\r\nFN:A\r\n{end}\r\n").as_bytes())
     };
     assert_eq!(framed("begin:vcard", "version:4.0", "End:VCard"), Ok((1, 4)));
-    assert_eq!(framed("BEGIN:VCARD ", "VERSION:4.0", "END:VCARD"), Err((7, 0)));
-    assert_eq!(framed("BEGIN:VCARD", "VERSION:4.00", "END:VCARD"), Err((7, 13)));
-    assert_eq!(framed("BEGIN:VCARD", "VERSION:4.0", "END:VCAR"), Err((7, 32)));
+    assert_eq!(framed("BEGIN:VCARD ", "VERSION:4.0", "END:VCARD"), Err((7, 11)));
+    assert_eq!(framed("BEGIN:VCARD", "VERSION:4.00", "END:VCARD"), Err((7, 24)));
+    assert_eq!(framed("BEGIN:VCARD", "VERSION:4.0", "END:VCAR"), Err((7, 40)));
     assert_eq!(framed("g.BEGIN:VCARD", "VERSION:4.0", "END:VCARD"), Err((8, 0)));
     assert_eq!(framed("BEGIN:VCARD", "VERSION;VALUE=text:4.0", "END:VCARD"), Err((8, 13)));
     assert_eq!(framed("BEGIN:VCARD", "VERSION:4.0", "END;x=:VCARD"), Err((8, 32)));
@@ -229,7 +230,8 @@ fn every_kind() {
             assert_eq!(line_kind(&format!("{name}:{value}")), index as u32 + 1, "{name}:{value}");
         }
         for value in *unfit {
-            assert_eq!(line_verdict(&format!("{name}:{value}")), Err((7, 32)), "{name}:{value}");
+            let number = line_verdict(&format!("{name}:{value}")).map_err(|(number, _)| number);
+            assert_eq!(number, Err(7), "{name}:{value}");
         }
     }
 }
@@ -241,7 +243,7 @@ fn folds_go_before_check_5() {
         assert_eq!(verdict(&m_with(&cut)), Ok((1, 5)));
         assert_eq!(copy_and_records(&m_with(&cut)), copy_and_records(&m_with("NOTE:€".as_bytes())));
     }
-    assert_eq!(verdict(&m_with(b"NOTE:\xE2\r\n  \x82\xAC")), Err((5, 32)));
+    assert_eq!(verdict(&m_with(b"NOTE:\xE2\r\n  \x82\xAC")), Err((5, 37)));
 }
 
 #[test]

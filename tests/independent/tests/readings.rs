@@ -12,8 +12,8 @@ fn after_fn(octets: &[u8]) -> Vec<u8> {
 
 #[test]
 fn a1_a_line_that_begins_with_a_fold_starts_at_its_first_physical_line() {
-    assert_eq!(verdict(&after_fn(b"\r\n N:Doe;J\r\n")), Err((7, 32)));
-    assert_eq!(verdict(&after_fn(b"\r\n \x01\r\n")), Err((5, 32)));
+    assert_eq!(verdict(&after_fn(b"\r\n N:Doe;J\r\n")), Err((7, 42)));
+    assert_eq!(verdict(&after_fn(b"\r\n \x01\r\n")), Err((5, 35)));
     assert_eq!(verdict(&after_fn(b"\r\n\t\r\n NOTE\r\n")), Err((43, 32)));
     assert_eq!(verdict(b"BEGIN:VCARD\r\nVERSION:4.0\r\n\r\n END:VCARD\r\n"), Err((11, 26)));
 }
@@ -34,7 +34,7 @@ fn a3_a_fold_as_first_octets_is_removed() {
 fn a4_a_space_or_tab_as_first_octet_breaks_the_line_rule() {
     assert_eq!(verdict(&[b" ", CARD_M].concat()), Err((40, 0)));
     assert_eq!(verdict(&[b"\t", CARD_M].concat()), Err((40, 0)));
-    assert_eq!(verdict(b" \x01\r\n"), Err((5, 0)));
+    assert_eq!(verdict(b" \x01\r\n"), Err((5, 1)));
 }
 
 #[test]
@@ -63,11 +63,11 @@ fn a7_blank_lines_and_lines_after_end() {
 
 #[test]
 fn a8_all_checks_of_one_line_come_before_the_next_line() {
-    assert_eq!(verdict(&m_with(b"N:x\r\nNOTE:\x01")), Err((7, 32)));
+    assert_eq!(verdict(&m_with(b"N:x\r\nNOTE:\x01")), Err((7, 35)));
     assert_eq!(line_verdict("g.BEGIN:VCARD"), Err((9, 32)));
     assert_eq!(line_verdict("g.END:X"), Err((8, 32)));
-    assert_eq!(line_verdict("N:;;;;\r\nN:x"), Err((7, 40)));
-    assert_eq!(verdict(b"BEGIN:VCARD\r\nVERSION:4.0\r\nEND:X\r\n"), Err((7, 26)));
+    assert_eq!(line_verdict("N:;;;;\r\nN:x"), Err((7, 43)));
+    assert_eq!(verdict(b"BEGIN:VCARD\r\nVERSION:4.0\r\nEND:X\r\n"), Err((7, 30)));
     assert_eq!(verdict(b"BEGIN:VCARD\r\nVERSION:4.0\r\ng.END:VCARD\r\n"), Err((8, 26)));
     assert_eq!(verdict(b"BEGIN:VCARD\r\nVERSION:4.0\r\nMEMBER:a:\r\nEND:VCARD\r\n"), Err((11, 37)));
 }
@@ -106,7 +106,7 @@ fn a13_refusal_12_asks_for_the_octets_of_the_kind_value() {
     assert_eq!(line_verdict("MEMBER:a:\r\nKIND:gRoUp"), Ok((1, 6)));
     assert_eq!(line_verdict("KIND;VALUE=x:group\r\nMEMBER:a:"), Ok((1, 6)));
     assert_eq!(line_verdict("g.KIND:group\r\nMEMBER;VALUE=text:x"), Ok((1, 6)));
-    assert_eq!(line_verdict("KIND;VALUE=uri:group\r\nMEMBER:a:"), Err((7, 32)));
+    assert_eq!(line_verdict("KIND;VALUE=uri:group\r\nMEMBER:a:"), Err((7, 52)));
     assert_eq!(line_verdict("KIND:group \r\nMEMBER:a:"), Err((12, 56)));
     assert_eq!(line_verdict("MEMBER;VALUE=text:x"), Err((12, 53)));
     let other_card = [m_with(b"KIND:group"), m_with(b"MEMBER:a:")].concat();
@@ -122,8 +122,10 @@ fn a14_to_a18_kinds() {
     ] {
         assert_eq!(line_verdict(line), Ok((1, 5)), "{line}");
     }
-    for line in ["URL::a", "URL:", "ORG:a,b", "ORG:\\x", "NICKNAME:\\x", "CLIENTPIDMAP:;a:"] {
-        assert_eq!(line_verdict(line), Err((7, 32)), "{line}");
+    for (line, octet) in
+        [("URL::a", 4), ("URL:", 4), ("ORG:a,b", 5), ("ORG:\\x", 5), ("NICKNAME:\\x", 10), ("CLIENTPIDMAP:;a:", 13)]
+    {
+        assert_eq!(line_verdict(line), Err((7, 32 + octet)), "{line}");
     }
 }
 

@@ -1,5 +1,5 @@
 -- `card_line::parts_of` meets its contract. Assumes nothing.
-use Rattle.card_line.proofs.PartLaws.{Known, known, accepted, parts-fault, parts-by, group-low}
+use Rattle.card_line.proofs.PartLaws.{Known, known, accepted, uncounted, parts-fault, parts-by, group-low}
 use native.Mathlib.Omega.{arith}
 use Prim.Native.Nat.{ℕ, _-_}
 use mathlib.Core.List.{List}
@@ -55,7 +55,8 @@ find-row-requires c κs = search needs
 kind-at-requires : tie.Need-kind-at-requires
 kind-at-requires c κs =
     let s = c .before .before .before .before .before .before .before .before in
-    (s .pre .0, (s .pre .1 .0, (omega (arith, c .find-row .ensures .1, count-low (s .args .edition)), accepted _ _ _ _ _ (here (c .before .before .before)))))
+    let k = here (c .before .before .before) in
+    (s .pre .0, (s .pre .1 .0, (omega (arith, c .find-row .ensures .1, count-low (s .args .edition)), (accepted _ _ _ _ _ k, uncounted _ _ _ _ _ k))))
 
 returns-2 : tie.Need-returns-2
 returns-2 c =

@@ -8,6 +8,9 @@ use Rattle.card_state.proofs.note.Tie as tie
 says-group-requires : tie.Need-says-group-requires
 says-group-requires c κs = search needs
 
+add-t7 : tie.Need-add-t7
+add-t7 c = search needs
+
 phase-after-requires : tie.Need-phase-after-requires
 phase-after-requires c κs = search needs
 
@@ -23,21 +26,18 @@ either-requires-2 c κs = search needs
 either-requires-3 : tie.Need-either-requires-3
 either-requires-3 c κs = search needs
 
-add-t15 : tie.Need-add-t15
-add-t15 c = search needs
-
 returns : tie.Need-returns
 unfolding goneOn onceFlag
 returns c =
-    let f = c .before .before .before .before .before in
-    let g = f .before .before .before in
+    let f = c .before .before .before .before in
+    let g = f .before .before .before .before in
     simp (
       f .before .phase-after .ensures,
       f .flag-of .ensures,
       g .before .pre .1 .0,
-      c .before .before .before .either .ensures,
-      c .before .before .either2 .ensures,
-      c .before .either3 .ensures,
+      c .before .before .either .ensures,
+      c .before .either2 .ensures,
+      c .either3 .ensures,
       g .says-group .ensures,
     )
 
@@ -46,10 +46,10 @@ note-spec =
     tie.close
     (tie.spec
     says-group-requires
+    add-t7
     phase-after-requires
     flag-of-requires
     either-requires
     either-requires-2
     either-requires-3
-    add-t15
     returns)

@@ -15,8 +15,8 @@ measure-each-requires c κs = search needs
 returns : tie.Need-returns
 returns c = c .measure-each .ensures
 
-all-pairs-requires : tie.Need-all-pairs-requires
-all-pairs-requires c κs = search needs
+all-settled-requires : tie.Need-all-settled-requires
+all-settled-requires c κs = search needs
 
 backslashes-requires : tie.Need-backslashes-requires
 backslashes-requires c κs = search needs
@@ -28,7 +28,7 @@ sub-kept c =
 returns-2 : tie.Need-returns-2
 returns-2 c =
     let s = c .before .before .before .before .before .args .text .now in
-    let w = settled-sound s (sym (c .before .before .all-pairs .ensures) ∙ c .before .if2 .taken) in
+    let w = settled-sound s (sym (c .before .before .all-settled .ensures) ∙ c .before .if2 .taken) in
     at-end s (length s - c .backslashes .result) (w .0) (omega (arith, w .1, c .backslashes .ensures .0))
 
 measure-each-requires-2 : tie.Need-measure-each-requires-2
@@ -43,7 +43,7 @@ measure-spec =
     (tie.spec
     measure-each-requires
     returns
-    all-pairs-requires
+    all-settled-requires
     backslashes-requires
     sub-kept
     returns-2

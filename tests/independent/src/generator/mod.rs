@@ -12,6 +12,7 @@ pub mod line_faults;
 pub mod lists;
 pub mod mutation;
 pub mod names;
+pub mod octets;
 pub mod protocol;
 pub mod reports;
 pub mod rooms;

@@ -1,6 +1,6 @@
--- `cabbook_rows::faults::put_why` meets its contract. Assumes nothing.
-use mathlib.Core.Path.{sym, _∙_}
 use borrow.Author.Needs.{needs}
+use borrow.Author.Tests.{eq-eqb, ne-eqb}
+use mathlib.Core.Path.{sym, _∙_}
 use Rattle.cabbook_rows.proofs.faults.put_why.Statement.{statement}
 use Rattle.cabbook_rows.proofs.faults.put_why.Tie as tie
 
@@ -18,22 +18,27 @@ same-length c = search needs
 
 returns : tie.Need-returns
 returns c =
-    let b = c .before .before in
-    let o = b .before in
-    let i = o .before .before in
-    rw (sym (i .before .is-fault .ensures) ∙ i .if1 .taken, ← o .offending .ensures) (b .put-raw .ensures)
+    rw (sym (c .before .before .before .before .before .before .is-fault .ensures) ∙ c .before .before .before .before .before .if1 .taken, ← c .before .before .before .offending .ensures) (c .before .before .put-raw .ensures)
 
-put-words-requires : tie.Need-put-words-requires
-put-words-requires c κs = search needs
+put-wanted-requires : tie.Need-put-wanted-requires
+put-wanted-requires c κs = search needs
 
 same-length-2 : tie.Need-same-length-2
 same-length-2 c = search needs
 
 returns-2 : tie.Need-returns-2
 returns-2 c =
-    let b = c .before .before in
-    let i = b .before .before in
-    rw (sym (i .before .is-fault .ensures) ∙ i .if1 .left) (b .put-words .ensures)
+    rw (sym (c .before .before .before .before .before .before .is-fault .ensures) ∙ c .before .before .before .before .before .if1 .left, eq-eqb (c .before .before .before .before .before .before .before .before .before .args .number) 7 (c .before .before .before .before .if2 .taken)) (c .before .before .put-wanted .ensures)
+
+put-words-requires : tie.Need-put-words-requires
+put-words-requires c κs = search needs
+
+same-length-3 : tie.Need-same-length-3
+same-length-3 c = search needs
+
+returns-3 : tie.Need-returns-3
+returns-3 c =
+    rw (sym (c .before .before .before .before .before .before .is-fault .ensures) ∙ c .before .before .before .before .before .if1 .left, ne-eqb (c .before .before .before .before .before .before .before .before .before .args .number) 7 (c .before .before .before .before .if2 .left)) (c .before .before .put-words .ensures)
 
 pub put-why-spec : {M : Type 1} → statement M
 put-why-spec =
@@ -44,6 +49,9 @@ put-why-spec =
     put-raw-requires
     same-length
     returns
-    put-words-requires
+    put-wanted-requires
     same-length-2
-    returns-2)
+    returns-2
+    put-words-requires
+    same-length-3
+    returns-3)

@@ -1,31 +1,53 @@
--- `cabbook_rows::rows::put_refused` meets its contract. Assumes nothing.
+use borrow.Author.Needs.{needs}
+use Rattle.octets.specs.Ascii.{octets}
 use Rattle.program_output.specs.Pages.{page}
 use Rattle.program_output.proofs.PageLaws.{nothing, piece}
-use borrow.Author.Needs.{needs}
 use Rattle.cabbook_rows.proofs.rows.put_refused.Statement.{statement}
 use Rattle.cabbook_rows.proofs.rows.put_refused.Tie as tie
 
-put-name-requires : tie.Need-put-name-requires
-put-name-requires c κs = search needs
+put-where-requires : tie.Need-put-where-requires
+put-where-requires c κs = search needs
 
-put-refusal-requires : tie.Need-put-refusal-requires
-put-refusal-requires c κs = search needs
+slice-aggregate-put-all : tie.Need-slice-aggregate-put-all
+slice-aggregate-put-all c = search needs
 
-put-reason-requires : tie.Need-put-reason-requires
-put-reason-requires c κs = search needs
+put-all-requires : tie.Need-put-all-requires
+put-all-requires c κs = search needs
+
+slice-aggregate-put-amount : tie.Need-slice-aggregate-put-amount
+slice-aggregate-put-amount c = search needs
+
+put-amount-requires : tie.Need-put-amount-requires
+put-amount-requires c κs = search needs
+
+put-why-requires : tie.Need-put-why-requires
+put-why-requires c κs = search needs
+
+slice-aggregate-put-all-2 : tie.Need-slice-aggregate-put-all-2
+slice-aggregate-put-all-2 c = search needs
+
+put-all-requires-2 : tie.Need-put-all-requires-2
+put-all-requires-2 c κs = search needs
 
 same-length : tie.Need-same-length
 same-length c = search needs
 
 returns : tie.Need-returns
+unfolding octets
 returns c =
-    let at-put-reason = c .before .before in
-    let at-put-refusal = at-put-reason .before .before .before .before in
-    let at-put-name = at-put-refusal .before .before .before .before in
-    let a = at-put-name .before .before .before .before .before .args in
-    (piece _ (piece _ (piece _ (nothing (page (a .at) (a .room .now))) (at-put-name .put-name .ensures)) (at-put-refusal .put-refusal .ensures)) (at-put-reason .put-reason .ensures)) .sum
+    (piece _ (piece _ (piece _ (piece _ (piece _ (nothing (page (c .before .before .before .before .before .before .before .before .before .before .before .before .before .before .before .before .before .before .before .before .before .before .before .before .before .before .args .at) (c .before .before .before .before .before .before .before .before .before .before .before .before .before .before .before .before .before .before .before .before .before .before .before .before .before .before .args .room .now))) (c .before .before .before .before .before .before .before .before .before .before .before .before .before .before .before .before .before .before .before .before .before .put-where .ensures)) (c .before .before .before .before .before .before .before .before .before .before .before .before .before .before .before .before .put-all .ensures)) (c .before .before .before .before .before .before .before .before .before .before .before .put-amount .ensures)) (c .before .before .before .before .before .before .before .put-why .ensures)) (c .before .before .put-all2 .ensures)) .sum
 
 pub put-refused-spec : {M : Type 1} → statement M
 put-refused-spec =
     tie.close
-    (tie.spec put-name-requires put-refusal-requires put-reason-requires same-length returns)
+    (tie.spec
+    put-where-requires
+    slice-aggregate-put-all
+    put-all-requires
+    slice-aggregate-put-amount
+    put-amount-requires
+    put-why-requires
+    slice-aggregate-put-all-2
+    put-all-requires-2
+    same-length
+    returns)

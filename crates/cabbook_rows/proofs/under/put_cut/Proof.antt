@@ -36,7 +36,7 @@ returns c =
     let a = c .before .before .before .before .before .before .before .before .before .before .before .before .before .args in
     let p = page (a .at) (a .room .now) in
     rw (← c .before .before .before .before .before .before .before .before .before .before .character-start .ensures .0)
-    ((piece _ (piece (visible (part (a .line .now) 0 (c .before .before .before .before .before .before .before .before .before .before .character-start .result))) (nothing p) (c .before .before .before .before .before .before .before .put-visible .ensures ∙ ap (λ (t : List ℕ). added (visible t) p) (c .before .before .before .before .before .before .before .before .part .ensures))) (c .before .before .put-unless .ensures)) .sum)
+    ((piece _ (piece (visible (part (a .text .now) 0 (c .before .before .before .before .before .before .before .before .before .before .character-start .result))) (nothing p) (c .before .before .before .before .before .before .before .put-visible .ensures ∙ ap (λ (t : List ℕ). added (visible t) p) (c .before .before .before .before .before .before .before .before .part .ensures))) (c .before .before .put-unless .ensures)) .sum)
 
 pub put-cut-spec : {M : Type 1} → statement M
 put-cut-spec =

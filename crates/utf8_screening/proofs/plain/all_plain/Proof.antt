@@ -1,30 +1,41 @@
 -- `utf8_screening::plain::all_plain` meets its contract. Assumes nothing.
 use borrow.Author.Needs.{needs}
+use borrow.Author.Tests.{not-true, not-false}
 use mathlib.Core.Path.{_≡_, refl, sym, _∙_}
-use mathlib.Core.Bool.{_&&_}
 use Prim.Native.Nat.{_≤_, _-_}
 use native.Mathlib.Omega.{arith}
-use lib.Dec.{eqb}
 use lib.ListN.{length, drop}
-use Rattle.utf8_screening.specs.Plain.{allPlain}
-use Rattle.utf8_screening.proofs.PlainLaws.{plain-step, plain-end}
+use Rattle.utf8_screening.specs.Plain.{allPlain, block}
+use Rattle.utf8_screening.proofs.PlainLaws.{plain-pass, plain-fail, plain-last}
 use Rattle.utf8_screening.proofs.plain.all_plain.Statement.{statement}
 use Rattle.utf8_screening.proofs.plain.all_plain.Tie as tie
 
 abbrev Inv-loop : tie.InvT-loop
-Inv-loop s bad₀ i₀ bad i = (i ≤ length s) × (allPlain s ≡ (eqb bad 0 && allPlain (drop i s)))
+Inv-loop s last i₀ i = (i ≤ length s) × (allPlain s ≡ allPlain (drop i s))
 
 abbrev μ-loop : tie.MeasureT-loop
-μ-loop s bad₀ i₀ bad i = length s - i
+μ-loop s last i₀ i = length s - i
+
+short-plain-requires : tie.Need-short-plain-requires Inv-loop μ-loop
+short-plain-requires c κs = search needs
+
+returns : tie.Need-returns Inv-loop μ-loop
+returns c = search needs
+
+sub-last : tie.Need-sub-last Inv-loop μ-loop
+sub-last c = search needs
 
 loop-holds : tie.Need-loop-holds Inv-loop μ-loop
 loop-holds c = (search needs, refl)
 
-shared-slice-read-odd-bit : tie.Need-shared-slice-read-odd-bit Inv-loop μ-loop
-shared-slice-read-odd-bit c = search needs
+is-plain-block-requires : tie.Need-is-plain-block-requires Inv-loop μ-loop
+is-plain-block-requires c κs = search needs
 
-odd-bit-requires : tie.Need-odd-bit-requires Inv-loop μ-loop
-odd-bit-requires c κs = search needs
+returns-2 : tie.Need-returns-2 Inv-loop μ-loop
+returns-2 c =
+    let l = c .before .before .before in
+    let s = l .before .before .before .args .s .now in
+    sym (l .loop .inv .1 ∙ plain-fail s (l .loop .i) block (sym (c .before .is-plain-block .ensures) ∙ not-true _ (c .if2 .taken)))
 
 add-i : tie.Need-add-i Inv-loop μ-loop
 add-i c = search needs
@@ -35,13 +46,18 @@ loop-less c = search needs
 loop-again : tie.Need-loop-again Inv-loop μ-loop
 loop-again c =
     let l = c .before .before .before in
-    let s = l .before .before .args .s .now in
-    (omega arith, l .loop .inv .1 ∙ plain-step s (l .loop .i) (c .before .before .loop-test .taken) (l .loop .bad) (c .odd-bit .result) (c .odd-bit .ensures))
+    let s = l .before .before .before .args .s .now in
+    (omega arith, l .loop .inv .1 ∙ plain-pass s (l .loop .i) block (sym (c .before .is-plain-block .ensures) ∙ not-false _ (c .if2 .left)))
 
-returns : tie.Need-returns Inv-loop μ-loop
-returns c =
-    let l = c .before in
-    sym (l .loop .inv .1 ∙ plain-end (l .before .before .args .s .now) (l .loop .i) (c .loop-test .left) (l .loop .bad))
+is-plain-block-requires-2 : tie.Need-is-plain-block-requires-2 Inv-loop μ-loop
+is-plain-block-requires-2 c κs = search needs
+
+returns-3 : tie.Need-returns-3 Inv-loop μ-loop
+returns-3 c =
+    let l = c .before .before in
+    let s = l .before .before .before .args .s .now in
+    c .is-plain-block2 .ensures
+    ∙ plain-last s (length s - block) block (l .loop .i) (omega arith) (omega arith) (l .loop .inv .1)
 
 pub all-plain-spec : {M : Type 1} → statement M
 all-plain-spec =
@@ -49,10 +65,14 @@ all-plain-spec =
     (tie.spec
     Inv-loop
     μ-loop
+    short-plain-requires
+    returns
+    sub-last
     loop-holds
-    shared-slice-read-odd-bit
-    odd-bit-requires
+    is-plain-block-requires
+    returns-2
     add-i
     loop-less
     loop-again
-    returns)
+    is-plain-block-requires-2
+    returns-3)

@@ -1,0 +1,3 @@
+-- The definitions that the contracts of `cabbook_cells` cite. Assumes nothing.
+pub mod Ranges
+pub mod Cells

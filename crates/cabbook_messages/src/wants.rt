@@ -1,0 +1,83 @@
+// What the value of a line should be, in words that follow the property's name.
+ghost use mathlib.Core.Path.{_≡_};
+ghost use Rattle.program_output.specs.Pages.{page, added};
+ghost use Rattle.cabbook_messages.specs.Wants.{isEscape, kindWants, valueWants, wants};
+use numbers::kind;
+use numbers::property;
+use program_output::put_all;
+
+// Whether a value of a kind breaks in an escape, where a backslash stands before the place or not: the kinds of text have escapes.
+fn is_escape(kind: usize, after_backslash: bool) -> bool
+    ensures { λ r. ⌜ r ≡ isEscape kind «after_backslash» ⌝ }
+{
+    if !after_backslash {
+        return false;
+    }
+    if kind == kind::URI {
+        return false;
+    }
+    kind <= kind::GENDER
+}
+
+// Adds what a value of a kind should be.
+fn put_kind_wants(room: &mut [u8], at: usize, kind: usize) -> usize
+    ensures { λ r. ⌜ page r (now (room .exit)) ≡ added (kindWants kind) (page at (now (room .entry))) ⌝ }
+{
+    match kind {
+        kind::TEXT => put_all(room, at, b" wants text without a bare ','"),
+        kind::URI => put_all(
+            room,
+            at,
+            b" wants a URI: a letter, scheme, ':', then visible ASCII",
+        ),
+        kind::NAME => put_all(room, at, b" wants five parts, split by ';'"),
+        kind::ADDRESS => put_all(room, at, b" wants seven parts, split by ';'"),
+        kind::ORGANIZATION => put_all(room, at, b" wants parts split by ';', without a bare ','"),
+        kind::GENDER => put_all(
+            room,
+            at,
+            b" wants M, F, O, N, U or nothing, then perhaps ';' and text without a bare ','",
+        ),
+        kind::PIDMAP => put_all(room, at, b" wants digits, ';' and a URI"),
+        kind::DATE => put_all(
+            room,
+            at,
+            b" wants a date of the calendar, a time or both, as 19850412, 1985-04, --0412, T1022 or 19850412T1022Z",
+        ),
+        kind::TIMESTAMP => put_all(
+            room,
+            at,
+            b" wants a date of the calendar with its time, as 19961022T140000Z",
+        ),
+        kind::OFFSET => put_all(room, at, b" wants an offset, as -0500 or +01"),
+        _ => put_all(room, at, b" wants another value"),
+    }
+}
+
+// Adds what a value of a kind should be where it breaks, after a backslash or not.
+fn put_value_wants(room: &mut [u8], at: usize, kind: usize, after_backslash: bool) -> usize
+    ensures { λ r. ⌜ page r (now (room .exit)) ≡ added (valueWants kind «after_backslash») (page at (now (room .entry))) ⌝ }
+{
+    if is_escape(kind, after_backslash) {
+        return put_all(room, at, b" wants \\ , ; n or N after '\\'");
+    }
+    put_kind_wants(room, at, kind)
+}
+
+// Adds what the value of a row and kind should be where it breaks, after a backslash or not.
+pub fn put_wants(
+    room: &mut [u8],
+    at: usize,
+    row: usize,
+    kind: usize,
+    after_backslash: bool,
+) -> usize
+    ensures { λ r. ⌜ page r (now (room .exit)) ≡ added (wants row kind «after_backslash») (page at (now (room .entry))) ⌝ }
+{
+    match row {
+        property::BEGIN => put_all(room, at, b" wants VCARD"),
+        property::END => put_all(room, at, b" wants VCARD"),
+        property::VERSION => put_all(room, at, b" wants 4.0"),
+        _ => put_value_wants(room, at, kind, after_backslash),
+    }
+}
