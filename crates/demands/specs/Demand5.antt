@@ -17,7 +17,7 @@ use Rattle.demands.specs.Examples.{Holds, named}
 
 pub record Demand5 : Type 0 where
   -- a value breaks off at one octet at most
-  pub dead-once : (row k : ℕ) (v : List ℕ) (m n : ℕ) → Dead (Fitting row k) v m → Dead (Fitting row k) v n → m ≡ n
+  pub dead-once : (e : Edition) (row k : ℕ) (v : List ℕ) (m n : ℕ) → Dead (Fitting e row k) v m → Dead (Fitting e row k) v n → m ≡ n
   -- where a value of whole characters breaks off, a character starts or the value ends
   pub whole : (e : Edition) (row k : ℕ) → k < kind.count → (v : List ℕ) (o : ℕ) → Characters v → Dead (Fitting e row k) v o → Characters (take o v)
   -- the place that is counted is the one of the plain words, and no other
