@@ -58,7 +58,7 @@ fn compare_side(side: Side, script: &str, plan: Plan) -> Result<String, String> 
 fn the_own_console_gives_the_same_answers() {
     let counts = compare(Side::Console, SELF, &["console".to_string()], small()).expect("no difference");
     assert!(counts.starts_with(
-        "same answers: protocol 188, readers 2000, line faults 300, names 200, dates 400, octets 400, alternatives 200, folds 500, texts 1000, labels 1000, 60 lists of "
+        "same answers: protocol 188, readers 2000, line faults 300, names 200, dates 400, octets 400, editions 400, alternatives 200, folds 500, texts 1000, labels 1000, 60 lists of "
     ));
 }
 
