@@ -2,6 +2,7 @@
  *
  * Each answers one number: on acceptance a count alone, else refusal * 4294967296 + place. GERSTEBOLK_REFUSAL and GERSTEBOLK_PLACE take it apart;
  * a refusal of 0 is acceptance. On a refusal nothing is written; on acceptance the room past what was written stays as it was.
+ * The routines read edition one: RFC 6350, without the names and components that RFC 9554 adds.
  *
  * What a caller owes: each pointer is valid for its length (a range of 0 octets may have any pointer, null too), the ranges do not overlap,
  * and about 64 KB of stack are free. The routines keep nothing between calls and may be called from several threads at once.

@@ -94,6 +94,10 @@ class Module:
                 self.clauses.setdefault(left.split()[0], []).append((left, right))
 
     def add_import(self, line):
+        variants = re.match(r"use Rattle·\w+(?:·specs)?\.specs\.declared\.\w+\.the-variants\.\{(.*)\}$", line)
+        if variants:
+            self.constructors.update({name: 0 for name in variants.group(1).split(", ")})
+            return
         found = re.match(r"use Rattle·(\w+)(?:·specs)?\.specs\.(\w+)(?: as (\w+)|\.\{(.*)\})$", line)
         if not found:
             return

@@ -4,6 +4,7 @@ use crate::printing;
 use cabbook_tables::status;
 use libc::STDOUT_FILENO;
 use numbers::refusal;
+use property_table::Edition;
 use reader::Verdict;
 
 // Prints the row of a file with so many cards and lines.
@@ -37,11 +38,11 @@ fn print_under(s: &[u8], number: u32, place: usize) {
     printing::send(STDOUT_FILENO, &room, n);
 }
 
-// Judges a file's octets, prints its row, and answers the exit status.
-pub fn check(path: &[u8], s: &[u8]) -> u8
+// Judges a file's octets in an edition, prints its row, and answers the exit status.
+pub fn check(edition: Edition, path: &[u8], s: &[u8]) -> u8
     ensures { λ r. ⌜ Status r ⌝ }
 {
-    let v = reader::judge(s);
+    let v = reader::judge_as(edition, s);
     match v {
         Verdict::Accepted(cards, lines) => {
             print_accepted(path, cards, lines);

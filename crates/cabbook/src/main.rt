@@ -17,6 +17,7 @@ use label_carets::Rule;
 use numbers::limit;
 use octets::cases::same_name;
 use program_files::Input;
+use property_table::Edition;
 use writing::Form;
 
 // The descriptor to which the exit status goes, one digit, at the end.
@@ -33,8 +34,8 @@ const NAME: usize = 16;
 
 // What is done with the octets of a file.
 enum Command {
-    Check,
-    Show,
+    Check(Edition),
+    Show(Edition),
     Write(Form),
 }
 
@@ -43,8 +44,8 @@ fn apply(command: Command, path: &[u8], s: &[u8]) -> u8
     ensures { λ r. ⌜ Status r ⌝ }
 {
     match command {
-        Command::Check => checking::check(path, s),
-        Command::Show => table::show(path, s),
+        Command::Check(edition) => checking::check(edition, path, s),
+        Command::Show(edition) => table::show(edition, path, s),
         Command::Write(form) => writing::deliver(form, path, s),
     }
 }
@@ -75,23 +76,76 @@ fn apply_to_argument(command: Command, i: usize) -> u8
     apply_to_file(command, &path[..n])
 }
 
-// Judges the files that the arguments from the second on name.
-fn check_all(count: usize) -> u8
+// Whether argument i is this option.
+fn has_option(i: usize, option: &[u8], count: usize) -> bool {
+    if count <= i {
+        return false;
+    }
+    let mut word = [0u8; NAME];
+    let n = os::arg(i, &mut word);
+    same_name(&word[..n], option)
+}
+
+// What `--edition N` says: the edition, and the argument after it; `known` is false where N is none.
+struct Chosen {
+    edition: Edition,
+    first: usize,
+    known: bool,
+}
+
+// The edition that the argument after the command chooses, edition one where it does not.
+fn chosen(count: usize) -> Chosen
+    ensures { λ r. ⌜ r .first ≤ 4 ⌝ }
+{
+    if !has_option(FIRST_FILE, b"--edition", count) {
+        return Chosen {
+            edition: Edition::First,
+            first: FIRST_FILE,
+            known: true,
+        };
+    }
+    let first = FIRST_FILE + 2;
+    if has_option(FIRST_FILE + 1, b"2", count) {
+        return Chosen {
+            edition: Edition::Second,
+            first,
+            known: true,
+        };
+    }
+    let known = has_option(FIRST_FILE + 1, b"1", count);
+    Chosen {
+        edition: Edition::First,
+        first,
+        known,
+    }
+}
+
+// Judges the files that the arguments from `first` on name.
+fn check_from(edition: Edition, first: usize, count: usize) -> u8
     ensures { λ r. ⌜ Status r ⌝ }
 {
-    if count <= FIRST_FILE {
+    if count <= first {
         return usage::print_usage(b"check needs a FILE");
     }
     let mut status: u8 = status::ACCEPTED;
-    let mut i: usize = FIRST_FILE;
+    let mut i: usize = first;
     while i < count {
-        let one = apply_to_argument(Command::Check, i);
+        let one = apply_to_argument(Command::Check(edition), i);
         if status < one {
             status = one;
         }
         i += 1;
     }
     status
+}
+
+// Judges the files in the edition that is chosen.
+fn check_all(count: usize) -> u8 {
+    let c = chosen(count);
+    if !c.known {
+        return usage::print_usage(b"--edition takes 1 or 2");
+    }
+    check_from(c.edition, c.first, count)
 }
 
 // Prints the report of the files that the arguments from the second on name; `--bars` may stand anywhere among them.
@@ -114,7 +168,7 @@ fn report_all(count: usize) -> u8
 
 // Does the command with the file that the argument `first` names, which is the last.
 fn apply_to_one(command: Command, first: usize, count: usize) -> u8
-    requires { ⌜ first ≤ 3 ⌝ }
+    requires { ⌜ first ≤ 5 ⌝ }
 {
     if count == first + 1 {
         return apply_to_argument(command, first);
@@ -124,7 +178,7 @@ fn apply_to_one(command: Command, first: usize, count: usize) -> u8
 
 // Does the command with the file that the argument `first` names, or with standard input where there is none.
 fn apply_to_one_or_input(command: Command, first: usize, count: usize) -> u8
-    requires { ⌜ first ≤ 3 ⌝ }
+    requires { ⌜ first ≤ 5 ⌝ }
 {
     if count == first {
         return apply_to_file(command, b"-");
@@ -132,36 +186,40 @@ fn apply_to_one_or_input(command: Command, first: usize, count: usize) -> u8
     apply_to_one(command, first, count)
 }
 
-// Whether the argument after the command is this option.
-fn has_option(option: &[u8], count: usize) -> bool {
-    if count <= FIRST_FILE {
-        return false;
-    }
-    let mut word = [0u8; NAME];
-    let n = os::arg(FIRST_FILE, &mut word);
-    same_name(&word[..n], option)
-}
-
 // Writes the one file that is named, or standard input, in the form of the rule that is asked for.
 fn apply_by_rule(old: Form, new: Form, count: usize) -> u8 {
-    if has_option(b"--rfc6350", count) {
+    if has_option(FIRST_FILE, b"--rfc6350", count) {
         return apply_to_one_or_input(Command::Write(old), FIRST_FILE + 1, count);
     }
     apply_to_one_or_input(Command::Write(new), FIRST_FILE, count)
 }
 
-// Writes the one file that is named, folded, its names in capitals or as read.
+// Shows the one file that is named in the edition that is chosen.
+fn show_one(count: usize) -> u8 {
+    let c = chosen(count);
+    if !c.known {
+        return usage::print_usage(b"--edition takes 1 or 2");
+    }
+    apply_to_one(Command::Show(c.edition), c.first, count)
+}
+
+// Writes the one file that is named, folded in the edition that is chosen, its names in capitals or as read.
 fn fold_one(count: usize) -> u8 {
-    if has_option(b"--as-read", count) {
+    let c = chosen(count);
+    if !c.known {
+        return usage::print_usage(b"--edition takes 1 or 2");
+    }
+    let edition = c.edition;
+    if has_option(c.first, b"--as-read", count) {
         return apply_to_one(
-            Command::Write(Form::Folded(Style::AsRead)),
-            FIRST_FILE + 1,
+            Command::Write(Form::Folded(edition, Style::AsRead)),
+            c.first + 1,
             count,
         );
     }
     apply_to_one(
-        Command::Write(Form::Folded(Style::Raised)),
-        FIRST_FILE,
+        Command::Write(Form::Folded(edition, Style::Raised)),
+        c.first,
         count,
     )
 }
@@ -195,7 +253,7 @@ fn run(name: &[u8], count: usize) -> u8 {
         return check_all(count);
     }
     if same_name(name, b"show") {
-        return apply_to_one(Command::Show, FIRST_FILE, count);
+        return show_one(count);
     }
     if same_name(name, b"fold") {
         return fold_one(count);

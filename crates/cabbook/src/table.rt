@@ -11,6 +11,7 @@ use libc::STDOUT_FILENO;
 use numbers::field;
 use numbers::limit;
 use numbers::property;
+use property_table::Edition;
 use octets::indices::wide_number;
 use reader::Verdict;
 
@@ -125,13 +126,13 @@ fn print_titles() {
     printing::send(STDOUT_FILENO, &room, n);
 }
 
-// Prints the table of a file with these octets, or the line on a refusal, and answers the exit status.
-pub fn show(path: &[u8], s: &[u8]) -> u8
+// Prints the table of a file with these octets, read in an edition, or the line on a refusal, and answers the exit status.
+pub fn show(edition: Edition, path: &[u8], s: &[u8]) -> u8
     ensures { λ r. ⌜ Status r ⌝ }
 {
     let mut copy = [0u8; limit::OCTETS];
     let mut records = [0u32; NUMBERS];
-    let v = reader::read(s, &mut copy, &mut records);
+    let v = reader::read(edition, s, &mut copy, &mut records);
     match v {
         Verdict::Accepted(_, lines) => {
             print_titles();

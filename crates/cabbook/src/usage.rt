@@ -9,15 +9,19 @@ use libc::STDOUT_FILENO;
 fn print_commands(to: i32) {
     io::write_all(
         to,
-        b"  cabbook check FILE..                judge each file; a caret shows the octet\n",
+        b"  cabbook check [--edition N] FILE..  judge each file; a caret shows the octet\n",
     );
     io::write_all(
         to,
-        b"  cabbook show FILE                   the cards as a table\n",
+        b"  cabbook show [--edition N] FILE     the cards as a table\n",
     );
     io::write_all(
         to,
-        b"  cabbook fold [--as-read] FILE       the cards folded, names in capitals or as read\n",
+        b"  cabbook fold [--edition N] [--as-read] FILE\n",
+    );
+    io::write_all(
+        to,
+        b"                                      the cards folded, names in capitals or as read\n",
     );
     io::write_all(
         to,
@@ -69,7 +73,7 @@ pub fn print_help() -> u8
     );
     io::write_all(
         STDOUT_FILENO,
-        b"2 wrong use or a file that can't be read.\n",
+        b"2 wrong use or a file that can't be read. Edition 1 is RFC 6350, 2 RFC 9554; 1 where none is named.\n",
     );
     status::ACCEPTED
 }

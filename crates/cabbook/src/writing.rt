@@ -8,10 +8,11 @@ use libc::STDERR_FILENO;
 use libc::STDOUT_FILENO;
 use numbers::limit;
 use octets::rooms::Written;
+use property_table::Edition;
 
 // The form in which octets are written.
 pub enum Form {
-    Folded(Style),
+    Folded(Edition, Style),
     Escaped,
     Unescaped,
     Encoded(Rule),
@@ -21,7 +22,7 @@ pub enum Form {
 // Writes octets in a form to room.
 fn write(form: Form, s: &[u8], room: &mut [u8]) -> Written {
     match form {
-        Form::Folded(style) => folder::fold_styled(style, s, room),
+        Form::Folded(edition, style) => folder::fold_styled(edition, style, s, room),
         Form::Escaped => text::escape(s, room),
         Form::Unescaped => text::unescape(s, room),
         Form::Encoded(rule) => label::encode(rule, s, room),

@@ -9,6 +9,7 @@ use Rattle.numbers.specs.Refusals as refusal
 use Rattle.octets.specs.Pick.{pick}
 use Rattle.octets.specs.Slices.{part}
 use Rattle.line_folds.specs.Folds.{lineLength, unfolded}
+use Rattle.property_table.specs.declared.Edition.the-variants.{Second}
 use Rattle.card_line.specs.Parts.{linePartsOf}
 use Rattle.card_line.specs.declared.Parts.{Parts}
 use Rattle.card_line.specs.declared.LineParts.{LineParts}
@@ -26,9 +27,9 @@ abbrev pub partedWords : LineParts → List ℕ → ℕ → List ℕ
 partedWords (Line p) l octet = partsWords p l octet
 partedWords (Fault e) l octet = wordsOf refusal.value
 
--- of a logical line; the words of the refusal where it breaks the line rule
+-- of a logical line, by the rows of edition two, which has those of edition one; the words of the refusal where it breaks the line rule
 unfoldable pub lineWords : List ℕ → ℕ → List ℕ
-lineWords l octet = partedWords (linePartsOf l) l octet
+lineWords l octet = partedWords (linePartsOf Second l) l octet
 
 -- of a raw line at an octet of the logical line
 abbrev pub rawValueWords : List ℕ → ℕ → List ℕ

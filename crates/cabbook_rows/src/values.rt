@@ -11,6 +11,7 @@ use card_line::Parts;
 use numbers::limit;
 use numbers::refusal;
 use octets::slices::part;
+use property_table::Edition;
 
 // Adds what the value of a logical line with these parts should be at an octet of the line.
 fn put_parts(room: &mut [u8], at: usize, line: &[u8], p: Parts, octet: usize) -> usize
@@ -21,14 +22,14 @@ fn put_parts(room: &mut [u8], at: usize, line: &[u8], p: Parts, octet: usize) ->
     cabbook_messages::wants::put_wants(room, name_end, p.row, p.kind, after_backslash)
 }
 
-// Adds what the value of a logical line should be at an octet of the line; the words of the refusal where it breaks the line rule.
+// Adds what the value of a logical line should be at an octet of the line: edition two has the rows of both; the words of the refusal where it breaks the line rule.
 fn put_line(room: &mut [u8], at: usize, line: &[u8], octet: usize) -> usize
     requires { ⌜ length (now line) ≤ limit.octets ⌝ }
     ensures { λ r. ⌜ page r (now (room .exit)) ≡ added (lineWords (now (line .entry)) octet) (page at (now (room .entry))) ⌝ }
 {
     let t = octets::classes::table();
     let rows = property_table::table();
-    let parsed = card_line::parts_of(&t, &rows, line);
+    let parsed = card_line::parts_of(&t, &rows, Edition::Second, line);
     match parsed {
         LineParts::Line(p) => put_parts(room, at, line, p, octet),
         LineParts::Fault(_) => cabbook_messages::words::put_words(room, at, refusal::VALUE),

@@ -17,8 +17,9 @@ use Rattle.line_parser.specs.Rule.{parseLine}
 use Rattle.line_parser.specs.Places.{outcome, nameStart}
 use Rattle.line_parser.proofs.Inside.{InLine, in-line}
 use Rattle.line_parameters.proofs.PlacesLaw.{accepted-starts}
+use Rattle.property_table.specs.declared.Edition.{Edition}
 use Rattle.property_table.specs.Rows.{isGroup}
-use Rattle.value_kinds.specs.Kinds.{valueScan}
+use Rattle.value_kinds.specs.Kinds.{valueIn}
 use Rattle.value_kinds.specs.declared.Fault.{Fault}
 use Rattle.value_kinds.specs.declared.Fault.the-variants.{Fits, Breaks}
 use Rattle.card_state.specs.State.{Card, Step, Next, Refused, Flawed, inOrder, secondInstance, lineCard, noted, closed}
@@ -47,34 +48,34 @@ fitted start Fits s e g = g refl e
 fitted start (Breaks n) s e g = let z : _≡_ {A = ℕ} 0 1 = cc in absurd (omega arith)
 
 -- a line that was passed: it is clean, it has parts, they stand in order, and the state after it is what the card makes of it
-pub record Passed (c : Card) (at : ℕ) (l : List ℕ) (c′ : Card) : Type 0 where
+pub record Passed (ed : Edition) (c : Card) (at : ℕ) (l : List ℕ) (c′ : Card) : Type 0 where
   pub clean : firstBad (allowed false) l ≡ length l
   pub parts : Line
   pub start : ℕ
   pub parsed : parseLine l ≡ got parts start
-  pub order : inOrder (c .phase) (rowOfLine parts) ≡ true
-  pub unladen : laden (rowOfLine parts) (length (parts .group)) (length (parts .params)) ≡ false
-  pub fits : valueScan (rowOfLine parts) (kindOfLine parts) (parts .value) ≡ Fits
-  pub after : entered c at (rowOfLine parts) (altidOf parts) (parts .value) ≡ Next c′
+  pub order : inOrder (c .phase) (rowOfLine ed parts) ≡ true
+  pub unladen : laden (rowOfLine ed parts) (length (parts .group)) (length (parts .params)) ≡ false
+  pub fits : valueIn ed (rowOfLine ed parts) (kindOfLine ed parts) (parts .value) ≡ Fits
+  pub after : entered c at (rowOfLine ed parts) (altidOf parts) (parts .value) ≡ Next c′
 
-with-parts : (c c′ : Card) (at : ℕ) (l : List ℕ) (x : Line) (k : ℕ) → parseLine l ≡ got x k → firstBad (allowed false) l ≡ length l
-    → judgeParts c at (rowOfLine x) (length (x .group)) (length (x .params)) (kindOfLine x) (altidOf x) k (x .value) ≡ Next c′ → Passed c at l c′
+with-parts : (ed : Edition) (c c′ : Card) (at : ℕ) (l : List ℕ) (x : Line) (k : ℕ) → parseLine l ≡ got x k → firstBad (allowed false) l ≡ length l
+    → judgeParts ed c at (rowOfLine ed x) (length (x .group)) (length (x .params)) (kindOfLine ed x) (altidOf x) k (x .value) ≡ Next c′ → Passed ed c at l c′
 unfolding judgeParts
-with-parts c c′ at l x k p d q =
-    only 9 at (inOrder (c .phase) (rowOfLine x)) _ q (λ o q₁.
-    unless 8 at (laden (rowOfLine x) (length (x .group)) (length (x .params))) _ q₁ (λ u q₂.
-    fitted k (valueScan (rowOfLine x) (kindOfLine x) (x .value)) _ q₂ (λ f q₃.
+with-parts ed c c′ at l x k p d q =
+    only 9 at (inOrder (c .phase) (rowOfLine ed x)) _ q (λ o q₁.
+    unless 8 at (laden (rowOfLine ed x) (length (x .group)) (length (x .params))) _ q₁ (λ u q₂.
+    fitted k (valueIn ed (rowOfLine ed x) (kindOfLine ed x) (x .value)) _ q₂ (λ f q₃.
     record { clean = d; parts = x; start = k; parsed = p; order = o; unladen = u; fits = f; after = q₃ })))
 
-pub passed : (c c′ : Card) (at : ℕ) (l : List ℕ) → judgeLine c at l ≡ Next c′ → Passed c at l c′
+pub passed : (ed : Edition) (c c′ : Card) (at : ℕ) (l : List ℕ) → judgeLine ed c at l ≡ Next c′ → Passed ed c at l c′
 unfolding judgeLine
-passed c c′ at l e =
-    flawless 5 _ (ltb (firstBad (allowed false) l) (length l)) (judgeParsed c at (parseLine l)) e (λ t q.
+passed ed c c′ at l e =
+    flawless 5 _ (ltb (firstBad (allowed false) l) (length l)) (judgeParsed ed c at (parseLine l)) e (λ t q.
     by (parseLine l) refl q (omega (arith, ltb-false (firstBad (allowed false) l) (length l) t, bad-le (allowed false) l)))
   where
-    by : (m : Parse Line) → parseLine l ≡ m → judgeParsed c at m ≡ Next c′ → firstBad (allowed false) l ≡ length l → Passed c at l c′
+    by : (m : Parse Line) → parseLine l ≡ m → judgeParsed ed c at m ≡ Next c′ → firstBad (allowed false) l ≡ length l → Passed ed c at l c′
     by (bad x) p q d = let z : _≡_ {A = ℕ} 0 1 = cc in absurd (omega arith)
-    by (got x k) p q d = with-parts c c′ at l x k p d q
+    by (got x k) p q d = with-parts ed c c′ at l x k p d q
 
 -- the counts after a line: one line more, and one card more at END
 pub record Counted (c c′ : Card) : Type 0 where
@@ -110,39 +111,39 @@ entered-counts c c′ at row altid v e = by (eqb row 2) e
     by false q = noted-counts c c′ at row altid (isGroup v) q
 
 -- a judged line is one line more, and at most one card more
-pub one-more : (c c′ : Card) (p : ℕ) (l : List ℕ) → judgeLine c p l ≡ Next c′
+pub one-more : (ed : Edition) (c c′ : Card) (p : ℕ) (l : List ℕ) → judgeLine ed c p l ≡ Next c′
     → (c′ .lines ≡ c .lines + 1) × (c .cards ≤ c′ .cards) × (c′ .cards ≤ c .cards + 1)
-one-more c c′ p l e =
-    let w = passed c c′ p l e in
-    let k = entered-counts c c′ p (rowOfLine (w .parts)) (altidOf (w .parts)) (w .parts .value) (w .after) in
+one-more ed c c′ p l e =
+    let w = passed ed c c′ p l e in
+    let k = entered-counts c c′ p (rowOfLine ed (w .parts)) (altidOf (w .parts)) (w .parts .value) (w .after) in
     (k .lines, k .kept, k .raised)
 
 -- a line that was passed has whole characters and no control, is not empty, and starts with neither space nor tab
-pub line-clean : (c c′ : Card) (p : ℕ) (l : List ℕ) → judgeLine c p l ≡ Next c′
+pub line-clean : (ed : Edition) (c c′ : Card) (p : ℕ) (l : List ℕ) → judgeLine ed c p l ≡ Next c′
     → (firstBad (allowed false) l ≡ length l) × (hd l ≡ 32 → ⊥) × (hd l ≡ 9 → ⊥) × (0 < length l)
-line-clean c c′ p l e =
-    let w = passed c c′ p l e in
+line-clean ed c c′ p l e =
+    let w = passed ed c c′ p l e in
     let s = accepted-starts l (w .parts) (w .start) (w .parsed) in
     (w .clean, s .no-space, s .no-tab, s .some)
 
 -- where the parts of a line lie
 pub record Within (l : List ℕ) (x : Parts) : Type 0 where
   pub places : InLine l (x .«group_length») (x .«name_end») (x .«param_count») (x .«value_start»)
-  pub row : x .row < 39
+  pub row : x .row < 44
   pub kind : x .kind < 12
 
-pub parts-within : (l : List ℕ) (x : Parts) → linePartsOf l ≡ line x → Within l x
+pub parts-within : (ed : Edition) (l : List ℕ) (x : Parts) → linePartsOf ed l ≡ line x → Within l x
 unfolding linePartsOf
-parts-within l x e = by (parseLine l) refl e
+parts-within ed l x e = by (parseLine l) refl e
   where
-    by : (m : Parse Line) → parseLine l ≡ m → linePartsBy m ≡ line x → Within l x
+    by : (m : Parse Line) → parseLine l ≡ m → linePartsBy ed m ≡ line x → Within l x
     by (bad n) p q = let z : _≡_ {A = ℕ} 0 1 = cc in absurd (omega arith)
     by (got y k) p q =
-        let w : x ≡ record { row = rowOfLine y; «group_length» = length (y .group); «name_end» = nameEnd y; «param_count» = length (y .params); «value_start» = k; kind = kindOfLine y } = cc in
+        let w : x ≡ record { row = rowOfLine ed y; «group_length» = length (y .group); «name_end» = nameEnd y; «param_count» = length (y .params); «value_start» = k; kind = kindOfLine ed y } = cc in
         rw w record {
           places = in-line l (length (y .group)) (nameEnd y) (length (y .params)) k (ap outcome p);
-          row = row-of-line y;
-          kind = kind-of-line y;
+          row = row-of-line ed y;
+          kind = kind-of-line ed y;
         }
 
 group-before : (g n : ℕ) → nameStart g < n → g ≤ n
@@ -153,13 +154,13 @@ group-before g n h = by (eqb g 0) refl h
     by false e h = omega arith
 
 -- the same as bounds on the numbers
-pub parts-fit : (l : List ℕ) (x : Parts) → linePartsOf l ≡ line x
-    → (x .«name_end» ≤ length l) × (x .«value_start» ≤ length l) × (x .«group_length» ≤ x .«name_end») × (x .«param_count» ≤ length l) × (x .row < 39) × (x .kind < 12)
-parts-fit l x e =
-    let w = parts-within l x e in
+pub parts-fit : (ed : Edition) (l : List ℕ) (x : Parts) → linePartsOf ed l ≡ line x
+    → (x .«name_end» ≤ length l) × (x .«value_start» ≤ length l) × (x .«group_length» ≤ x .«name_end») × (x .«param_count» ≤ length l) × (x .row < 44) × (x .kind < 12)
+parts-fit ed l x e =
+    let w = parts-within ed l x e in
     let p = w .places in
     (omega (arith, p .params, p .value), p .value, group-before (x .«group_length») (x .«name_end») (p .name), omega (arith, p .params, p .value), w .row, w .kind)
 
 -- the name does not end before it starts
-pub name-long : (l : List ℕ) (x : Parts) → linePartsOf l ≡ line x → nameStart (x .«group_length») ≤ x .«name_end»
-name-long l x e = omega (arith, parts-within l x e .places .name)
+pub name-long : (ed : Edition) (l : List ℕ) (x : Parts) → linePartsOf ed l ≡ line x → nameStart (x .«group_length») ≤ x .«name_end»
+name-long ed l x e = omega (arith, parts-within ed l x e .places .name)

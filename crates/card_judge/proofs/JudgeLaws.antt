@@ -13,8 +13,9 @@ use Rattle.utf8.specs.Characters.{allowed, firstBad}
 use Rattle.line_parser.specs.Parse.{Parse, got, bad}
 use Rattle.line_parser.specs.Grammar.{Line}
 use Rattle.line_parser.specs.Rule.{parseLine}
+use Rattle.property_table.specs.declared.Edition.{Edition}
 use Rattle.value_kinds.specs.Shapes.{Shape, nullable, dead, derivative, faultFrom}
-use Rattle.value_kinds.specs.Kinds.{lineShape, valueScan}
+use Rattle.value_kinds.specs.Kinds.{lineShape, valueIn}
 use Rattle.value_kinds.specs.declared.Fault.{Fault}
 use Rattle.value_kinds.specs.declared.Fault.the-variants.{Fits, Breaks}
 use Rattle.card_line.specs.Parts.{altidName, altidOf, paramValue, firstValue, linePartsBy, linePartsOf}
@@ -25,11 +26,11 @@ use Rattle.card_line.specs.declared.LineParts.the-variants.{Line as line, Fault
 use Rattle.card_line.proofs.PartLaws.{Read, read-accepted, value-is}
 
 -- the judgement by what the tests of 9, 8 and 7 answer
-pub tests : (c : Card) (at row group params kind : ℕ) (altid : Option (List ℕ)) (start : ℕ) (v : List ℕ) {o l : Bool} {f : Fault}
-    → o ≡ inOrder (c .phase) row → l ≡ laden row group params → f ≡ valueScan row kind v
-    → judgeParts c at row group params kind altid start v ≡ pick (not o) (Refused 9 at) (pick l (Refused 8 at) (fitting start f (entered c at row altid v)))
+pub tests : (ed : Edition) (c : Card) (at row group params kind : ℕ) (altid : Option (List ℕ)) (start : ℕ) (v : List ℕ) {o l : Bool} {f : Fault}
+    → o ≡ inOrder (c .phase) row → l ≡ laden row group params → f ≡ valueIn ed row kind v
+    → judgeParts ed c at row group params kind altid start v ≡ pick (not o) (Refused 9 at) (pick l (Refused 8 at) (fitting start f (entered c at row altid v)))
 unfolding judgeParts
-tests c at row group params kind altid start v p q r = rw (p, q, r) (by (inOrder (c .phase) row) _)
+tests ed c at row group params kind altid start v p q r = rw (p, q, r) (by (inOrder (c .phase) row) _)
   where
     by : (o : Bool) (s : Step) → pick o s (Refused 9 at) ≡ pick (not o) (Refused 9 at) s
     by false s = refl
@@ -49,21 +50,21 @@ inside r i (x ∷ xs) k e = by (dead (derivative x r)) e (λ f. inside (derivati
     by true e f = let z : i ≡ k = cc in omega arith
     by false e f = omega (arith, f e)
 
-pub fault-inside : (row kind : ℕ) (v : List ℕ) (k : ℕ) → valueScan row kind v ≡ Breaks k → k ≤ length v
-unfolding valueScan
-fault-inside row kind v k e = omega (arith, inside (lineShape row kind) 0 v k e)
+pub fault-inside : (ed : Edition) (row kind : ℕ) (v : List ℕ) (k : ℕ) → valueIn ed row kind v ≡ Breaks k → k ≤ length v
+unfolding valueIn
+fault-inside ed row kind v k e = omega (arith, inside (lineShape ed row kind) 0 v k e)
 
-module _ (c : Card) (at : ℕ) (l : List ℕ) (clean : length l ≤ firstBad (allowed false) l) where
+module _ (ed : Edition) (c : Card) (at : ℕ) (l : List ℕ) (clean : length l ≤ firstBad (allowed false) l) where
   -- whole characters and no control: the line rule decides next
-  next : judgeLine c at l ≡ judgeParsed c at (parseLine l)
+  next : judgeLine ed c at l ≡ judgeParsed ed c at (parseLine l)
   unfolding judgeLine
   next = simp (le-ltb (firstBad (allowed false) l) (length l) clean)
 
-  pub refused : {e : ℕ} → fault e ≡ linePartsOf l → Refused e at ≡ judgeLine c at l
+  pub refused : {e : ℕ} → fault e ≡ linePartsOf ed l → Refused e at ≡ judgeLine ed c at l
   unfolding linePartsOf
   refused {e} h = by (parseLine l) h ∙ sym next
     where
-      by : (m : Parse Line) → fault e ≡ linePartsBy m → Refused e at ≡ judgeParsed c at m
+      by : (m : Parse Line) → fault e ≡ linePartsBy ed m → Refused e at ≡ judgeParsed ed c at m
       by (bad x) h = let z : e ≡ x = cc in ap (λ (n : ℕ). Refused n at) z
       by (got x k) h = let z : _≡_ {A = ℕ} 0 1 = cc in absurd (omega arith)
 
@@ -71,9 +72,9 @@ module _ (c : Card) (at : ℕ) (l : List ℕ) (clean : length l ≤ firstBad (al
   rest : (v : ℕ) → take (length l - v) (drop v l) ≡ drop v l
   rest v = take-all (length l - v) (drop v l) (rw length-drop (omega arith))
 
-  pub judged : (x : Parts) → Read l x
-      → judgeParts c at (x .row) (x .«group_length») (x .«param_count») (x .kind) (firstValue altidName l) (x .«value_start») (take (length l - x .«value_start») (drop (x .«value_start») l)) ≡ judgeLine c at l
+  pub judged : (x : Parts) → Read ed l x
+      → judgeParts ed c at (x .row) (x .«group_length») (x .«param_count») (x .kind) (firstValue altidName l) (x .«value_start») (take (length l - x .«value_start») (drop (x .«value_start») l)) ≡ judgeLine ed c at l
   unfolding altidOf paramValue
   judged x r =
-      rw (rest (x .«value_start»), r .row, r .group, r .params, r .kind, value-is l (x .«name_end») (read-accepted l x r) altidName, r .value)
-      (sym (next ∙ ap (judgeParsed c at) (r .parsed)))
+      rw (rest (x .«value_start»), r .row, r .group, r .params, r .kind, value-is l (x .«name_end») (read-accepted ed l x r) altidName, r .value)
+      (sym (next ∙ ap (judgeParsed ed c at) (r .parsed)))

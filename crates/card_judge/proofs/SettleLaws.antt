@@ -11,7 +11,7 @@ use lib.ListN.{length, drop, length-take, length-drop}
 use borrow.Author.Tests.{eqb-true, ne-eqb}
 use Rattle.octets.specs.Pick.{pick}
 use Rattle.octets.proofs.Bools.{by, and-both}
-use Rattle.property_table.specs.Rows.{rows, rowAt, single, onceAt, isGroup}
+use Rattle.property_table.specs.Rows.{rows, newer, allRows, rowAt, single, onceAt, isGroup}
 use Rattle.card_state.specs.State.{Card, Step, Next, Refused, Flawed, flagOf, onceFlag, isSeen, sameTag, tagOf, tagged, secondInstance, going, lineCard, noted, closed}
 use Rattle.card_state.specs.Kept.{placesOf, tagAt, Lies, cardOf, stepOf, Holds, goneOn, Keeps}
 use Rattle.card_state.specs.declared.Card.{Card as Kept}
@@ -29,7 +29,7 @@ use Rattle.card_judge.specs.declared.judge.Instance.{Instance}
 
 -- END is not marked *1
 end-often : onceAt 2 ≡ 0
-unfolding onceAt single rowAt rows
+unfolding onceAt single rowAt rows newer allRows
 end-often = refl
 
 not-end : (row : ℕ) → (onceAt row ≡ 0 → ⊥) → eqb row 2 ≡ false

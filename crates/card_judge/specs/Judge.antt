@@ -16,15 +16,18 @@ use Rattle.utf8.specs.Characters.{allowed, firstBad}
 use Rattle.line_parser.specs.Parse.{Parse, got, bad}
 use Rattle.line_parser.specs.Grammar.{Line}
 use Rattle.line_parser.specs.Rule.{parseLine}
+use Rattle.property_table.specs.declared.Edition.{Edition}
 use Rattle.property_table.specs.Rows.{isGroup, framing, Lists}
-use Rattle.value_kinds.specs.Kinds.{valueScan}
+use Rattle.value_kinds.specs.Kinds.{valueIn}
 use Rattle.value_automaton.specs.States.{Scanner}
 use Rattle.value_kinds.specs.declared.Fault.{Fault}
 use Rattle.value_kinds.specs.declared.Fault.the-variants.{Fits, Breaks}
 use Rattle.card_state.specs.State.{Card, Step, Refused, Flawed, inOrder, flagOf, isSeen, sameTag, tagOf, noted, closed}
 use Rattle.card_state.specs.Kept.{placesOf, tagAt, Lies, stepOf, Holds, Keeps}
 use Rattle.card_state.specs.declared.Card.{Card as Kept}
-use Rattle.card_line.specs.Parts.{rowOfLine, kindOfLine, altidOf}
+use Rattle.card_line.specs.Parts.{rowOfLine, kindOfLine, altidOf, linePartsOf}
+use Rattle.card_line.specs.declared.Parts.{Parts}
+use Rattle.card_line.specs.declared.LineParts.the-variants.{Line as line}
 use Rattle.line_parameters.specs.declared.First.{First}
 use Rattle.line_parameters.specs.declared.First.the-variants.{Between, Nothing}
 use Rattle.card_judge.specs.declared.judge.Judgement.{Judgement}
@@ -33,6 +36,10 @@ use Rattle.card_judge.specs.declared.judge.Instance.{Instance}
 -- the lent tables are those of classes, properties and transitions
 abbrev pub Tables : List ℕ → List ℕ → List ℕ → Type 0
 Tables t rows steps = Classes t × Lists rows × Scanner steps
+
+-- x are the parts of the line l in an edition
+abbrev pub Parted : Parts → List ℕ → Type 0
+Parted x l = (e : Edition) × (line x ≡ linePartsOf e l)
 
 -- 8: a group or a parameter on a line that frames a card
 unfoldable pub laden : ℕ → ℕ → ℕ → Bool
@@ -48,20 +55,20 @@ fitting start Fits next = next
 fitting start (Breaks octet) next = Flawed refusal.value (start + octet)
 
 -- group: the group's length; params: how many parameters; start: where the value starts in the line
-unfoldable pub judgeParts : Card → ℕ → ℕ → ℕ → ℕ → ℕ → Option (List ℕ) → ℕ → List ℕ → Step
-judgeParts c at row group params kind altid start value =
+unfoldable pub judgeParts : Edition → Card → ℕ → ℕ → ℕ → ℕ → ℕ → Option (List ℕ) → ℕ → List ℕ → Step
+judgeParts e c at row group params kind altid start value =
     pick (inOrder (c .phase) row)
-    (pick (laden row group params) (Refused refusal.laden at) (fitting start (valueScan row kind value) (entered c at row altid value)))
+    (pick (laden row group params) (Refused refusal.laden at) (fitting start (valueIn e row kind value) (entered c at row altid value)))
     (Refused refusal.order at)
 
-abbrev pub judgeParsed : Card → ℕ → Parse Line → Step
-judgeParsed c at (got x k) = judgeParts c at (rowOfLine x) (length (x .group)) (length (x .params)) (kindOfLine x) (altidOf x) k (x .value)
-judgeParsed c at (bad e) = Refused e at
+abbrev pub judgeParsed : Edition → Card → ℕ → Parse Line → Step
+judgeParsed e c at (got x k) = judgeParts e c at (rowOfLine e x) (length (x .group)) (length (x .params)) (kindOfLine e x) (altidOf x) k (x .value)
+judgeParsed e c at (bad n) = Refused n at
 
 -- 5: an octet that is not allowed, or no character; then the fault of the line rule, 40 to 43; then the parts of the line
-unfoldable pub judgeLine : Card → ℕ → List ℕ → Step
-judgeLine c at l =
-    pick (ltb (firstBad (allowed false) l) (length l)) (Flawed refusal.badOctet (firstBad (allowed false) l)) (judgeParsed c at (parseLine l))
+unfoldable pub judgeLine : Edition → Card → ℕ → List ℕ → Step
+judgeLine e c at l =
+    pick (ltb (firstBad (allowed false) l) (length l)) (Flawed refusal.badOctet (firstBad (allowed false) l)) (judgeParsed e c at (parseLine l))
 
 -- the octets between two places of a line
 abbrev pub part : ℕ → ℕ → List ℕ → List ℕ

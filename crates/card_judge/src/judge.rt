@@ -12,10 +12,10 @@ ghost use Rattle.numbers.specs.Kinds as kinds;
 ghost use Rattle.octets.specs.Pick.{pick};
 ghost use Rattle.octets.specs.Classes.{Classes};
 ghost use Rattle.property_table.specs.Rows.{onceAt, isGroup};
-ghost use Rattle.card_line.specs.Parts.{altidName, firstValue, linePartsOf};
+ghost use Rattle.card_line.specs.Parts.{altidName, firstValue};
 ghost use Rattle.card_state.specs.State.{Next, Counted, singles, inOrder, flagOf, onceFlag, isSeen, closed};
 ghost use Rattle.card_state.specs.Kept.{Lies, cardOf, stepOf, Holds, goneOn};
-ghost use Rattle.card_judge.specs.Judge.{Tables, laden, entered, judgeParts, judgeLine, readBy, Stored, Keeping, Spans, Told, Takes};
+ghost use Rattle.card_judge.specs.Judge.{Tables, Parted, laden, entered, judgeParts, judgeLine, readBy, Stored, Keeping, Spans, Told, Takes};
 use card_line::LineParts;
 use card_line::Parts;
 use card_state::Card;
@@ -24,6 +24,7 @@ use line_parameters::First;
 use numbers::property;
 use numbers::refusal;
 use octets::classes::ClassTable;
+use property_table::Edition;
 use property_table::rows::PropertyTable;
 use value_automaton::states::Transitions;
 use value_kinds::Fault;
@@ -67,7 +68,7 @@ fn is_laden(x: Parts) -> bool
 // Where the ALTID value of a line stands; of a line whose property may stand any number of times it is not looked for.
 fn altid_at(t: &ClassTable, s: &[u8], x: Parts, once: usize) -> First
     requires { ⌜ Classes (now t) ⌝ }
-    requires { ⌜ LineParts.Line x ≡ linePartsOf (now s) ⌝ }
+    requires { ⌜ Parted x (now s) ⌝ }
     ensures { λ r. ⌜ Spans r (now (s .entry)) (pick (eqb once 0) none (firstValue altidName (now (s .entry)))) ⌝ }
 {
     if once == 0 {
@@ -174,8 +175,8 @@ fn settle(
     c: Card,
 ) -> Judgement
     requires { ⌜ Classes (now t) ⌝ }
-    requires { ⌜ LineParts.Line x ≡ linePartsOf (now s) ⌝ }
-    requires { ⌜ (x .row < property.count) × ((once ≡ onceAt (x .row)) × (once ≤ limit.flags)) ⌝ }
+    requires { ⌜ Parted x (now s) ⌝ }
+    requires { ⌜ (x .row < property.all) × ((once ≡ onceAt (x .row)) × (once ≤ limit.flags)) ⌝ }
     requires { ⌜ again ≡ isSeen (onceFlag (x .row)) (c .seen) ⌝ }
     requires { ⌜ Counted (c .cards) (c .lines) ⌝ }
     requires { ⌜ Stored c (now store) (now s) ⌝ }
@@ -202,6 +203,7 @@ fn judge_parts(
     t: &ClassTable,
     rows: &PropertyTable,
     steps: &Transitions,
+    edition: Edition,
     s: &[u8],
     value: &[u8],
     x: Parts,
@@ -210,17 +212,17 @@ fn judge_parts(
     c: Card,
 ) -> Judgement
     requires { ⌜ Tables (now t) (now rows) (now steps) ⌝ }
-    requires { ⌜ LineParts.Line x ≡ linePartsOf (now s) ⌝ }
-    requires { ⌜ (x .row < property.count) × (x .kind < kinds.count) ⌝ }
+    requires { ⌜ Parted x (now s) ⌝ }
+    requires { ⌜ (x .row < property.all) × (x .kind < kinds.count) ⌝ }
     requires { ⌜ x .«value_start» + length (now value) ≤ limit.octets ⌝ }
     requires { ⌜ Counted (c .cards) (c .lines) ⌝ }
     requires { ⌜ Stored c (now store) (now s) ⌝ }
-    ensures { λ r. ⌜ readBy r (now (store .entry)) (now (s .entry)) ≡ judgeParts (cardOf c (now (store .entry))) at (x .row) (x .«group_length») (x .«param_count») (x .kind) (firstValue altidName (now (s .entry))) (x .«value_start») (now (value .entry)) ⌝ }
+    ensures { λ r. ⌜ readBy r (now (store .entry)) (now (s .entry)) ≡ judgeParts edition (cardOf c (now (store .entry))) at (x .row) (x .«group_length») (x .«param_count») (x .kind) (firstValue altidName (now (s .entry))) (x .«value_start») (now (value .entry)) ⌝ }
     ensures { λ r. ⌜ Keeping c (now (s .entry)) r ⌝ }
 {
     let misplaced = !in_order(c.phase, x.row);
     let laden = is_laden(x);
-    let fault = value_automaton::judge_value(steps, x.row, x.kind, value);
+    let fault = value_automaton::judge_value(steps, edition, x.row, x.kind, value);
     if misplaced {
         return unkept(Step::Refused(refusal::ORDER, at));
     }
@@ -235,11 +237,12 @@ fn judge_parts(
     settle(t, s, value, x, once, again, store, at, c)
 }
 
-// Judges the line s, which starts at `at` in the input; the store has the ALTID values that the card's state keeps.
+// Judges the line s in an edition, which starts at `at` in the input; the store has the ALTID values that the card's state keeps.
 pub fn judge_line(
     t: &ClassTable,
     rows: &PropertyTable,
     steps: &Transitions,
+    edition: Edition,
     s: &[u8],
     store: &[u8],
     at: usize,
@@ -248,18 +251,18 @@ pub fn judge_line(
     requires { ⌜ Tables (now t) (now rows) (now steps) ⌝ }
     requires { ⌜ Counted (c .cards) (c .lines) ⌝ }
     requires { ⌜ Stored c (now store) (now s) ⌝ }
-    ensures { λ r. ⌜ readBy r (now (store .entry)) (now (s .entry)) ≡ judgeLine (cardOf c (now (store .entry))) at (now (s .entry)) ⌝ }
+    ensures { λ r. ⌜ readBy r (now (store .entry)) (now (s .entry)) ≡ judgeLine edition (cardOf c (now (store .entry))) at (now (s .entry)) ⌝ }
     ensures { λ r. ⌜ Keeping c (now (s .entry)) r ⌝ }
 {
     let bad = utf8_screening::units::first_bad(t, s, false);
     if bad < s.len() {
         return unkept(Step::Flawed(refusal::BAD_OCTET, bad));
     }
-    match card_line::parts_of(t, rows, s) {
+    match card_line::parts_of(t, rows, edition, s) {
         LineParts::Fault(e) => unkept(Step::Refused(e, at)),
         LineParts::Line(x) => {
             let start = x.value_start;
-            judge_parts(t, rows, steps, s, &s[start..], x, store, at, c)
+            judge_parts(t, rows, steps, edition, s, &s[start..], x, store, at, c)
         }
     }
 }

@@ -30,8 +30,9 @@ use Rattle.octets.specs.Pick.{pick}
 use Rattle.octets.proofs.Upto.{upto, alike}
 use Rattle.octets.specs.Cases.{same}
 use Rattle.octets.specs.Ascii.{octets}
-use Rattle.property_table.specs.Rows.{Row, rows, rowAt, search, rowOf, kindAt, framing, takesValue, ruleAt, kindNamed, says, valueKind, dateKind, zoneKind, lineKind, valueName, calscaleName}
-use Rattle.property_table.proofs.RowLaws.{kind-low}
+use Rattle.property_table.specs.declared.Edition.{Edition}
+use Rattle.property_table.specs.Rows.{rows, newer, allRows, rowAt, rowOf, kindAt, framing, takesValue, ruleAt, kindNamed, says, valueKind, dateKind, zoneKind, lineKind, valueName, calscaleName}
+use Rattle.property_table.proofs.RowLaws.{count-low, row-low, kind-low}
 use Rattle.card_line.specs.Parts.{octetsOf, paramValue, rowOfLine, kindOfLine, faultOf, Accepted, firstValue, valueBy, linePartsBy, linePartsOf}
 use Rattle.card_line.specs.declared.Parts.{Parts}
 use Rattle.card_line.specs.declared.LineParts.the-variants.{Line as line, Fault as fault}
@@ -128,20 +129,20 @@ unfolding accepted
 uncounted l g n c v k e name = unnamed l n (accepted l g n c v k) name (sym (k .placed .count) ∙ e)
 
 -- so it has its row's own kind
-pub own-kind : (row : ℕ) (value calscale : Option (List ℕ)) → row < 39 → value ≡ none → calscale ≡ none → kindAt row ≡ lineKind row value calscale
-unfolding upto lineKind ruleAt takesValue framing kindAt rowAt rows valueKind dateKind zoneKind says
-own-kind row value calscale h e f = rw (e, f) (alike kindAt (λ n. lineKind n none none) 39 refl row h)
+pub own-kind : (row : ℕ) (value calscale : Option (List ℕ)) → row < 44 → value ≡ none → calscale ≡ none → kindAt row ≡ lineKind row value calscale
+unfolding upto lineKind ruleAt takesValue framing kindAt rowAt rows newer allRows valueKind dateKind zoneKind says
+own-kind row value calscale h e f = rw (e, f) (alike kindAt (λ n. lineKind n none none) 44 refl row h)
 
 -- the parts of a line
-pub parts-by : (l : List ℕ) (g n c v : ℕ) (k : Known l g n c v) (row kind : ℕ) → row ≡ rowOfLine (k .parts)
+pub parts-by : (ed : Edition) (l : List ℕ) (g n c v : ℕ) (k : Known l g n c v) (row kind : ℕ) → row ≡ rowOfLine ed (k .parts)
     → kind ≡ lineKind row (firstValue valueName l) (firstValue calscaleName l)
-    → line (record { row = row; «group_length» = g; «name_end» = n; «param_count» = c; «value_start» = v; kind = kind }) ≡ linePartsOf l
+    → line (record { row = row; «group_length» = g; «name_end» = n; «param_count» = c; «value_start» = v; kind = kind }) ≡ linePartsOf ed l
 unfolding linePartsOf kindOfLine firstValue
-parts-by l g n c v k row kind er ek =
-    let t = ap linePartsBy (k .parsed) in
+parts-by ed l g n c v k row kind er ek =
+    let t = ap (linePartsBy ed) (k .parsed) in
     let value = ap (valueBy valueName) (k .parsed) in
     let calscale = ap (valueBy calscaleName) (k .parsed) in
-    let w : kind ≡ lineKind (rowOfLine (k .parts)) (paramValue valueName (k .parts)) (paramValue calscaleName (k .parts)) = cc (ek, value, calscale, er) in
+    let w : kind ≡ lineKind (rowOfLine ed (k .parts)) (paramValue valueName (k .parts)) (paramValue calscaleName (k .parts)) = cc (ek, value, calscale, er) in
     rw t (cc (er, w, k .placed .group-length, k .placed .name-end, k .placed .count))
 
 -- an answer that is no fault
@@ -153,12 +154,12 @@ no-fault (Parsed g n c v) k = refl
 no-fault (Fault e) k = absurd (miss (0 ∷ 1 ∷ 2 ∷ 3 ∷ []) 4 tt k)
 
 -- an answer that is no line is the fault that is answered
-pub parts-fault : (l : List ℕ) (p : Answer) (e : ℕ) → p ≡ outcome (parseLine l) → OneOf (0 ∷ 1 ∷ 2 ∷ 4 ∷ []) (tagOf the-type p) → e ≡ faultOf p
-    → fault e ≡ linePartsOf l
+pub parts-fault : (ed : Edition) (l : List ℕ) (p : Answer) (e : ℕ) → p ≡ outcome (parseLine l) → OneOf (0 ∷ 1 ∷ 2 ∷ 4 ∷ []) (tagOf the-type p) → e ≡ faultOf p
+    → fault e ≡ linePartsOf ed l
 unfolding linePartsOf
-parts-fault l p e h k q = by (parseLine l) h
+parts-fault ed l p e h k q = by (parseLine l) h
   where
-    by : (m : Parse Line) → p ≡ outcome m → fault e ≡ linePartsBy m
+    by : (m : Parse Line) → p ≡ outcome m → fault e ≡ linePartsBy ed m
     by (bad x) h = ap fault (q ∙ ap faultOf h)
     by (got x n) h = absurd (miss (0 ∷ 1 ∷ 2 ∷ 4 ∷ []) 3 tt (subst (λ (t : Answer). OneOf (0 ∷ 1 ∷ 2 ∷ 4 ∷ []) (tagOf the-type t)) h k))
 
@@ -168,20 +169,7 @@ group-low l (suc g) n c v i h =
     let k : suc g + 1 < n = rw (ne-eqb (suc g) 0 (λ e. omega arith)) at (i .name) in
     omega (arith, i .params, i .value)
 
--- a row's number is below 39, and a kind's below 12
-found-low : (v : List ℕ) (i : ℕ) (rs : List Row) → 0 < i → search v i rs < i + length rs
-unfolding search
-found-low v i [] h = omega arith
-found-low v i (r ∷ rs) h = by (same v (r .name)) (found-low v (suc i) rs (omega arith))
-  where
-    by : (t : Bool) → search v (suc i) rs < suc i + length rs → pick t i (search v (suc i) rs) < i + suc (length rs)
-    by true f = omega arith
-    by false f = omega arith
-
-pub row-low : (v : List ℕ) → rowOf v < 39
-unfolding rowOf rows
-row-low v = found-low v 1 rows (omega arith)
-
+-- a kind's number is below 12
 pick-low : (t : Bool) (a b : ℕ) → a < 12 → b < 12 → pick t a b < 12
 pick-low true a b g h = g
 pick-low false a b g h = h
@@ -195,7 +183,7 @@ unfolding valueKind
 value-low k none h = h
 value-low k (some v) h = named-low v
 
-line-kind-low : (n : ℕ) (o p : Option (List ℕ)) → n < 39 → lineKind n o p < 12
+line-kind-low : (n : ℕ) (o p : Option (List ℕ)) → n < 44 → lineKind n o p < 12
 unfolding lineKind dateKind zoneKind
 line-kind-low n o p h =
     pick-low (eqb (ruleAt n) 0) _ _ (kind-low n h)
@@ -204,37 +192,37 @@ line-kind-low n o p h =
     (pick-low (says (octets "text") false o) _ _ (omega arith) (pick-low (says (octets "gregorian") true p) _ _ (omega arith) (omega arith)))
     (pick-low (says (octets "utc-offset") false o) _ _ (omega arith) (value-low 1 o (omega arith)))))
 
-pub row-of-line : (y : Line) → rowOfLine y < 39
+pub row-of-line : (ed : Edition) (y : Line) → rowOfLine ed y < 44
 unfolding rowOfLine
-row-of-line y = row-low (y .name)
+row-of-line ed y = omega (arith, row-low ed (y .name), count-low ed)
 
-pub kind-of-line : (y : Line) → kindOfLine y < 12
-unfolding kindOfLine rowOfLine
-kind-of-line y = line-kind-low (rowOf (y .name)) (paramValue valueName y) (paramValue calscaleName y) (row-low (y .name))
+pub kind-of-line : (ed : Edition) (y : Line) → kindOfLine ed y < 12
+unfolding kindOfLine
+kind-of-line ed y = line-kind-low (rowOfLine ed y) (paramValue valueName y) (paramValue calscaleName y) (row-of-line ed y)
 
 -- what is known of a line by its parts
-pub record Read (l : List ℕ) (x : Parts) : Type 0 where
+pub record Read (ed : Edition) (l : List ℕ) (x : Parts) : Type 0 where
   pub parts : Line
   pub parsed : parseLine l ≡ got parts (x .«value_start»)
-  pub row : x .row ≡ rowOfLine parts
+  pub row : x .row ≡ rowOfLine ed parts
   pub group : x .«group_length» ≡ length (parts .group)
   pub params : x .«param_count» ≡ length (parts .params)
-  pub kind : x .kind ≡ kindOfLine parts
-  pub listed : x .row < 39
+  pub kind : x .kind ≡ kindOfLine ed parts
+  pub listed : x .row < 44
   pub low : x .kind < 12
   pub ends : x .«name_end» ≡ nameEnd parts
   pub inside : x .«value_start» ≤ length l
   pub value : drop (x .«value_start») l ≡ parts .value
 
-pub read : (l : List ℕ) (x : Parts) → line x ≡ linePartsOf l → Read l x
+pub read : (ed : Edition) (l : List ℕ) (x : Parts) → line x ≡ linePartsOf ed l → Read ed l x
 unfolding linePartsOf
-read l x h = by (parseLine l) refl h
+read ed l x h = by (parseLine l) refl h
   where
-    by : (m : Parse Line) → parseLine l ≡ m → line x ≡ linePartsBy m → Read l x
+    by : (m : Parse Line) → parseLine l ≡ m → line x ≡ linePartsBy ed m → Read ed l x
     by (bad e) p q = let z : _≡_ {A = ℕ} 0 1 = cc in absurd (omega arith)
     by (got y k) p q =
         let w = known l (length (y .group)) (nameEnd y) (length (y .params)) k (sym (ap outcome p)) in
-        let e : x ≡ record { row = rowOfLine y; «group_length» = length (y .group); «name_end» = nameEnd y; «param_count» = length (y .params); «value_start» = k; kind = kindOfLine y } = cc in
+        let e : x ≡ record { row = rowOfLine ed y; «group_length» = length (y .group); «name_end» = nameEnd y; «param_count» = length (y .params); «value_start» = k; kind = kindOfLine ed y } = cc in
         let same-parts : w .parts ≡ y = cc (w .parsed, p) in
         rw e record {
           parts = y;
@@ -243,16 +231,16 @@ read l x h = by (parseLine l) refl h
           group = refl;
           params = refl;
           kind = refl;
-          listed = row-of-line y;
-          low = kind-of-line y;
+          listed = row-of-line ed y;
+          low = kind-of-line ed y;
           ends = refl;
           inside = w .inside .value;
           value = w .placed .value ∙ ap (λ (z : Line). z .value) same-parts;
         }
 
 -- the line rule accepts a line that has parts
-abbrev pub read-accepted : (l : List ℕ) (x : Parts) → Read l x → Accepted l (x .«name_end»)
-read-accepted l x r = record { parts = r .parts; start = x .«value_start»; parsed = r .parsed; ends = r .ends }
+abbrev pub read-accepted : (ed : Edition) (l : List ℕ) (x : Parts) → Read ed l x → Accepted l (x .«name_end»)
+read-accepted ed l x r = record { parts = r .parts; start = x .«value_start»; parsed = r .parsed; ends = r .ends }
 
-pub no-params : (l : List ℕ) (x : Parts) → (r : Read l x) → (name : List ℕ) → x .«param_count» ≡ 0 → firstValue name l ≡ none
-no-params l x r name e = unnamed l (x .«name_end») (read-accepted l x r) name (sym (r .params) ∙ e)
+pub no-params : (ed : Edition) (l : List ℕ) (x : Parts) → (r : Read ed l x) → (name : List ℕ) → x .«param_count» ≡ 0 → firstValue name l ≡ none
+no-params ed l x r name e = unnamed l (x .«name_end») (read-accepted ed l x r) name (sym (r .params) ∙ e)

@@ -11,6 +11,7 @@ use Rattle.line_parser.specs.Rule.{parseLine}
 use Rattle.line_parameters.specs.First.{firstNamed, valueOctets}
 use Rattle.line_parser.specs.declared.rule.Part.{Part}
 use Rattle.line_parser.specs.declared.rule.Part.the-variants.{Upto, Named, Listed, Parsed, Fault}
+use Rattle.property_table.specs.declared.Edition.{Edition}
 use Rattle.property_table.specs.Rows.{rowOf, lineKind, valueName, calscaleName}
 use Rattle.card_line.specs.declared.LineParts.{LineParts}
 use Rattle.card_line.specs.declared.LineParts.the-variants.{Line as line, Fault as fault}
@@ -31,28 +32,28 @@ altidName = octets "ALTID"
 unfoldable pub altidOf : Line → Option (List ℕ)
 altidOf x = paramValue altidName x
 
--- the row of a line, and the kind of its value by row, VALUE and CALSCALE
-unfoldable pub rowOfLine : Line → ℕ
-rowOfLine x = rowOf (x .name)
+-- the row of a line in an edition, and the kind of its value by row, VALUE and CALSCALE
+unfoldable pub rowOfLine : Edition → Line → ℕ
+rowOfLine e x = rowOf e (x .name)
 
-unfoldable pub kindOfLine : Line → ℕ
-kindOfLine x = lineKind (rowOfLine x) (paramValue valueName x) (paramValue calscaleName x)
+unfoldable pub kindOfLine : Edition → Line → ℕ
+kindOfLine e x = lineKind (rowOfLine e x) (paramValue valueName x) (paramValue calscaleName x)
 
 -- the parts by a parse
-abbrev pub linePartsBy : Parse Line → LineParts
-linePartsBy (got x k) =
+abbrev pub linePartsBy : Edition → Parse Line → LineParts
+linePartsBy e (got x k) =
     line (record {
-      row = rowOfLine x;
+      row = rowOfLine e x;
       «group_length» = length (x .group);
       «name_end» = nameEnd x;
       «param_count» = length (x .params);
       «value_start» = k;
-      kind = kindOfLine x;
+      kind = kindOfLine e x;
     })
-linePartsBy (bad e) = fault e
+linePartsBy e (bad n) = fault n
 
-unfoldable pub linePartsOf : List ℕ → LineParts
-linePartsOf l = linePartsBy (parseLine l)
+unfoldable pub linePartsOf : Edition → List ℕ → LineParts
+linePartsOf e l = linePartsBy e (parseLine l)
 
 -- the fault of a part that was refused
 abbrev pub faultOf : Part → ℕ

@@ -15,6 +15,7 @@ use line_parser::rule::Part;
 use numbers::kind;
 use octets::cases::same_name;
 use octets::classes::ClassTable;
+use property_table::Edition;
 use property_table::rows::PropertyTable;
 
 // The parts of a line that keeps the line rule.
@@ -131,7 +132,7 @@ fn kind_at(
 ) -> usize
     requires { ⌜ Classes (now t) ⌝ }
     requires { ⌜ Lists (now rows) ⌝ }
-    requires { ⌜ row < property.count ⌝ }
+    requires { ⌜ row < property.all ⌝ }
     requires { ⌜ Accepted (now s) «name_end» ⌝ }
     requires { ⌜ («param_count» ≡ 0 → (name : List ℕ) → firstValue name (now s) ≡ none) ⌝ }
     ensures { λ r. ⌜ r ≡ lineKind row (firstValue valueName (now (s .entry))) (firstValue calscaleName (now (s .entry))) ⌝ }
@@ -149,11 +150,16 @@ fn kind_at(
 }
 
 // The parts of a line, or the fault by which it breaks the line rule.
-pub fn parts_of(t: &ClassTable, rows: &PropertyTable, s: &[u8]) -> LineParts
+pub fn parts_of(
+    t: &ClassTable,
+    rows: &PropertyTable,
+    edition: Edition,
+    s: &[u8],
+) -> LineParts
     requires { ⌜ Classes (now t) ⌝ }
     requires { ⌜ Lists (now rows) ⌝ }
     requires { ⌜ length (now s) ≤ limit.octets ⌝ }
-    ensures { λ r. ⌜ r ≡ linePartsOf (now (s .entry)) ⌝ }
+    ensures { λ r. ⌜ r ≡ linePartsOf edition (now (s .entry)) ⌝ }
 {
     let p = line_parser::rule::read_line(t, s);
     let Part::Parsed {
@@ -166,7 +172,7 @@ pub fn parts_of(t: &ClassTable, rows: &PropertyTable, s: &[u8]) -> LineParts
         return LineParts::Fault(fault_of(p));
     };
     let start = name_start(group_length);
-    let row = property_table::find_row(rows, &s[start..name_end]);
+    let row = property_table::find_row(rows, edition, &s[start..name_end]);
     let kind = kind_at(t, rows, s, row, name_end, param_count);
     LineParts::Line(Parts {
         row,

@@ -12,30 +12,32 @@ use lib.Seq.{drop-cons, take-append-seam, drop-append-seam, take-append-le, take
 use borrow.Author.Tests.{eq-eqb, ne-eqb, leb-true}
 use Rattle.octets.specs.Ascii.{octets}
 use Rattle.octets.proofs.Upto.{upto, alike}
-use Rattle.property_table.specs.Rows.{rows, rowAt, single, marks, onceAt}
+use Rattle.property_table.specs.Rows.{rows, newer, allRows, rowAt, single, marks, onceAt}
 use Rattle.card_state.specs.State.{Card, Next, freshCard, equal, tagged, going}
 use Rattle.card_state.specs.Kept.{placesOf, span, placeOf, endOf, tagAt, Inside, Lies, cardOf, stepOf, Holds, noTags, freshKept, goneOn, Keeps}
 use Rattle.card_state.specs.declared.Card.{Card as Kept}
 use Rattle.card_state.specs.declared.Step.{Step as KeptStep}
 use Rattle.card_state.specs.declared.Step.the-variants.{Next as next, Refused as refused, Flawed as flawed}
 
--- there are eight properties marked *1
-pub once-eight : (row : ℕ) → row < 39 → onceAt row ≤ 8
-unfolding upto onceAt single marks rowAt rows
-once-eight row h = leb-true _ _ (alike (λ j. leb (onceAt j) 8) (λ j. true) 39 refl row h)
+-- there are ten properties marked *1
+pub once-ten : (row : ℕ) → row < 44 → onceAt row ≤ 10
+unfolding upto onceAt single marks rowAt rows newer allRows
+once-ten row h = leb-true _ _ (alike (λ j. leb (onceAt j) 10) (λ j. true) 44 refl row h)
 
 -- a number from n on that is not n
 up : (k n : ℕ) → n ≤ k → (k ≡ n → ⊥) → suc n ≤ k
 up k n h f = omega arith
 
--- a number from 1 to 8 that is none of the first seven
-pub eighth : (k : ℕ) → 0 < k → k ≤ 8 → (k ≡ 1 → ⊥) → (k ≡ 2 → ⊥) → (k ≡ 3 → ⊥) → (k ≡ 4 → ⊥) → (k ≡ 5 → ⊥) → (k ≡ 6 → ⊥) → (k ≡ 7 → ⊥) → k ≡ 8
-eighth k h g a b c d e f i =
-    let eight = up k 7 (up k 6 (up k 5 (up k 4 (up k 3 (up k 2 (up k 1 h a) b) c) d) e) f) i in
-    least eight g
+-- a number from 6 to 10 that is none of the first four of them
+pub tenth : (k : ℕ) → 5 < k → k ≤ 10 → (k ≡ 6 → ⊥) → (k ≡ 7 → ⊥) → (k ≡ 8 → ⊥) → (k ≡ 9 → ⊥) → k ≡ 10
+tenth k h g a b c d = least (up k 9 (up k 8 (up k 7 (up k 6 h a) b) c) d) g
   where
-    least : 8 ≤ k → k ≤ 8 → k ≡ 8
+    least : 10 ≤ k → k ≤ 10 → k ≡ 10
     least x y = omega arith
+
+-- a number from 1 on that is none of the first five
+pub later : (k : ℕ) → 0 < k → (k ≡ 1 → ⊥) → (k ≡ 2 → ⊥) → (k ≡ 3 → ⊥) → (k ≡ 4 → ⊥) → (k ≡ 5 → ⊥) → 5 < k
+later k h a b c d e = up k 5 (up k 4 (up k 3 (up k 2 (up k 1 h a) b) c) d) e
 
 pub equal-length : (a b : List ℕ) → (length a ≡ length b → ⊥) → equal a b ≡ false
 unfolding equal
@@ -115,7 +117,7 @@ inside-more (p ∷ ps) n m g h = (omega (arith, h .0), inside-more ps n m g (h .
 -- where no value is kept
 pub none-lie : Inside 0 (placesOf noTags)
 unfolding Inside placesOf endOf
-none-lie = (omega arith, (omega arith, (omega arith, (omega arith, (omega arith, (omega arith, (omega arith, (omega arith, tt))))))))
+none-lie = (omega arith, (omega arith, (omega arith, (omega arith, (omega arith, (omega arith, (omega arith, (omega arith, (omega arith, (omega arith, tt))))))))))
 
 -- before the first line nothing is kept
 pub fresh-card : (store : List ℕ) → cardOf freshKept store ≡ freshCard

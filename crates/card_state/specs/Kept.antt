@@ -16,7 +16,7 @@ use Rattle.card_state.specs.declared.Step.the-variants.{Next as next, Re
 
 -- the places, in the order of the properties marked *1
 unfoldable pub placesOf : Tags → List ℕ
-placesOf t = t .kind ∷ t .n ∷ t .bday ∷ t .anniversary ∷ t .gender ∷ t .prodid ∷ t .rev ∷ t .uid ∷ []
+placesOf t = t .kind ∷ t .n ∷ t .bday ∷ t .anniversary ∷ t .gender ∷ t .prodid ∷ t .rev ∷ t .uid ∷ t .created ∷ t .language ∷ []
 
 -- more than the octets of any input
 abbrev pub span : ℕ
@@ -69,7 +69,7 @@ Holds n (refused k p) = Unit {0}
 Holds n (flawed k o) = Unit {0}
 
 abbrev pub noTags : Tags
-noTags = record { kind = 0; n = 0; bday = 0; anniversary = 0; gender = 0; prodid = 0; rev = 0; uid = 0 }
+noTags = record { kind = 0; n = 0; bday = 0; anniversary = 0; gender = 0; prodid = 0; rev = 0; uid = 0; created = 0; language = 0 }
 
 abbrev pub freshKept : Kept
 freshKept = record { phase = beforeBegin; seen = 0; tags = noTags; used = 0; «has_fn» = false; «has_member» = false; «is_group» = false; cards = 0; lines = 0 }

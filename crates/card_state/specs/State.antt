@@ -49,9 +49,9 @@ beforeVersion = 1
 abbrev pub inside : ℕ
 inside = 2
 
--- how many properties are marked *1
+-- how many properties are marked *1, those of edition two with them
 abbrev pub singles : ℕ
-singles = 8
+singles = 10
 
 -- no ALTID value
 abbrev pub untagged : List (Option (List ℕ))

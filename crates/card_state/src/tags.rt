@@ -19,6 +19,8 @@ pub struct Tags {
     pub prodid: u32,
     pub rev: u32,
     pub uid: u32,
+    pub created: u32,
+    pub language: u32,
 }
 
 // More than the octets of any input: a place is one more than the value's start times SPAN and its length.
@@ -37,6 +39,8 @@ pub fn none() -> Tags
         prodid: 0,
         rev: 0,
         uid: 0,
+        created: 0,
+        language: 0,
     }
 }
 
@@ -66,7 +70,39 @@ fn place_at(t: Tags, k: usize) -> u32
     if k == 7 {
         return t.rev;
     }
-    t.uid
+    if k == 8 {
+        return t.uid;
+    }
+    if k == 9 {
+        return t.created;
+    }
+    t.language
+}
+
+// The places with another one for the k-th property, counted from 1, from the sixth on.
+fn with_later_place(t: Tags, k: usize, place: u32) -> Tags
+    requires { ⌜ (5 < k) × (k ≤ singles) ⌝ }
+    ensures { λ r. ⌜ placesOf r ≡ set (placesOf t) (k - 1) place ⌝ }
+{
+    let mut r = t;
+    if k == 6 {
+        r.prodid = place;
+        return r;
+    }
+    if k == 7 {
+        r.rev = place;
+        return r;
+    }
+    if k == 8 {
+        r.uid = place;
+        return r;
+    }
+    if k == 9 {
+        r.created = place;
+        return r;
+    }
+    r.language = place;
+    r
 }
 
 // The places with another one for the k-th property, counted from 1.
@@ -95,16 +131,7 @@ fn with_place(t: Tags, k: usize, place: u32) -> Tags
         r.gender = place;
         return r;
     }
-    if k == 6 {
-        r.prodid = place;
-        return r;
-    }
-    if k == 7 {
-        r.rev = place;
-        return r;
-    }
-    r.uid = place;
-    r
+    with_later_place(t, k, place)
 }
 
 // Whether two texts are equal octet for octet.

@@ -5,14 +5,14 @@ use Prim.Native.Nat.{ℕ}
 use denote.Enum.Declared.{tagOf}
 use types.Run.{OneOf, miss}
 use Rattle.console_requests.specs.declared.Name.{Name}
-use Rattle.console_requests.specs.declared.Name.the-variants.{Judge, Read, Fold, Escape, Unescape, Desk, Open, Add, Check, Show, Held, Release, Pool, Next, Encode, Decode, FoldIn, Offset, Report, Take, Print, Count, Bad}
+use Rattle.console_requests.specs.declared.Name.the-variants.{Judge, Read, Fold, Escape, Unescape, Desk, Open, Add, Check, Show, Held, Release, Pool, Next, Encode, Decode, FoldIn, Offset, Report, Take, Print, Count, JudgeIn, ReadIn, Bad}
 use Rattle.console_requests.proofs.Name.{the-type}
 use Rattle.console_desk.specs.DeskAnswers.{State, withPool, saysBad}
 use Rattle.console.specs.Dispatch.{answerBy, Whole, beside, answerAny}
 
 -- the desk's side takes none of the report's
 abbrev pub reports : List ℕ
-reports = 18 ∷ 19 ∷ 20 ∷ 21 ∷ 22 ∷ []
+reports = 18 ∷ 19 ∷ 20 ∷ 21 ∷ 24 ∷ []
 
 pub none-of-these : (q : Name) (n k m : ℕ) (sent : List ℕ) (t : State) (pool : List ℕ) → OneOf reports (tagOf the-type q)
     → withPool (saysBad t) pool ≡ answerBy q n k m sent t pool
@@ -39,11 +39,13 @@ none-of-these Report n k m sent t pool h = refl
 none-of-these Take n k m sent t pool h = refl
 none-of-these Print n k m sent t pool h = refl
 none-of-these Count n k m sent t pool h = refl
+none-of-these JudgeIn n k m sent t pool h = absurd (miss reports 22 tt h)
+none-of-these ReadIn n k m sent t pool h = absurd (miss reports 23 tt h)
 none-of-these Bad n k m sent t pool h = refl
 
 -- all others are the desk's side's
 abbrev pub notReports : List ℕ
-notReports = 0 ∷ 1 ∷ 2 ∷ 3 ∷ 4 ∷ 5 ∷ 6 ∷ 7 ∷ 8 ∷ 9 ∷ 10 ∷ 11 ∷ 12 ∷ 13 ∷ 14 ∷ 15 ∷ 16 ∷ 17 ∷ 22 ∷ []
+notReports = 0 ∷ 1 ∷ 2 ∷ 3 ∷ 4 ∷ 5 ∷ 6 ∷ 7 ∷ 8 ∷ 9 ∷ 10 ∷ 11 ∷ 12 ∷ 13 ∷ 14 ∷ 15 ∷ 16 ∷ 17 ∷ 22 ∷ 23 ∷ 24 ∷ []
 
 pub any-other : (q : Name) (n k m : ℕ) (sent : List ℕ) (w : Whole) → OneOf notReports (tagOf the-type q)
     → beside (answerBy q n k m sent (w .kept .state) (w .pool)) (w .kept .report) ≡ answerAny q n k m sent w
@@ -70,4 +72,6 @@ any-other Report n k m sent w h = absurd (miss notReports 18 tt h)
 any-other Take n k m sent w h = absurd (miss notReports 19 tt h)
 any-other Print n k m sent w h = absurd (miss notReports 20 tt h)
 any-other Count n k m sent w h = absurd (miss notReports 21 tt h)
+any-other JudgeIn n k m sent w h = refl
+any-other ReadIn n k m sent w h = refl
 any-other Bad n k m sent w h = refl

@@ -8,9 +8,10 @@ use Rattle.octets.specs.Slices.{part}
 use Rattle.console_requests.specs.Requests.{Requested, requestOf}
 use Rattle.console_requests.specs.declared.Request.{Request}
 use Rattle.console_requests.specs.declared.Name.{Name}
-use Rattle.console_requests.specs.declared.Name.the-variants.{Judge, Read, Fold, Escape, Unescape, Desk, Open, Add, Check, Show, Held, Release, Pool, Next, Encode, Decode, FoldIn, Offset, Report, Take, Print, Count, Bad}
+use Rattle.console_requests.specs.declared.Name.the-variants.{Judge, Read, Fold, Escape, Unescape, Desk, Open, Add, Check, Show, Held, Release, Pool, Next, Encode, Decode, FoldIn, Offset, Report, Take, Print, Count, JudgeIn, ReadIn, Bad}
+use Rattle.property_table.specs.declared.Edition.the-variants.{First}
 use Rattle.label_carets.specs.declared.Rule.the-variants.{Rfc6350, Rfc6868}
-use Rattle.console_entries.specs.Entries.{judgeAnswer, offsetAnswer, readAnswer, writeAnswer, chosenAnswer, foldAnswer}
+use Rattle.console_entries.specs.Entries.{judgeAnswer, judgeInAnswer, offsetAnswer, readAnswer, readInAnswer, writeAnswer, chosenAnswer, foldAnswer}
 use Rattle.console_desk.specs.DeskAnswers.{State, WithPool, withPool, says, saysBad, deskAnswer, nextAnswer, changeAnswer, lookAnswer, poolAnswer}
 use Rattle.report.specs.declared.Report.{Report as ReportValue}
 use Rattle.console_report.specs.ReportAnswers.{KeptState, kept, keptOf, freshAnswer, takeAnswer, printsAnswer, countAnswer}
@@ -21,8 +22,8 @@ use Rattle.console_desk.specs.declared.Look.the-variants.{Check as toCheck, Sho
 
 -- each request to an entry or the desk, with its numbers and the octets that it sends; any other is none
 unfoldable pub answerBy : Name → ℕ → ℕ → ℕ → List ℕ → State → List ℕ → WithPool
-answerBy Judge n k m sent t pool = withPool (says (judgeAnswer sent) t) pool
-answerBy Read n k m sent t pool = withPool (says (readAnswer n k sent) t) pool
+answerBy Judge n k m sent t pool = withPool (says (judgeAnswer First sent) t) pool
+answerBy Read n k m sent t pool = withPool (says (readAnswer First n k sent) t) pool
 answerBy Fold n k m sent t pool = withPool (says (writeAnswer toFold n sent) t) pool
 answerBy Escape n k m sent t pool = withPool (says (writeAnswer toEscape n sent) t) pool
 answerBy Unescape n k m sent t pool = withPool (says (writeAnswer toUnescape n sent) t) pool
@@ -39,6 +40,8 @@ answerBy Encode n k m sent t pool = withPool (says (chosenAnswer (toEncode Rfc63
 answerBy Decode n k m sent t pool = withPool (says (chosenAnswer (toDecode Rfc6350) (toDecode Rfc6868) n k sent) t) pool
 answerBy FoldIn n k m sent t pool = withPool (says (foldAnswer n k m sent) t) pool
 answerBy Offset n k m sent t pool = withPool (says (offsetAnswer sent) t) pool
+answerBy JudgeIn n k m sent t pool = withPool (says (judgeInAnswer n sent) t) pool
+answerBy ReadIn n k m sent t pool = withPool (says (readInAnswer n k m sent) t) pool
 answerBy Report n k m sent t pool = withPool (saysBad t) pool
 answerBy Take n k m sent t pool = withPool (saysBad t) pool
 answerBy Print n k m sent t pool = withPool (saysBad t) pool
@@ -84,6 +87,8 @@ answerAny Encode n k m sent w = beside (answerBy Encode n k m sent (w .kept .sta
 answerAny Decode n k m sent w = beside (answerBy Decode n k m sent (w .kept .state) (w .pool)) (w .kept .report)
 answerAny FoldIn n k m sent w = beside (answerBy FoldIn n k m sent (w .kept .state) (w .pool)) (w .kept .report)
 answerAny Offset n k m sent w = beside (answerBy Offset n k m sent (w .kept .state) (w .pool)) (w .kept .report)
+answerAny JudgeIn n k m sent w = beside (answerBy JudgeIn n k m sent (w .kept .state) (w .pool)) (w .kept .report)
+answerAny ReadIn n k m sent w = beside (answerBy ReadIn n k m sent (w .kept .state) (w .pool)) (w .kept .report)
 answerAny Bad n k m sent w = beside (answerBy Bad n k m sent (w .kept .state) (w .pool)) (w .kept .report)
 
 abbrev pub answerTo : Request → List ℕ → Whole → Whole

@@ -11,6 +11,7 @@ use console_report::Kept;
 use console_requests::Name;
 use console_requests::Request;
 use label_carets::Rule;
+use property_table::Edition;
 
 // The most octets of a line, its LF and a CR before it not counted.
 const LINE: usize = 140000;
@@ -27,8 +28,20 @@ fn answer_request(q: Request, c: Console, sent: &[u8], pool: &mut [u8], out: &mu
     let k = q.second;
     let m = q.third;
     match name {
-        Name::Judge => c.with_output(entries::put_judge_answer(sent, out, c.at)),
-        Name::Read => c.with_output(entries::put_read_answer(n, k, sent, out, c.at)),
+        Name::Judge => c.with_output(entries::put_judge_answer(
+            Edition::First,
+            sent,
+            out,
+            c.at,
+        )),
+        Name::Read => c.with_output(entries::put_read_answer(
+            Edition::First,
+            n,
+            k,
+            sent,
+            out,
+            c.at,
+        )),
         Name::Fold => c.with_output(entries::put_write_answer(Writer::Fold, n, sent, out, c.at)),
         Name::Escape => c.with_output(entries::put_write_answer(
             Writer::Escape,
@@ -73,6 +86,8 @@ fn answer_request(q: Request, c: Console, sent: &[u8], pool: &mut [u8], out: &mu
         )),
         Name::FoldIn => c.with_output(entries::put_fold_answer(n, k, m, sent, out, c.at)),
         Name::Offset => c.with_output(entries::put_offset_answer(sent, out, c.at)),
+        Name::JudgeIn => c.with_output(entries::put_judge_in_answer(n, sent, out, c.at)),
+        Name::ReadIn => c.with_output(entries::put_read_in_answer(n, k, m, sent, out, c.at)),
         _ => c.answer_bad(out),
     }
 }

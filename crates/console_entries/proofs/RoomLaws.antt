@@ -15,6 +15,7 @@ use Rattle.console_answers.specs.Texts.{roomEnd}
 use Rattle.console_entries.specs.Rooms.{octetFill, numberFill, octetRoom, numberRoom, bothKept}
 use Rattle.console_entries.specs.Entries.{numbersOf, copyLength, takenText, roomsText, readText, outcomeOf, writeText}
 use Rattle.console_entries.specs.declared.entries.Writer.{Writer}
+use Rattle.property_table.specs.declared.Edition.{Edition}
 
 pub fill-step : (d e : List ℕ) (j : ℕ) → j < length d → e ≡ take j (octetRoom (length d)) ++ drop j d
     → set e j octetFill ≡ take (j + 1) (octetRoom (length d)) ++ drop (j + 1) d
@@ -41,9 +42,9 @@ room-part r n v h = ap (λ (m : ℕ). take m (replicate n v)) (less-none r) ∙ 
 
 -- what is answered with the first elements of larger rooms
 module _ (i : List ℕ) (n r : ℕ) (p : Page) {q : Page} (h : r ≤ n) where
-  pub read-part : (k : ℕ) → k ≤ n → q ≡ added (readText i (take (r - 0) (replicate n octetFill)) (take (k - 0) (replicate n numberFill))) p
-      → q ≡ added (readText i (octetRoom r) (numberRoom k)) p
-  read-part k l e = rw (room-part r n octetFill h, room-part k n numberFill l) at e
+  pub read-part : (e : Edition) (k : ℕ) → k ≤ n → q ≡ added (readText e i (take (r - 0) (replicate n octetFill)) (take (k - 0) (replicate n numberFill))) p
+      → q ≡ added (readText e i (octetRoom r) (numberRoom k)) p
+  read-part ed k l e = rw (room-part r n octetFill h, room-part k n numberFill l) at e
 
   pub write-part : (w : Writer) → q ≡ added (writeText (outcomeOf w i (take (r - 0) (replicate n octetFill)))) p → q ≡ added (writeText (outcomeOf w i (octetRoom r))) p
   write-part w e = rw (room-part r n octetFill h) at e

@@ -10,7 +10,9 @@ use Rattle.octets.specs.Room.{Filled}
 use Rattle.octets.specs.declared.rooms.Written.{Written}
 use Rattle.octets.specs.declared.rooms.Written.the-variants.{Wrote, Refused as Unwritten}
 use Rattle.octets.specs.Slices.{part}
-use Rattle.reader.specs.Outcome.{judgeOf, Taken, readOutcome}
+use Rattle.property_table.specs.declared.Edition.{Edition}
+use Rattle.property_table.specs.declared.Edition.the-variants.{First, Second}
+use Rattle.reader.specs.Outcome.{judgeIn, Taken, readIn}
 use Rattle.reader.specs.declared.Verdict.{Verdict}
 use Rattle.reader.specs.declared.Verdict.the-variants.{Accepted, Refused}
 use Rattle.folder_raising.specs.declared.Style.the-variants.{AsRead, Raised}
@@ -29,8 +31,22 @@ within r t = pick (ltb mostRoom r) badLine t
 
 -- ---- judge
 
-unfoldable pub judgeAnswer : List ℕ → List ℕ
-judgeAnswer i = verdictText (judgeOf i) ++ lineEnd
+unfoldable pub judgeAnswer : Edition → List ℕ → List ℕ
+judgeAnswer e i = verdictText (judgeIn e i) ++ lineEnd
+
+-- the numbers of the editions; any other is no request
+abbrev pub firstEdition : ℕ
+firstEdition = 1
+
+abbrev pub secondEdition : ℕ
+secondEdition = 2
+
+-- the answer in the edition of that number
+abbrev pub inEdition : ℕ → (Edition → List ℕ) → List ℕ
+inEdition n f = pick (eqb n firstEdition) (f First) (pick (eqb n secondEdition) (f Second) badLine)
+
+unfoldable pub judgeInAnswer : ℕ → List ℕ → List ℕ
+judgeInAnswer n i = inEdition n (λ e. judgeAnswer e i)
 
 -- ---- offset
 
@@ -72,11 +88,14 @@ roomsText lines copy records = roomsBy copy records (numbersOf lines (length rec
 abbrev pub takenAnswer : Taken → List ℕ
 takenAnswer t = verdictText (t .answer) ++ roomsText (linesOf (t .answer)) (t .copy) (t .records)
 
-unfoldable pub readText : List ℕ → List ℕ → List ℕ → List ℕ
-readText i copy records = takenAnswer (readOutcome i copy records)
+unfoldable pub readText : Edition → List ℕ → List ℕ → List ℕ → List ℕ
+readText e i copy records = takenAnswer (readIn e i copy records)
 
-unfoldable pub readAnswer : ℕ → ℕ → List ℕ → List ℕ
-readAnswer r k i = within r (within k (readText i (octetRoom r) (numberRoom k)))
+unfoldable pub readAnswer : Edition → ℕ → ℕ → List ℕ → List ℕ
+readAnswer e r k i = within r (within k (readText e i (octetRoom r) (numberRoom k)))
+
+unfoldable pub readInAnswer : ℕ → ℕ → ℕ → List ℕ → List ℕ
+readInAnswer n r k i = inEdition n (λ e. readAnswer e r k i)
 
 -- ---- fold, escape, unescape, encode, decode
 
@@ -86,7 +105,7 @@ outcomeOf Escape i room = escapeOutcome i room
 outcomeOf Unescape i room = unescapeOutcome i room
 outcomeOf (Encode r) i room = encodeOutcome r i room
 outcomeOf (Decode r) i room = decodeOutcome r i room
-outcomeOf (FoldIn s) i room = foldIn s i room
+outcomeOf (FoldIn e s) i room = foldIn e s i room
 
 abbrev pub count : Written → ℕ
 count (Wrote n) = n
@@ -103,10 +122,6 @@ writeAnswer e r i = within r (writeText (outcomeOf e i (octetRoom r)))
 unfoldable pub chosenAnswer : Writer → Writer → ℕ → ℕ → List ℕ → List ℕ
 chosenAnswer old new which r i = pick (eqb which 0) (writeAnswer old r i) (pick (eqb which 1) (writeAnswer new r i) badLine)
 
--- the number of edition one, the only one
-abbrev pub firstEdition : ℕ
-firstEdition = 1
-
 -- style 0 is as read, style 1 is raised
 unfoldable pub foldAnswer : ℕ → ℕ → ℕ → List ℕ → List ℕ
-foldAnswer edition style r i = pick (eqb edition firstEdition) (chosenAnswer (FoldIn AsRead) (FoldIn Raised) style r i) badLine
+foldAnswer edition style r i = inEdition edition (λ e. chosenAnswer (FoldIn e AsRead) (FoldIn e Raised) style r i)

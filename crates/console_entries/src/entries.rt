@@ -4,20 +4,23 @@ ghost use Prim.Native.Nat.{_+_, _≤_};
 ghost use Rattle.octets.specs.Room.{filled};
 ghost use Rattle.program_output.specs.Pages.{page, added};
 ghost use Rattle.console_entries.specs.Rooms.{mostRoom, octetRoom, numberRoom};
-ghost use Rattle.console_entries.specs.Entries.{lineEndLength, linesOf, count, numbersOf, copyLength, takenText, roomsText, readText, outcomeOf, writeText, judgeAnswer, offsetAnswer, readAnswer, writeAnswer, chosenAnswer, foldAnswer};
+ghost use Rattle.console_entries.specs.Entries.{lineEndLength, linesOf, count, numbersOf, copyLength, takenText, roomsText, readText, outcomeOf, writeText, judgeAnswer, judgeInAnswer, offsetAnswer, readAnswer, readInAnswer, writeAnswer, chosenAnswer, foldAnswer};
 use crate::rooms;
 use folder_raising::Style;
 use label_carets::Rule;
 use numbers::field;
 use numbers::limit;
 use octets::rooms::Written;
+use property_table::Edition;
 use reader::Verdict;
 
 // The most octets or numbers of room that a request may ask for.
 const ROOM: usize = 70000;
 
-// The number of edition one.
+// The numbers of the editions.
 const FIRST_EDITION: usize = 1;
+
+const SECOND_EDITION: usize = 2;
 
 // How many octets end a line: CR LF.
 const LINE_END: usize = 2;
@@ -29,15 +32,28 @@ pub enum Writer {
     Unescape,
     Encode(Rule),
     Decode(Rule),
-    FoldIn(Style),
+    FoldIn(Edition, Style),
 }
 
-// Adds the answer to `judge OCTETS`.
-pub fn put_judge_answer(input: &[u8], out: &mut [u8], at: usize) -> usize
-    ensures { λ r. ⌜ page r (now (out .exit)) ≡ added (judgeAnswer (now (input .entry))) (page at (now (out .entry))) ⌝ }
+// Adds the answer to `judge OCTETS` in an edition.
+pub fn put_judge_answer(edition: Edition, input: &[u8], out: &mut [u8], at: usize) -> usize
+    ensures { λ r. ⌜ page r (now (out .exit)) ≡ added (judgeAnswer edition (now (input .entry))) (page at (now (out .entry))) ⌝ }
 {
-    let end = console_answers::put_verdict(out, at, reader::judge(input));
+    let end = console_answers::put_verdict(out, at, reader::judge_as(edition, input));
     console_answers::put_end(out, end)
+}
+
+// Adds the answer to `judge-in EDITION OCTETS`.
+pub fn put_judge_in_answer(edition: usize, input: &[u8], out: &mut [u8], at: usize) -> usize
+    ensures { λ r. ⌜ page r (now (out .exit)) ≡ added (judgeInAnswer edition (now (input .entry))) (page at (now (out .entry))) ⌝ }
+{
+    if edition == FIRST_EDITION {
+        return put_judge_answer(Edition::First, input, out, at);
+    }
+    if edition == SECOND_EDITION {
+        return put_judge_answer(Edition::Second, input, out, at);
+    }
+    console_answers::put_bad(out, at)
 }
 
 // Adds the answer to `offset OCTETS`.
@@ -110,27 +126,48 @@ fn put_rooms(lines: usize, copy: &[u8], records: &[u32], out: &mut [u8], at: usi
 }
 
 // Adds the reader's answer with these rooms.
-fn put_read(input: &[u8], copy: &mut [u8], records: &mut [u32], out: &mut [u8], at: usize) -> usize
-    ensures { λ r. ⌜ page r (now (out .exit)) ≡ added (readText (now (input .entry)) (now (copy .entry)) (now (records .entry))) (page at (now (out .entry))) ⌝ }
+fn put_read(
+    edition: Edition,
+    input: &[u8],
+    copy: &mut [u8],
+    records: &mut [u32],
+    out: &mut [u8],
+    at: usize,
+) -> usize
+    ensures { λ r. ⌜ page r (now (out .exit)) ≡ added (readText edition (now (input .entry)) (now (copy .entry)) (now (records .entry))) (page at (now (out .entry))) ⌝ }
 {
-    let v = reader::read(input, copy, records);
+    let v = reader::read(edition, input, copy, records);
     let end = console_answers::put_verdict(out, at, v);
     put_rooms(lines_of(v), copy, records, out, end)
 }
 
 // Adds the reader's answer with fresh rooms of r octets and k numbers.
-fn put_read_fresh(r: usize, k: usize, input: &[u8], out: &mut [u8], at: usize) -> usize
+fn put_read_fresh(
+    edition: Edition,
+    r: usize,
+    k: usize,
+    input: &[u8],
+    out: &mut [u8],
+    at: usize,
+) -> usize
     requires { ⌜ (r ≤ mostRoom) × (k ≤ mostRoom) ⌝ }
-    ensures { λ q. ⌜ page q (now (out .exit)) ≡ added (readText (now (input .entry)) (octetRoom r) (numberRoom k)) (page at (now (out .entry))) ⌝ }
+    ensures { λ q. ⌜ page q (now (out .exit)) ≡ added (readText edition (now (input .entry)) (octetRoom r) (numberRoom k)) (page at (now (out .entry))) ⌝ }
 {
     let mut room = [rooms::OCTET_FILL; ROOM];
     let mut records = [rooms::NUMBER_FILL; ROOM];
-    put_read(input, &mut room[0..r], &mut records[0..k], out, at)
+    put_read(edition, input, &mut room[0..r], &mut records[0..k], out, at)
 }
 
-// Adds the answer to `read COPYROOM RECORDROOM OCTETS`.
-pub fn put_read_answer(r: usize, k: usize, input: &[u8], out: &mut [u8], at: usize) -> usize
-    ensures { λ q. ⌜ page q (now (out .exit)) ≡ added (readAnswer r k (now (input .entry))) (page at (now (out .entry))) ⌝ }
+// Adds the answer to `read COPYROOM RECORDROOM OCTETS` in an edition.
+pub fn put_read_answer(
+    edition: Edition,
+    r: usize,
+    k: usize,
+    input: &[u8],
+    out: &mut [u8],
+    at: usize,
+) -> usize
+    ensures { λ q. ⌜ page q (now (out .exit)) ≡ added (readAnswer edition r k (now (input .entry))) (page at (now (out .entry))) ⌝ }
 {
     if r > ROOM {
         return console_answers::put_bad(out, at);
@@ -138,7 +175,27 @@ pub fn put_read_answer(r: usize, k: usize, input: &[u8], out: &mut [u8], at: usi
     if k > ROOM {
         return console_answers::put_bad(out, at);
     }
-    put_read_fresh(r, k, input, out, at)
+    put_read_fresh(edition, r, k, input, out, at)
+}
+
+// Adds the answer to `read-in EDITION COPYROOM RECORDROOM OCTETS`.
+pub fn put_read_in_answer(
+    edition: usize,
+    r: usize,
+    k: usize,
+    input: &[u8],
+    out: &mut [u8],
+    at: usize,
+) -> usize
+    ensures { λ q. ⌜ page q (now (out .exit)) ≡ added (readInAnswer edition r k (now (input .entry))) (page at (now (out .entry))) ⌝ }
+{
+    if edition == FIRST_EDITION {
+        return put_read_answer(Edition::First, r, k, input, out, at);
+    }
+    if edition == SECOND_EDITION {
+        return put_read_answer(Edition::Second, r, k, input, out, at);
+    }
+    console_answers::put_bad(out, at)
 }
 
 // Calls the entry, which writes to room.
@@ -146,12 +203,12 @@ fn call(entry: Writer, input: &[u8], room: &mut [u8]) -> Written
     ensures { λ r. ⌜ filled r (now (room .exit)) ≡ outcomeOf entry (now (input .entry)) (now (room .entry)) ⌝ }
 {
     match entry {
-        Writer::Fold => folder::fold(input, room),
+        Writer::Fold => folder::fold(Edition::First, input, room),
         Writer::Escape => text::escape(input, room),
         Writer::Unescape => text::unescape(input, room),
         Writer::Encode(rule) => label::encode(rule, input, room),
         Writer::Decode(rule) => label::decode(rule, input, room),
-        Writer::FoldIn(style) => folder::fold_styled(style, input, room),
+        Writer::FoldIn(edition, style) => folder::fold_styled(edition, style, input, room),
     }
 }
 
@@ -214,7 +271,29 @@ pub fn put_chosen_answer(
     console_answers::put_bad(out, at)
 }
 
-// Adds the answer to `fold-in EDITION STYLE ROOM OCTETS`: edition 1 is the only one, style 0 is as read and 1 is raised.
+// Adds the answer to `fold-in EDITION STYLE ROOM OCTETS` in an edition: style 0 is as read and 1 is raised.
+fn put_styled_answer(
+    edition: Edition,
+    style: usize,
+    r: usize,
+    input: &[u8],
+    out: &mut [u8],
+    at: usize,
+) -> usize
+    ensures { λ q. ⌜ page q (now (out .exit)) ≡ added (chosenAnswer (Writer.FoldIn edition Style.AsRead) (Writer.FoldIn edition Style.Raised) style r (now (input .entry))) (page at (now (out .entry))) ⌝ }
+{
+    put_chosen_answer(
+        Writer::FoldIn(edition, Style::AsRead),
+        Writer::FoldIn(edition, Style::Raised),
+        style,
+        r,
+        input,
+        out,
+        at,
+    )
+}
+
+// Adds the answer to `fold-in EDITION STYLE ROOM OCTETS`.
 pub fn put_fold_answer(
     edition: usize,
     style: usize,
@@ -225,16 +304,11 @@ pub fn put_fold_answer(
 ) -> usize
     ensures { λ q. ⌜ page q (now (out .exit)) ≡ added (foldAnswer edition style r (now (input .entry))) (page at (now (out .entry))) ⌝ }
 {
-    if edition != FIRST_EDITION {
-        return console_answers::put_bad(out, at);
+    if edition == FIRST_EDITION {
+        return put_styled_answer(Edition::First, style, r, input, out, at);
     }
-    put_chosen_answer(
-        Writer::FoldIn(Style::AsRead),
-        Writer::FoldIn(Style::Raised),
-        style,
-        r,
-        input,
-        out,
-        at,
-    )
+    if edition == SECOND_EDITION {
+        return put_styled_answer(Edition::Second, style, r, input, out, at);
+    }
+    console_answers::put_bad(out, at)
 }

@@ -76,6 +76,8 @@ named Report = true
 named Take = true
 named Print = true
 named Count = true
+named JudgeIn = true
+named ReadIn = true
 named Bad = false
 
 all-named : List Row → Bool

@@ -11,7 +11,7 @@ use Rattle.octets.specs.Ascii.{octets}
 use Rattle.octets.specs.Tables.{TableOf}
 use Rattle.program_numbers.specs.Alike.{alike}
 use Rattle.console_requests.specs.declared.Name.{Name}
-use Rattle.console_requests.specs.declared.Name.the-variants.{Judge, Read, Fold, Escape, Unescape, Desk, Open, Add, Check, Show, Held, Release, Pool, Next, Encode, Decode, FoldIn, Offset, Report, Take, Print, Count, Bad}
+use Rattle.console_requests.specs.declared.Name.the-variants.{Judge, Read, Fold, Escape, Unescape, Desk, Open, Add, Check, Show, Held, Release, Pool, Next, Encode, Decode, FoldIn, Offset, Report, Take, Print, Count, JudgeIn, ReadIn, Bad}
 
 pub record Row : Type 0 where
   pub name : Name
@@ -53,11 +53,13 @@ rows =
     row Take "take" 0 withOctets ∷
     row Print "print" 1 alone ∷
     row Count "count" 2 alone ∷
+    row JudgeIn "judge-in" 1 withOctets ∷
+    row ReadIn "read-in" 3 withOctets ∷
     []
 
 -- how many requests there are
 abbrev pub requests : ℕ
-requests = 22
+requests = 24
 
 -- the rows of the table: those of the requests, and a last one for none
 abbrev pub tableRows : ℕ

@@ -34,6 +34,8 @@ pub enum Name {
     Take,
     Print,
     Count,
+    JudgeIn,
+    ReadIn,
     Bad,
 }
 

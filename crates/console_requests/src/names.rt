@@ -21,7 +21,7 @@ const OCTETS: usize = 10;
 const TABLE: usize = ROW * (NO_REQUEST + 1);
 
 // The row of no request, after those of the requests.
-const NO_REQUEST: usize = 22;
+const NO_REQUEST: usize = 24;
 
 // Eleven entries for each row, and a last row for no request: name, its length, how many numbers stand after it, 1 where octets do.
 const ROWS: [u8; TABLE] = *b"\
@@ -47,6 +47,8 @@ const ROWS: [u8; TABLE] = *b"\
     take....\x04\x00\x01\
     print...\x05\x01\x00\
     count...\x05\x02\x00\
+    judge-in\x08\x01\x01\
+    read-in.\x07\x03\x01\
     ........\x00\x00\x00";
 
 // The table as a value, which its users are lent.
@@ -134,6 +136,8 @@ pub fn name_at(row: usize) -> Name
         19 => Name::Take,
         20 => Name::Print,
         21 => Name::Count,
+        22 => Name::JudgeIn,
+        23 => Name::ReadIn,
         _ => Name::Bad,
     }
 }

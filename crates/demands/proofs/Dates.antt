@@ -12,7 +12,7 @@ pub demand4 : Demand4
 unfolding kindOfLine
 demand4 =
     record {
-      kinds = λ x k. kind-law (rowOfLine x) (paramValue valueName x) (paramValue calscaleName x) (row-of-line x) k;
+      kinds = λ e x k. kind-law (rowOfLine e x) (paramValue valueName x) (paramValue calscaleName x) (row-of-line e x) k;
       dates = kind-9;
       stamps = kind-10;
       offsets = kind-11;

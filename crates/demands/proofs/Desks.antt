@@ -36,6 +36,7 @@ use Rattle.reader_grammar.proofs.Refused.{refused-law}
 use Rattle.demands.specs.Demand1.{Ready, unsound, other-size, TicketBy, unready, closed, Holds, NewBy, range, OpenBy, no-desk, used-up, full, AddBy, no-upload, too-much, JudgeBy, nothing, octets}
 use Rattle.demands.proofs.Refusing.{ByCase as Exactly, TurningByCase as Turning, clash, not-true, Telling, itself, first, last}
 use Rattle.demands.proofs.Cards.{verdict-tells}
+use Rattle.property_table.specs.declared.Edition.the-variants.{First}
 
 refusal-number : (m q n p : ℕ) → Refused m q ≡ Refused n p → m ≡ n
 refusal-number m q n p e = cc
@@ -288,12 +289,12 @@ module _ (d : Desk) (p : List ℕ) where
       where
         go : (x : Slot) → slotOf d (length p) t ≡ x → judgeIn p x ≡ Unread n q → JudgeBy d p t n q
         go (No m) f e = itself verdict-tells (JudgeBy d p t) m 0 n q e (nothing (slot-told m f))
-        go (Held i s) f e = octets (held-by i s f) (refused-law (octetsIn p i s) n q .0 e)
+        go (Held i s) f e = octets (held-by i s f) (refused-law First (octetsIn p i s) n q .0 e)
 
     judge-so : (n q : ℕ) → JudgeBy d p t n q → judgeStep d p t ≡ Unread n q
     unfolding judgeStep
     judge-so n q (nothing b) = let w = slot-so n q b in rw (w .0, w .1)
-    judge-so n q (octets {i} {s = s} h b) = rw (held-so i s h) (refused-law (octetsIn p i s) n q .1 b)
+    judge-so n q (octets {i} {s = s} h b) = rw (held-so i s h) (refused-law First (octetsIn p i s) n q .1 b)
 
     pub judge-held-exactly : Exactly (λ (v : Verdict). v) (judgeStep d p t) Unread (JudgeBy d p t)
     judge-held-exactly = record { only = judge-told; unchanged = judge-so }

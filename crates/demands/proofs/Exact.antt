@@ -20,7 +20,7 @@ use Rattle.text_laws.specs.Stands.{Stands, none, itself, escape}
 use Rattle.text_laws.proofs.StandsLaws.{stands-exactly}
 use Rattle.text_laws.proofs.BackLaws.{round-trip}
 use Rattle.line_parser.specs.Grammar.{Line, Each, render}
-use Rattle.reader.specs.Outcome.{judgeOf, copyOf, recordsOf, Taken, took, readOutcome}
+use Rattle.reader.specs.Outcome.{judgeIn, judgeOf, copyOf, recordsIn, Taken, took, readIn}
 use Rattle.reader.specs.declared.Verdict.{Verdict}
 use Rattle.reader.specs.declared.Verdict.the-variants.{Accepted, Refused}
 use Rattle.reader.proofs.AcceptLaws.{lines-few, lines-counted}
@@ -49,7 +49,7 @@ use Rattle.folder_style_laws.proofs.CardLaws.{line-clean}
 use Rattle.folder_style_laws.proofs.RereadLaws.{line-styled, lines-styled, again, again-lines, again-answer, again-records, fold-again, fold-as-read}
 use Rattle.firmware.specs.Word.{wordOutcome}
 use Rattle.reader_grammar.specs.Cards.{Readable, card, Cards, none as no-cards, more}
-use Rattle.reader_grammar.specs.Inputs.{InputOf}
+use Rattle.reader_grammar.specs.Inputs.{InputIn, InputOf}
 use Rattle.reader_grammar.proofs.Accepted.{accepted-law, lines-law, one-reading}
 use Rattle.reader_grammar.proofs.RecordLaws.{copy-law, records-law}
 use Rattle.demands.specs.Demand1.{copied, folded, Fair}
@@ -59,49 +59,51 @@ use Rattle.desk_ledger.proofs.AnswerLaws.{verdict-counts, wrote-told}
 use Rattle.demands.specs.Demand2.{Roomy, ReadAs, Writes, linesIn, ReadAgain, Shortest, Demand2}
 use Rattle.demands.proofs.Texts.{wrote-no, checked-fair, within-so, fault-le}
 use Rattle.demands.proofs.Cards.{accepted-no, fold-form, form-length}
+use Rattle.property_table.specs.declared.Edition.{Edition}
+use Rattle.property_table.specs.declared.Edition.the-variants.{First}
 
 -- ---- read
 
-module _ (i copy records : List ℕ) (k n : ℕ) where
-  read-so : (h : InputOf i k n) → Roomy h copy records → readOutcome i copy records ≡ took (Accepted k n) (overlay (copyOf i) copy) (overlay (recordsOf i) records)
+module _ (ed : Edition) (i copy records : List ℕ) (k n : ℕ) where
+  read-so : (h : InputIn ed i k n) → Roomy h copy records → readIn ed i copy records ≡ took (Accepted k n) (overlay (copyOf i) copy) (overlay (recordsIn ed i) records)
   read-so h r =
-      sym (read-written i copy records k n (length (copyOf i)) (accepted-law i k n .1 h) refl (rw (copy-law i k n h) (r .octets)) (r .numbers) _ _ refl refl)
+      sym (read-written ed i copy records k n (length (copyOf i)) (accepted-law ed i k n .1 h) refl (rw (copy-law ed i k n h) (r .octets)) (r .numbers) _ _ refl refl)
 
-  reads : (h : InputOf i k n) → Roomy h copy records → ReadAs h copy records (readOutcome i copy records)
+  reads : (h : InputIn ed i k n) → Roomy h copy records → ReadAs h copy records (readIn ed i copy records)
   reads h r =
-      let e = accepted-law i k n .1 h in
-      let c = copy-law i k n h in
-      let m = numbers-counted i copy records k n (length (copyOf i)) e refl in
+      let e = accepted-law ed i k n .1 h in
+      let c = copy-law ed i k n h in
+      let m = numbers-counted ed i copy records k n (length (copyOf i)) e refl in
       rw (read-so h r)
       (record {
         counts = refl;
         copies = ap (λ (xs : List ℕ). overlay xs copy) c;
-        tells = rw (take-at (recordsOf i) (drop (length (recordsOf i)) records) (n * 8) m) (records-law i k n h (drop (length (copyOf i)) copy));
-        past = drop-at (recordsOf i) (drop (length (recordsOf i)) records) (n * 8) m ∙ ap (λ (x : ℕ). drop x records) m;
+        tells = rw (take-at (recordsIn ed i) (drop (length (recordsIn ed i)) records) (n * 8) m) (records-law ed i k n h (drop (length (copyOf i)) copy));
+        past = drop-at (recordsIn ed i) (drop (length (recordsIn ed i)) records) (n * 8) m ∙ ap (λ (x : ℕ). drop x records) m;
       })
 
-  only : readOutcome i copy records .answer ≡ Accepted k n → (h : InputOf i k n) × Roomy h copy records
-  only e = go (judgeOf i) refl
+  only : readIn ed i copy records .answer ≡ Accepted k n → (h : InputIn ed i k n) × Roomy h copy records
+  only e = go (judgeIn ed i) refl
     where
-      never : {A : Type 0} (m q : ℕ) → took (Refused m q) copy records ≡ readOutcome i copy records → A
+      never : {A : Type 0} (m q : ℕ) → took (Refused m q) copy records ≡ readIn ed i copy records → A
       never m q f = accepted-no k n m q (sym e ∙ ap (λ (t : Taken). t .answer) (sym f))
 
-      fits : (l m : ℕ) → judgeOf i ≡ Accepted l m → (a : Bool) → ltb (length copy) (length (copyOf i)) ≡ a → (b : Bool) → ltb (length records) (m * 8) ≡ b
-          → (h : InputOf i k n) × Roomy h copy records
-      fits l m v true a b c = never 13 (length (copyOf i)) (read-13 i copy records l m (length (copyOf i)) v refl (ltb-true (length copy) (length (copyOf i)) a))
+      fits : (l m : ℕ) → judgeIn ed i ≡ Accepted l m → (a : Bool) → ltb (length copy) (length (copyOf i)) ≡ a → (b : Bool) → ltb (length records) (m * 8) ≡ b
+          → (h : InputIn ed i k n) × Roomy h copy records
+      fits l m v true a b c = never 13 (length (copyOf i)) (read-13 ed i copy records l m (length (copyOf i)) v refl (ltb-true (length copy) (length (copyOf i)) a))
       fits l m v false a true c =
           never 14 (m * 8)
-          (read-14 i copy records l m (length (copyOf i)) v refl (ltb-false (length copy) (length (copyOf i)) a) (ltb-true (length records) (m * 8) c))
+          (read-14 ed i copy records l m (length (copyOf i)) v refl (ltb-false (length copy) (length (copyOf i)) a) (ltb-true (length records) (m * 8) c))
       fits l m v false a false c =
           let p = ltb-false (length copy) (length (copyOf i)) a in
           let q = ltb-false (length records) (m * 8) c in
-          let w : Accepted l m ≡ Accepted k n = ap (λ (t : Taken). t .answer) (read-written i copy records l m (length (copyOf i)) v refl p q _ _ refl refl) ∙ e in
+          let w : Accepted l m ≡ Accepted k n = ap (λ (t : Taken). t .answer) (read-written ed i copy records l m (length (copyOf i)) v refl p q _ _ refl refl) ∙ e in
           let x : m ≡ n = cc in
-          let h = accepted-law i k n .0 (v ∙ w) in
-          (h, record { octets = rw (copy-law i k n h) at p; numbers = rw x at q })
+          let h = accepted-law ed i k n .0 (v ∙ w) in
+          (h, record { octets = rw (copy-law ed i k n h) at p; numbers = rw x at q })
 
-      go : (v : Verdict) → judgeOf i ≡ v → (h : InputOf i k n) × Roomy h copy records
-      go (Refused m q) v = never m q (read-refused i copy records (Refused m q) m q (sym v) refl)
+      go : (v : Verdict) → judgeIn ed i ≡ v → (h : InputIn ed i k n) × Roomy h copy records
+      go (Refused m q) v = never m q (read-refused ed i copy records (Refused m q) m q (sym v) refl)
       go (Accepted l m) v = fits l m v (ltb (length copy) (length (copyOf i))) refl (ltb (length records) (m * 8)) refl
 
 -- ---- fold
@@ -146,12 +148,12 @@ unescapes t u out f s h =
 -- ---- counts
 
 -- a card has lines
-cards-few : {k : ℕ} {xs : List Line} → Cards k xs → k ≤ length xs
+cards-few : {k : ℕ} {xs : List Line} → Cards First k xs → k ≤ length xs
 cards-few no-cards = omega arith
 cards-few (more (card {xs = zs} b v x e) c) = simp length-append (omega (arith, cards-few c))
 
 cards-low : (i : List ℕ) (k n : ℕ) → InputOf i k n → k ≤ 16384
-cards-low i k n h = omega (arith, cards-few (h .cards), h .count, lines-counted i k n (accepted-law i k n .1 h), lines-few i, h .short)
+cards-low i k n h = omega (arith, cards-few (h .cards), h .count, lines-counted First i k n (accepted-law First i k n .1 h), lines-few i, h .short)
 
 fold-low : (i out after : List ℕ) (n : ℕ) → foldOutcome i out ≡ filled (Wrote n) after → n ≤ 16384
 unfolding foldIn
@@ -181,43 +183,43 @@ unescape-low t out after n e =
     omega (arith, ltb-false 16384 (length t) a, stands-low (stands-exactly t (unescaped t) .1 (z, refl)))))))
 
 -- what was written of an input, in the style
-module _ (s : Style) (i out after : List ℕ) (n : ℕ) (e : foldIn s i out ≡ filled (Wrote n) after) where
-  physical : (k m : ℕ) (h : InputOf i k m) → Folds (map render (linesIn s h)) (take n after)
+module _ (ed : Edition) (s : Style) (i out after : List ℕ) (n : ℕ) (e : foldIn ed s i out ≡ filled (Wrote n) after) where
+  physical : (k m : ℕ) (h : InputIn ed i k m) → Folds (map render (linesIn s h)) (take n after)
   physical k m h =
       subst (λ (ls : List (List ℕ)). Folds ls (take n after))
-      (ap (map (in-style s)) (lines-law i k m h) ∙ lines-styled s (h .lines) (h .readable)) (fold-written s (form s i out after n (sym e)))
+      (ap (map (in-style s)) (lines-law ed i k m h) ∙ lines-styled s (h .lines) (h .readable)) (fold-written s (form ed s i out after n (sym e)))
 
-  reread : (k m : ℕ) (h : InputOf i k m) → ReadAgain s h (take n after)
+  reread : (k m : ℕ) (h : InputIn ed i k m) → ReadAgain s h (take n after)
   reread k m h =
-      let f = form s i out after n (sym e) in
+      let f = form ed s i out after n (sym e) in
       record {
-        input = again s i (take n after) k m h f;
-        lines = again-lines s i (take n after) k m h f;
-        answer = again-answer s i (take n after) k m h f;
-        records = again-records s i (take n after) k m h f;
+        input = again ed s i (take n after) k m h f;
+        lines = again-lines ed s i (take n after) k m h f;
+        answer = again-answer ed s i (take n after) k m h f;
+        records = again-records ed s i (take n after) k m h f;
       }
 
-  refolded : (k m : ℕ) (h : InputOf i k m) (room : List ℕ) → (foldIn s (take n after) room ≡ foldIn s i room) × (foldIn AsRead (take n after) room ≡ foldIn s i room)
+  refolded : (k m : ℕ) (h : InputIn ed i k m) (room : List ℕ) → (foldIn ed s (take n after) room ≡ foldIn ed s i room) × (foldIn ed AsRead (take n after) room ≡ foldIn ed s i room)
   refolded k m h room =
-      let f = form s i out after n (sym e) in
-      (fold-again s i (take n after) k m h f room, fold-as-read s i (take n after) k m h f room)
+      let f = form ed s i out after n (sym e) in
+      (fold-again ed s i (take n after) k m h f room, fold-as-read ed s i (take n after) k m h f room)
 
   fewest : (rs ls : List (List ℕ)) → Lined i rs ls → (t : List ℕ) (ss : List (List ℕ)) → Lined t ss ls → Billed t
       → length (physicalLines (take n after)) ≤ length (physicalLines t)
   unfolding logicalLines
   fewest rs ls h t ss g b =
-      fewest-written s (form s i out after n (sym e)) t ss (subst (λ (xs : List (List ℕ)). Lined t ss xs) (lined-only h .1) g) b
+      fewest-written s (form ed s i out after n (sym e)) t ss (subst (λ (xs : List (List ℕ)). Lined t ss xs) (lined-only h .1) g) b
 
-module _ (i j out after room back : List ℕ) (k l m n a b : ℕ) (h : InputOf i k m) (g : InputOf j l n) where
-  equal : foldIn AsRead i out ≡ filled (Wrote a) after → foldIn AsRead j room ≡ filled (Wrote b) back → (take a after ≡ take b back) ↔ (copied h ≡ copied g)
+module _ (ed : Edition) (i j out after room back : List ℕ) (k l m n a b : ℕ) (h : InputIn ed i k m) (g : InputIn ed j l n) where
+  equal : foldIn ed AsRead i out ≡ filled (Wrote a) after → foldIn ed AsRead j room ≡ filled (Wrote b) back → (take a after ≡ take b back) ↔ (copied h ≡ copied g)
   equal e f =
-      subst (λ (c : List ℕ). (take a after ≡ take b back) ↔ (c ≡ copied g)) (copy-law i k m h)
-      (subst (λ (c : List ℕ). (take a after ≡ take b back) ↔ (copyOf i ≡ c)) (copy-law j l n g) (equal-octets (form AsRead i out after a (sym e)) (form AsRead j room back b (sym f))))
+      subst (λ (c : List ℕ). (take a after ≡ take b back) ↔ (c ≡ copied g)) (copy-law ed i k m h)
+      (subst (λ (c : List ℕ). (take a after ≡ take b back) ↔ (copyOf i ≡ c)) (copy-law ed j l n g) (equal-octets (form ed AsRead i out after a (sym e)) (form ed AsRead j room back b (sym f))))
 
 -- ---- answers in document 01's numbers
 
-accepts : (i : List ℕ) (k n : ℕ) → (verdict (judgeOf i) ≡ counts k n) ↔ InputOf i k n
-accepts i k n = (λ e. accepted-law i k n .0 (verdict-counts (judgeOf i) k n e), λ h. ap verdict (accepted-law i k n .1 h))
+accepts : (ed : Edition) (i : List ℕ) (k n : ℕ) → (verdict (judgeIn ed i) ≡ counts k n) ↔ InputIn ed i k n
+accepts ed i k n = (λ e. accepted-law ed i k n .0 (verdict-counts (judgeIn ed i) k n e), λ h. ap verdict (accepted-law ed i k n .1 h))
 
 -- an outcome that tells a count is one that wrote as many octets
 pub filled-so : (f : Filled) (n : ℕ) → written-as (f .answer) ≡ told n → f ≡ filled (Wrote n) (f .room)
@@ -234,25 +236,25 @@ demand2 =
       accepts = accepts;
       one-reading = one-reading;
       reads = reads;
-      only = λ i copy records k n e. only i copy records k n (verdict-counts (readOutcome i copy records .answer) k n e);
-      folds = λ s i out k n h a l.
-          let z = form-length i s out k n h in
-          writes (fold-form i s out k n h ∙ bounded-so (foldedLines (map render (linesIn s h))) out (rw z a) (rw z l));
+      only = λ e′ i copy records k n e. only e′ i copy records k n (verdict-counts (readIn e′ i copy records .answer) k n e);
+      folds = λ e′ s i out k n h a l.
+          let z = form-length e′ i s out k n h in
+          writes (fold-form e′ i s out k n h ∙ bounded-so (foldedLines (map render (linesIn s h))) out (rw z a) (rw z l));
       greedy = greedy;
-      physical = λ s i out n k m h e. physical s i out (foldIn s i out .room) n (filled-so (foldIn s i out) n e) k m h;
-      read-again = λ s i out n k m h e. reread s i out (foldIn s i out .room) n (filled-so (foldIn s i out) n e) k m h;
-      as-read = λ i out n e. read-again i out (foldIn AsRead i out .room) n (sym (filled-so (foldIn AsRead i out) n e));
-      again = λ s i out n k m h e. refolded s i out (foldIn s i out .room) n (filled-so (foldIn s i out) n e) k m h;
-      shortest = λ s i k n h. shortest s (h .lines) (h .readable);
-      fewest = λ s i out n e. fewest s i out (foldIn s i out .room) n (filled-so (foldIn s i out) n e);
-      equal = λ i j out room k l m n a b h g e f.
-          equal i j out (foldIn AsRead i out .room) room (foldIn AsRead j room .room) k l m n a b h g
-          (filled-so (foldIn AsRead i out) a e) (filled-so (foldIn AsRead j room) b f);
+      physical = λ e′ s i out n k m h e. physical e′ s i out (foldIn e′ s i out .room) n (filled-so (foldIn e′ s i out) n e) k m h;
+      read-again = λ e′ s i out n k m h e. reread e′ s i out (foldIn e′ s i out .room) n (filled-so (foldIn e′ s i out) n e) k m h;
+      as-read = λ e′ i out n e. read-again e′ i out (foldIn e′ AsRead i out .room) n (sym (filled-so (foldIn e′ AsRead i out) n e));
+      again = λ e′ s i out n k m h e. refolded e′ s i out (foldIn e′ s i out .room) n (filled-so (foldIn e′ s i out) n e) k m h;
+      shortest = λ e′ s i k n h. shortest s (h .lines) (h .readable);
+      fewest = λ e′ s i out n e. fewest e′ s i out (foldIn e′ s i out .room) n (filled-so (foldIn e′ s i out) n e);
+      equal = λ e′ i j out room k l m n a b h g e f.
+          equal e′ i j out (foldIn e′ AsRead i out .room) room (foldIn e′ AsRead j room .room) k l m n a b h g
+          (filled-so (foldIn e′ AsRead i out) a e) (filled-so (foldIn e′ AsRead j room) b f);
       escapes = λ t out f s h. writes (escapes t out f s h);
       unescapes = λ t u out f s h. writes (unescapes t u out f s h);
       back = λ t out room n e r. writes (round-trip t out (escapeOutcome t out .room) room n (filled-so (escapeOutcome t out) n e) r);
       prints = λ r out h. writes (fill-so (reportText r) out h);
-      c-judge = λ i k n h. (rw (accepted-law i k n .1 h), cards-low i k n h);
+      c-judge = λ i k n h. (rw (accepted-law First i k n .1 h), cards-low i k n h);
       c-fold = λ i out n e. let f = filled-so (foldOutcome i out) n e in (ap wordOutcome f, fold-low i out (foldOutcome i out .room) n f);
       c-unescape = λ t out n e. let f = filled-so (unescapeOutcome t out) n e in (ap wordOutcome f, unescape-low t out (unescapeOutcome t out .room) n f);
     }

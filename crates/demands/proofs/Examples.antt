@@ -28,12 +28,16 @@ use Rattle.value_kinds.specs.Kinds as kinds
 use Rattle.value_kinds.specs.Octets as sets
 use Rattle.value_kinds.specs.Shapes as shapes
 use Rattle.property_table.specs.Rows as table
+use Rattle.property_table.specs.declared.Edition.the-variants.{First, Second}
 use Rattle.card_line.specs.Parts as content
 use Rattle.card_state.specs.State as card
 use Rattle.card_judge.specs.Judge as judge
 use Rattle.reader_walk.specs.Walk as walk
 use Rattle.reader_records.specs.Records as records
 use Rattle.reader.specs.Outcome as reader
+use Rattle.reader.specs.Outcome.{judgeIn}
+use Rattle.reader.specs.declared.Verdict.the-variants.{Accepted}
+use Rattle.desk_ledger.specs.Answers.{refused, verdict}
 use Rattle.folder_line.specs.Pieces as pieces
 use Rattle.folder_raising.specs.Letters as capitals
 use Rattle.folder_raising.specs.Walk as styles
@@ -53,7 +57,7 @@ use Rattle.desk_slots.specs.Slots as slots
 use Rattle.desk.specs.Steps as desk
 use Rattle.desk_ledger.specs.Ledger as ledger
 use Rattle.desk_ledger.specs.Ticks as ticks
-use Rattle.demands.specs.Examples.{Holds, marked, named, cardM, foldedM, recordsM, rowsM, Merged, smallName, capitalName}
+use Rattle.demands.specs.Examples.{Holds, marked, named, renewed, cardM, foldedM, recordsM, rowsM, Merged, smallName, capitalName, widerName}
 use Rattle.demands.proofs.Tested.{sameNumbers, sameAnswers, allHold, tested}
 
 -- ---- what the examples compute by: to unfold a name of this part is to unfold what its own line names
@@ -91,7 +95,7 @@ unfolding rule.word rule.closing rule.value rule.ends rule.moreValues rule.value
 by-rule = tt
 
 by-kinds : Unit {0}
-unfolding kinds.text kinds.texts kinds.uri kinds.component kinds.parts kinds.components kinds.gender kinds.pidmap kinds.shapeOf kinds.vcard kinds.version
+unfolding kinds.text kinds.texts kinds.uri kinds.component kinds.parts kinds.upTo kinds.spread kinds.components kinds.gender kinds.pidmap kinds.shapeIn kinds.vcard kinds.version
 by-kinds = tt
 
 by-dates : Unit {0}
@@ -99,11 +103,11 @@ unfolding dates.fours dates.others dates.year dates.months dates.month dates.day
 by-dates = tt
 
 by-shapes : Unit {0}
-unfolding kinds.lineShape kinds.valueScan sets.among sets.holds shapes.nullable shapes.dead shapes.chain shapes.isNever shapes.fork shapes.derivative shapes.faultFrom
+unfolding kinds.lineShape kinds.valueIn sets.among sets.holds shapes.nullable shapes.dead shapes.chain shapes.isNever shapes.fork shapes.derivative shapes.faultFrom
 by-shapes = tt
 
 by-table : Unit {0}
-unfolding table.rows table.search table.rowOf table.rowAt table.kindAt table.takesValue table.ruleAt table.kindNamed table.says table.valueKind table.dateKind table.zoneKind table.lineKind table.framing table.isGroup table.marks table.onceAt table.single
+unfolding table.rows table.newer table.allRows table.search table.rowOf table.rowAt table.kindAt table.takesValue table.ruleAt table.kindNamed table.says table.valueKind table.dateKind table.zoneKind table.lineKind table.framing table.isGroup table.marks table.onceAt table.single
 by-table = tt
 
 by-cards : Unit {0}
@@ -119,7 +123,7 @@ unfolding judge.laden judge.entered judge.judgeParts judge.judgeLine walk.judgeL
 by-judge = tt
 
 by-reader : Unit {0}
-unfolding reader.verdictOf reader.judgeOf reader.ended reader.copyOf reader.recordsOf reader.writeOutcome reader.outcomeBy reader.readOutcome
+unfolding reader.verdictOf reader.judgeIn reader.ended reader.copyOf reader.recordsIn reader.writeOutcome reader.outcomeBy reader.readIn
 by-reader = tt
 
 by-folder : Unit {0}
@@ -170,3 +174,22 @@ named-examples = tested named named-hold
 pub merged : Merged smallName capitalName (replicate 160 0)
 unfolding by-octets by-scans by-characters by-text by-escapes by-folds by-lines by-rule by-kinds by-dates by-shapes by-table by-cards by-tags by-judge by-reader by-folder by-styles by-desk by-calls by-examples
 merged = record { octets = refl; copies = λ e. let z : _≡_ {A = ℕ} 120 88 = ap (λ (l : List ℕ). getD l 32 0) e in omega arith }
+
+renewed-hold : allHold renewed ≡ true
+unfolding by-octets by-scans by-characters by-text by-escapes by-folds by-lines by-rule by-kinds by-dates by-shapes by-table by-cards by-tags by-judge by-reader by-folder by-styles by-report by-print by-desk by-calls by-examples
+renewed-hold = refl
+
+pub renewed-examples : Each Holds renewed
+renewed-examples = tested renewed renewed-hold
+
+-- An N of six components, which edition two accepts and edition one does not.
+abbrev pub wider : List ℕ
+wider = widerName
+
+pub wider-two : judgeIn Second wider ≡ Accepted 1 5
+unfolding by-octets by-scans by-characters by-text by-escapes by-folds by-lines by-rule by-kinds by-dates by-shapes by-table by-cards by-tags by-judge by-reader by-folder by-styles by-report by-print by-desk by-calls by-examples
+wider-two = refl
+
+pub wider-one : verdict (judgeIn First wider) ≡ refused 7 38
+unfolding by-octets by-scans by-characters by-text by-escapes by-folds by-lines by-rule by-kinds by-dates by-shapes by-table by-cards by-tags by-judge by-reader by-folder by-styles by-report by-print by-desk by-calls by-examples
+wider-one = refl

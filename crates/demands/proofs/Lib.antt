@@ -10,5 +10,6 @@ pub mod Exact
 pub mod Labels
 pub mod Dates
 pub mod Octets
+pub mod Editions
 pub mod Total
 pub mod Whole

@@ -10,7 +10,7 @@ use Rattle.demands.proofs.Examples.{named-examples}
 pub demand5 : Demand5
 demand5 =
     record {
-      dead-once = λ row k. dead-once (Fitting row k);
+      dead-once = λ e row k. dead-once (Fitting e row k);
       whole = dead-not-in-character;
       placed = placed;
       nowhere-else = placed-only;

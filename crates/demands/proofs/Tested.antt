@@ -13,7 +13,7 @@ use Rattle.report.specs.Steps.{freshReport}
 use Rattle.report.specs.Text.{reportText}
 use Rattle.report_laws.specs.Totals.{after}
 use Rattle.text.specs.Outcomes.{unescapeOutcome}
-use Rattle.reader.specs.Outcome.{Taken, readOutcome}
+use Rattle.reader.specs.Outcome.{Taken, readIn}
 use Rattle.folder.specs.Outcome.{foldIn}
 use Rattle.desk_slots.specs.Sound.{stateAt, bounds}
 use Rattle.desk.specs.Steps.{newStep}
@@ -79,8 +79,8 @@ sameTurns n cs ns i s =
     (leb 1 n && leb n 40) && (sameAnswers (ledgerAnswers n cs) ns && sameSession (stateAt (world n (zeros n) cs .desk .entries) i) s)
 
 abbrev holds : Example → Bool
-holds (reads i c r a c′ r′) = sameTaken (readOutcome i c r) a c′ r′
-holds (folds s i o a o′) = sameFilled (foldIn s i o) a o′
+holds (reads e i c r a c′ r′) = sameTaken (readIn e i c r) a c′ r′
+holds (folds e s i o a o′) = sameFilled (foldIn e s i o) a o′
 holds (unescapes t o a o′) = sameFilled (unescapeOutcome t o) a o′
 holds (reports is o a o′) = sameFilled (fill (reportText (after freshReport is)) o) a o′
 holds (turns n cs ns i s) = sameTurns n cs ns i s
@@ -180,8 +180,8 @@ tested [] e = tt
 tested (c ∷ cs) e = let b = both (holds c) (allHold cs) e in (one c (b .0), tested cs (b .1))
   where
     one : (c : Example) → holds c ≡ true → Holds c
-    one (reads i c r a c′ r′) e = same-taken (readOutcome i c r) a c′ r′ e
-    one (folds s i o a o′) e = same-filled (foldIn s i o) a o′ e
+    one (reads d i c r a c′ r′) e = same-taken (readIn d i c r) a c′ r′ e
+    one (folds d s i o a o′) e = same-filled (foldIn d s i o) a o′ e
     one (unescapes t o a o′) e = same-filled (unescapeOutcome t o) a o′ e
     one (reports is o a o′) e = same-filled (fill (reportText (after freshReport is)) o) a o′ e
     one (turns n cs ns i s) e = same-turns n cs ns i s e

@@ -32,10 +32,11 @@ use Rattle.report.specs.declared.Answer.the-variants.{Counted, Refused as Uncou
 use Rattle.report.specs.declared.Taken.{Taken as TakenIn}
 use Rattle.demands.proofs.Reports.{take-exactly, print-exactly}
 use Rattle.demands.proofs.Desks.{new-exactly, open-exactly, add-exactly, release-exactly, held-exactly, judge-held-exactly, shows-none, shows, counted, judged}
+use Rattle.property_table.specs.declared.Edition.the-variants.{First}
 
 judge-word : (i : List ℕ) (n p : ℕ) → RefusedBy i n p → Halves (verdictWord (judgeOf i)) n p
 judge-word i n p b =
-    let e = refused-law i n p .1 b in
+    let e = refused-law First i n p .1 b in
     record { word = rw e; low = omega (arith, place-low i n p e) }
 
 -- a refusal that leaves the room as it was, as a word
@@ -103,10 +104,10 @@ module _ {By : ℕ → ℕ → Type 0} where
 pub demand1 : Demand1
 demand1 =
     record {
-      judges = λ i. verdict-exactly (judge-exactly i);
+      judges = λ e i. verdict-exactly (judge-exactly e i);
       numbers = refusal-number;
-      reads = λ i copy records. reading-exactly (read-exactly i copy records);
-      folds = λ s i out. filling-exactly (fold-exactly i s out);
+      reads = λ e i copy records. reading-exactly (read-exactly e i copy records);
+      folds = λ e s i out. filling-exactly (fold-exactly e i s out);
       escapes = λ t out. filling-exactly (escape-exactly t out);
       unescapes = λ t out. filling-exactly (unescape-exactly t out);
       encodes = λ r t out. filling-exactly (encode-exactly t out r);
@@ -124,6 +125,6 @@ demand1 =
       takes = λ r i. counting-exactly (take-exactly r i);
       prints = λ r out. filling-exactly (print-exactly r out);
       c-judge = judge-word;
-      c-fold = λ i out n p b. refusal-word _ out n p (fold-exactly i Raised out .unchanged n p b) (low-fold i out);
+      c-fold = λ i out n p b. refusal-word _ out n p (fold-exactly First i Raised out .unchanged n p b) (low-fold i out);
       c-unescape = λ t out n p b. refusal-word _ out n p (unescape-exactly t out .unchanged n p b) (low-unescape t out);
     }

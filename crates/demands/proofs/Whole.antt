@@ -11,6 +11,7 @@ use Rattle.demands.proofs.Exact.{demand2}
 use Rattle.demands.proofs.Labels.{labels}
 use Rattle.demands.proofs.Dates.{demand4}
 use Rattle.demands.proofs.Octets.{demand5}
+use Rattle.demands.proofs.Editions.{demand13}
 
 pub demands : Demands
 demands =
@@ -21,6 +22,7 @@ demands =
       separate-as-asked = demand3-as-asked;
       dated = demand4;
       named = demand5;
+      extended = demand13;
       labels = labels;
       granted = grants;
       replays = replays;

@@ -22,7 +22,9 @@ use Rattle.label_carets.specs.declared.Rule.the-variants.{Rfc6350, Rfc6868}
 use Rattle.label.specs.Outcomes.{encodeOutcome, decodeOutcome}
 use Rattle.label_laws.specs.Reads.{Reads, Sayable, Unsaid}
 use Rattle.line_parser.specs.Grammar.{render}
-use Rattle.reader.specs.Outcome.{judgeOf, ended, Taken, readOutcome}
+use Rattle.reader.specs.Outcome.{judgeIn, judgeOf, ended, Taken, readIn}
+use Rattle.property_table.specs.declared.Edition.{Edition}
+use Rattle.property_table.specs.declared.Edition.the-variants.{First}
 use Rattle.folder_line.specs.Pieces.{foldedLines}
 use Rattle.folder_raising.specs.declared.Style.{Style}
 use Rattle.folder.specs.Outcome.{foldIn, foldOutcome}
@@ -44,8 +46,8 @@ use Rattle.report.specs.declared.Answer.{Answer}
 use Rattle.report.specs.declared.Answer.the-variants.{Counted, Refused as Uncounted}
 use Rattle.report.specs.declared.Taken.{Taken as TakenIn}
 use Rattle.report_laws.specs.Totals.{placeOf, countIn}
-use Rattle.reader_grammar.specs.Inputs.{InputOf}
-use Rattle.reader_grammar.specs.Refusals.{RefusedBy, Judging}
+use Rattle.reader_grammar.specs.Inputs.{InputIn}
+use Rattle.reader_grammar.specs.Refusals.{RefusedIn, RefusedBy, Judging}
 
 -- a refusal is answered only where `By` has its number and place; there it is answered, and what is left is `Left`
 pub record Exactly (answer : Reply) (Left : Type 0) (By : ℕ → ℕ → Type 0) : Type 0 where
@@ -56,24 +58,24 @@ pub record Exactly (answer : Reply) (Left : Type 0) (By : ℕ → ℕ → Type 0
 -- ---- reader and folder
 
 -- the copy, and the folded form, of the lines of an input
-abbrev pub copied : {i : List ℕ} {k n : ℕ} → InputOf i k n → List ℕ
+abbrev pub copied : {e : Edition} {i : List ℕ} {k n : ℕ} → InputIn e i k n → List ℕ
 copied h = ended (map render (h .lines))
 
-abbrev pub folded : {i : List ℕ} {k n : ℕ} → InputOf i k n → List ℕ
+abbrev pub folded : {e : Edition} {i : List ℕ} {k n : ℕ} → InputIn e i k n → List ℕ
 folded h = foldedLines (map render (h .lines))
 
 -- those of the judgement, then 13, 14
-pub data ReadBy (i copy records : List ℕ) : ℕ → ℕ → Type 0 where
-  unread : {n p : ℕ} → RefusedBy i n p → ReadBy i copy records n p
-  copy-room : {k n : ℕ} (h : InputOf i k n) → length copy < length (copied h) → ReadBy i copy records refusal.copyRoom (length (copied h))
-  record-room : {k n : ℕ} (h : InputOf i k n) → length (copied h) ≤ length copy → length records < n * limit.recordLength
-      → ReadBy i copy records refusal.recordRoom (n * limit.recordLength)
+pub data ReadBy (e : Edition) (i copy records : List ℕ) : ℕ → ℕ → Type 0 where
+  unread : {n p : ℕ} → RefusedIn e i n p → ReadBy e i copy records n p
+  copy-room : {k n : ℕ} (h : InputIn e i k n) → length copy < length (copied h) → ReadBy e i copy records refusal.copyRoom (length (copied h))
+  record-room : {k n : ℕ} (h : InputIn e i k n) → length (copied h) ≤ length copy → length records < n * limit.recordLength
+      → ReadBy e i copy records refusal.recordRoom (n * limit.recordLength)
 
 -- those of the judgement, then 16, 15, in either style
-pub data FoldBy (i out : List ℕ) : ℕ → ℕ → Type 0 where
-  not-read : {n p : ℕ} → RefusedBy i n p → FoldBy i out n p
-  fold-over : {k n : ℕ} (h : InputOf i k n) → limit.octets < length (folded h) → FoldBy i out refusal.formTooLong limit.octets
-  fold-room : {k n : ℕ} (h : InputOf i k n) → length (folded h) ≤ limit.octets → length out < length (folded h) → FoldBy i out refusal.room (length (folded h))
+pub data FoldBy (e : Edition) (i out : List ℕ) : ℕ → ℕ → Type 0 where
+  not-read : {n p : ℕ} → RefusedIn e i n p → FoldBy e i out n p
+  fold-over : {k n : ℕ} (h : InputIn e i k n) → limit.octets < length (folded h) → FoldBy e i out refusal.formTooLong limit.octets
+  fold-room : {k n : ℕ} (h : InputIn e i k n) → length (folded h) ≤ limit.octets → length out < length (folded h) → FoldBy e i out refusal.room (length (folded h))
 
 -- ---- text
 
@@ -206,11 +208,11 @@ pub record Halves (r n p : ℕ) : Type 0 where
   pub low : p < limit.word
 
 pub record Demand1 : Type 0 where
-  pub judges : (i : List ℕ) → Answering (verdict (judgeOf i)) (RefusedBy i)
+  pub judges : (e : Edition) (i : List ℕ) → Answering (verdict (judgeIn e i)) (RefusedIn e i)
   -- 6 is never given
-  pub numbers : {i : List ℕ} {n p : ℕ} → RefusedBy i n p → Judging n
-  pub reads : (i copy records : List ℕ) → Reading (readOutcome i copy records) copy records (ReadBy i copy records)
-  pub folds : (s : Style) (i out : List ℕ) → Filling (foldIn s i out) out (FoldBy i out)
+  pub numbers : {e : Edition} {i : List ℕ} {n p : ℕ} → RefusedIn e i n p → Judging n
+  pub reads : (e : Edition) (i copy records : List ℕ) → Reading (readIn e i copy records) copy records (ReadBy e i copy records)
+  pub folds : (e : Edition) (s : Style) (i out : List ℕ) → Filling (foldIn e s i out) out (FoldBy e i out)
   pub escapes : (t out : List ℕ) → Filling (escapeOutcome t out) out (EscapeBy t out)
   pub unescapes : (t out : List ℕ) → Filling (unescapeOutcome t out) out (UnescapeBy t out)
   pub encodes : (r : Rule) (t out : List ℕ) → Filling (encodeOutcome r t out) out (EncodeBy t out r)
@@ -232,7 +234,7 @@ pub record Demand1 : Type 0 where
   pub prints : (r : Report) (out : List ℕ) → Filling (fill (reportText r) out) out (PrintBy r out)
   -- the routines for C answer a refusal as one word, and leave the room as it was
   pub c-judge : (i : List ℕ) (n p : ℕ) → RefusedBy i n p → Halves (verdictWord (judgeOf i)) n p
-  pub c-fold : (i out : List ℕ) (n p : ℕ) → FoldBy i out n p
+  pub c-fold : (i out : List ℕ) (n p : ℕ) → FoldBy First i out n p
       → Halves (wordOutcome (foldOutcome i out) .answer) n p × (wordOutcome (foldOutcome i out) .room ≡ out)
   pub c-unescape : (t out : List ℕ) (n p : ℕ) → UnescapeBy t out n p
       → Halves (wordOutcome (unescapeOutcome t out) .answer) n p × (wordOutcome (unescapeOutcome t out) .room ≡ out)

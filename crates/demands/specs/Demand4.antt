@@ -7,8 +7,9 @@ use lib.IntN.{ℤ}
 use Rattle.numbers.specs.Kinds as kind
 use Rattle.numbers.specs.Refusals as refusal
 use Rattle.line_parser.specs.Grammar.{Line}
+use Rattle.property_table.specs.declared.Edition.{Edition}
 use Rattle.property_table.specs.Rows.{valueName, calscaleName}
-use Rattle.value_kinds.specs.Kinds.{kindScan}
+use Rattle.value_kinds.specs.Kinds.{kindIn}
 use Rattle.value_kinds.specs.declared.Fault.the-variants.{Fits}
 use Rattle.value_offsets.specs.Minutes.{minutesOf}
 use Rattle.value_offsets.specs.declared.Offset.the-variants.{Minutes, Refused}
@@ -20,11 +21,11 @@ use Rattle.card_line.specs.Parts.{paramValue, rowOfLine, kindOfLine}
 
 pub record Demand4 : Type 0 where
   -- a line has exactly the kind that its row, its VALUE and its CALSCALE give it
-  pub kinds : (x : Line) (k : ℕ) → (kindOfLine x ≡ k) ↔ KindOf (rowOfLine x) (paramValue valueName x) (paramValue calscaleName x) k
+  pub kinds : (e : Edition) (x : Line) (k : ℕ) → (kindOfLine e x ≡ k) ↔ KindOf (rowOfLine e x) (paramValue valueName x) (paramValue calscaleName x) k
   -- kinds 9, 10 and 11 take exactly what the calendar draws
-  pub dates : (v : List ℕ) → (kindScan kind.date v ≡ Fits) ↔ DateAndOrTime v
-  pub stamps : (v : List ℕ) → (kindScan kind.timestamp v ≡ Fits) ↔ Timestamp v
-  pub offsets : (v : List ℕ) → (kindScan kind.offset v ≡ Fits) ↔ Offset v
+  pub dates : (e : Edition) (v : List ℕ) → (kindIn e kind.date v ≡ Fits) ↔ DateAndOrTime v
+  pub stamps : (e : Edition) (v : List ℕ) → (kindIn e kind.timestamp v ≡ Fits) ↔ Timestamp v
+  pub offsets : (e : Edition) (v : List ℕ) → (kindIn e kind.offset v ≡ Fits) ↔ Offset v
   -- an offset answers exactly the minutes that it stands for, one number of them, from -1439 to 1439
   pub minutes : (v : List ℕ) (z : ℤ) → (minutesOf v ≡ Minutes z) ↔ StandsFor z v
   pub one-meaning : (v : List ℕ) (y z : ℤ) → StandsFor y v → StandsFor z v → y ≡ z

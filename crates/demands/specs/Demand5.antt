@@ -9,6 +9,7 @@ use Rattle.line_folds.specs.Folds.{unfolded}
 use Rattle.line_folds.specs.Places.{placeOf}
 use Rattle.line_parser.specs.Grammar.{Each}
 use Rattle.line_laws.specs.Lined.{Folded, At, Unbroken, Lined}
+use Rattle.property_table.specs.declared.Edition.{Edition}
 use Rattle.value_laws.specs.Dead.{Dead}
 use Rattle.reader.specs.Outcome.{ended}
 use Rattle.reader_grammar.specs.Values.{Fitting}
@@ -16,9 +17,9 @@ use Rattle.demands.specs.Examples.{Holds, named}
 
 pub record Demand5 : Type 0 where
   -- a value breaks off at one octet at most
-  pub dead-once : (row k : ℕ) (v : List ℕ) (m n : ℕ) → Dead (Fitting row k) v m → Dead (Fitting row k) v n → m ≡ n
+  pub dead-once : (e : Edition) (row k : ℕ) (v : List ℕ) (m n : ℕ) → Dead (Fitting e row k) v m → Dead (Fitting e row k) v n → m ≡ n
   -- where a value of whole characters breaks off, a character starts or the value ends
-  pub whole : (row k : ℕ) → k < kind.count → (v : List ℕ) (o : ℕ) → Characters v → Dead (Fitting row k) v o → Characters (take o v)
+  pub whole : (e : Edition) (row k : ℕ) → k < kind.count → (v : List ℕ) (o : ℕ) → Characters v → Dead (Fitting e row k) v o → Characters (take o v)
   -- the place that is counted is the one of the plain words, and no other
   pub placed : {l r : List ℕ} → Folded l r → Unbroken l → (o : ℕ) → o ≤ length l → At l r o (placeOf r o)
   pub nowhere-else : {l r : List ℕ} {o p : ℕ} → At l r o p → Unbroken l → p ≡ placeOf r o

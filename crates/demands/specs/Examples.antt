@@ -3,14 +3,16 @@ use Prim.Native.Nat.{ℕ, _+_, _-_}
 use Prim.Native.String.{String}
 use mathlib.Core.Path.{_≡_}
 use mathlib.Core.List.{List, [], _∷_, _++_, map}
-use lib.ListN.{replicate}
+use lib.ListN.{length, replicate}
 use Rattle.octets.specs.Room.{Filled, fill}
 use Rattle.folder_raising.specs.declared.Style.{Style}
 use Rattle.folder_raising.specs.declared.Style.the-variants.{AsRead, Raised}
+use Rattle.property_table.specs.declared.Edition.{Edition}
+use Rattle.property_table.specs.declared.Edition.the-variants.{First, Second}
 use Rattle.folder.specs.Outcome.{foldIn}
 use Rattle.text.specs.Outcomes.{unescapeOutcome}
 use Rattle.octets.specs.Ascii.{octets}
-use Rattle.reader.specs.Outcome.{Taken, copyOf, readOutcome}
+use Rattle.reader.specs.Outcome.{Taken, copyOf, readIn}
 use Rattle.report.specs.Steps.{freshReport}
 use Rattle.report.specs.Text.{reportText}
 use Rattle.report_laws.specs.Totals.{after}
@@ -67,8 +69,8 @@ rowsM =
 -- an example: what is read, folded or unescaped, the rooms, the answer, and what the rooms hold then; or the calls on a fresh desk, the
 -- number that answers each, and which session then stands in which slot; or judgements taken since a fresh report, and its print
 pub data Example : Type 0 where
-  reads : (input copy records : List ℕ) → Reply → (copy′ records′ : List ℕ) → Example
-  folds : (style : Style) (input room : List ℕ) → Reply → (room′ : List ℕ) → Example
+  reads : (edition : Edition) (input copy records : List ℕ) → Reply → (copy′ records′ : List ℕ) → Example
+  folds : (edition : Edition) (style : Style) (input room : List ℕ) → Reply → (room′ : List ℕ) → Example
   unescapes : (text room : List ℕ) → Reply → (room′ : List ℕ) → Example
   reports : (inputs : List (List ℕ)) (room : List ℕ) → Reply → (room′ : List ℕ) → Example
   turns : (slots : ℕ) (calls : List Ticked) (numbers : List ℕ) (slot : ℕ) (session : Session) → Example
@@ -91,20 +93,23 @@ pub record Reads (t : Taken) (a : Reply) (c r : List ℕ) : Type 0 where
 
 -- the outcome that the entry's contract names is the one expected
 abbrev pub Holds : Example → Type 0
-Holds (reads i c r a c′ r′) = Reads (readOutcome i c r) a c′ r′
-Holds (folds s i o a o′) = Fills (foldIn s i o) a o′
+Holds (reads e i c r a c′ r′) = Reads (readIn e i c r) a c′ r′
+Holds (folds e s i o a o′) = Fills (foldIn e s i o) a o′
 Holds (unescapes t o a o′) = Fills (unescapeOutcome t o) a o′
 Holds (reports is o a o′) = Fills (fill (reportText (after freshReport is)) o) a o′
 Holds (turns n cs ns i s) = Turns n cs ns i s
 
 -- refused: both rooms stay
+abbrev refusesIn : Edition → List ℕ → ℕ → ℕ → Example
+refusesIn e i n p = reads e i (replicate 64 0) (replicate 64 0) (refused n p) (replicate 64 0) (replicate 64 0)
+
 abbrev pub refuses : List ℕ → ℕ → ℕ → Example
-refuses i n p = reads i (replicate 64 0) (replicate 64 0) (refused n p) (replicate 64 0) (replicate 64 0)
+refuses = refusesIn First
 
 -- accepted with card M's counts, copy and records, the rest of the rooms as it was
 abbrev pub asM : List ℕ → Example
 asM i =
-    reads i (replicate 64 0) (replicate 64 0)
+    reads First i (replicate 64 0) (replicate 64 0)
     (counts 1 4) (cardM ++ replicate 21 0) (recordsM ++ replicate 32 0)
 
 -- a NOTE line of n octets, and what may stand after it, in card M
@@ -113,7 +118,7 @@ note n more = cardWith (octets "NOTE:" ++ (replicate (n - 5) 97 ++ more))
 
 -- a card is folded in a style into a room of 160 octets to another, of n octets
 abbrev pub folding : Style → List ℕ → ℕ → List ℕ → Example
-folding s i n o = folds s i (replicate 160 0) (told n) (o ++ replicate (160 - n) 0)
+folding s i n o = folds First s i (replicate 160 0) (told n) (o ++ replicate (160 - n) 0)
 
 -- all of them, and two of request 8
 abbrev pub marked : List Example
@@ -180,9 +185,52 @@ named =
     flawed (octets "F N:a") 40 0 ∷
     []
 
+-- a line after FN in card M, in an edition: refused with that number, at that octet of it; or accepted, and folded as read to the same octets
+abbrev flawedIn : Edition → List ℕ → ℕ → ℕ → Example
+flawedIn e l n o = refusesIn e (cardWith (l ++ end)) n (32 + o)
+
+abbrev passesIn : Edition → List ℕ → Example
+passesIn e l =
+    folds e AsRead (cardWith (l ++ end)) (replicate 160 0) (told (45 + length l)) (cardWith (l ++ end) ++ replicate (115 - length l) 0)
+
+-- so many semicolons
+abbrev semicolons : ℕ → List ℕ
+semicolons n = replicate n 59
+
+-- what the editions differ in, on both sides of each limit
+abbrev pub renewed : List Example
+renewed =
+    passesIn Second (octets "N:" ++ semicolons 4) ∷
+    passesIn Second (octets "N:" ++ semicolons 5) ∷
+    passesIn Second (octets "N:" ++ semicolons 6) ∷
+    flawedIn Second (octets "N:" ++ semicolons 3) 7 5 ∷
+    flawedIn Second (octets "N:" ++ semicolons 7) 7 8 ∷
+    flawedIn First (octets "N:" ++ semicolons 5) 7 6 ∷
+    passesIn Second (octets "ADR:a\\;b" ++ semicolons 17) ∷
+    passesIn Second (octets "ADR:" ++ semicolons 6) ∷
+    flawedIn Second (octets "ADR:" ++ semicolons 5) 7 9 ∷
+    flawedIn Second (octets "ADR:" ++ semicolons 18) 7 21 ∷
+    flawedIn First (octets "ADR:" ++ semicolons 7) 7 10 ∷
+    passesIn Second (octets "CREATED:20220705T093412Z") ∷
+    flawedIn Second (octets "created;VALUE=text:x") 7 19 ∷
+    passesIn First (octets "created;VALUE=text:x") ∷
+    flawedIn Second (octets "CREATED:20220705T093412Z" ++ (end ++ octets "Created:20220705T093412Z")) 10 26 ∷
+    passesIn First (octets "CREATED:" ++ (end ++ octets "CREATED:")) ∷
+    flawedIn Second (octets "GRAMGENDER:a,b") 7 12 ∷
+    passesIn Second (octets "GRAMGENDER:neuter" ++ (end ++ octets "GRAMGENDER:common")) ∷
+    flawedIn Second (octets "LANGUAGE:de" ++ (end ++ octets "LANGUAGE:en")) 10 13 ∷
+    passesIn Second (octets "LANGUAGE;ALTID=1:de" ++ (end ++ octets "LANGUAGE;ALTID=1:en")) ∷
+    flawedIn Second (octets "LANGUAGE;VALUE=uri:de") 7 21 ∷
+    passesIn Second (octets "PRONOUNS:she/her") ∷
+    flawedIn Second (octets "PRONOUNS:a,b") 7 10 ∷
+    flawedIn Second (octets "SOCIALPROFILE:cab") 7 17 ∷
+    passesIn Second (octets "SOCIALPROFILE;VALUE=text:cab") ∷
+    passesIn First (octets "SOCIALPROFILE:cab") ∷
+    []
+
 -- raised, two inputs whose copies differ are written to equal octets
 pub record Merged (i j room : List ℕ) : Type 0 where
-  pub octets : foldIn Raised i room ≡ foldIn Raised j room
+  pub octets : foldIn First Raised i room ≡ foldIn First Raised j room
   pub copies : copyOf i ≡ copyOf j → ⊥
 
 abbrev pub smallName : List ℕ
@@ -190,3 +238,7 @@ smallName = cardWith (line "x:1")
 
 abbrev pub capitalName : List ℕ
 capitalName = cardWith (line "X:1")
+
+-- card M with an N of six components
+abbrev pub widerName : List ℕ
+widerName = cardWith (line "N:;;;;;")

@@ -16,7 +16,7 @@ use Rattle.line_parser.specs.Rule.{parseLine}
 use Rattle.line_folds.specs.Folds.{lineLength, unfolded}
 use Rattle.line_folds.specs.Logical.{linesBy, rawLines}
 use Rattle.line_folds.proofs.PlaceLaws.{place-inside}
-use Rattle.value_kinds.specs.Kinds.{valueScan}
+use Rattle.value_kinds.specs.Kinds.{valueIn}
 use Rattle.value_kinds.specs.declared.Fault.{Fault}
 use Rattle.value_kinds.specs.declared.Fault.the-variants.{Fits, Breaks}
 use Rattle.card_state.specs.State.{Card, Step, Next, Refused as Halted, Flawed, freshCard, inOrder, secondInstance, noted, closed}
@@ -24,9 +24,10 @@ use Rattle.card_line.specs.Parts.{rowOfLine, kindOfLine, altidOf}
 use Rattle.card_judge.specs.Judge.{laden, entered, fitting, judgeParts, judgeParsed, judgeLine}
 use Rattle.line_breaks.specs.Lone.{firstLone, endsCrLf}
 use Rattle.reader_walk.specs.Walk.{onward, settled, judgeLines}
-use Rattle.reader.specs.Outcome.{verdictOf, judgeOf}
+use Rattle.reader.specs.Outcome.{verdictOf, judgeIn, judgeOf}
 use Rattle.reader.specs.declared.Verdict.{Verdict}
 use Rattle.reader.specs.declared.Verdict.the-variants.{Accepted, Refused}
+use Rattle.property_table.specs.declared.Edition.the-variants.{First}
 
 -- a refusal of a line is at its start, or names an octet
 abbrev At : ℕ → Step → Type 0
@@ -49,16 +50,16 @@ at-entered c p row altid v =
     (at-pick p (c .«has_fn») _ _ (at-pick p (c .«has_member» && not (c .«is_group»)) _ _ refl tt) refl)
     (at-pick p (secondInstance c row altid) _ _ refl tt)
 
-at-parsed : (c : Card) (p : ℕ) (m : Parse Line) → At p (judgeParsed c p m)
+at-parsed : (c : Card) (p : ℕ) (m : Parse Line) → At p (judgeParsed First c p m)
 unfolding judgeParts
 at-parsed c p (bad e) = refl
 at-parsed c p (got x k) =
-    at-pick p (inOrder (c .phase) (rowOfLine x)) _ _
-    (at-pick p (laden (rowOfLine x) (length (x .group)) (length (x .params))) _ _ refl
-    (at-fitting p k (valueScan (rowOfLine x) (kindOfLine x) (x .value)) _ (at-entered c p (rowOfLine x) (altidOf x) (x .value))))
+    at-pick p (inOrder (c .phase) (rowOfLine First x)) _ _
+    (at-pick p (laden (rowOfLine First x) (length (x .group)) (length (x .params))) _ _ refl
+    (at-fitting p k (valueIn First (rowOfLine First x) (kindOfLine First x) (x .value)) _ (at-entered c p (rowOfLine First x) (altidOf x) (x .value))))
     refl
 
-at-line : (c : Card) (p : ℕ) (l : List ℕ) → At p (judgeLine c p l)
+at-line : (c : Card) (p : ℕ) (l : List ℕ) → At p (judgeLine First c p l)
 unfolding judgeLine
 at-line c p l = at-pick p (ltb (firstBad (allowed false) l) (length l)) _ _ tt (at-parsed c p (parseLine l))
 
@@ -83,12 +84,12 @@ up-more q r (Next c) h u = tt
 up-more q r (Halted n p) h u = omega arith
 up-more q r (Flawed n o) h u = omega arith
 
-up-lines : (ls : List (List ℕ)) (p : ℕ) (c : Card) → UpTo (p + total ls) (judgeLines ls p c)
+up-lines : (ls : List (List ℕ)) (p : ℕ) (c : Card) → UpTo (p + total ls) (judgeLines First ls p c)
 unfolding judgeLines total
 up-lines [] p c = tt
 up-lines (l ∷ ls) p c =
-    up-onward p (p + (length l + 2 + total ls)) l (judgeLine c p (unfolded l)) (judgeLines ls (p + length l + 2)) (at-line c p (unfolded l)) (omega arith)
-    (λ c′. up-more (p + length l + 2 + total ls) (p + (length l + 2 + total ls)) (judgeLines ls (p + length l + 2) c′) (omega arith) (up-lines ls (p + length l + 2) c′))
+    up-onward p (p + (length l + 2 + total ls)) l (judgeLine First c p (unfolded l)) (judgeLines First ls (p + length l + 2)) (at-line c p (unfolded l)) (omega arith)
+    (λ c′. up-more (p + length l + 2 + total ls) (p + (length l + 2 + total ls)) (judgeLines First ls (p + length l + 2) c′) (omega arith) (up-lines ls (p + length l + 2) c′))
 
 total-none : (n : ℕ) (l : List ℕ) → length l ≡ 0 → total (linesBy n l) ≡ 0
 unfolding linesBy total
@@ -140,17 +141,17 @@ refused-lone {n} {p} i v h e f = by (ltb (firstLone i) (length i)) refl e
     by false q e = f e
 
 refused-end : {n p : ℕ} (i : List ℕ) → length i ≤ 16384
-    → pick (endsCrLf i) (verdictOf (length i) (judgeLines (rawLines i) 0 freshCard)) (Refused 4 (length i)) ≡ Refused n p → p ≤ 16386
+    → pick (endsCrLf i) (verdictOf (length i) (judgeLines First (rawLines i) 0 freshCard)) (Refused 4 (length i)) ≡ Refused n p → p ≤ 16386
 refused-end {n} {p} i h e = by (endsCrLf i) e
   where
-    by : (t : Bool) → pick t (verdictOf (length i) (judgeLines (rawLines i) 0 freshCard)) (Refused 4 (length i)) ≡ Refused n p → p ≤ 16386
+    by : (t : Bool) → pick t (verdictOf (length i) (judgeLines First (rawLines i) 0 freshCard)) (Refused 4 (length i)) ≡ Refused n p → p ≤ 16386
     by false e = let w : length i ≡ p = cc in omega arith
     by true e =
-        verdict-low (length i) 16386 (judgeLines (rawLines i) 0 freshCard)
-        (up-more (0 + total (rawLines i)) 16386 (judgeLines (rawLines i) 0 freshCard) (omega (arith, total-raw i)) (up-lines (rawLines i) 0 freshCard)) n p e (omega arith)
+        verdict-low (length i) 16386 (judgeLines First (rawLines i) 0 freshCard)
+        (up-more (0 + total (rawLines i)) 16386 (judgeLines First (rawLines i) 0 freshCard) (omega (arith, total-raw i)) (up-lines (rawLines i) 0 freshCard)) n p e (omega arith)
 
 pub place-low : (i : List ℕ) (n p : ℕ) → judgeOf i ≡ Refused n p → p ≤ 16386
-unfolding judgeOf
+unfolding judgeIn
 place-low i n p e =
     refused-by (ltb 16384 (length i)) 1 16384 _ e (omega arith) (λ t₁ q₁.
     let short = ltb-false 16384 (length i) t₁ in

@@ -1,6 +1,7 @@
 // The routines that C firmware calls, on byte ranges, one number as the answer of each.
 use numbers::limit;
 use octets::rooms::Written;
+use property_table::Edition;
 use reader::Verdict;
 ghost use mathlib.Core.Path.{_≡_};
 ghost use Prim.Native.Nat.{_<_};
@@ -46,7 +47,7 @@ fn pack_written(w: Written) -> u64
 pub extern "C" fn fold(input: &[u8], out: &mut [u8]) -> u64
     ensures { λ r. ⌜ worded r (now (out .exit)) ≡ wordOutcome (foldOutcome (now (input .entry)) (now (out .entry))) ⌝ }
 {
-    let w = folder::fold(input, out);
+    let w = folder::fold(Edition::First, input, out);
     pack_written(w)
 }
 

@@ -6,6 +6,7 @@ use numbers::count;
 use numbers::limit;
 use numbers::property;
 use octets::rooms::Written;
+use property_table::Edition;
 use reader::Verdict;
 use report::Report;
 ghost use mathlib.Core.Path.{_≡_};
@@ -13,7 +14,8 @@ ghost use Prim.Native.Nat.{_+_};
 ghost use lib.ListN.{getD};
 ghost use Rattle.numbers.specs.Counts as places;
 ghost use Rattle.numbers.specs.Properties as property;
-ghost use Rattle.reader.specs.Outcome.{readOutcome};
+ghost use Rattle.reader.specs.Outcome.{readIn};
+ghost use Rattle.property_table.specs.declared.Edition.the-variants.{First};
 ghost use Rattle.report.specs.Steps.{freshReport, takeStep};
 ghost use Rattle.text.specs.Outcomes.{escapeOutcome};
 ghost use Rattle.label.specs.Outcomes.{encodeOutcome, decodeOutcome};
@@ -72,11 +74,11 @@ pub extern "C" fn timed_decode(label: &[u8], out: &mut [u8]) -> u64
 // Reads an input: the count of cards, or the refusal; the rooms are as the reader leaves them.
 #[no_mangle]
 pub extern "C" fn timed_read(input: &[u8], copy: &mut [u8], records: &mut [u32]) -> u64
-    ensures { λ r. ⌜ r ≡ verdictNumber (readOutcome (now (input .entry)) (now (copy .entry)) (now (records .entry)) .answer) ⌝ }
-    ensures { λ _. ⌜ now (copy .exit) ≡ readOutcome (now (input .entry)) (now (copy .entry)) (now (records .entry)) .copy ⌝ }
-    ensures { λ _. ⌜ now (records .exit) ≡ readOutcome (now (input .entry)) (now (copy .entry)) (now (records .entry)) .records ⌝ }
+    ensures { λ r. ⌜ r ≡ verdictNumber (readIn First (now (input .entry)) (now (copy .entry)) (now (records .entry)) .answer) ⌝ }
+    ensures { λ _. ⌜ now (copy .exit) ≡ readIn First (now (input .entry)) (now (copy .entry)) (now (records .entry)) .copy ⌝ }
+    ensures { λ _. ⌜ now (records .exit) ≡ readIn First (now (input .entry)) (now (copy .entry)) (now (records .entry)) .records ⌝ }
 {
-    let v = reader::read(input, copy, records);
+    let v = reader::read(Edition::First, input, copy, records);
     match v {
         Verdict::Accepted(cards, _) => cards as u64,
         Verdict::Refused(n, _) => pack_refusal(n),

@@ -3,7 +3,9 @@
 use Prim.Native.Nat.{ℕ}
 use mathlib.Core.List.{List, map}
 use Rattle.octets.specs.Room.{Filled, refuse, fillBounded}
-use Rattle.reader.specs.Outcome.{judgeOf}
+use Rattle.property_table.specs.declared.Edition.{Edition}
+use Rattle.property_table.specs.declared.Edition.the-variants.{First}
+use Rattle.reader.specs.Outcome.{judgeIn}
 use Rattle.line_folds.specs.Logical.{logicalLines}
 use Rattle.reader.specs.declared.Verdict.{Verdict}
 use Rattle.reader.specs.declared.Verdict.the-variants.{Accepted, Refused}
@@ -17,9 +19,9 @@ unfoldable pub foldBy : Style → Verdict → List ℕ → List ℕ → Filled
 foldBy s (Accepted k n) i room = fillBounded (foldedLines (map (written s) (logicalLines i))) room
 foldBy s (Refused n p) i room = refuse n p room
 
-unfoldable pub foldIn : Style → List ℕ → List ℕ → Filled
-foldIn s i room = foldBy s (judgeOf i) i room
+unfoldable pub foldIn : Edition → Style → List ℕ → List ℕ → Filled
+foldIn e s i room = foldBy s (judgeIn e i) i room
 
--- where no style is named, names are raised
+-- where neither is named, the edition is the first and names are raised
 abbrev pub foldOutcome : List ℕ → List ℕ → Filled
-foldOutcome i room = foldIn raisedStyle i room
+foldOutcome i room = foldIn First raisedStyle i room

@@ -10,7 +10,7 @@ use Rattle.octets.specs.Room.{filled}
 use Rattle.octets.specs.declared.rooms.Written.the-variants.{Wrote}
 use Rattle.utf8.proofs.Chains.{no-end}
 use Rattle.line_breaks.specs.Lone.{loneStep, firstLone, endsCrLf}
-use Rattle.reader.specs.Outcome.{judgeOf, ended, copyOf, recordsOf, writeOutcome, outcomeBy, readOutcome}
+use Rattle.reader.specs.Outcome.{judgeIn, ended, copyOf, recordsIn, writeOutcome, outcomeBy, readIn}
 use Rattle.line_folds.specs.Logical.{logicalLines}
 use Rattle.reader.specs.declared.Verdict.{Verdict}
 use Rattle.reader.specs.declared.Verdict.the-variants.{Accepted}
@@ -26,6 +26,7 @@ use Rattle.folder.proofs.Accepted.{accepted}
 use Rattle.folder_laws.proofs.PhysicalLaws.{physicalOf, lines-ended, clean-lines}
 use Rattle.folder_laws.proofs.StyleLaws.{as-read}
 use Rattle.folder_laws.proofs.WrittenLaws.{InRoom, wrote, wrote-accepted, form, fold-lines}
+use Rattle.property_table.specs.declared.Edition.{Edition}
 
 -- folded text passes 3 and 4
 unlone : (ps : List (List ℕ)) → All Clean ps → firstLone (ended ps) ≡ length (ended ps)
@@ -47,31 +48,31 @@ module _ (ls : List (List ℕ)) where
   folded-ends h = rw (lines-ended ls) (ends-lines (physicalOf ls) (physical-some ls h))
 
 -- As read: what was written is accepted as the input is, and has its lines.
-module _ (i room after : List ℕ) (n : ℕ) (e : filled (Wrote n) after ≡ foldIn AsRead i room) where
+module _ (ed : Edition) (i room after : List ℕ) (n : ℕ) (e : filled (Wrote n) after ≡ foldIn ed AsRead i room) where
   lines-kept : logicalLines (take n after) ≡ logicalLines i
-  lines-kept = fold-lines AsRead (form AsRead i room after n e) ∙ as-read (logicalLines i)
+  lines-kept = fold-lines AsRead (form ed AsRead i room after n e) ∙ as-read (logicalLines i)
 
-  kept : {A : Type 0} → ((k m : ℕ) → judgeOf i ≡ Accepted k m → judgeOf (take n after) ≡ Accepted k m → A) → A
+  kept : {A : Type 0} → ((k m : ℕ) → judgeIn ed i ≡ Accepted k m → judgeIn ed (take n after) ≡ Accepted k m → A) → A
   unfolding foldIn
   kept f =
-      wrote-accepted AsRead (judgeOf i) i room after n e
+      wrote-accepted AsRead (judgeIn ed i) i room after n e
       (λ k m a w. f k m a (judged k m a (wrote (foldedLines (map (written AsRead) (logicalLines i))) room after n w) ∙ a))
     where
-      judged : (k m : ℕ) → judgeOf i ≡ Accepted k m → InRoom (foldedLines (map (written AsRead) (logicalLines i))) room after n → judgeOf (take n after) ≡ judgeOf i
+      judged : (k m : ℕ) → judgeIn ed i ≡ Accepted k m → InRoom (foldedLines (map (written AsRead) (logicalLines i))) room after n → judgeIn ed (take n after) ≡ judgeIn ed i
       judged k m a p =
-          let c = accepted i k m a .0 in
+          let c = accepted ed i k m a .0 in
           let q = ap foldedLines (as-read (logicalLines i)) in
           let s : length (foldedLines (logicalLines i)) ≤ 16384 = omega (arith, p .count, p .bound, ap length q) in
           let t = p .written ∙ q in
-          same-lines i (take n after) k m a lines-kept (rw t s) (rw t (folded-unlone (logicalLines i) c))
-          (rw t (folded-ends (logicalLines i) (lines-some i (accepting i k m a .some))))
+          same-lines ed i (take n after) k m a lines-kept (rw t s) (rw t (folded-unlone (logicalLines i) c))
+          (rw t (folded-ends (logicalLines i) (lines-some i (accepting ed i k m a .some))))
 
   -- Read again, it gives the same counts, copy and records, whatever the rooms.
-  pub read-again : (copy records : List ℕ) → readOutcome (take n after) copy records ≡ readOutcome i copy records
-  unfolding readOutcome outcomeBy
+  pub read-again : (copy records : List ℕ) → readIn ed (take n after) copy records ≡ readIn ed i copy records
+  unfolding readIn outcomeBy
   read-again copy records =
       kept (λ k m a b.
-      ap (λ (v : Verdict). outcomeBy v (take n after) copy records) b
-      ∙ ap (λ (xs : List ℕ). writeOutcome (Accepted k m) xs (recordsOf (take n after)) copy records) (same-copy i (take n after) lines-kept)
-      ∙ ap (λ (rs : List ℕ). writeOutcome (Accepted k m) (copyOf i) rs copy records) (same-records i (take n after) lines-kept)
-      ∙ sym (ap (λ (v : Verdict). outcomeBy v i copy records) a))
+      ap (λ (v : Verdict). outcomeBy ed v (take n after) copy records) b
+      ∙ ap (λ (xs : List ℕ). writeOutcome (Accepted k m) xs (recordsIn ed (take n after)) copy records) (same-copy i (take n after) lines-kept)
+      ∙ ap (λ (rs : List ℕ). writeOutcome (Accepted k m) (copyOf i) rs copy records) (same-records ed i (take n after) lines-kept)
+      ∙ sym (ap (λ (v : Verdict). outcomeBy ed v i copy records) a))

@@ -14,7 +14,7 @@ use Rattle.octets.specs.declared.rooms.Written.the-variants.{Wrote, Refused}
 use Rattle.card_judge.specs.Judge.{judgeLine}
 use Rattle.card_state.specs.State.{Card, Next}
 use Rattle.card_judge.proofs.CardLaws.{line-clean}
-use Rattle.reader.specs.Outcome.{judgeOf}
+use Rattle.reader.specs.Outcome.{judgeIn}
 use Rattle.line_folds.specs.Logical.{logicalLines}
 use Rattle.reader.specs.declared.Verdict.{Verdict}
 use Rattle.reader.specs.declared.Verdict.the-variants.{Accepted, Refused as Denied}
@@ -30,6 +30,7 @@ use Rattle.folder_laws.proofs.BackLaws.{lined-back, lines-back}
 use Rattle.folder_laws.proofs.CuttingLaws.{all-characters}
 use Rattle.folder_laws.proofs.PhysicalLaws.{short-lines, whole-lines}
 use Rattle.folder_laws.proofs.StyleLaws.{clean-styled, unled-styled}
+use Rattle.property_table.specs.declared.Edition.{Edition}
 
 -- The folded form of clean lines, none led by a space or tab.
 pub folds : (ls : List (List ℕ)) → All Clean ls → All Unled ls → Folds ls (foldedLines ls)
@@ -74,9 +75,9 @@ unfolding foldBy
 wrote-accepted s (Accepted k m) i room after n e f = f k m refl e
 wrote-accepted s (Denied k p) i room after n e f = absurd (never n k p (ap (λ (x : Filled). x .answer) e))
 
-line-unled : (c c′ : Card) (p : ℕ) (l : List ℕ) → judgeLine c p l ≡ Next c′ → Unled l
+line-unled : (ed : Edition) (c c′ : Card) (p : ℕ) (l : List ℕ) → judgeLine ed c p l ≡ Next c′ → Unled l
 unfolding Unled
-line-unled c c′ p l e = let w = line-clean c c′ p l e in (w .1, w .2)
+line-unled ed c c′ p l e = let w = line-clean ed c c′ p l e in (w .1, w .2)
 
 -- What was written: the folded form of the input's lines in the style, which are clean and led by no space or tab.
 pub record Form (s : Style) (i t : List ℕ) : Type 0 where
@@ -85,17 +86,17 @@ pub record Form (s : Style) (i t : List ℕ) : Type 0 where
   pub clean : All Clean (logicalLines i)
   pub unled : All Unled (logicalLines i)
 
-pub form : (s : Style) (i room after : List ℕ) (n : ℕ) → filled (Wrote n) after ≡ foldIn s i room → Form s i (take n after)
+pub form : (ed : Edition) (s : Style) (i room after : List ℕ) (n : ℕ) → filled (Wrote n) after ≡ foldIn ed s i room → Form s i (take n after)
 unfolding foldIn
-form s i room after n e =
-    wrote-accepted s (judgeOf i) i room after n e
+form ed s i room after n e =
+    wrote-accepted s (judgeIn ed i) i room after n e
     (λ k m a f.
     let p = wrote (foldedLines (map (written s) (logicalLines i))) room after n f in
     record {
       octets = p .written;
       short = omega (arith, p .count, p .bound, ap length (p .written));
-      clean = accepted i k m a .0;
-      unled = all-lines Unled line-unled i k m a;
+      clean = accepted ed i k m a .0;
+      unled = all-lines ed Unled (line-unled ed) i k m a;
     })
 
 -- The octets that folding an input has written: they are short physical lines of whole characters, read again they have the same logical

@@ -13,7 +13,7 @@ use Rattle.octets.specs.Classes.{within, letter, named}
 use Rattle.octets.specs.Cases.{lower, same}
 use Rattle.line_parser.specs.Grammar.{Value, Param, Line, Each, Is, Word, GoodParam, WellFormed, front, render}
 use Rattle.line_parameters.specs.First.{firstNamed}
-use Rattle.property_table.specs.Rows.{Row, search, rows, rowOf, lineKind, valueName, calscaleName}
+use Rattle.property_table.specs.Rows.{Row, search, rowsOf, rowOf, lineKind, valueName, calscaleName}
 use Rattle.card_line.specs.Parts.{octetsOf, paramValue, rowOfLine, kindOfLine}
 use Rattle.folder_raising.specs.Letters.{upper}
 use Rattle.folder_style_laws.specs.Capitals.{raisedParam, raisedLine}
@@ -22,6 +22,7 @@ use Rattle.folder_raising.specs.declared.Spot.the-variants.{Name}
 use Rattle.folder_raising.proofs.Kept.{raised-length}
 use Rattle.folder_raising.proofs.CleanLaws.{Upper, stays, small, upper-case}
 use Rattle.folder_style_laws.proofs.ByParts.{raised-render}
+use Rattle.property_table.specs.declared.Edition.{Edition}
 
 -- ---- names compare without case
 
@@ -55,20 +56,20 @@ named-params name [] = refl
 named-params name (p ∷ ps) = rw (same-upper (p .name) name, named-params name ps) refl
 
 module _ (x : Line) where
-  pub row-raised : rowOfLine (raisedLine x) ≡ rowOfLine x
+  pub row-raised : (ed : Edition) → rowOfLine ed (raisedLine x) ≡ rowOfLine ed x
   unfolding rowOfLine rowOf
-  row-raised = search-upper (x .name) 1 rows
+  row-raised ed = search-upper (x .name) 1 (rowsOf ed)
 
   pub param-raised : (name : List ℕ) → paramValue name (raisedLine x) ≡ paramValue name x
   unfolding paramValue
   param-raised name = ap octetsOf (named-params name (x .params))
 
-  pub kind-raised : kindOfLine (raisedLine x) ≡ kindOfLine x
+  pub kind-raised : (ed : Edition) → kindOfLine ed (raisedLine x) ≡ kindOfLine ed x
   unfolding kindOfLine
-  kind-raised =
-      ap (λ (n : ℕ). lineKind n (paramValue valueName (raisedLine x)) (paramValue calscaleName (raisedLine x))) row-raised
-      ∙ ap (λ (v : Option (List ℕ)). lineKind (rowOfLine x) v (paramValue calscaleName (raisedLine x))) (param-raised valueName)
-      ∙ ap (lineKind (rowOfLine x) (paramValue valueName x)) (param-raised calscaleName)
+  kind-raised ed =
+      ap (λ (n : ℕ). lineKind n (paramValue valueName (raisedLine x)) (paramValue calscaleName (raisedLine x))) (row-raised ed)
+      ∙ ap (λ (v : Option (List ℕ)). lineKind (rowOfLine ed x) v (paramValue calscaleName (raisedLine x))) (param-raised valueName)
+      ∙ ap (lineKind (rowOfLine ed x) (paramValue valueName x)) (param-raised calscaleName)
 
 -- ---- the line rule
 

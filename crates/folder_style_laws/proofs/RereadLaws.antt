@@ -13,11 +13,11 @@ use Rattle.line_laws.specs.Lined.{Folded}
 use Rattle.line_parser.specs.Grammar.{Line, Each, WellFormed, front, render}
 use Rattle.card_line.specs.Parts.{rowOfLine, kindOfLine}
 use Rattle.reader_records.specs.Records.{recordOf, recordsFrom}
-use Rattle.reader.specs.Outcome.{judgeOf, ended, copyOf, recordsOf, Taken, took, writeOutcome, outcomeBy, readOutcome}
+use Rattle.reader.specs.Outcome.{judgeIn, ended, copyOf, recordsIn, Taken, took, writeOutcome, outcomeBy, readIn}
 use Rattle.reader.specs.declared.Verdict.{Verdict}
 use Rattle.reader.specs.declared.Verdict.the-variants.{Accepted, Refused}
 use Rattle.reader_grammar.specs.Cards.{Readable, Cards}
-use Rattle.reader_grammar.specs.Inputs.{Written, none, more, InputOf}
+use Rattle.reader_grammar.specs.Inputs.{Written, none, more, InputIn}
 use Rattle.reader_grammar.proofs.Accepted.{accepted-law, lines-law}
 use Rattle.reader_grammar.proofs.RecordLaws.{numbers}
 use Rattle.folder_line.specs.Pieces.{pieces, joined, folded, foldedLines}
@@ -33,6 +33,7 @@ use Rattle.folder_style_laws.proofs.ByParts.{raised-render}
 use Rattle.folder_style_laws.proofs.NameLaws.{row-raised, kind-raised, formed-raised, render-length, front-length}
 use Rattle.folder_style_laws.proofs.CardLaws.{readable-raised, cards-raised}
 use Rattle.folder_style_laws.proofs.TwiceLaws.{map-twice}
+use Rattle.property_table.specs.declared.Edition.{Edition}
 
 -- ---- lines in a style
 
@@ -49,9 +50,9 @@ lines-as-read : (xs : List Line) → map (styled AsRead) xs ≡ xs
 lines-as-read [] = refl
 lines-as-read (x ∷ xs) = ap (λ (ys : List Line). x ∷ ys) (lines-as-read xs)
 
-cards-styled : (s : Style) {k : ℕ} {xs : List Line} → Cards k xs → Cards k (map (styled s) xs)
-cards-styled AsRead {k} {xs} c = subst (Cards k) (sym (lines-as-read xs)) c
-cards-styled Raised c = cards-raised c
+cards-styled : (ed : Edition) (s : Style) {k : ℕ} {xs : List Line} → Cards ed k xs → Cards ed k (map (styled s) xs)
+cards-styled ed AsRead {k} {xs} c = subst (Cards ed k) (sym (lines-as-read xs)) c
+cards-styled ed Raised c = cards-raised ed c
 
 pub line-styled : (s : Style) (x : Line) → Readable x → written s (render x) ≡ render (styled s x)
 line-styled AsRead x r = refl
@@ -73,24 +74,24 @@ written-folded (x ∷ xs) =
 
 -- ---- records and copy
 
-record-styled : (s : Style) (x : Line) → Readable x → (w : ℕ) → recordOf w (render (styled s x)) ≡ recordOf w (render x)
-record-styled AsRead x r w = refl
-record-styled Raised x r w =
-    numbers (raisedLine x) (formed-raised x (r .formed)) w
-    ∙ rw (row-raised x, render-length x (r .formed), length-map (x .group), length-map (x .name), length-map (x .params), front-length x (r .formed), kind-raised x) refl
-    ∙ sym (numbers x (r .formed) w)
+record-styled : (ed : Edition) (s : Style) (x : Line) → Readable x → (w : ℕ) → recordOf ed w (render (styled s x)) ≡ recordOf ed w (render x)
+record-styled ed AsRead x r w = refl
+record-styled ed Raised x r w =
+    numbers ed (raisedLine x) (formed-raised x (r .formed)) w
+    ∙ rw (row-raised x ed, render-length x (r .formed), length-map (x .group), length-map (x .name), length-map (x .params), front-length x (r .formed), kind-raised x ed) refl
+    ∙ sym (numbers ed x (r .formed) w)
 
 length-styled : (s : Style) (x : Line) → Readable x → length (render (styled s x)) ≡ length (render x)
 length-styled AsRead x r = refl
 length-styled Raised x r = render-length x (r .formed)
 
-records-styled : (s : Style) (xs : List Line) → Each Readable xs → (w : ℕ) → recordsFrom w (map render (map (styled s) xs)) ≡ recordsFrom w (map render xs)
+records-styled : (ed : Edition) (s : Style) (xs : List Line) → Each Readable xs → (w : ℕ) → recordsFrom ed w (map render (map (styled s) xs)) ≡ recordsFrom ed w (map render xs)
 unfolding Each recordsFrom
-records-styled s [] r w = refl
-records-styled s (x ∷ xs) r w =
-    ap (λ (a : List ℕ). a ++ recordsFrom (w + length (render (styled s x)) + 2) (map render (map (styled s) xs))) (record-styled s x (r .0) w)
-    ∙ ap (λ (n : ℕ). recordOf w (render x) ++ recordsFrom (w + n + 2) (map render (map (styled s) xs))) (length-styled s x (r .0))
-    ∙ ap (λ (a : List ℕ). recordOf w (render x) ++ a) (records-styled s xs (r .1) (w + length (render x) + 2))
+records-styled ed s [] r w = refl
+records-styled ed s (x ∷ xs) r w =
+    ap (λ (a : List ℕ). a ++ recordsFrom ed (w + length (render (styled s x)) + 2) (map render (map (styled s) xs))) (record-styled ed s x (r .0) w)
+    ∙ ap (λ (n : ℕ). recordOf ed w (render x) ++ recordsFrom ed (w + n + 2) (map render (map (styled s) xs))) (length-styled s x (r .0))
+    ∙ ap (λ (a : List ℕ). recordOf ed w (render x) ++ a) (records-styled ed s xs (r .1) (w + length (render x) + 2))
 
 copy-styled : (s : Style) (xs : List Line) → Each Readable xs → length (ended (map render (map (styled s) xs))) ≡ length (ended (map render xs))
 unfolding Each ended
@@ -119,21 +120,21 @@ writes-alike v xs ys rs copy records e = rw e (go _ _ (ltb (length copy) (length
 
 -- ---- what was written
 
-module _ (s : Style) (i t : List ℕ) (k m : ℕ) (h : InputOf i k m) (f : Form s i t) where
+module _ (ed : Edition) (s : Style) (i t : List ℕ) (k m : ℕ) (h : InputIn ed i k m) (f : Form s i t) where
   octets : t ≡ foldedLines (map render (map (styled s) (h .lines)))
   octets =
-      f .octets ∙ ap (λ (ls : List (List ℕ)). foldedLines (map (written s) ls)) (lines-law i k m h)
+      f .octets ∙ ap (λ (ls : List (List ℕ)). foldedLines (map (written s) ls)) (lines-law ed i k m h)
       ∙ ap foldedLines (lines-styled s (h .lines) (h .readable))
 
   -- It is as many cards, whose lines are those of the input in the style.
-  pub again : InputOf t k m
+  pub again : InputIn ed t k m
   again =
       record {
         short = f .short;
         lines = map (styled s) (h .lines);
         written = subst (Written (map (styled s) (h .lines))) (sym octets) (written-folded (map (styled s) (h .lines)));
         readable = each-styled s (h .lines) (h .readable);
-        cards = cards-styled s (h .cards);
+        cards = cards-styled ed s (h .cards);
         some = h .some;
         count = h .count ∙ sym (length-map (h .lines) (styled s));
       }
@@ -142,45 +143,45 @@ module _ (s : Style) (i t : List ℕ) (k m : ℕ) (h : InputOf i k m) (f : Form 
   unfolding again
   again-lines = refl
 
-  records-same : recordsOf t ≡ recordsOf i
-  unfolding recordsOf
-  records-same = ap (recordsFrom 0) (lines-law t k m again ∙ ap (map render) again-lines) ∙ records-styled s (h .lines) (h .readable) 0 ∙ ap (recordsFrom 0) (sym (lines-law i k m h))
+  records-same : recordsIn ed t ≡ recordsIn ed i
+  unfolding recordsIn
+  records-same = ap (recordsFrom ed 0) (lines-law ed t k m again ∙ ap (map render) again-lines) ∙ records-styled ed s (h .lines) (h .readable) 0 ∙ ap (recordsFrom ed 0) (sym (lines-law ed i k m h))
 
   copy-length : length (copyOf t) ≡ length (copyOf i)
   unfolding copyOf
   copy-length =
-      ap (λ (ls : List (List ℕ)). length (ended ls)) (lines-law t k m again ∙ ap (map render) again-lines) ∙ copy-styled s (h .lines) (h .readable)
-      ∙ ap (λ (ls : List (List ℕ)). length (ended ls)) (sym (lines-law i k m h))
+      ap (λ (ls : List (List ℕ)). length (ended ls)) (lines-law ed t k m again ∙ ap (map render) again-lines) ∙ copy-styled s (h .lines) (h .readable)
+      ∙ ap (λ (ls : List (List ℕ)). length (ended ls)) (sym (lines-law ed i k m h))
 
-  alike : (copy records : List ℕ) → Alike (readOutcome t copy records) (readOutcome i copy records)
-  unfolding readOutcome outcomeBy
+  alike : (copy records : List ℕ) → Alike (readIn ed t copy records) (readIn ed i copy records)
+  unfolding readIn outcomeBy
   alike copy records =
-      rw (accepted-law t k m .1 again, accepted-law i k m .1 h, records-same)
-      (writes-alike (Accepted k m) (copyOf t) (copyOf i) (recordsOf i) copy records copy-length)
+      rw (accepted-law ed t k m .1 again, accepted-law ed i k m .1 h, records-same)
+      (writes-alike (Accepted k m) (copyOf t) (copyOf i) (recordsIn ed i) copy records copy-length)
 
   -- Read again, it gives the same answer and the same records, whatever the rooms.
-  pub again-answer : (copy records : List ℕ) → readOutcome t copy records .answer ≡ readOutcome i copy records .answer
+  pub again-answer : (copy records : List ℕ) → readIn ed t copy records .answer ≡ readIn ed i copy records .answer
   again-answer copy records = alike copy records .answer
 
-  pub again-records : (copy records : List ℕ) → readOutcome t copy records .records ≡ readOutcome i copy records .records
+  pub again-records : (copy records : List ℕ) → readIn ed t copy records .records ≡ readIn ed i copy records .records
   again-records copy records = alike copy records .records
 
   -- Folded again in the same style, or as read, it gives what the input gives in the style, whatever the room.
-  folded-in : (r : Style) (room : List ℕ) → foldIn r t room ≡ fillBounded (foldedLines (map (written r) (logicalLines t))) room
+  folded-in : (r : Style) (room : List ℕ) → foldIn ed r t room ≡ fillBounded (foldedLines (map (written r) (logicalLines t))) room
   unfolding foldIn foldBy
-  folded-in r room = ap (λ (v : Verdict). foldBy r v t room) (accepted-law t k m .1 again)
+  folded-in r room = ap (λ (v : Verdict). foldBy r v t room) (accepted-law ed t k m .1 again)
 
-  given : (room : List ℕ) → fillBounded (foldedLines (map (written s) (logicalLines i))) room ≡ foldIn s i room
+  given : (room : List ℕ) → fillBounded (foldedLines (map (written s) (logicalLines i))) room ≡ foldIn ed s i room
   unfolding foldIn foldBy
-  given room = sym (ap (λ (v : Verdict). foldBy s v i room) (accepted-law i k m .1 h))
+  given room = sym (ap (λ (v : Verdict). foldBy s v i room) (accepted-law ed i k m .1 h))
 
-  pub fold-again : (room : List ℕ) → foldIn s t room ≡ foldIn s i room
+  pub fold-again : (room : List ℕ) → foldIn ed s t room ≡ foldIn ed s i room
   fold-again room =
       folded-in s room
       ∙ ap (λ (ls : List (List ℕ)). fillBounded (foldedLines ls) room) (ap (map (written s)) (fold-lines s f) ∙ map-twice s (logicalLines i))
       ∙ given room
 
-  pub fold-as-read : (room : List ℕ) → foldIn AsRead t room ≡ foldIn s i room
+  pub fold-as-read : (room : List ℕ) → foldIn ed AsRead t room ≡ foldIn ed s i room
   fold-as-read room =
       folded-in AsRead room
       ∙ ap (λ (ls : List (List ℕ)). fillBounded (foldedLines ls) room) (as-read (logicalLines t) ∙ fold-lines s f)

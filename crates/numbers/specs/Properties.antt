@@ -120,13 +120,33 @@ caladruri = 37
 abbrev pub caluri : ℕ
 caluri = 38
 
--- how many rows the table has, row 0 counted in
+-- how many rows edition one has, row 0 counted in
 abbrev pub count : ℕ
 count = 39
+
+-- the rows that edition two adds
+abbrev pub created : ℕ
+created = 39
+
+abbrev pub gramgender : ℕ
+gramgender = 40
+
+abbrev pub language : ℕ
+language = 41
+
+abbrev pub pronouns : ℕ
+pronouns = 42
+
+abbrev pub socialprofile : ℕ
+socialprofile = 43
+
+-- how many rows the table has, row 0 and those of edition two counted in
+abbrev pub all : ℕ
+all = 44
 
 -- all of them
 abbrev pub properties : List ℕ
 properties =
     other ∷ begin ∷ end ∷ source ∷ kind ∷ xml ∷ fn ∷ n ∷ nickname ∷ photo ∷ bday ∷ anniversary ∷ gender ∷ adr ∷ tel ∷ email ∷ impp ∷ lang ∷ tz ∷ geo ∷ []
     ++ title ∷ role ∷ logo ∷ org ∷ member ∷ related ∷ categories ∷ note ∷ prodid ∷ rev ∷ sound ∷ uid ∷ clientpidmap ∷ url ∷ version ∷ key ∷ fburl ∷ []
-    ++ caladruri ∷ caluri ∷ []
+    ++ caladruri ∷ caluri ∷ created ∷ gramgender ∷ language ∷ pronouns ∷ socialprofile ∷ []

@@ -79,5 +79,19 @@ pub const CALADRURI: usize = 37;
 
 pub const CALURI: usize = 38;
 
-// How many rows the table has, row 0 counted in.
+// How many rows edition one has, row 0 counted in.
 pub const COUNT: usize = 39;
+
+// The rows that edition two adds.
+pub const CREATED: usize = 39;
+
+pub const GRAMGENDER: usize = 40;
+
+pub const LANGUAGE: usize = 41;
+
+pub const PRONOUNS: usize = 42;
+
+pub const SOCIALPROFILE: usize = 43;
+
+// How many rows the table has, row 0 and those of edition two counted in.
+pub const ALL: usize = 44;

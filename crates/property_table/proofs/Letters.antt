@@ -15,7 +15,7 @@ use Rattle.octets.specs.Cases.{lower, same}
 use Rattle.octets.proofs.CaseLaws.{same-differ, same-next}
 use Rattle.octets.specs.Ascii.{octets}
 use Rattle.octets.specs.Counts.{allIn}
-use Rattle.property_table.specs.Rows.{Row, rows, rowAt, initial, agrees, Lists}
+use Rattle.property_table.specs.Rows.{Row, rows, newer, allRows, rowAt, initial, agrees, Lists}
 use Rattle.octets.proofs.Bools.{and-both}
 use Rattle.octets.proofs.Upto.{upto, from, alike}
 use Rattle.property_table.proofs.RowLaws.{listed, agree-both}
@@ -27,9 +27,9 @@ passed p [] i e h = absurd (not-suc-le-zero h)
 passed p (x ∷ xs) zero e h = and-both (p x) (allIn p xs) e .0
 passed p (x ∷ xs) (suc i) e h = passed p xs i (and-both (p x) (allIn p xs) e .1) (le-of-suc-le-suc h)
 
-capital : (n i : ℕ) → n < 39 → i < length (rowAt n .name) → within 65 90 (getD (rowAt n .name) i 0) ≡ true
-unfolding upto allIn rowAt rows octets
-capital n i h g = passed (within 65 90) (rowAt n .name) i (alike (λ j. allIn (within 65 90) (rowAt j .name)) (λ j. true) 39 refl n h) g
+capital : (n i : ℕ) → n < 44 → i < length (rowAt n .name) → within 65 90 (getD (rowAt n .name) i 0) ≡ true
+unfolding upto allIn rowAt rows newer allRows octets
+capital n i h g = passed (within 65 90) (rowAt n .name) i (alike (λ j. allIn (within 65 90) (rowAt j .name)) (λ j. true) 44 refl n h) g
 
 -- the test of each octet against each capital
 either : (a k : ℕ) → a < 256 → k < 26 → eqb (bitOr a 32) (bitOr (65 + k) 32) ≡ eqb (lower a) (lower (65 + k))
@@ -47,9 +47,9 @@ either-case a b h g =
     subst (λ (y : ℕ). eqb (bitOr a 32) (bitOr y 32) ≡ eqb (lower a) (lower y)) there (either a (b - 65) h (omega arith))
 
 -- the letter at i of row n's name, as the table t has it
-module _ (t : List ℕ) (n i : ℕ) (h : Lists t) (l : n < 39) (g : i < length (rowAt n .name)) where
+module _ (t : List ℕ) (n i : ℕ) (h : Lists t) (l : n < 44) (p : 0 < i) (g : i < length (rowAt n .name)) where
   letter-there : getD t (n * 16 + i) 0 ≡ getD (rowAt n .name) i 0
-  letter-there = listed t h n l .spelt i g
+  letter-there = listed t h n l .spelt i p g
 
   test : (a : ℕ) → a < 256 → eqb (bitOr a 32) (bitOr (getD t (n * 16 + i) 0) 32) ≡ eqb (lower a) (lower (getD (rowAt n .name) i 0))
   test a b = rw (letter-there) (either-case a (getD (rowAt n .name) i 0) b (capital n i l g))
@@ -61,16 +61,16 @@ module _ (t : List ℕ) (n i : ℕ) (h : Lists t) (l : n < 39) (g : i < length (
   letter-other a b f e = f (eqb-true _ _ (test a b ∙ eq-eqb _ _ e))
 
 -- a name as long as row n's, at its octet i
-module _ (t name : List ℕ) (n i : ℕ) (h : Lists t) (l : n < 39) (e : length (rowAt n .name) ≡ length name) (g : i < length name) (b : getD name i 0 < 256) where
+module _ (t name : List ℕ) (n i : ℕ) (h : Lists t) (l : n < 44) (e : length (rowAt n .name) ≡ length name) (p : 0 < i) (g : i < length name) (b : getD name i 0 < 256) where
   there : i < length (rowAt n .name)
   there = omega (arith, e)
 
   pub spelt-other : (bitOr (getD name i 0) 32 ≡ bitOr (getD t (n * 16 + i) 0) 32 → ⊥) → same (drop i name) (drop i (rowAt n .name)) ≡ false
-  spelt-other f = same-differ name (rowAt n .name) i g there (letter-other t n i h l there (getD name i 0) b f)
+  spelt-other f = same-differ name (rowAt n .name) i g there (letter-other t n i h l p there (getD name i 0) b f)
 
   pub spelt-next : bitOr (getD name i 0) 32 ≡ bitOr (getD t (n * 16 + i) 0) 32
       → same (drop i name) (drop i (rowAt n .name)) ≡ same (drop (i + 1) name) (drop (i + 1) (rowAt n .name))
-  spelt-next q = same-next name (rowAt n .name) i g there (letter-same t n i h l there (getD name i 0) b q)
+  spelt-next q = same-next name (rowAt n .name) i g there (letter-same t n i h l p there (getD name i 0) b q)
 
 first-same : (a b : List ℕ) → length b ≡ length a → initial b ≡ initial a → same a b ≡ same (drop 1 a) (drop 1 b)
 unfolding same initial

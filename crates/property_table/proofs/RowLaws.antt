@@ -1,47 +1,80 @@
 -- The search of a name from a row on, and what the table says of a row. Assumes nothing.
 use mathlib.Core.Path.{_≡_, refl, sym, ap, subst, _∙_}
 use mathlib.Core.Bool.{Bool, true, false, false≢true}
-use mathlib.Core.List.{List, [], _∷_}
+use mathlib.Core.List.{List, [], _∷_, _++_}
+use mathlib.Core.Logic.{_⊎_, inl, inr}
 use Prim.Native.Nat.{ℕ, zero, suc, _+_, _-_, _*_, _<_, _≤_}
 use native.Mathlib.Numerals.{add-one}
 use native.Mathlib.Omega.{arith}
 use lib.Dec.{eqb, leb, ltb}
 use lib.ListN.{length, getD, take, drop}
 use lib.Seq.{drop-cons, getD-drop, getD-take}
-use borrow.Author.Tests.{leb-true, lt-ltb, ltb-true, eq-eqb, eqb-true}
+use borrow.Author.Tests.{leb-true, lt-ltb, le-ltb, ltb-true, ltb-false, eq-eqb, eqb-true}
 use Rattle.octets.specs.Pick.{pick}
 use Rattle.octets.specs.Classes.{within}
 use Rattle.octets.specs.Cases.{lower, same}
 use Rattle.octets.specs.Ascii.{octets}
-use Rattle.property_table.specs.Rows.{Row, noRow, rows, search, rowOf, rowAt, initial, startsAs, agrees, choice, firstOf, nextOf, kindAt, single, marks, onceAt, framing, takesValue, ruleAt, nameEntries, entries, firsts, indexEntries, Lists}
+use Rattle.property_table.specs.Rows.{Row, noRow, rows, newer, allRows, rowsOf, rowCount, search, rowOf, rowAt, initial, startsAs, agrees, choice, firstOf, nextOf, kindAt, single, marks, onceAt, framing, takesValue, ruleAt, nameEntries, entries, firsts, indexEntries, Lists}
+use Rattle.property_table.specs.declared.Edition.{Edition}
+use Rattle.property_table.specs.declared.Edition.the-variants.{First, Second}
 use Rattle.octets.proofs.Bools.{by, and-both}
 use Rattle.octets.proofs.Upto.{upto, alike}
 use Rattle.octets.proofs.TableLaws.{entry-at}
 
-abbrev all : List Row
-all = noRow ∷ rows
+-- the rows of an edition, row 0 before them
+abbrev all : Edition → List Row
+all e = noRow ∷ rowsOf e
+
+all-length : (e : Edition) → length (all e) ≡ rowCount e
+unfolding rows newer allRows
+all-length First = refl
+all-length Second = refl
+
+pub has-row : (e : Edition) → 0 < rowCount e
+has-row First = omega arith
+has-row Second = omega arith
+
+pub count-low : (e : Edition) → rowCount e ≤ 44
+count-low First = omega arith
+count-low Second = omega arith
+
+-- a row has one number in both editions
+row-in : (e : Edition) (n : ℕ) → n < rowCount e → getD (all e) n noRow ≡ rowAt n
+unfolding upto rowAt rows newer allRows
+row-in First n h = alike (λ j. getD (all First) j noRow) rowAt 39 refl n h
+row-in Second n h = refl
+
+row-cons : (e : Edition) (n : ℕ) → n < rowCount e → drop n (all e) ≡ rowAt n ∷ drop (suc n) (all e)
+row-cons e n h =
+    let low : n < length (all e) = omega (arith, all-length e) in
+    drop-cons (all e) n noRow low ∙ ap (λ (r : Row). r ∷ drop (suc n) (all e)) (row-in e n h)
+
+row-over : (e : Edition) → drop (rowCount e) (all e) ≡ []
+unfolding rows newer allRows
+row-over First = refl
+row-over Second = refl
 
 -- the search from row n on
-unfoldable pub searchFrom : List ℕ → ℕ → ℕ
-searchFrom v n = search v n (drop n all)
+unfoldable pub searchFrom : Edition → List ℕ → ℕ → ℕ
+searchFrom e v n = search v n (drop n (all e))
 
-pub search-start : (v : List ℕ) → rowOf v ≡ searchFrom v 1
+pub search-start : (e : Edition) (v : List ℕ) → rowOf e v ≡ searchFrom e v 1
 unfolding rowOf searchFrom
-search-start v = refl
+search-start e v = refl
 
-search-at : (v : List ℕ) (n : ℕ) → n < 39 → searchFrom v n ≡ pick (same v (rowAt n .name)) n (searchFrom v (n + 1))
-unfolding searchFrom search rowAt rows
-search-at v n h = rw (add-one n) (ap (search v n) (drop-cons all n noRow h))
+search-at : (e : Edition) (v : List ℕ) (n : ℕ) → n < rowCount e → searchFrom e v n ≡ pick (same v (rowAt n .name)) n (searchFrom e v (n + 1))
+unfolding searchFrom search
+search-at e v n h = rw (add-one n) (ap (search v n) (row-cons e n h))
 
-pub search-found : (v : List ℕ) (n : ℕ) → n < 39 → same v (rowAt n .name) ≡ true → searchFrom v n ≡ n
-search-found v n h e = rw (search-at v n h, e)
+pub search-found : (e : Edition) (v : List ℕ) (n : ℕ) → n < rowCount e → same v (rowAt n .name) ≡ true → searchFrom e v n ≡ n
+search-found e v n h q = rw (search-at e v n h, q)
 
-pub search-next : (v : List ℕ) (n : ℕ) → n < 39 → same v (rowAt n .name) ≡ false → searchFrom v n ≡ searchFrom v (n + 1)
-search-next v n h e = rw (search-at v n h, e)
+pub search-next : (e : Edition) (v : List ℕ) (n : ℕ) → n < rowCount e → same v (rowAt n .name) ≡ false → searchFrom e v n ≡ searchFrom e v (n + 1)
+search-next e v n h q = rw (search-at e v n h, q)
 
-pub search-none : (v : List ℕ) → searchFrom v 39 ≡ 0
-unfolding searchFrom search rows
-search-none v = refl
+pub search-none : (e : Edition) (v : List ℕ) → searchFrom e v (rowCount e) ≡ 0
+unfolding searchFrom search
+search-none e v = rw (row-over e)
 
 -- names that are the same have one length and start with one letter
 same-start : (a b : List ℕ) → same a b ≡ true → (length b ≡ length a) × (initial b ≡ initial a)
@@ -59,25 +92,25 @@ same-agrees v r e =
     let h = same-start v (r .name) e in
     rw (eq-eqb _ _ (h .0), eq-eqb _ _ (h .1))
 
-pub search-other : (v : List ℕ) (n : ℕ) → n < 39 → agrees v (rowAt n) ≡ false → searchFrom v n ≡ searchFrom v (n + 1)
-search-other v n h f =
+pub search-other : (e : Edition) (v : List ℕ) (n : ℕ) → n < rowCount e → agrees v (rowAt n) ≡ false → searchFrom e v n ≡ searchFrom e v (n + 1)
+search-other e v n h f =
     by (same v (rowAt n .name))
-    (λ e. absurd (false≢true (sym f ∙ same-agrees v (rowAt n) e)))
-    (λ e. search-next v n h e)
+    (λ q. absurd (false≢true (sym f ∙ same-agrees v (rowAt n) q)))
+    (λ q. search-next e v n h q)
 
--- each name has at most twelve octets, and each but row 0's at least one
-pub name-short : (n : ℕ) → n < 39 → length (rowAt n .name) < 13
-unfolding upto rowAt rows octets
-name-short n h = ltb-true _ _ (alike (λ j. ltb (length (rowAt j .name)) 13) (λ j. true) 39 refl n h)
+-- each name has at most thirteen octets, and each but row 0's at least one
+pub name-short : (n : ℕ) → n < 44 → length (rowAt n .name) < 14
+unfolding upto rowAt rows newer allRows octets
+name-short n h = ltb-true _ _ (alike (λ j. ltb (length (rowAt j .name)) 14) (λ j. true) 44 refl n h)
 
-name-some : (n : ℕ) → 1 ≤ n → n < 39 → 0 < length (rowAt n .name)
-unfolding upto rowAt rows octets
-name-some n g h = ltb-true _ _ (alike (λ j. ltb 0 (length (rowAt j .name))) (ltb 0) 39 refl n h ∙ lt-ltb 0 n g)
+name-some : (n : ℕ) → 1 ≤ n → n < 44 → 0 < length (rowAt n .name)
+unfolding upto rowAt rows newer allRows octets
+name-some n g h = ltb-true _ _ (alike (λ j. ltb 0 (length (rowAt j .name))) (ltb 0) 44 refl n h ∙ lt-ltb 0 n g)
 
 -- each but row 0's starts with a letter
-name-letter : (n : ℕ) → 1 ≤ n → n < 39 → within 97 122 (initial (rowAt n .name)) ≡ true
-unfolding upto rowAt rows octets initial lower
-name-letter n g h = alike (λ j. within 97 122 (initial (rowAt j .name))) (ltb 0) 39 refl n h ∙ lt-ltb 0 n g
+name-letter : (n : ℕ) → 1 ≤ n → n < 44 → within 97 122 (initial (rowAt n .name)) ≡ true
+unfolding upto rowAt rows newer allRows octets initial lower
+name-letter n g h = alike (λ j. within 97 122 (initial (rowAt j .name))) (ltb 0) 44 refl n h ∙ lt-ltb 0 n g
 
 -- the length and the letter of a row that passes
 pub start-both : (l c : ℕ) (r : Row) → startsAs l c r ≡ true → (length (r .name) ≡ l) × (initial (r .name) ≡ c)
@@ -91,50 +124,53 @@ unfolding agrees
 agree-both v r e = start-both (length v) (initial v) r e
 
 -- the rows from n on that pass the test p
-unfoldable pub choiceFrom : (Row → Bool) → ℕ → List ℕ
-choiceFrom p n = choice p n (drop n all)
+unfoldable pub choiceFrom : Edition → (Row → Bool) → ℕ → List ℕ
+choiceFrom e p n = choice p n (drop n (all e))
 
-choice-at : (p : Row → Bool) (n : ℕ) → n < 39 → choiceFrom p n ≡ pick (p (rowAt n)) (n ∷ choiceFrom p (n + 1)) (choiceFrom p (n + 1))
-unfolding choiceFrom choice rowAt rows
-choice-at p n h = rw (add-one n) (ap (choice p n) (drop-cons all n noRow h))
+choice-at : (e : Edition) (p : Row → Bool) (n : ℕ) → n < rowCount e
+    → choiceFrom e p n ≡ pick (p (rowAt n)) (n ∷ choiceFrom e p (n + 1)) (choiceFrom e p (n + 1))
+unfolding choiceFrom choice
+choice-at e p n h = rw (add-one n) (ap (choice p n) (row-cons e n h))
 
-pub choice-in : (p : Row → Bool) (n : ℕ) → n < 39 → p (rowAt n) ≡ true → choiceFrom p n ≡ n ∷ choiceFrom p (n + 1)
-choice-in p n h e = rw (choice-at p n h, e)
+pub choice-in : (e : Edition) (p : Row → Bool) (n : ℕ) → n < rowCount e → p (rowAt n) ≡ true → choiceFrom e p n ≡ n ∷ choiceFrom e p (n + 1)
+choice-in e p n h q = rw (choice-at e p n h, q)
 
-pub choice-out : (p : Row → Bool) (n : ℕ) → n < 39 → p (rowAt n) ≡ false → choiceFrom p n ≡ choiceFrom p (n + 1)
-choice-out p n h e = rw (choice-at p n h, e)
+pub choice-out : (e : Edition) (p : Row → Bool) (n : ℕ) → n < rowCount e → p (rowAt n) ≡ false → choiceFrom e p n ≡ choiceFrom e p (n + 1)
+choice-out e p n h q = rw (choice-at e p n h, q)
 
-pub choice-none : (p : Row → Bool) → choiceFrom p 39 ≡ []
-unfolding choiceFrom choice rows
-choice-none p = refl
+pub choice-none : (e : Edition) (p : Row → Bool) → choiceFrom e p (rowCount e) ≡ []
+unfolding choiceFrom choice
+choice-none e p = rw (row-over e)
 
 -- where no row from n on passes
-unlike : (p : Row → Bool) (d n : ℕ) → n + d ≡ 39 → ((k : ℕ) → n ≤ k → k < 39 → p (rowAt k) ≡ true → ⊥) → choiceFrom p n ≡ []
-unlike p zero n h f =
-    let over : n ≡ 39 = omega arith in
-    ap (choiceFrom p) over ∙ choice-none p
-unlike p (suc d) n h f =
+unlike : (e : Edition) (p : Row → Bool) (d n : ℕ) → n + d ≡ rowCount e → ((k : ℕ) → n ≤ k → k < rowCount e → p (rowAt k) ≡ true → ⊥) → choiceFrom e p n ≡ []
+unlike e p zero n h f =
+    let over : n ≡ rowCount e = omega arith in
+    ap (choiceFrom e p) over ∙ choice-none e p
+unlike e p (suc d) n h f =
     by (p (rowAt n))
-    (λ e. absurd (f n (omega arith) (omega arith) e))
-    (λ e. choice-out p n (omega arith) e ∙ unlike p d (n + 1) (omega arith) (λ k g. f k (omega arith)))
+    (λ q. absurd (f n (omega arith) (omega arith) q))
+    (λ q. choice-out e p n (omega arith) q ∙ unlike e p d (n + 1) (omega arith) (λ k g. f k (omega arith)))
 
 -- no row has a name of this length and letter
-pub none-starts : (l c : ℕ) → (0 < l → l < 13 → within 97 122 c ≡ true → ⊥) → choice (startsAs l c) 1 rows ≡ []
+pub none-starts : (e : Edition) (l c : ℕ) → (0 < l → l < 14 → within 97 122 c ≡ true → ⊥) → choice (startsAs l c) 1 (rowsOf e) ≡ []
 unfolding choiceFrom
-none-starts l c f =
-    unlike (startsAs l c) 38 1 refl (λ k g h e.
-    let b = start-both l c (rowAt k) e in
-    f (omega (arith, b .0, name-some k g h)) (omega (arith, b .0, name-short k h)) (rw (b .1) at (name-letter k g h)))
+none-starts e l c f =
+    let some : 1 ≤ rowCount e = has-row e in
+    unlike e (startsAs l c) (rowCount e - 1) 1 (omega arith) (λ k g h q.
+    let b = start-both l c (rowAt k) q in
+    let low : k < 44 = omega (arith, count-low e) in
+    f (omega (arith, b .0, name-some k g low)) (omega (arith, b .0, name-short k low)) (rw (b .1) at (name-letter k g low)))
 
-pub first-none : (l c : ℕ) → (0 < l → l < 13 → within 97 122 c ≡ true → ⊥) → firstOf l c ≡ 0
+pub first-none : (l c : ℕ) → (0 < l → l < 14 → within 97 122 c ≡ true → ⊥) → firstOf l c ≡ 0
 unfolding firstOf
-first-none l c f = ap (λ (s : List ℕ). getD s 0 0) (none-starts l c f)
+first-none l c f = ap (λ (s : List ℕ). getD s 0 0) (none-starts Second l c f)
 
 -- the search of a name goes on at row r, which agrees with it, or is over where r is 0
 pub record Along (v : List ℕ) (r : ℕ) : Type 0 where
-  pub low : r < 39
-  pub over : r ≡ 0 → rowOf v ≡ 0
-  pub here : 0 < r → rowOf v ≡ searchFrom v r
+  pub low : r < 44
+  pub over : r ≡ 0 → rowOf Second v ≡ 0
+  pub here : 0 < r → rowOf Second v ≡ searchFrom Second v r
   pub agree : 0 < r → agrees v (rowAt r) ≡ true
 
 -- the same, and r is no row before n
@@ -144,82 +180,157 @@ pub record Onward (v : List ℕ) (n r : ℕ) : Type 0 where
 
 -- the first row from n on that agrees
 firstFrom : List ℕ → ℕ → ℕ
-firstFrom v n = getD (choiceFrom (agrees v) n) 0 0
+firstFrom v n = getD (choiceFrom Second (agrees v) n) 0 0
 
-onward : (v : List ℕ) (d n : ℕ) → n + d ≡ 39 → 0 < n → rowOf v ≡ searchFrom v n → Onward v n (firstFrom v n)
+onward : (v : List ℕ) (d n : ℕ) → n + d ≡ 44 → 0 < n → rowOf Second v ≡ searchFrom Second v n → Onward v n (firstFrom v n)
 unfolding firstFrom
 onward v zero n h p e =
-    let over : n ≡ 39 = omega arith in
-    let none : choiceFrom (agrees v) n ≡ [] = ap (choiceFrom (agrees v)) over ∙ choice-none (agrees v) in
+    let over : n ≡ 44 = omega arith in
+    let none : choiceFrom Second (agrees v) n ≡ [] = ap (choiceFrom Second (agrees v)) over ∙ choice-none Second (agrees v) in
     rw none (record {
-      on = record { low = omega arith; over = λ z. e ∙ ap (searchFrom v) over ∙ search-none v; here = λ g. absurd (omega arith); agree = λ g. absurd (omega arith) };
+      on = record { low = omega arith; over = λ z. e ∙ ap (searchFrom Second v) over ∙ search-none Second v; here = λ g. absurd (omega arith); agree = λ g. absurd (omega arith) };
       after = λ g. absurd (omega arith);
     })
 onward v (suc d) n h p e =
-    let low : n < 39 = omega arith in
+    let low : n < 44 = omega arith in
     by (agrees v (rowAt n))
-    (λ q. rw (choice-in (agrees v) n low q) (record { on = record { low = low; over = λ z. absurd (omega arith); here = λ g. e; agree = λ g. q }; after = λ g. omega arith }))
+    (λ q. rw (choice-in Second (agrees v) n low q) (record { on = record { low = low; over = λ z. absurd (omega arith); here = λ g. e; agree = λ g. q }; after = λ g. omega arith }))
     (λ q.
-    let s = onward v d (n + 1) (omega arith) (omega arith) (e ∙ search-other v n low q) in
-    rw (choice-out (agrees v) n low q) (record { on = s .on; after = λ g. omega (arith, s .after g) }))
+    let s = onward v d (n + 1) (omega arith) (omega arith) (e ∙ search-other Second v n low q) in
+    rw (choice-out Second (agrees v) n low q) (record { on = s .on; after = λ g. omega (arith, s .after g) }))
 
 pub along-first : (v : List ℕ) → Along v (firstOf (length v) (initial v))
 unfolding firstOf firstFrom choiceFrom agrees
-along-first v = onward v 38 1 refl (omega arith) (search-start v) .on
+along-first v = onward v 43 1 refl (omega arith) (search-start Second v) .on
 
 pub onward-next : (v : List ℕ) (n : ℕ) → 0 < n → Along v n → same v (rowAt n .name) ≡ false → Onward v (suc n) (nextOf n)
 unfolding nextOf firstFrom choiceFrom agrees
 onward-next v n p a f =
-    let on = a .here p ∙ search-next v n (a .low) f ∙ ap (searchFrom v) (add-one n) in
+    let on = a .here p ∙ search-next Second v n (a .low) f ∙ ap (searchFrom Second v) (add-one n) in
     let b = agree-both v (rowAt n) (a .agree p) in
-    rw (b .0, b .1) (onward v (38 - n) (suc n) (omega (arith, a .low)) (omega arith) on)
+    rw (b .0, b .1) (onward v (43 - n) (suc n) (omega (arith, a .low)) (omega arith) on)
 
-pub kind-low : (n : ℕ) → n < 39 → kindAt n < 12
-unfolding upto kindAt rowAt rows
-kind-low n h = ltb-true _ _ (alike (λ j. ltb (kindAt j) 12) (λ j. true) 39 refl n h)
+-- a search from number i on finds none, or a number from i on, before i and the rows
+found-low : (v : List ℕ) (i : ℕ) (rs : List Row) → (search v i rs ≡ 0) ⊎ ((i ≤ search v i rs) × (search v i rs < i + length rs))
+unfolding search
+found-low v i [] = inl refl
+found-low v i (r ∷ rs) =
+    by (same v (r .name))
+    (λ q. rw q (inr (omega arith, omega arith)))
+    (λ q. rw q (later (found-low v (suc i) rs)))
+  where
+    later : (search v (suc i) rs ≡ 0) ⊎ ((suc i ≤ search v (suc i) rs) × (search v (suc i) rs < suc i + length rs))
+        → (search v (suc i) rs ≡ 0) ⊎ ((i ≤ search v (suc i) rs) × (search v (suc i) rs < i + suc (length rs)))
+    later (inl e) = inl e
+    later (inr (g, h)) = inr (omega arith, omega arith)
+
+pub row-low : (e : Edition) (v : List ℕ) → rowOf e v < rowCount e
+unfolding rowOf rows newer allRows
+row-low First v = below (found-low v 1 rows)
+  where
+    below : (search v 1 rows ≡ 0) ⊎ ((1 ≤ search v 1 rows) × (search v 1 rows < 39)) → search v 1 rows < 39
+    below (inl e) = omega arith
+    below (inr (g, h)) = h
+row-low Second v = below (found-low v 1 allRows)
+  where
+    below : (search v 1 allRows ≡ 0) ⊎ ((1 ≤ search v 1 allRows) × (search v 1 allRows < 44)) → search v 1 allRows < 44
+    below (inl e) = omega arith
+    below (inr (g, h)) = h
+
+-- a search in rows and then in further ones: what the first rows have, else what the others have
+search-more : (v : List ℕ) (i : ℕ) (rs ss : List Row) → 0 < i
+    → search v i (rs ++ ss) ≡ pick (ltb 0 (search v i rs)) (search v i rs) (search v (i + length rs) ss)
+unfolding search
+search-more v i [] ss p = ap (λ (n : ℕ). search v n ss) (omega arith)
+search-more v i (r ∷ rs) ss p =
+    let there : suc i + length rs ≡ i + suc (length rs) = omega arith in
+    by (same v (r .name))
+    (λ q. rw (q, lt-ltb 0 i p))
+    (λ q. rw q (search-more v (suc i) rs ss (omega arith) ∙ ap (λ (n : ℕ). pick (ltb 0 (search v (suc i) rs)) (search v (suc i) rs) (search v n ss)) there))
+
+-- the row of a name in edition two: that of edition one, else one of the newer rows
+pub second-row : (v : List ℕ) → rowOf Second v ≡ pick (ltb 0 (rowOf First v)) (rowOf First v) (search v 39 newer)
+unfolding rowOf allRows rows
+second-row v = search-more v 1 rows newer (omega arith)
+
+-- the row of a name in edition one is that in edition two, where edition one has it
+pub first-row : (v : List ℕ) → rowOf First v ≡ pick (ltb (rowOf Second v) 39) (rowOf Second v) 0
+first-row v =
+    by (ltb 0 (rowOf First v))
+    (λ q.
+    let e : rowOf Second v ≡ rowOf First v = second-row v ∙ rw q in
+    rw (e, lt-ltb (rowOf First v) 39 (row-low First v)))
+    (λ q.
+    let none : rowOf First v ≡ 0 = zero-of (rowOf First v) q in
+    let e : rowOf Second v ≡ search v 39 newer = second-row v ∙ rw q in
+    rw (e, none) (sym (over (found-low v 39 newer))))
+  where
+    zero-of : (n : ℕ) → ltb 0 n ≡ false → n ≡ 0
+    zero-of n q = let h = ltb-false 0 n q in omega arith
+
+    over : (search v 39 newer ≡ 0) ⊎ ((39 ≤ search v 39 newer) × (search v 39 newer < 39 + length newer)) → pick (ltb (search v 39 newer) 39) (search v 39 newer) 0 ≡ 0
+    over (inl e) = rw e
+    over (inr (g, h)) = rw (le-ltb _ _ g)
+
+pub row-clipped : (e : Edition) (v : List ℕ) → rowOf e v ≡ pick (ltb (rowOf Second v) (rowCount e)) (rowOf Second v) 0
+row-clipped First v = first-row v
+row-clipped Second v = rw (lt-ltb (rowOf Second v) 44 (row-low Second v))
+
+pub kind-low : (n : ℕ) → n < 44 → kindAt n < 12
+unfolding upto kindAt rowAt rows newer allRows
+kind-low n h = ltb-true _ _ (alike (λ j. ltb (kindAt j) 12) (λ j. true) 44 refl n h)
 
 -- a rule is one of the four
-pub rule-low : (n : ℕ) → n < 39 → ruleAt n < 4
-unfolding upto ruleAt takesValue framing kindAt rowAt rows
-rule-low n h = ltb-true _ _ (alike (λ j. ltb (ruleAt j) 4) (λ j. true) 39 refl n h)
+pub rule-low : (n : ℕ) → n < 44 → ruleAt n < 4
+unfolding upto ruleAt takesValue framing kindAt rowAt rows newer allRows
+rule-low n h = ltb-true _ _ (alike (λ j. ltb (ruleAt j) 4) (λ j. true) 44 refl n h)
 
 -- the flags of a card have room for the rows marked *1
-pub once-low : (n : ℕ) → n < 39 → onceAt n ≤ 32
-unfolding upto onceAt single marks rowAt rows
-once-low n h = leb-true _ _ (alike (λ j. leb (onceAt j) 32) (λ j. true) 39 refl n h)
+pub once-low : (n : ℕ) → n < 44 → onceAt n ≤ 32
+unfolding upto onceAt single marks rowAt rows newer allRows
+once-low n h = leb-true _ _ (alike (λ j. leb (onceAt j) 32) (λ j. true) 44 refl n h)
 
 -- what the table has for a row
 pub record Listed (t : List ℕ) (n : ℕ) : Type 0 where
-  pub spelt : (i : ℕ) → i < length (rowAt n .name) → getD t (n * 16 + i) 0 ≡ getD (rowAt n .name) i 0
-  pub mark : getD t (n * 16 + 12) 0 ≡ onceAt n
+  pub spelt : (i : ℕ) → 0 < i → i < length (rowAt n .name) → getD t (n * 16 + i) 0 ≡ getD (rowAt n .name) i 0
+  pub mark : getD t (n * 16 + 0) 0 ≡ onceAt n
   pub sort : getD t (n * 16 + 13) 0 ≡ kindAt n
   pub link : getD t (n * 16 + 14) 0 ≡ nextOf n
   pub rule : getD t (n * 16 + 15) 0 ≡ ruleAt n
 
-row-length : (n : ℕ) → n < 39 → length (entries n) ≡ 16
-unfolding upto entries nameEntries rowAt rows octets
-row-length n h = alike (λ j. length (entries j)) (λ j. 16) 39 refl n h
+row-length : (n : ℕ) → n < 44 → length (entries n) ≡ 16
+unfolding upto entries nameEntries rowAt rows newer allRows octets
+row-length n h = alike (λ j. length (entries j)) (λ j. 16) 44 refl n h
 
-name-front : (n : ℕ) → n < 39 → take (length (rowAt n .name)) (entries n) ≡ rowAt n .name
-unfolding upto entries nameEntries rowAt rows octets
-name-front n h = alike (λ j. take (length (rowAt j .name)) (entries j)) (λ j. rowAt j .name) 39 refl n h
+-- the entries behind the first start with the name behind its first letter
+name-front : (n : ℕ) → n < 44 → drop 1 (take (length (rowAt n .name)) (entries n)) ≡ drop 1 (rowAt n .name)
+unfolding upto entries nameEntries rowAt rows newer allRows octets
+name-front n h = alike (λ j. drop 1 (take (length (rowAt j .name)) (entries j))) (λ j. drop 1 (rowAt j .name)) 44 refl n h
 
-module _ (t : List ℕ) (table : Lists t) (n : ℕ) (h : n < 39) where
+module _ (t : List ℕ) (table : Lists t) (n : ℕ) (h : n < 44) where
   at : (i : ℕ) → i < 16 → getD t (n * 16 + i) 0 ≡ getD (entries n) i 0
-  at i l = sym (getD-take 624 t (n * 16 + i) 0 (omega arith)) ∙ entry-at entries 16 39 row-length (take 624 t) (table .lines) n h i l
+  at i l = sym (getD-take 704 t (n * 16 + i) 0 (omega arith)) ∙ entry-at entries 16 44 row-length (take 704 t) (table .lines) n h i l
+
+  name-at : (i : ℕ) → 0 < i → i < length (rowAt n .name) → getD (entries n) i 0 ≡ getD (rowAt n .name) i 0
+  name-at i p l =
+      let back : 1 + (i - 1) ≡ i = omega arith in
+      let own = rowAt n .name in
+      sym (getD-take (length own) (entries n) i 0 l)
+      ∙ ap (λ (j : ℕ). getD (take (length own) (entries n)) j 0) (sym back)
+      ∙ sym (getD-drop 1 (take (length own) (entries n)) (i - 1) 0)
+      ∙ ap (λ (s : List ℕ). getD s (i - 1) 0) (name-front n h)
+      ∙ getD-drop 1 own (i - 1) 0
+      ∙ ap (λ (j : ℕ). getD own j 0) back
 
   pub listed : Listed t n
-  unfolding upto entries nameEntries rowAt choice agrees startsAs initial lower nextOf kindAt single marks onceAt framing takesValue ruleAt rows octets
+  unfolding upto entries nameEntries rowAt choice agrees startsAs initial lower nextOf kindAt single marks onceAt framing takesValue ruleAt rows newer allRows octets
   listed =
       record {
-        spelt = λ i l.
-            at i (omega (arith, name-short n h))
-            ∙ sym (getD-take (length (rowAt n .name)) (entries n) i 0 l)
-            ∙ ap (λ (s : List ℕ). getD s i 0) (name-front n h);
-        mark = at 12 (omega arith) ∙ alike (λ j. getD (entries j) 12 0) onceAt 39 refl n h;
-        sort = at 13 (omega arith) ∙ alike (λ j. getD (entries j) 13 0) kindAt 39 refl n h;
-        link = at 14 (omega arith) ∙ alike (λ j. getD (entries j) 14 0) nextOf 39 refl n h;
-        rule = at 15 (omega arith) ∙ alike (λ j. getD (entries j) 15 0) ruleAt 39 refl n h;
+        spelt = λ i p l. at i (omega (arith, name-short n h)) ∙ name-at i p l;
+        mark = at 0 (omega arith) ∙ alike (λ j. getD (entries j) 0 0) onceAt 44 refl n h;
+        sort = at 13 (omega arith) ∙ alike (λ j. getD (entries j) 13 0) kindAt 44 refl n h;
+        link = at 14 (omega arith) ∙ alike (λ j. getD (entries j) 14 0) nextOf 44 refl n h;
+        rule = at 15 (omega arith) ∙ alike (λ j. getD (entries j) 15 0) ruleAt 44 refl n h;
       }
 
 firsts-at : (c l k i : ℕ) → i < k → getD (firsts c l k) i 0 ≡ firstOf (l + i) c
@@ -238,13 +349,13 @@ unfolding indexEntries
 index-length n h = firsts-length (97 + n) 0 16
 
 -- the index's entry for a letter and names of l octets
-pub index-at : (t : List ℕ) → Lists t → (n l : ℕ) → n < 26 → l < 16 → getD t (624 + n * 16 + l) 0 ≡ firstOf l (97 + n)
+pub index-at : (t : List ℕ) → Lists t → (n l : ℕ) → n < 26 → l < 16 → getD t (704 + n * 16 + l) 0 ≡ firstOf l (97 + n)
 unfolding indexEntries
 index-at t table n l g h =
-    let there : 624 + n * 16 + l ≡ 624 + (n * 16 + l) = omega arith in
+    let there : 704 + n * 16 + l ≡ 704 + (n * 16 + l) = omega arith in
     let size : 0 + l ≡ l = omega arith in
     ap (λ (j : ℕ). getD t j 0) there
-    ∙ sym (getD-drop 624 t (n * 16 + l) 0)
-    ∙ entry-at indexEntries 16 26 index-length (drop 624 t) (table .index) n g l h
+    ∙ sym (getD-drop 704 t (n * 16 + l) 0)
+    ∙ entry-at indexEntries 16 26 index-length (drop 704 t) (table .index) n g l h
     ∙ firsts-at (97 + n) 0 16 l h
     ∙ ap (λ (j : ℕ). firstOf j (97 + n)) size

@@ -1,4 +1,4 @@
--- The property table, by REFERENCE, The property table, the row of a name, and the kind of a line. Assumes nothing.
+-- The property table, by REFERENCE, The property table, the row of a name in each edition, and the kind of a line. Assumes nothing.
 use Prim.Native.Nat.{ℕ, zero, suc, _+_}
 use Prim.Native.String.{String}
 use mathlib.Core.Bool.{Bool, true, false, not, _&&_, _||_}
@@ -12,6 +12,8 @@ use Rattle.octets.specs.Pick.{pick}
 use Rattle.octets.specs.Cases.{lower, same}
 use Rattle.octets.specs.Ascii.{octets}
 use Rattle.octets.specs.Tables.{TableOf}
+use Rattle.property_table.specs.declared.Edition.{Edition}
+use Rattle.property_table.specs.declared.Edition.the-variants.{First, Second}
 
 -- how often a property may stand in a card: once where the table marks it so
 pub data Times : Type 0 where
@@ -25,6 +27,7 @@ pub record Row : Type 0 where
 abbrev pub row : String → ℕ → Times → Row
 row n k t = record { name = octets n; kind = k; times = t }
 
+-- the rows of edition one
 unfoldable pub rows : List Row
 rows =
     row "BEGIN" 0 often ∷
@@ -67,20 +70,48 @@ rows =
     row "CALURI" 3 often ∷
     []
 
+-- the rows that edition two adds
+unfoldable pub newer : List Row
+newer =
+    row "CREATED" 10 once ∷
+    row "GRAMGENDER" 1 often ∷
+    row "LANGUAGE" 0 once ∷
+    row "PRONOUNS" 1 often ∷
+    row "SOCIALPROFILE" 3 often ∷
+    []
+
+-- the rows of either edition: the table has them all
+unfoldable pub allRows : List Row
+allRows = rows ++ newer
+
+-- the rows of an edition
+abbrev pub rowsOf : Edition → List Row
+rowsOf First = rows
+rowsOf Second = allRows
+
+-- how many they are, row 0 counted in
+abbrev pub rowCount : Edition → ℕ
+rowCount First = property.count
+rowCount Second = property.all
+
 -- the number of the first row whose name is v without case, counted from i; 0 where there is none
 unfoldable pub search : List ℕ → ℕ → List Row → ℕ
 search v i [] = 0
 search v i (r ∷ rs) = pick (same v (r .name)) i (search v (suc i) rs)
 
-unfoldable pub rowOf : List ℕ → ℕ
-rowOf v = search v 1 rows
+unfoldable pub rowOf : Edition → List ℕ → ℕ
+rowOf e v = search v 1 (rowsOf e)
+
+-- v is one of the names that edition two adds, in any case
+unfoldable pub isNew : List ℕ → Bool
+isNew v = ltb 0 (search v 1 newer)
 
 -- row 0: any other name
 abbrev pub noRow : Row
 noRow = record { name = []; kind = 0; times = often }
 
 unfoldable pub rowAt : ℕ → Row
-rowAt n = getD (noRow ∷ rows) n noRow
+rowAt n = getD (noRow ∷ allRows) n noRow
 
 -- the first octet of a name, a capital as its small letter
 unfoldable pub initial : List ℕ → ℕ
@@ -99,17 +130,17 @@ unfoldable pub choice : (Row → Bool) → ℕ → List Row → List ℕ
 choice p i [] = []
 choice p i (r ∷ rs) = pick (p r) (i ∷ choice p (suc i) rs) (choice p (suc i) rs)
 
--- the rows that a name is compared with
-unfoldable pub chosen : List ℕ → List ℕ
-chosen v = choice (agrees v) 1 rows
+-- the rows of an edition that a name is compared with
+unfoldable pub chosen : Edition → List ℕ → List ℕ
+chosen e v = choice (agrees v) 1 (rowsOf e)
 
 -- the first of the rows with this length and letter; 0 where there is none
 unfoldable pub firstOf : ℕ → ℕ → ℕ
-firstOf l c = getD (choice (startsAs l c) 1 rows) 0 0
+firstOf l c = getD (choice (startsAs l c) 1 allRows) 0 0
 
 -- the first row after row n that agrees with its name
 unfoldable pub nextOf : ℕ → ℕ
-nextOf n = getD (choice (agrees (rowAt n .name)) (suc n) (drop n rows)) 0 0
+nextOf n = getD (choice (agrees (rowAt n .name)) (suc n) (drop n allRows)) 0 0
 
 unfoldable pub kindAt : ℕ → ℕ
 kindAt n = rowAt n .kind
@@ -133,7 +164,7 @@ marks (r ∷ rs) = marked (r .times) (marks rs)
 
 -- the number of row n among the rows marked *1, counted from 1; 0 for any other row
 unfoldable pub onceAt : ℕ → ℕ
-onceAt n = pick (single n) (marks (take n rows)) 0
+onceAt n = pick (single n) (marks (take n allRows)) 0
 
 -- BEGIN, VERSION and END frame a card
 unfoldable pub framing : ℕ → Bool
@@ -142,7 +173,7 @@ framing n = eqb n property.begin || (eqb n property.version || eqb n property.en
 -- VALUE sets the kind on listed rows of kind 0, 1 or 3, except BEGIN, VERSION, END and XML
 unfoldable pub takesValue : ℕ → Bool
 takesValue n =
-    (ltb 0 n && ltb n property.count)
+    (ltb 0 n && ltb n property.all)
     && ((eqb (kindAt n) kinds.anything || (eqb (kindAt n) kinds.text || eqb (kindAt n) kinds.uri)) && not (framing n || eqb n property.xml))
 
 -- how a line's parameters set its kind: they do not; by VALUE; by VALUE and CALSCALE, on rows of dates; by VALUE, on TZ
@@ -200,22 +231,22 @@ calscaleName = octets "CALSCALE"
 unfoldable pub isGroup : List ℕ → Bool
 isGroup v = same v (octets "group")
 
--- the most octets of a name
-abbrev pub longestName : ℕ
-longestName = 12
+-- the most octets of a name behind its first letter
+abbrev pub longestRest : ℕ
+longestRest = 12
 
 -- how many entries the table has for a row
 abbrev pub rowLength : ℕ
 rowLength = 16
 
--- what the table has in the place of a row's name: the name, filled up by points
+-- what the table has in the place of a row's name: the name behind its first letter, filled up by points
 unfoldable pub nameEntries : ℕ → List ℕ
-nameEntries n = take longestName (rowAt n .name ++ octets "............")
+nameEntries n = take longestRest (drop 1 (rowAt n .name) ++ octets "............")
 
--- the sixteen entries that the table has for a row: those of its name, its number among the rows marked *1, its kind, the next row that agrees
+-- the sixteen entries that the table has for a row: its number among the rows marked *1, those of its name, its kind, the next row that agrees
 -- with its name, and how parameters set the kind
 unfoldable pub entries : ℕ → List ℕ
-entries n = nameEntries n ++ onceAt n ∷ kindAt n ∷ nextOf n ∷ ruleAt n ∷ []
+entries n = onceAt n ∷ nameEntries n ++ kindAt n ∷ nextOf n ∷ ruleAt n ∷ []
 
 -- for names that start with c, the first row for each of k lengths from l on
 unfoldable pub firsts : ℕ → ℕ → ℕ → List ℕ
@@ -235,9 +266,9 @@ indexEntries n = firsts (firstLetter + n) 0 rowLength
 
 -- where the index starts: behind the rows
 abbrev pub indexStart : ℕ
-indexStart = 624
+indexStart = 704
 
 -- a list is the property table: the rows, and behind them the index by letter and length
 pub record Lists (t : List ℕ) : Type 0 where
-  pub lines : TableOf entries property.count (take indexStart t)
+  pub lines : TableOf entries property.all (take indexStart t)
   pub index : TableOf indexEntries letterCount (drop indexStart t)

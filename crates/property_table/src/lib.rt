@@ -1,4 +1,4 @@
-// The property table: the row of a name, what a row says, and the kind that a VALUE parameter names.
+// The property table: the row of a name in each edition, what a row says, and the kind that a VALUE parameter names.
 ghost use mathlib.Core.Path.{_≡_};
 ghost use mathlib.Core.Bool.{true};
 ghost use Prim.Native.Nat.{_+_, _*_, _<_, _≤_};
@@ -7,7 +7,8 @@ ghost use Rattle.numbers.specs.Limits as limit;
 ghost use Rattle.numbers.specs.Properties as property;
 ghost use Rattle.numbers.specs.Kinds as kinds;
 ghost use Rattle.octets.specs.Cases.{same};
-ghost use Rattle.property_table.specs.Rows.{rowLength, rowOf, rowAt, initial, agrees, firstOf, nextOf, kindAt, onceAt, framing, ruleAt, kindNamed, isGroup, Lists};
+ghost use Rattle.property_table.specs.declared.Edition.the-variants.{Second};
+ghost use Rattle.property_table.specs.Rows.{rowLength, rowCount, rowOf, rowAt, initial, agrees, firstOf, nextOf, kindAt, onceAt, framing, ruleAt, kindNamed, isGroup, Lists};
 
 pub mod rows;
 
@@ -17,14 +18,20 @@ use octets::cases::same_name;
 use octets::indices::wide;
 use rows::PropertyTable;
 
+// RFC 6350, or RFC 9554, which adds names and lets N and ADR have more components.
+pub enum Edition {
+    First,
+    Second,
+}
+
 // How many entries the table has for a row.
 const ROW: usize = 16;
 
-// The most octets of a name; as many entries of a row are its name.
-const LONGEST: usize = 12;
+// The most octets of a name.
+const LONGEST: usize = 13;
 
-// The column of the number among the properties that a card has at most once.
-const ONCE: usize = LONGEST;
+// The column of the number among the properties that a card has at most once; the columns behind it are the name's octets but the first.
+const ONCE: usize = 0;
 
 // The column of the kind.
 const KIND: usize = 13;
@@ -51,7 +58,7 @@ pub const BY_ZONE: usize = 3;
 const FIRST_LETTER: usize = 97;
 
 // Where the index starts, behind the rows; it has as many entries as a row for each letter, one for each length.
-const INDEX: usize = property::COUNT * ROW;
+const INDEX: usize = property::ALL * ROW;
 
 // The table as a value, which its users are lent: a use of the constant in a loop would build it there at each turn.
 pub fn table() -> PropertyTable
@@ -62,7 +69,7 @@ pub fn table() -> PropertyTable
 
 // The entry of a row in a column.
 fn entry(rows: &PropertyTable, row: usize, column: usize) -> usize
-    requires { ⌜ (row < property.count) × (column < rowLength) ⌝ }
+    requires { ⌜ (row < property.all) × (column < rowLength) ⌝ }
     ensures { λ r. ⌜ r ≡ getD (now (rows .entry)) (row * rowLength + column) 0 ⌝ }
 {
     wide(rows[row * ROW + column])
@@ -92,7 +99,7 @@ fn first_chosen(rows: &PropertyTable, name: &[u8]) -> usize
 // The next row that agrees with this one's name in length and first letter, 0 for none.
 fn next_chosen(rows: &PropertyTable, row: usize) -> usize
     requires { ⌜ Lists (now rows) ⌝ }
-    requires { ⌜ row < property.count ⌝ }
+    requires { ⌜ row < property.all ⌝ }
     ensures { λ r. ⌜ r ≡ nextOf row ⌝ }
 {
     entry(rows, row, NEXT)
@@ -102,7 +109,7 @@ fn next_chosen(rows: &PropertyTable, row: usize) -> usize
 // in the bit of 32.
 fn spells(rows: &PropertyTable, row: usize, name: &[u8]) -> bool
     requires { ⌜ Lists (now rows) ⌝ }
-    requires { ⌜ row < property.count ⌝ }
+    requires { ⌜ row < property.all ⌝ }
     requires { ⌜ agrees (now name) (rowAt row) ≡ true ⌝ }
     ensures { λ r. ⌜ r ≡ same (now (name .entry)) (rowAt row .name) ⌝ }
 {
@@ -117,11 +124,12 @@ fn spells(rows: &PropertyTable, row: usize, name: &[u8]) -> bool
     true
 }
 
-// The number of the row with this name without case, or 0: only rows with a name as long and the same first letter are compared.
-pub fn find_row(rows: &PropertyTable, name: &[u8]) -> usize
+// The number of the row of either edition with this name without case, or 0: only rows with a name as long and the same first letter are
+// compared.
+fn find_any(rows: &PropertyTable, name: &[u8]) -> usize
     requires { ⌜ Lists (now rows) ⌝ }
-    ensures { λ r. ⌜ r ≡ rowOf (now (name .entry)) ⌝ }
-    ensures { λ r. ⌜ r < property.count ⌝ }
+    ensures { λ r. ⌜ r ≡ rowOf Second (now (name .entry)) ⌝ }
+    ensures { λ r. ⌜ r < property.all ⌝ }
 {
     let mut row = first_chosen(rows, name);
     while 0 < row {
@@ -133,10 +141,33 @@ pub fn find_row(rows: &PropertyTable, name: &[u8]) -> usize
     0
 }
 
+// How many rows an edition has, row 0 counted in.
+fn row_count(edition: Edition) -> usize
+    ensures { λ r. ⌜ r ≡ rowCount edition ⌝ }
+{
+    match edition {
+        Edition::First => property::COUNT,
+        Edition::Second => property::ALL,
+    }
+}
+
+// The number of the edition's row with this name without case, or 0.
+pub fn find_row(rows: &PropertyTable, edition: Edition, name: &[u8]) -> usize
+    requires { ⌜ Lists (now rows) ⌝ }
+    ensures { λ r. ⌜ r ≡ rowOf edition (now (name .entry)) ⌝ }
+    ensures { λ r. ⌜ r < rowCount edition ⌝ }
+{
+    let row = find_any(rows, name);
+    if row < row_count(edition) {
+        return row;
+    }
+    0
+}
+
 // The kind of a row's value.
 pub fn kind_of(rows: &PropertyTable, row: usize) -> usize
     requires { ⌜ Lists (now rows) ⌝ }
-    requires { ⌜ row < property.count ⌝ }
+    requires { ⌜ row < property.all ⌝ }
     ensures { λ r. ⌜ r ≡ kindAt row ⌝ }
     ensures { λ r. ⌜ r < kinds.count ⌝ }
 {
@@ -146,7 +177,7 @@ pub fn kind_of(rows: &PropertyTable, row: usize) -> usize
 // The number of a row among those of the properties that a card has at most once, counted from 1; 0 for any other row.
 pub fn once_of(rows: &PropertyTable, row: usize) -> usize
     requires { ⌜ Lists (now rows) ⌝ }
-    requires { ⌜ row < property.count ⌝ }
+    requires { ⌜ row < property.all ⌝ }
     ensures { λ r. ⌜ r ≡ onceAt row ⌝ }
     ensures { λ r. ⌜ r ≤ limit.flags ⌝ }
 {
@@ -156,7 +187,7 @@ pub fn once_of(rows: &PropertyTable, row: usize) -> usize
 // The rule by which parameters set the kind of a row's line.
 pub fn rule_of(rows: &PropertyTable, row: usize) -> usize
     requires { ⌜ Lists (now rows) ⌝ }
-    requires { ⌜ row < property.count ⌝ }
+    requires { ⌜ row < property.all ⌝ }
     ensures { λ r. ⌜ r ≡ ruleAt row ⌝ }
 {
     entry(rows, row, RULE)

@@ -9,13 +9,14 @@ use lib.ListN.{length, drop}
 use borrow.Author.Tests.{ltb-false, eqb-true, eqb-false}
 use Rattle.octets.specs.Pick.{pick}
 use Rattle.octets.proofs.Scans.{scan-le}
+use Rattle.property_table.specs.declared.Edition.{Edition}
 use Rattle.line_folds.specs.Folds.{lineLength}
 use Rattle.line_folds.specs.Logical.{linesBy, rawLines}
 use Rattle.card_state.specs.State.{Card, Step, Next, Refused as Halted, Flawed, freshCard}
 use Rattle.line_breaks.specs.Lone.{loneStep, firstLone, endsCrLf}
 use Rattle.reader_walk.specs.Walk.{judgeLines}
 use Rattle.reader_walk.proofs.WalkLaws.{counted}
-use Rattle.reader.specs.Outcome.{verdictOf, judgeOf}
+use Rattle.reader.specs.Outcome.{verdictOf, judgeIn}
 use Rattle.reader.specs.declared.Verdict.the-variants.{Accepted, Refused}
 
 clash : {A : Type 0} → _≡_ {A = ℕ} 0 1 → A
@@ -33,13 +34,13 @@ unfolding rawLines
 lines-few i = few (length i) i
 
 -- an accepted input has passed 1 to 4, its lines were judged, and it does not end inside a card
-pub record Accepting (i : List ℕ) (k n : ℕ) : Type 0 where
+pub record Accepting (ed : Edition) (i : List ℕ) (k n : ℕ) : Type 0 where
   pub short : length i ≤ 16384
   pub some : length i ≡ 0 → ⊥
   pub unlone : firstLone i ≡ length i
   pub ends : endsCrLf i ≡ true
   pub last : Card
-  pub walked : judgeLines (rawLines i) 0 freshCard ≡ Next last
+  pub walked : judgeLines ed (rawLines i) 0 freshCard ≡ Next last
   pub outside : last .phase ≡ 0
   pub cards : last .cards ≡ k
   pub lines : last .lines ≡ n
@@ -61,11 +62,11 @@ verdict-next m k n (Next c) e f =
 verdict-next m k n (Halted a p) e f = clash cc
 verdict-next m k n (Flawed a o) e f = clash cc
 
-module _ (i : List ℕ) (k n : ℕ) where
+module _ (ed : Edition) (i : List ℕ) (k n : ℕ) where
   passed : (a b t d : Bool) → ltb 16384 (length i) ≡ a → eqb (length i) 0 ≡ b → ltb (firstLone i) (length i) ≡ t → endsCrLf i ≡ d
       → pick a (Refused 1 16384) (pick b (Refused 2 0) (pick t (Refused 3 (firstLone i))
-      (pick d (verdictOf (length i) (judgeLines (rawLines i) 0 freshCard)) (Refused 4 (length i))))) ≡ Accepted k n
-      → Accepting i k n
+      (pick d (verdictOf (length i) (judgeLines ed (rawLines i) 0 freshCard)) (Refused 4 (length i))))) ≡ Accepted k n
+      → Accepting ed i k n
   unfolding firstLone
   passed true b t d p q r u e = clash cc
   passed false true t d p q r u e = clash cc
@@ -75,7 +76,7 @@ module _ (i : List ℕ) (k n : ℕ) where
       let h = ltb-false 16384 (length i) p in
       let g = ltb-false (firstLone i) (length i) r in
       let s : firstLone i ≤ length i = scan-le loneStep i 0 in
-      verdict-next (length i) k n (judgeLines (rawLines i) 0 freshCard) e
+      verdict-next (length i) k n (judgeLines ed (rawLines i) 0 freshCard) e
       (λ c w z x y. record {
         short = h;
         some = eqb-false (length i) 0 q;
@@ -88,12 +89,12 @@ module _ (i : List ℕ) (k n : ℕ) where
         lines = y;
       })
 
-  pub accepting : judgeOf i ≡ Accepted k n → Accepting i k n
-  unfolding judgeOf
+  pub accepting : judgeIn ed i ≡ Accepted k n → Accepting ed i k n
+  unfolding judgeIn
   accepting e = passed (ltb 16384 (length i)) (eqb (length i) 0) (ltb (firstLone i) (length i)) (endsCrLf i) refl refl refl refl e
 
   -- the count that is answered is that of the lines
-  pub lines-counted : judgeOf i ≡ Accepted k n → n ≡ length (rawLines i)
+  pub lines-counted : judgeIn ed i ≡ Accepted k n → n ≡ length (rawLines i)
   lines-counted e =
       let a = accepting e in
-      omega (arith, a .lines, counted (rawLines i) 0 freshCard (a .last) (a .walked))
+      omega (arith, a .lines, counted ed (rawLines i) 0 freshCard (a .last) (a .walked))

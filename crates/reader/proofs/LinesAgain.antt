@@ -13,6 +13,7 @@ use lib.Seq.{take-append-seam, drop-append-add}
 use borrow.Author.Tests.{ne-eqb}
 use Rattle.utf8.specs.Characters.{allowed, firstBad}
 use Rattle.utf8.proofs.Chains.{NoEnd, none, more, no-end, good-chars}
+use Rattle.property_table.specs.declared.Edition.{Edition}
 use Rattle.line_folds.specs.Folds.{lineLength, unfolded}
 use Rattle.line_folds.specs.Logical.{rawLines, logicalLines}
 use Rattle.line_folds.proofs.LineLaws.{lines-end}
@@ -21,7 +22,7 @@ use Rattle.card_state.specs.State.{Card, Next, freshCard}
 use Rattle.card_judge.specs.Judge.{judgeLine}
 use Rattle.card_judge.proofs.CardLaws.{line-clean}
 use Rattle.reader_walk.specs.Walk.{judgeLines}
-use Rattle.reader.specs.Outcome.{judgeOf, ended, copyOf}
+use Rattle.reader.specs.Outcome.{judgeIn, ended, copyOf}
 use Rattle.reader.specs.declared.Verdict.the-variants.{Accepted}
 use Rattle.reader_walk.proofs.WalkLaws.{onward-next}
 use Rattle.reader.proofs.AcceptLaws.{accepting}
@@ -34,24 +35,24 @@ pub record Clean (l : List ℕ) : Type 0 where
   pub untabbed : getD l 0 0 ≡ 9 → ⊥
   pub some : length l ≡ 0 → ⊥
 
-judged-clean : (c c′ : Card) (p : ℕ) (l : List ℕ) → judgeLine c p l ≡ Next c′ → Clean l
-judged-clean c c′ p l e =
-    let w = line-clean c c′ p l e in
+judged-clean : (ed : Edition) (c c′ : Card) (p : ℕ) (l : List ℕ) → judgeLine ed c p l ≡ Next c′ → Clean l
+judged-clean ed c c′ p l e =
+    let w = line-clean ed c c′ p l e in
     record { whole = w .0; unspaced = w .1; untabbed = w .2; some = λ z. omega (arith, w .3) }
 
-clean-lines : (ls : List (List ℕ)) (p : ℕ) (c c′ : Card) → judgeLines ls p c ≡ Next c′ → Each Clean (map unfolded ls)
+clean-lines : (ed : Edition) (ls : List (List ℕ)) (p : ℕ) (c c′ : Card) → judgeLines ed ls p c ≡ Next c′ → Each Clean (map unfolded ls)
 unfolding judgeLines Each
-clean-lines [] p c c′ e = tt
-clean-lines (l ∷ ls) p c c′ e =
-    onward-next p l (judgeLine c p (unfolded l)) (judgeLines ls (p + length l + 2)) c′ e
-    (λ d q r. (judged-clean c d p (unfolded l) q, clean-lines ls (p + length l + 2) d c′ r))
+clean-lines ed [] p c c′ e = tt
+clean-lines ed (l ∷ ls) p c c′ e =
+    onward-next p l (judgeLine ed c p (unfolded l)) (judgeLines ed ls (p + length l + 2)) c′ e
+    (λ d q r. (judged-clean ed c d p (unfolded l) q, clean-lines ed ls (p + length l + 2) d c′ r))
 
 -- each logical line of an accepted input is clean
-pub lines-clean : (i : List ℕ) (k n : ℕ) → judgeOf i ≡ Accepted k n → Each Clean (logicalLines i)
+pub lines-clean : (ed : Edition) (i : List ℕ) (k n : ℕ) → judgeIn ed i ≡ Accepted k n → Each Clean (logicalLines i)
 unfolding logicalLines
-lines-clean i k n e =
-    let a = accepting i k n e in
-    clean-lines (rawLines i) 0 freshCard (a .last) (a .walked)
+lines-clean ed i k n e =
+    let a = accepting ed i k n e in
+    clean-lines ed (rawLines i) 0 freshCard (a .last) (a .walked)
 
 line-run : {l : List ℕ} → NoEnd l → (t : List ℕ) → lineLength (l ++ t) ≡ length l + lineLength t
 line-run none t = sym (zero-add _)
@@ -81,6 +82,6 @@ lines-again (l ∷ ls) c =
     ∙ ap (λ (r : List (List ℕ)). l ∷ r) (lines-again ls (c .1))
 
 -- the copy's lines are the logical lines
-pub copy-lines : (i : List ℕ) (k n : ℕ) → judgeOf i ≡ Accepted k n → rawLines (copyOf i) ≡ logicalLines i
+pub copy-lines : (ed : Edition) (i : List ℕ) (k n : ℕ) → judgeIn ed i ≡ Accepted k n → rawLines (copyOf i) ≡ logicalLines i
 unfolding copyOf
-copy-lines i k n e = lines-again (logicalLines i) (lines-clean i k n e)
+copy-lines ed i k n e = lines-again (logicalLines i) (lines-clean ed i k n e)

@@ -7,6 +7,8 @@ use Rattle.numbers.specs.Limits as limit
 use Rattle.numbers.specs.Refusals as refusal
 use Rattle.octets.specs.Pick.{pick}
 use Rattle.octets.specs.Room.{overlay}
+use Rattle.property_table.specs.declared.Edition.{Edition}
+use Rattle.property_table.specs.declared.Edition.the-variants.{First}
 use Rattle.line_folds.specs.Logical.{rawLines, logicalLines}
 use Rattle.reader_walk.specs.Walk.{judgeLines}
 use Rattle.reader_records.specs.Records.{recordsFrom}
@@ -22,12 +24,16 @@ verdictOf n (Halted k p) = Refused k p
 verdictOf n (Flawed k o) = Refused k o
 
 -- 1, 2, 3, 4 over the whole input, then line by line 5 to 12
-unfoldable pub judgeOf : List ℕ → Verdict
-judgeOf i =
+unfoldable pub judgeIn : Edition → List ℕ → Verdict
+judgeIn e i =
     pick (ltb limit.octets (length i)) (Refused refusal.tooLong limit.octets)
     (pick (eqb (length i) 0) (Refused refusal.empty 0)
     (pick (ltb (firstLone i) (length i)) (Refused refusal.loneCrOrLf (firstLone i))
-    (pick (endsCrLf i) (verdictOf (length i) (judgeLines (rawLines i) 0 freshCard)) (Refused refusal.noEnd (length i)))))
+    (pick (endsCrLf i) (verdictOf (length i) (judgeLines e (rawLines i) 0 freshCard)) (Refused refusal.noEnd (length i)))))
+
+-- where no edition is named, it is the first
+abbrev pub judgeOf : List ℕ → Verdict
+judgeOf = judgeIn First
 
 -- the lines in order, each ended by CR LF
 unfoldable pub ended : List (List ℕ) → List ℕ
@@ -37,8 +43,8 @@ ended (l ∷ ls) = l ++ (13 ∷ 10 ∷ ended ls)
 unfoldable pub copyOf : List ℕ → List ℕ
 copyOf i = ended (logicalLines i)
 
-unfoldable pub recordsOf : List ℕ → List ℕ
-recordsOf i = recordsFrom 0 (logicalLines i)
+unfoldable pub recordsIn : Edition → List ℕ → List ℕ
+recordsIn e i = recordsFrom e 0 (logicalLines i)
 
 -- an answer, and what the two rooms hold then
 pub record Taken : Type 0 where
@@ -57,9 +63,9 @@ writeOutcome a xs rs copy records =
     (took a (overlay xs copy) (overlay rs records)))
 
 -- nothing is written on a refusal
-unfoldable pub outcomeBy : Verdict → List ℕ → List ℕ → List ℕ → Taken
-outcomeBy (Accepted k n) i copy records = writeOutcome (Accepted k n) (copyOf i) (recordsOf i) copy records
-outcomeBy (Refused n p) i copy records = took (Refused n p) copy records
+unfoldable pub outcomeBy : Edition → Verdict → List ℕ → List ℕ → List ℕ → Taken
+outcomeBy e (Accepted k n) i copy records = writeOutcome (Accepted k n) (copyOf i) (recordsIn e i) copy records
+outcomeBy e (Refused n p) i copy records = took (Refused n p) copy records
 
-unfoldable pub readOutcome : List ℕ → List ℕ → List ℕ → Taken
-readOutcome i copy records = outcomeBy (judgeOf i) i copy records
+unfoldable pub readIn : Edition → List ℕ → List ℕ → List ℕ → Taken
+readIn e i copy records = outcomeBy e (judgeIn e i) i copy records

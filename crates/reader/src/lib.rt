@@ -3,10 +3,11 @@ ghost use mathlib.Core.Path.{_≡_};
 ghost use mathlib.Core.List.{List};
 ghost use Prim.Native.Nat.{ℕ};
 ghost use Rattle.card_state.specs.Kept.{stepOf};
-ghost use Rattle.reader.specs.Outcome.{verdictOf, judgeOf, took, readOutcome};
+ghost use Rattle.reader.specs.Outcome.{verdictOf, judgeIn, judgeOf, took, readIn};
 use card_state::Step;
 use numbers::limit;
 use numbers::refusal;
+use property_table::Edition;
 
 // The counts of cards and lines, or a refusal's number and place.
 pub enum Verdict {
@@ -30,9 +31,9 @@ fn conclude(n: usize, last: Step) -> Verdict
     }
 }
 
-// The verdict on an input: a refusal, or the counts.
-pub fn judge(input: &[u8]) -> Verdict
-    ensures { λ r. ⌜ r ≡ judgeOf (now (input .entry)) ⌝ }
+// The verdict on an input in an edition: a refusal, or the counts.
+pub fn judge_as(edition: Edition, input: &[u8]) -> Verdict
+    ensures { λ r. ⌜ r ≡ judgeIn edition (now (input .entry)) ⌝ }
 {
     if limit::OCTETS < input.len() {
         return Verdict::Refused(refusal::TOO_LONG, limit::OCTETS);
@@ -51,16 +52,23 @@ pub fn judge(input: &[u8]) -> Verdict
     let t = octets::classes::table();
     let rows = property_table::table();
     let steps = value_automaton::scanner::table();
-    let last = reader_walk::walk(&t, &rows, &steps, input);
+    let last = reader_walk::walk(&t, &rows, &steps, edition, input);
     conclude(input.len(), last)
 }
 
-// The verdict on an input, 1 to 14 or the counts; where it is accepted, its copy and its records are written to the start of their
-// rooms, and on a refusal nothing is.
-pub fn read(input: &[u8], copy: &mut [u8], records: &mut [u32]) -> Verdict
-    ensures { λ r. ⌜ took r (now (copy .exit)) (now (records .exit)) ≡ readOutcome (now (input .entry)) (now (copy .entry)) (now (records .entry)) ⌝ }
+// The verdict on an input in edition one.
+pub fn judge(input: &[u8]) -> Verdict
+    ensures { λ r. ⌜ r ≡ judgeOf (now (input .entry)) ⌝ }
 {
-    let v = judge(input);
+    judge_as(Edition::First, input)
+}
+
+// The verdict on an input in an edition, 1 to 14 or the counts; where it is accepted, its copy and its records are written to the start of their
+// rooms, and on a refusal nothing is.
+pub fn read(edition: Edition, input: &[u8], copy: &mut [u8], records: &mut [u32]) -> Verdict
+    ensures { λ r. ⌜ took r (now (copy .exit)) (now (records .exit)) ≡ readIn edition (now (input .entry)) (now (copy .entry)) (now (records .entry)) ⌝ }
+{
+    let v = judge_as(edition, input);
     let Verdict::Accepted(cards, lines) = v else {
         return v;
     };
@@ -74,6 +82,6 @@ pub fn read(input: &[u8], copy: &mut [u8], records: &mut [u32]) -> Verdict
     }
     let t = octets::classes::table();
     let rows = property_table::table();
-    reader_records::write_lines(&t, &rows, input, copy, records);
+    reader_records::write_lines(&t, &rows, edition, input, copy, records);
     Verdict::Accepted(cards, lines)
 }

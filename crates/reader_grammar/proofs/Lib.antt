@@ -14,3 +14,4 @@ pub mod RecordLaws
 pub mod Refused
 pub mod OctetLaws
 pub mod Numbers
+pub mod EditionLaws

@@ -21,6 +21,7 @@ use Rattle.value_laws.proofs.HighLaws.{High, another-high}
 use Rattle.reader.specs.Outcome.{ended}
 use Rattle.reader_grammar.specs.Values.{Fitting}
 use Rattle.reader_grammar.proofs.ValueLaws.{value-fits}
+use Rattle.property_table.specs.declared.Edition.{Edition}
 
 -- ---- what stands there
 
@@ -102,22 +103,22 @@ cut (more {c = c} {l = l} ch rest) o h =
     within zero lt = inl none
     within (suc o) lt = ⊎-elim (λ k. absurd (omega (arith, k))) (λ k. inr (inside-character c l (suc o) k (omega arith) lt)) (character-high ch)
 
-module _ (row k : ℕ) (low : k < kinds.count) where
-  another : (a b : ℕ) → High a → High b → (u w : List ℕ) → Fitting row k (u ++ (a ∷ w)) → Fitting row k (u ++ (a ∷ b ∷ w))
+module _ (ed : Edition) (row k : ℕ) (low : k < kinds.count) where
+  another : (a b : ℕ) → High a → High b → (u w : List ℕ) → Fitting ed row k (u ++ (a ∷ w)) → Fitting ed row k (u ++ (a ∷ b ∷ w))
   another a b ha hb u w f =
-      let to : (v : List ℕ) → Fitting row k v → Matches (lineShape row k) v = λ v g. fits-line row k v .0 (value-fits row k v .1 g) in
-      value-fits row k (u ++ (a ∷ b ∷ w)) .0 (fits-line row k (u ++ (a ∷ b ∷ w)) .1 (another-high row k low a b ha hb u w (to (u ++ (a ∷ w)) f)))
+      let to : (v : List ℕ) → Fitting ed row k v → Matches (lineShape ed row k) v = λ v g. fits-line ed row k v .0 (value-fits ed row k v .1 g) in
+      value-fits ed row k (u ++ (a ∷ b ∷ w)) .0 (fits-line ed row k (u ++ (a ∷ b ∷ w)) .1 (another-high ed row k low a b ha hb u w (to (u ++ (a ∷ w)) f)))
 
-  not-inside : (v : List ℕ) (o : ℕ) → Dead (Fitting row k) v o → Inside v o → ⊥
+  not-inside : (v : List ℕ) (o : ℕ) → Dead (Fitting ed row k) v o → Inside v o → ⊥
   not-inside v o d (u, a, b, t, e, n, ha, hb) =
       let size : length v ≡ length u + length (a ∷ b ∷ t) = ap length e ∙ length-append u (a ∷ b ∷ t) in
       let one : take o v ≡ u ++ (a ∷ []) = ap (λ (s : List ℕ). take o s) e ∙ ap (λ (m : ℕ). take m (u ++ (a ∷ b ∷ t))) n ∙ take-append-add u (a ∷ b ∷ t) 1 in
       let m : suc o ≡ length u + 2 = omega arith in
       let two : take (suc o) v ≡ u ++ (a ∷ b ∷ []) = ap (λ (s : List ℕ). take (suc o) s) e ∙ ap (λ (m : ℕ). take m (u ++ (a ∷ b ∷ t))) m ∙ take-append-add u (a ∷ b ∷ t) 2 in
       let w = d .goes-on .0 in
-      let f : Fitting row k (u ++ (a ∷ w)) = subst (Fitting row k) (ap (λ (s : List ℕ). s ++ w) one ∙ append-assoc u (a ∷ []) w) (d .goes-on .2) in
-      d .no-more (omega arith) w (subst (Fitting row k) (sym (ap (λ (s : List ℕ). s ++ w) two ∙ append-assoc u (a ∷ b ∷ []) w)) (another a b ha hb u w f))
+      let f : Fitting ed row k (u ++ (a ∷ w)) = subst (Fitting ed row k) (ap (λ (s : List ℕ). s ++ w) one ∙ append-assoc u (a ∷ []) w) (d .goes-on .2) in
+      d .no-more (omega arith) w (subst (Fitting ed row k) (sym (ap (λ (s : List ℕ). s ++ w) two ∙ append-assoc u (a ∷ b ∷ []) w)) (another a b ha hb u w f))
 
   -- where a value of whole characters breaks off, a character starts or the value ends
-  pub dead-not-in-character : (v : List ℕ) (o : ℕ) → Characters v → Dead (Fitting row k) v o → Characters (take o v)
+  pub dead-not-in-character : (v : List ℕ) (o : ℕ) → Characters v → Dead (Fitting ed row k) v o → Characters (take o v)
   dead-not-in-character v o c d = ⊎-elim (λ h. h) (λ h. absurd (not-inside v o d h)) (cut c o (d .inside))

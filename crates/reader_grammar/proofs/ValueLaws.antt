@@ -13,7 +13,7 @@ use Rattle.utf8.specs.Characters.{allowed, firstBad}
 use Rattle.utf8.proofs.Chars.{bad-le}
 use Rattle.utf8_laws.proofs.Utf8.{allowed-only}
 use Rattle.numbers.specs.Kinds as kinds
-use Rattle.value_kinds.specs.Kinds.{shapeOf, lineShape, kindScan, valueScan}
+use Rattle.value_kinds.specs.Kinds.{shapeIn, lineShape, kindIn, valueIn}
 use Rattle.value_kinds.specs.Shapes.{Matches}
 use Rattle.value_kinds.specs.declared.Fault.the-variants.{Fits, Breaks}
 use Rattle.octets.proofs.Bools.{by}
@@ -22,86 +22,88 @@ use Rattle.value_laws.proofs.DeadLaws.{dead-alike}
 use Rattle.value_laws.proofs.KindLaws.{fits-kind, fits-line, breaks-line}
 use Rattle.value_laws.proofs.DateWords.{kind-9, kind-10, kind-11}
 use Rattle.value_laws.proofs.Plain.{kind-0, kind-1, kind-2, kind-3, kind-4, kind-5, kind-6, kind-7, kind-8, fixed-begin, fixed-end, fixed-version, by-kind}
-use Rattle.reader_grammar.specs.Values.{OfKind, anything, text, texts, uri, five, seven, components, gender, pidmap, date, timestamp, offset, Fitting}
+use Rattle.reader_grammar.specs.Values.{OfKind, anything, text, texts, uri, name, address, components, gender, pidmap, date, timestamp, offset, Fitting}
 use Rattle.reader_grammar.specs.Cards.{Clean}
+use Rattle.property_table.specs.declared.Edition.{Edition}
 
-kind-to : (k : ℕ) (v : List ℕ) → kindScan k v ≡ Fits → OfKind k v
-unfolding shapeOf Matches
-kind-to zero v e = anything
-kind-to (suc zero) v e = text (kind-1 v .0 e)
-kind-to (suc (suc zero)) v e = texts (kind-2 v .0 e)
-kind-to (suc (suc (suc zero))) v e = uri (kind-3 v .0 e)
-kind-to (suc (suc (suc (suc zero)))) v e = five (kind-4 v .0 e)
-kind-to (suc (suc (suc (suc (suc zero))))) v e = seven (kind-5 v .0 e)
-kind-to (suc (suc (suc (suc (suc (suc zero)))))) v e = components (kind-6 v .0 e)
-kind-to (suc (suc (suc (suc (suc (suc (suc zero))))))) v e = gender (kind-7 v .0 e)
-kind-to (suc (suc (suc (suc (suc (suc (suc (suc zero)))))))) v e = pidmap (kind-8 v .0 e)
-kind-to (suc (suc (suc (suc (suc (suc (suc (suc (suc zero))))))))) v e = date (kind-9 v .0 e)
-kind-to (suc (suc (suc (suc (suc (suc (suc (suc (suc (suc zero)))))))))) v e = timestamp (kind-10 v .0 e)
-kind-to (suc (suc (suc (suc (suc (suc (suc (suc (suc (suc (suc zero))))))))))) v e = offset (kind-11 v .0 e)
-kind-to (suc (suc (suc (suc (suc (suc (suc (suc (suc (suc (suc (suc k)))))))))))) v e = absurd (fits-kind (suc (suc (suc (suc (suc (suc (suc (suc (suc (suc (suc (suc k)))))))))))) v .0 e)
+module _ (ed : Edition) where
+  kind-to : (k : ℕ) (v : List ℕ) → kindIn ed k v ≡ Fits → OfKind ed k v
+  unfolding shapeIn Matches
+  kind-to zero v e = anything
+  kind-to (suc zero) v e = text (kind-1 ed v .0 e)
+  kind-to (suc (suc zero)) v e = texts (kind-2 ed v .0 e)
+  kind-to (suc (suc (suc zero))) v e = uri (kind-3 ed v .0 e)
+  kind-to (suc (suc (suc (suc zero)))) v e = name (kind-4 ed v .0 e)
+  kind-to (suc (suc (suc (suc (suc zero))))) v e = address (kind-5 ed v .0 e)
+  kind-to (suc (suc (suc (suc (suc (suc zero)))))) v e = components (kind-6 ed v .0 e)
+  kind-to (suc (suc (suc (suc (suc (suc (suc zero))))))) v e = gender (kind-7 ed v .0 e)
+  kind-to (suc (suc (suc (suc (suc (suc (suc (suc zero)))))))) v e = pidmap (kind-8 ed v .0 e)
+  kind-to (suc (suc (suc (suc (suc (suc (suc (suc (suc zero))))))))) v e = date (kind-9 ed v .0 e)
+  kind-to (suc (suc (suc (suc (suc (suc (suc (suc (suc (suc zero)))))))))) v e = timestamp (kind-10 ed v .0 e)
+  kind-to (suc (suc (suc (suc (suc (suc (suc (suc (suc (suc (suc zero))))))))))) v e = offset (kind-11 ed v .0 e)
+  kind-to (suc (suc (suc (suc (suc (suc (suc (suc (suc (suc (suc (suc k)))))))))))) v e = absurd (fits-kind ed (suc (suc (suc (suc (suc (suc (suc (suc (suc (suc (suc (suc k)))))))))))) v .0 e)
 
-kind-from : {k : ℕ} {v : List ℕ} → OfKind k v → kindScan k v ≡ Fits
-kind-from (anything {v = v}) = kind-0 v
-kind-from (text {v = v} h) = kind-1 v .1 h
-kind-from (texts {v = v} h) = kind-2 v .1 h
-kind-from (uri {v = v} h) = kind-3 v .1 h
-kind-from (five {v = v} h) = kind-4 v .1 h
-kind-from (seven {v = v} h) = kind-5 v .1 h
-kind-from (components {v = v} h) = kind-6 v .1 h
-kind-from (gender {v = v} h) = kind-7 v .1 h
-kind-from (pidmap {v = v} h) = kind-8 v .1 h
-kind-from (date {v = v} h) = kind-9 v .1 h
-kind-from (timestamp {v = v} h) = kind-10 v .1 h
-kind-from (offset {v = v} h) = kind-11 v .1 h
+  kind-from : {k : ℕ} {v : List ℕ} → OfKind ed k v → kindIn ed k v ≡ Fits
+  kind-from (anything {v = v}) = kind-0 ed v
+  kind-from (text {v = v} h) = kind-1 ed v .1 h
+  kind-from (texts {v = v} h) = kind-2 ed v .1 h
+  kind-from (uri {v = v} h) = kind-3 ed v .1 h
+  kind-from (name {v = v} h) = kind-4 ed v .1 h
+  kind-from (address {v = v} h) = kind-5 ed v .1 h
+  kind-from (components {v = v} h) = kind-6 ed v .1 h
+  kind-from (gender {v = v} h) = kind-7 ed v .1 h
+  kind-from (pidmap {v = v} h) = kind-8 ed v .1 h
+  kind-from (date {v = v} h) = kind-9 ed v .1 h
+  kind-from (timestamp {v = v} h) = kind-10 ed v .1 h
+  kind-from (offset {v = v} h) = kind-11 ed v .1 h
 
--- a value fits its kind's scan exactly where it is of the kind
-pub of-kind : (k : ℕ) (v : List ℕ) → (kindScan k v ≡ Fits) ↔ OfKind k v
-of-kind k v = (kind-to k v, kind-from)
+  -- a value fits its kind's scan exactly where it is of the kind
+  pub of-kind : (k : ℕ) (v : List ℕ) → (kindIn ed k v ≡ Fits) ↔ OfKind ed k v
+  of-kind k v = (kind-to k v, kind-from)
 
-module _ (row k : ℕ) (v : List ℕ) where
-  abbrev scanned : ℕ → Type 0
-  scanned n = valueScan n k v ≡ Fits
+  module _ (row k : ℕ) (v : List ℕ) where
+    abbrev scanned : ℕ → Type 0
+    scanned n = valueIn ed n k v ≡ Fits
 
-  value-to : valueScan row k v ≡ Fits → Fitting row k v
-  value-to e = record {
-    begin = λ r. fixed-begin k v .0 (subst scanned r e);
-    end = λ r. fixed-end k v .0 (subst scanned r e);
-    version = λ r. fixed-version k v .0 (subst scanned r e);
-    other = λ a b c. kind-to k v (sym (by-kind row k v a b c) ∙ e);
-  }
+    value-to : valueIn ed row k v ≡ Fits → Fitting ed row k v
+    value-to e = record {
+      begin = λ r. fixed-begin ed k v .0 (subst scanned r e);
+      end = λ r. fixed-end ed k v .0 (subst scanned r e);
+      version = λ r. fixed-version ed k v .0 (subst scanned r e);
+      other = λ a b c. kind-to k v (sym (by-kind ed row k v a b c) ∙ e);
+    }
 
-  value-from : Fitting row k v → valueScan row k v ≡ Fits
-  value-from f =
-      by (eqb row 1) (λ a. let r = eqb-true row 1 a in subst scanned (sym r) (fixed-begin k v .1 (f .begin r)))
-      (λ a. by (eqb row 2) (λ b. let r = eqb-true row 2 b in subst scanned (sym r) (fixed-end k v .1 (f .end r)))
-      (λ b. by (eqb row 34) (λ c. let r = eqb-true row 34 c in subst scanned (sym r) (fixed-version k v .1 (f .version r)))
-      (λ c.
-      let p = eqb-false row 1 a in
-      let q = eqb-false row 2 b in
-      let s = eqb-false row 34 c in
-      by-kind row k v p q s ∙ kind-from (f .other p q s))))
+    value-from : Fitting ed row k v → valueIn ed row k v ≡ Fits
+    value-from f =
+        by (eqb row 1) (λ a. let r = eqb-true row 1 a in subst scanned (sym r) (fixed-begin ed k v .1 (f .begin r)))
+        (λ a. by (eqb row 2) (λ b. let r = eqb-true row 2 b in subst scanned (sym r) (fixed-end ed k v .1 (f .end r)))
+        (λ b. by (eqb row 34) (λ c. let r = eqb-true row 34 c in subst scanned (sym r) (fixed-version ed k v .1 (f .version r)))
+        (λ c.
+        let p = eqb-false row 1 a in
+        let q = eqb-false row 2 b in
+        let s = eqb-false row 34 c in
+        by-kind ed row k v p q s ∙ kind-from (f .other p q s))))
 
-  pub value-fits : (valueScan row k v ≡ Fits) ↔ Fitting row k v
-  value-fits = (value-to, value-from)
+    pub value-fits : (valueIn ed row k v ≡ Fits) ↔ Fitting ed row k v
+    value-fits = (value-to, value-from)
 
--- a value breaks off where the scan says so, by every continuation
-pub value-dead : (row k : ℕ) (v : List ℕ) (o : ℕ) → k < kinds.count → (valueScan row k v ≡ Breaks o) ↔ Dead (Fitting row k) v o
-value-dead row k v o h =
-    let b = breaks-line row k v o h in
-    let same : (w : List ℕ) → Matches (lineShape row k) w ↔ Fitting row k w =
-    λ w. (λ m. value-fits row k w .0 (fits-line row k w .1 m), λ m. fits-line row k w .0 (value-fits row k w .1 m)) in (
-      λ e. dead-alike (Matches (lineShape row k)) (Fitting row k) same v o (b .0 e),
-      λ d. b .1 (dead-alike (Fitting row k) (Matches (lineShape row k)) (λ w. (same w .1, same w .0)) v o d),
-    )
+  -- a value breaks off where the scan says so, by every continuation
+  pub value-dead : (row k : ℕ) (v : List ℕ) (o : ℕ) → k < kinds.count → (valueIn ed row k v ≡ Breaks o) ↔ Dead (Fitting ed row k) v o
+  value-dead row k v o h =
+      let b = breaks-line ed row k v o h in
+      let same : (w : List ℕ) → Matches (lineShape ed row k) w ↔ Fitting ed row k w =
+      λ w. (λ m. value-fits row k w .0 (fits-line ed row k w .1 m), λ m. fits-line ed row k w .0 (value-fits row k w .1 m)) in (
+        λ e. dead-alike (Matches (lineShape ed row k)) (Fitting ed row k) same v o (b .0 e),
+        λ d. b .1 (dead-alike (Fitting ed row k) (Matches (lineShape ed row k)) (λ w. (same w .1, same w .0)) v o d),
+      )
 
--- no octet of the line is bad exactly where it is clean
-pub clean-law : (l : List ℕ) → (ltb (firstBad (allowed false) l) (length l) ≡ false) ↔ Clean l
-clean-law l = (
-  λ e.
-      let a = allowed-only false l .0 (omega (arith, ltb-false (firstBad (allowed false) l) (length l) e, bad-le (allowed false) l)) in
-      record { characters = a .0; octets = a .1 },
-  λ h.
-      let a = allowed-only false l .1 (h .characters, h .octets) in
-      le-ltb (firstBad (allowed false) l) (length l) (omega arith),
-)
+  -- no octet of the line is bad exactly where it is clean
+  pub clean-law : (l : List ℕ) → (ltb (firstBad (allowed false) l) (length l) ≡ false) ↔ Clean l
+  clean-law l = (
+    λ e.
+        let a = allowed-only false l .0 (omega (arith, ltb-false (firstBad (allowed false) l) (length l) e, bad-le (allowed false) l)) in
+        record { characters = a .0; octets = a .1 },
+    λ h.
+        let a = allowed-only false l .1 (h .characters, h .octets) in
+        le-ltb (firstBad (allowed false) l) (length l) (omega arith),
+  )

@@ -17,125 +17,127 @@ use Rattle.reader_grammar.specs.Refusals.{Begun, nothing, SoFar, Sound, 
 use Rattle.reader_grammar.proofs.Known.{Known, Joins, fresh-known, lineCard, line-known, endCard, end-known}
 use Rattle.reader_grammar.proofs.LineLaws.{stopped as halted, Judged, refused, goes-on, ends, outcome, decided}
 use Rattle.reader_grammar.proofs.BegunLaws.{each-join, Stands, begun-next, begun-end}
+use Rattle.property_table.specs.declared.Edition.{Edition}
 
--- one card more at the end
-cards-last : {k : ℕ} {zs : List Line} (ys : List Line) → Cards k zs → CardLines ys → Cards (suc k) (zs ++ ys)
-cards-last ys none h = subst (Cards 1) (append-nil ys) (more h none)
-cards-last ys (more {k = k} {xs = xs} {ys = zs} a rest) h = subst (Cards (suc (suc k))) (sym (append-assoc xs zs ys)) (more a (cards-last ys rest h))
+module _ (ed : Edition) where
+  -- one card more at the end
+  cards-last : {k : ℕ} {zs : List Line} (ys : List Line) → Cards ed k zs → CardLines ed ys → Cards ed (suc k) (zs ++ ys)
+  cards-last ys none h = subst (Cards ed 1) (append-nil ys) (more h none)
+  cards-last ys (more {k = k} {xs = xs} {ys = zs} a rest) h = subst (Cards ed (suc (suc k))) (sym (append-assoc xs zs ys)) (more a (cards-last ys rest h))
 
--- the raw lines ds were judged, and c is the state then
-pub record Reached (ds : List (List ℕ)) (c : Card) : Type 0 where
-  pub k : ℕ
-  pub zs : List Line
-  pub ys : List Line
-  pub lines : SoFar (map unfolded ds) k zs ys
-  pub known : Known c ys
-  pub cards : c .cards ≡ k
-  pub count : c .lines ≡ length (zs ++ ys)
+  -- the raw lines ds were judged, and c is the state then
+  pub record Reached (ds : List (List ℕ)) (c : Card) : Type 0 where
+    pub k : ℕ
+    pub zs : List Line
+    pub ys : List Line
+    pub lines : SoFar ed (map unfolded ds) k zs ys
+    pub known : Known ed c ys
+    pub cards : c .cards ≡ k
+    pub count : c .lines ≡ length (zs ++ ys)
 
-pub fresh-reached : Reached [] freshCard
-unfolding Each
-fresh-reached = record {
-  k = 0;
-  zs = [];
-  ys = [];
-  lines = record { written = refl; readable = tt; cards = none; begun = nothing };
-  known = fresh-known;
-  cards = refl;
-  count = refl;
-}
-
-stands : {ys : List Line} {l : List ℕ} {x : Line} → Sound ys l x → Stands ys x
-stands s = record { place = s .place; unladen = s .unladen; fits = s .fits }
-
-module _ (ds : List (List ℕ)) (c : Card) (r : Reached ds c) (l : List ℕ) (x : Line) (s : Sound (r .ys) (unfolded l) x) where
-  abbrev all : List Line
-  all = r .zs ++ r .ys
-
-  written : map unfolded (ds ++ (l ∷ [])) ≡ map render (all ++ (x ∷ []))
-  written =
-      map-append unfolded ds (l ∷ [])
-      ∙ ap (λ (a : List (List ℕ)). a ++ (unfolded l ∷ [])) (r .lines .written)
-      ∙ ap (λ (a : List ℕ). map render all ++ (a ∷ [])) (s .reads .text)
-      ∙ sym (map-append render all (x ∷ []))
-
-  readable : Each Readable (all ++ (x ∷ []))
+  pub fresh-reached : Reached [] freshCard
   unfolding Each
-  readable = each-join Readable all (x ∷ []) (r .lines .readable) (s .reads .readable, tt)
+  fresh-reached = record {
+    k = 0;
+    zs = [];
+    ys = [];
+    lines = record { written = refl; readable = tt; cards = none; begun = nothing };
+    known = fresh-known ed;
+    cards = refl;
+    count = refl;
+  }
 
-  counted : c .lines + 1 ≡ length (all ++ (x ∷ []))
-  counted = omega (arith, r .count, length-append all (x ∷ []))
+  stands : {ys : List Line} {l : List ℕ} {x : Line} → Sound ed ys l x → Stands ed ys x
+  stands s = record { place = s .place; unladen = s .unladen; fits = s .fits }
 
-  line-reached : Joins (r .ys) x → Begun (r .ys ++ (x ∷ [])) → Reached (ds ++ (l ∷ [])) (lineCard c x)
-  unfolding nextCard
-  line-reached j b =
-      let q = append-assoc (r .zs) (r .ys) (x ∷ []) in
-      record {
-        k = r .k;
-        zs = r .zs;
-        ys = r .ys ++ (x ∷ []);
-        lines = record { written = rw q at written; readable = rw q at readable; cards = r .lines .cards; begun = b };
-        known = line-known c (r .ys) x (r .known) j (s .place);
-        cards = r .cards;
-        count = rw q at counted;
-      }
+  module _ (ds : List (List ℕ)) (c : Card) (r : Reached ds c) (l : List ℕ) (x : Line) (s : Sound ed (r .ys) (unfolded l) x) where
+    abbrev all : List Line
+    all = r .zs ++ r .ys
 
-  end-reached : CardLines (r .ys ++ (x ∷ [])) → Reached (ds ++ (l ∷ [])) (endCard c)
-  end-reached b =
-      let q = append-assoc (r .zs) (r .ys) (x ∷ []) ∙ sym (append-nil (r .zs ++ (r .ys ++ (x ∷ [])))) in
-      record {
-        k = suc (r .k);
-        zs = r .zs ++ (r .ys ++ (x ∷ []));
-        ys = [];
-        lines = record { written = rw q at written; readable = rw q at readable; cards = cards-last (r .ys ++ (x ∷ [])) (r .lines .cards) b; begun = nothing };
-        known = end-known c;
-        cards = omega (arith, r .cards);
-        count = rw q at counted;
-      }
+    written : map unfolded (ds ++ (l ∷ [])) ≡ map render (all ++ (x ∷ []))
+    written =
+        map-append unfolded ds (l ∷ [])
+        ∙ ap (λ (a : List (List ℕ)). a ++ (unfolded l ∷ [])) (r .lines .written)
+        ∙ ap (λ (a : List ℕ). map render all ++ (a ∷ [])) (s .reads .text)
+        ∙ sym (map-append render all (x ∷ []))
 
--- a place counted from the start of the raw line r
-abbrev pub placeIn : List ℕ → Where → ℕ
-placeIn r at-start = 0
-placeIn r (at-octet o) = placeOf r o
+    readable : Each Readable (all ++ (x ∷ []))
+    unfolding Each
+    readable = each-join ed Readable all (x ∷ []) (r .lines .readable) (s .reads .readable, tt)
 
--- where a refusal of the raw line r, which starts at p, has its place in the input
-pub settled-place : (p n : ℕ) (r : List ℕ) (w : Where) → settled p r (halted p n w) ≡ Refused n (p + placeIn r w)
-settled-place p n r at-start = ap (Refused n) (omega arith)
-settled-place p n r (at-octet o) = refl
+    counted : c .lines + 1 ≡ length (all ++ (x ∷ []))
+    counted = omega (arith, r .count, length-append all (x ∷ []))
 
--- what the walk over all the lines comes to
-pub data Walked (all : List (List ℕ)) : Step → Type 0 where
-  finished : {c : Card} → Reached all c → Walked all (Next c)
-  stopped : (ds : List (List ℕ)) (l : List ℕ) (es : List (List ℕ)) {c : Card} {n : ℕ} {w : Where} → all ≡ ds ++ (l ∷ es) → (r : Reached ds c)
-      → LineRefused (r .ys) (unfolded l) n w → Walked all (Refused n (length (ended ds) + placeIn l w))
+    line-reached : Joins ed (r .ys) x → Begun ed (r .ys ++ (x ∷ [])) → Reached (ds ++ (l ∷ [])) (lineCard ed c x)
+    unfolding nextCard
+    line-reached j b =
+        let q = append-assoc (r .zs) (r .ys) (x ∷ []) in
+        record {
+          k = r .k;
+          zs = r .zs;
+          ys = r .ys ++ (x ∷ []);
+          lines = record { written = rw q at written; readable = rw q at readable; cards = r .lines .cards; begun = b };
+          known = line-known ed c (r .ys) x (r .known) j (s .place);
+          cards = r .cards;
+          count = rw q at counted;
+        }
 
--- one line further
-turn : (ds : List (List ℕ)) (l : List ℕ) (es : List (List ℕ)) (c : Card) (r : Reached ds c) (f : Card → Step) {s : Step}
-    → Judged c (r .ys) (length (ended ds)) (unfolded l) s
-    → ((d : Card) → Reached (ds ++ (l ∷ [])) d → Walked (ds ++ (l ∷ es)) (f d)) → Walked (ds ++ (l ∷ es)) (onward (settled (length (ended ds)) l s) f)
-turn ds l es c r f (refused {n = n} {w = w} h) ih =
-    subst (λ (s : Step). Walked (ds ++ (l ∷ es)) (onward s f)) (sym (settled-place (length (ended ds)) n l w)) (stopped ds l es refl r h)
-turn ds l es c r f (goes-on x s e h) ih = ih (lineCard c x) (line-reached ds c r l x s h (begun-next x (r .lines .begun) (stands s) e h))
-turn ds l es c r f (ends x s e h g) ih = ih (endCard c) (end-reached ds c r l x s (begun-end x (r .lines .begun) (stands s) e h g))
+    end-reached : CardLines ed (r .ys ++ (x ∷ [])) → Reached (ds ++ (l ∷ [])) (endCard ed c)
+    end-reached b =
+        let q = append-assoc (r .zs) (r .ys) (x ∷ []) ∙ sym (append-nil (r .zs ++ (r .ys ++ (x ∷ [])))) in
+        record {
+          k = suc (r .k);
+          zs = r .zs ++ (r .ys ++ (x ∷ []));
+          ys = [];
+          lines = record { written = rw q at written; readable = rw q at readable; cards = cards-last (r .ys ++ (x ∷ [])) (r .lines .cards) b; begun = nothing };
+          known = end-known ed c;
+          cards = omega (arith, r .cards);
+          count = rw q at counted;
+        }
 
--- where the line after ds and l starts
-pub start-next : (ds : List (List ℕ)) (l : List ℕ) → length (ended (ds ++ (l ∷ []))) ≡ length (ended ds) + length l + 2
-unfolding ended
-start-next [] l = omega (arith, length-append l (13 ∷ 10 ∷ []))
-start-next (d ∷ ds) l =
-    omega (
-      arith,
-      length-append d (13 ∷ 10 ∷ ended (ds ++ (l ∷ []))),
-      length-append d (13 ∷ 10 ∷ ended ds),
-      start-next ds l,
-    )
+  -- a place counted from the start of the raw line r
+  abbrev pub placeIn : List ℕ → Where → ℕ
+  placeIn r at-start = 0
+  placeIn r (at-octet o) = placeOf r o
 
-pub walk : (es ds : List (List ℕ)) (c : Card) → Reached ds c → Walked (ds ++ es) (judgeLines es (length (ended ds)) c)
-unfolding judgeLines
-walk [] ds c r = subst (λ (a : List (List ℕ)). Walked a (Next c)) (sym (append-nil ds)) (finished r)
-walk (l ∷ es) ds c r =
-    let j = decided c (r .ys) (r .known) (length (ended ds)) (unfolded l) in
-    let f = judgeLines es (length (ended ds) + length l + 2) in
-    subst (λ (s : Step). Walked (ds ++ (l ∷ es)) (onward (settled (length (ended ds)) l s) f))
-    (sym (outcome c (r .ys) (r .known) (length (ended ds)) (unfolded l) (j .1)))
-    (turn ds l es c r f (j .1) (λ d q. rw (append-snoc ds l es, start-next ds l) at (walk es (ds ++ (l ∷ [])) d q)))
+  -- where a refusal of the raw line r, which starts at p, has its place in the input
+  pub settled-place : (p n : ℕ) (r : List ℕ) (w : Where) → settled p r (halted ed p n w) ≡ Refused n (p + placeIn r w)
+  settled-place p n r at-start = ap (Refused n) (omega arith)
+  settled-place p n r (at-octet o) = refl
+
+  -- what the walk over all the lines comes to
+  pub data Walked (all : List (List ℕ)) : Step → Type 0 where
+    finished : {c : Card} → Reached all c → Walked all (Next c)
+    stopped : (ds : List (List ℕ)) (l : List ℕ) (es : List (List ℕ)) {c : Card} {n : ℕ} {w : Where} → all ≡ ds ++ (l ∷ es) → (r : Reached ds c)
+        → LineRefused ed (r .ys) (unfolded l) n w → Walked all (Refused n (length (ended ds) + placeIn l w))
+
+  -- one line further
+  turn : (ds : List (List ℕ)) (l : List ℕ) (es : List (List ℕ)) (c : Card) (r : Reached ds c) (f : Card → Step) {s : Step}
+      → Judged ed c (r .ys) (length (ended ds)) (unfolded l) s
+      → ((d : Card) → Reached (ds ++ (l ∷ [])) d → Walked (ds ++ (l ∷ es)) (f d)) → Walked (ds ++ (l ∷ es)) (onward (settled (length (ended ds)) l s) f)
+  turn ds l es c r f (refused {n = n} {w = w} h) ih =
+      subst (λ (s : Step). Walked (ds ++ (l ∷ es)) (onward s f)) (sym (settled-place (length (ended ds)) n l w)) (stopped ds l es refl r h)
+  turn ds l es c r f (goes-on x s e h) ih = ih (lineCard ed c x) (line-reached ds c r l x s h (begun-next ed x (r .lines .begun) (stands s) e h))
+  turn ds l es c r f (ends x s e h g) ih = ih (endCard ed c) (end-reached ds c r l x s (begun-end ed x (r .lines .begun) (stands s) e h g))
+
+  -- where the line after ds and l starts
+  pub start-next : (ds : List (List ℕ)) (l : List ℕ) → length (ended (ds ++ (l ∷ []))) ≡ length (ended ds) + length l + 2
+  unfolding ended
+  start-next [] l = omega (arith, length-append l (13 ∷ 10 ∷ []))
+  start-next (d ∷ ds) l =
+      omega (
+        arith,
+        length-append d (13 ∷ 10 ∷ ended (ds ++ (l ∷ []))),
+        length-append d (13 ∷ 10 ∷ ended ds),
+        start-next ds l,
+      )
+
+  pub walk : (es ds : List (List ℕ)) (c : Card) → Reached ds c → Walked (ds ++ es) (judgeLines ed es (length (ended ds)) c)
+  unfolding judgeLines
+  walk [] ds c r = subst (λ (a : List (List ℕ)). Walked a (Next c)) (sym (append-nil ds)) (finished r)
+  walk (l ∷ es) ds c r =
+      let j = decided ed c (r .ys) (r .known) (length (ended ds)) (unfolded l) in
+      let f = judgeLines ed es (length (ended ds) + length l + 2) in
+      subst (λ (s : Step). Walked (ds ++ (l ∷ es)) (onward (settled (length (ended ds)) l s) f))
+      (sym (outcome ed c (r .ys) (r .known) (length (ended ds)) (unfolded l) (j .1)))
+      (turn ds l es c r f (j .1) (λ d q. rw (append-snoc ds l es, start-next ds l) at (walk es (ds ++ (l ∷ [])) d q)))

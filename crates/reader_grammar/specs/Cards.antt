@@ -10,6 +10,7 @@ use Rattle.utf8.specs.Characters.{allowed}
 use Rattle.utf8.specs.Rfc3629.{Characters}
 use Rattle.utf8_laws.specs.Texts.{Each as EachOctet}
 use Rattle.line_parser.specs.Grammar.{Line, Each, WellFormed, render}
+use Rattle.property_table.specs.declared.Edition.{Edition}
 use Rattle.property_table.specs.Rows.{single, isGroup}
 use Rattle.card_state.specs.State.{sameTag}
 use Rattle.card_line.specs.Parts.{rowOfLine, kindOfLine, altidOf}
@@ -31,26 +32,26 @@ pub record Bare (x : Line) : Type 0 where
   pub params : x .params ≡ []
 
 -- a line that frames a card: of the row of that number, bare, and with a value of P
-pub record Frame (number : ℕ) (P : List ℕ → Type 0) (x : Line) : Type 0 where
-  pub row : rowOfLine x ≡ number
+pub record Frame (e : Edition) (number : ℕ) (P : List ℕ → Type 0) (x : Line) : Type 0 where
+  pub row : rowOfLine e x ≡ number
   pub bare : Bare x
   pub value : P (x .value)
 
-abbrev pub Begins : Line → Type 0
-Begins x = Frame property.begin Vcard x
+abbrev pub Begins : Edition → Line → Type 0
+Begins e x = Frame e property.begin Vcard x
 
-abbrev pub Versions : Line → Type 0
-Versions x = Frame property.version Four x
+abbrev pub Versions : Edition → Line → Type 0
+Versions e x = Frame e property.version Four x
 
-abbrev pub Ends : Line → Type 0
-Ends x = Frame property.end Vcard x
+abbrev pub Ends : Edition → Line → Type 0
+Ends e x = Frame e property.end Vcard x
 
 -- any other line: its value is of its kind
-pub record Inside (x : Line) : Type 0 where
-  pub begin : rowOfLine x ≡ property.begin → ⊥
-  pub version : rowOfLine x ≡ property.version → ⊥
-  pub end : rowOfLine x ≡ property.end → ⊥
-  pub value : OfKind (kindOfLine x) (x .value)
+pub record Inside (e : Edition) (x : Line) : Type 0 where
+  pub begin : rowOfLine e x ≡ property.begin → ⊥
+  pub version : rowOfLine e x ≡ property.version → ⊥
+  pub end : rowOfLine e x ≡ property.end → ⊥
+  pub value : OfKind e (kindOfLine e x) (x .value)
 
 abbrev pub counts : Bool → ℕ → ℕ
 counts true n = suc n
@@ -61,19 +62,19 @@ unfoldable pub count : (Line → Bool) → List Line → ℕ
 count p [] = 0
 count p (x ∷ xs) = counts (p x) (count p xs)
 
-abbrev pub ofRow : ℕ → Line → Bool
-ofRow row x = eqb (rowOfLine x) row
+abbrev pub ofRow : Edition → ℕ → Line → Bool
+ofRow e row x = eqb (rowOfLine e x) row
 
 -- how many lines are of the row
-abbrev pub linesOf : ℕ → List Line → ℕ
-linesOf row xs = count (ofRow row) xs
+abbrev pub linesOf : Edition → ℕ → List Line → ℕ
+linesOf e row xs = count (ofRow e row) xs
 
 -- a KIND line whose value is `group` in any case
-abbrev pub saysGroup : Line → Bool
-saysGroup x = eqb (rowOfLine x) property.kind && isGroup (x .value)
+abbrev pub saysGroup : Edition → Line → Bool
+saysGroup e x = eqb (rowOfLine e x) property.kind && isGroup (x .value)
 
-abbrev pub groupLines : List Line → ℕ
-groupLines xs = count saysGroup xs
+abbrev pub groupLines : Edition → List Line → ℕ
+groupLines e xs = count (saysGroup e) xs
 
 -- one of the lines passes the test
 unfoldable pub any : (Line → Bool) → List Line → Bool
@@ -81,38 +82,38 @@ any p [] = false
 any p (x ∷ xs) = p x || any p xs
 
 -- RFC 6350, 5.4: two lines of one property with the same ALTID value are one instance; a line with no ALTID is of no instance but its own
-pub data OneInstance (x y : Line) : Type 0 where
-  alike : {v : List ℕ} → rowOfLine x ≡ rowOfLine y → altidOf x ≡ some v → altidOf y ≡ some v → OneInstance x y
+pub data OneInstance (e : Edition) (x y : Line) : Type 0 where
+  alike : {v : List ℕ} → rowOfLine e x ≡ rowOfLine e y → altidOf x ≡ some v → altidOf y ≡ some v → OneInstance e x y
 
 -- the same as a test
-unfoldable pub sameInstance : Line → Line → Bool
-sameInstance x y = eqb (rowOfLine y) (rowOfLine x) && sameTag (altidOf y) (altidOf x)
+unfoldable pub sameInstance : Edition → Line → Line → Bool
+sameInstance e x y = eqb (rowOfLine e y) (rowOfLine e x) && sameTag (altidOf y) (altidOf x)
 
 -- how many of the lines xs of the row start an instance; ys are the lines before them
-unfoldable pub instances : ℕ → List Line → List Line → ℕ
-instances row ys [] = 0
-instances row ys (x ∷ xs) = counts (ofRow row x && not (any (sameInstance x) ys)) (instances row (ys ++ (x ∷ [])) xs)
+unfoldable pub instances : Edition → ℕ → List Line → List Line → ℕ
+instances e row ys [] = 0
+instances e row ys (x ∷ xs) = counts (ofRow e row x && not (any (sameInstance e x) ys)) (instances e row (ys ++ (x ∷ [])) xs)
 
 -- each property marked *1 at most once: all its lines are one instance
-abbrev pub Once : List Line → Type 0
-Once xs = (row : ℕ) → single row ≡ true → instances row [] xs ≤ 1
+abbrev pub Once : Edition → List Line → Type 0
+Once e xs = (row : ℕ) → single row ≡ true → instances e row [] xs ≤ 1
 
 -- lines after VERSION, before END
-pub record Inner (xs : List Line) : Type 0 where
-  pub each : Each Inside xs
-  pub once : Once xs
+pub record Inner (e : Edition) (xs : List Line) : Type 0 where
+  pub each : Each (Inside e) xs
+  pub once : Once e xs
 
 -- all of them: FN (6) at least once, and MEMBER (24) only beside a KIND line with the value group
-pub record Body (xs : List Line) : Type 0 where
-  pub inner : Inner xs
-  pub named : 1 ≤ linesOf property.fn xs
-  pub members : 1 ≤ linesOf property.member xs → 1 ≤ groupLines xs
+pub record Body (e : Edition) (xs : List Line) : Type 0 where
+  pub inner : Inner e xs
+  pub named : 1 ≤ linesOf e property.fn xs
+  pub members : 1 ≤ linesOf e property.member xs → 1 ≤ groupLines e xs
 
 -- "BEGIN, VERSION, other lines, END"
-pub data CardLines : List Line → Type 0 where
-  card : {b v e : Line} {xs : List Line} → Begins b → Versions v → Body xs → Ends e → CardLines (b ∷ v ∷ (xs ++ (e ∷ [])))
+pub data CardLines (e : Edition) : List Line → Type 0 where
+  card : {b v z : Line} {xs : List Line} → Begins e b → Versions e v → Body e xs → Ends e z → CardLines e (b ∷ v ∷ (xs ++ (z ∷ [])))
 
 -- k cards "with nothing between cards"
-pub data Cards : ℕ → List Line → Type 0 where
-  none : Cards zero []
-  more : {k : ℕ} {xs ys : List Line} → CardLines xs → Cards k ys → Cards (suc k) (xs ++ ys)
+pub data Cards (e : Edition) : ℕ → List Line → Type 0 where
+  none : Cards e zero []
+  more : {k : ℕ} {xs ys : List Line} → CardLines e xs → Cards e k ys → Cards e (suc k) (xs ++ ys)

@@ -4,6 +4,8 @@ use mathlib.Core.Path.{_≡_}
 use mathlib.Core.List.{List, [], _∷_, _++_}
 use lib.ListN.{length}
 use Rattle.numbers.specs.Limits as limit
+use Rattle.property_table.specs.declared.Edition.{Edition}
+use Rattle.property_table.specs.declared.Edition.the-variants.{First}
 use Rattle.line_laws.specs.Lined.{Folded}
 use Rattle.line_parser.specs.Grammar.{Line, Each, render}
 use Rattle.reader_grammar.specs.Cards.{Readable, Cards}
@@ -14,11 +16,15 @@ pub data Written : List Line → List ℕ → Type 0 where
   more : {x : Line} {xs : List Line} {r i : List ℕ} → Folded (render x) r → Written xs i → Written (x ∷ xs) (r ++ (13 ∷ 10 ∷ i))
 
 -- at most 16,384 octets, which are n lines that may be read, and these are k cards, one or more
-pub record InputOf (i : List ℕ) (k n : ℕ) : Type 0 where
+pub record InputIn (e : Edition) (i : List ℕ) (k n : ℕ) : Type 0 where
   pub short : length i ≤ limit.octets
   pub lines : List Line
   pub written : Written lines i
   pub readable : Each Readable lines
-  pub cards : Cards k lines
+  pub cards : Cards e k lines
   pub some : 1 ≤ k
   pub count : n ≡ length lines
+
+-- where no edition is named, it is the first
+abbrev pub InputOf : List ℕ → ℕ → ℕ → Type 0
+InputOf = InputIn First

@@ -4,3 +4,4 @@ pub mod Cards
 pub mod Inputs
 pub mod Refusals
 pub mod Records
+pub mod Editions

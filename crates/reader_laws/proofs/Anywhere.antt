@@ -10,6 +10,7 @@ use lib.ListN.{length}
 use borrow.Author.Tests.{le-ltb}
 use Rattle.octets.specs.Pick.{pick}
 use Rattle.utf8.specs.Characters.{allowed, firstBad}
+use Rattle.property_table.specs.declared.Edition.{Edition}
 use Rattle.property_table.specs.Rows.{isGroup}
 use Rattle.card_state.specs.State.{Card, Next, secondInstance, noted, closed}
 use Rattle.card_line.specs.Parts.{rowOfLine, altidOf}
@@ -34,10 +35,10 @@ module _ (c c′ : Card) (p q : ℕ) where
       by true r = closed-anywhere r
       by false r = noted-anywhere row altid (isGroup v) r
 
-  pub any-place : (l : List ℕ) → judgeLine c p l ≡ Next c′ → judgeLine c q l ≡ Next c′
+  pub any-place : (ed : Edition) (l : List ℕ) → judgeLine ed c p l ≡ Next c′ → judgeLine ed c q l ≡ Next c′
   unfolding judgeLine judgeParts
-  any-place l e =
-      let w = passed c c′ p l e in
+  any-place ed l e =
+      let w = passed ed c c′ p l e in
       let h : length l ≤ firstBad (allowed false) l = omega (arith, w .clean) in
       simp (le-ltb (firstBad (allowed false) l) (length l) h, w .parsed, w .order, w .unladen, w .fits)
-      (entered-anywhere (rowOfLine (w .parts)) (altidOf (w .parts)) (w .parts .value) (w .after))
+      (entered-anywhere (rowOfLine ed (w .parts)) (altidOf (w .parts)) (w .parts .value) (w .after))

@@ -7,13 +7,14 @@ use native.Mathlib.Nat.{zero-add}
 use native.Mathlib.Omega.{arith}
 use lib.ListN.{length, length-append}
 use borrow.Author.Tests.{ne-eqb}
+use Rattle.property_table.specs.declared.Edition.{Edition}
 use Rattle.octets.specs.Scan.{scan, gather}
 use Rattle.utf8.proofs.Chains.{NoEnd, none, more}
 use Rattle.line_folds.specs.Folds.{lineLength, unfolded}
 use Rattle.line_breaks.specs.Lone.{loneStep, firstLone, endsCrLf}
 use Rattle.line_folds.proofs.FoldLaws.{unfold-shorter}
 use Rattle.line_parser.specs.Grammar.{Each}
-use Rattle.reader.specs.Outcome.{judgeOf, ended, copyOf, recordsOf}
+use Rattle.reader.specs.Outcome.{judgeIn, ended, copyOf, recordsIn}
 use Rattle.line_folds.specs.Logical.{logicalLines}
 use Rattle.reader.specs.declared.Verdict.the-variants.{Accepted}
 use Rattle.reader.proofs.AcceptLaws.{accepting}
@@ -63,26 +64,26 @@ lines-some i h e =
     omega arith
 
 -- Read again, the copy of an accepted input has the same lines, and so the same verdict, copy and records.
-module _ (i : List ℕ) (k n : ℕ) (e : judgeOf i ≡ Accepted k n) where
+module _ (ed : Edition) (i : List ℕ) (k n : ℕ) (e : judgeIn ed i ≡ Accepted k n) where
   pub lines-same : logicalLines (copyOf i) ≡ logicalLines i
   unfolding logicalLines
-  lines-same = ap (map unfolded) (copy-lines i k n e) ∙ kept-again (logicalLines i) (lines-clean i k n e)
+  lines-same = ap (map unfolded) (copy-lines ed i k n e) ∙ kept-again (logicalLines i) (lines-clean ed i k n e)
 
   pub copy-shorter : length (copyOf i) ≤ length i
   copy-shorter =
-      let a = accepting i k n e in
+      let a = accepting ed i k n e in
       rw (copy-unfolds i (a .unlone) (a .ends)) (unfold-shorter i)
 
-  pub judged-again : judgeOf (copyOf i) ≡ judgeOf i
+  pub judged-again : judgeIn ed (copyOf i) ≡ judgeIn ed i
   unfolding copyOf firstLone
   judged-again =
-      let a = accepting i k n e in
-      let c = lines-clean i k n e in
-      same-lines i (copyOf i) k n e lines-same (omega (arith, copy-shorter, a .short)) (unlone (logicalLines i) c)
+      let a = accepting ed i k n e in
+      let c = lines-clean ed i k n e in
+      same-lines ed i (copyOf i) k n e lines-same (omega (arith, copy-shorter, a .short)) (unlone (logicalLines i) c)
       (ends-lines (logicalLines i) (lines-some i (a .some)))
 
   pub copied-again : copyOf (copyOf i) ≡ copyOf i
   copied-again = same-copy i (copyOf i) lines-same
 
-  pub recorded-again : recordsOf (copyOf i) ≡ recordsOf i
-  recorded-again = same-records i (copyOf i) lines-same
+  pub recorded-again : recordsIn ed (copyOf i) ≡ recordsIn ed i
+  recorded-again = same-records ed i (copyOf i) lines-same

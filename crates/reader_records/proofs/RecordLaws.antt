@@ -11,33 +11,35 @@ use Rattle.card_line.specs.Parts.{linePartsOf}
 use Rattle.card_line.specs.declared.LineParts.{LineParts}
 use Rattle.card_line.specs.declared.LineParts.the-variants.{Line, Fault}
 use Rattle.reader_records.specs.Records.{recordBy, recordOf, recordsFrom}
+use Rattle.property_table.specs.declared.Edition.{Edition}
 
-by-length : (w n : ℕ) (x : LineParts) → length (recordBy w n x) ≡ 8
-unfolding recordBy
-by-length w n (Line x) = refl
-by-length w n (Fault k) = refl
+module _ (ed : Edition) where
+  by-length : (w n : ℕ) (x : LineParts) → length (recordBy w n x) ≡ 8
+  unfolding recordBy
+  by-length w n (Line x) = refl
+  by-length w n (Fault k) = refl
 
--- a record has eight numbers
-pub record-length : (w : ℕ) (l : List ℕ) → length (recordOf w l) ≡ 8
-unfolding recordOf
-record-length w l = by-length w (length l) (linePartsOf l)
+  -- a record has eight numbers
+  pub record-length : (w : ℕ) (l : List ℕ) → length (recordOf ed w l) ≡ 8
+  unfolding recordOf
+  record-length w l = by-length w (length l) (linePartsOf ed l)
 
-pub records-length : (w : ℕ) (ls : List (List ℕ)) → length (recordsFrom w ls) ≡ length ls * 8
-unfolding recordsFrom
-records-length w [] = refl
-records-length w (l ∷ ls) =
-    omega (
-      arith,
-      length-append (recordOf w l) (recordsFrom (w + length l + 2) ls),
-      record-length w l,
-      records-length (w + length l + 2) ls,
-    )
+  pub records-length : (w : ℕ) (ls : List (List ℕ)) → length (recordsFrom ed w ls) ≡ length ls * 8
+  unfolding recordsFrom
+  records-length w [] = refl
+  records-length w (l ∷ ls) =
+      omega (
+        arith,
+        length-append (recordOf ed w l) (recordsFrom ed (w + length l + 2) ls),
+        record-length w l,
+        records-length (w + length l + 2) ls,
+      )
 
--- one turn: the line from `at` to e is the first of those that are left
-pub records-turn : (s : List ℕ) (at e : ℕ) → at < length s → e ≡ at + lineLength (drop at s) → e ≤ length s
-    → recordsFrom at (rawLines (drop at s)) ≡ recordOf at (take (e - at) (drop at s)) ++ recordsFrom (e + 2) (rawLines (drop (e + 2) s))
-unfolding recordsFrom
-records-turn s at e lt he le =
-    let l : List ℕ = take (e - at) (drop at s) in
-    let q : at + length l + 2 ≡ e + 2 = rw (part-length s at e lt he le) (omega arith) in
-    ap (recordsFrom at) (lines-turn s at e lt he le) ∙ ap (λ (n : ℕ). recordOf at l ++ recordsFrom n (rawLines (drop (e + 2) s))) q
+  -- one turn: the line from `at` to e is the first of those that are left
+  pub records-turn : (s : List ℕ) (at e : ℕ) → at < length s → e ≡ at + lineLength (drop at s) → e ≤ length s
+      → recordsFrom ed at (rawLines (drop at s)) ≡ recordOf ed at (take (e - at) (drop at s)) ++ (recordsFrom ed) (e + 2) (rawLines (drop (e + 2) s))
+  unfolding recordsFrom
+  records-turn s at e lt he le =
+      let l : List ℕ = take (e - at) (drop at s) in
+      let q : at + length l + 2 ≡ e + 2 = rw (part-length s at e lt he le) (omega arith) in
+      ap (recordsFrom ed at) (lines-turn s at e lt he le) ∙ ap (λ (n : ℕ). recordOf ed at l ++ (recordsFrom ed) n (rawLines (drop (e + 2) s))) q

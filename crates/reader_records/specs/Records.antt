@@ -3,6 +3,7 @@ use Prim.Native.Nat.{ℕ, _+_, _-_}
 use mathlib.Core.List.{List, [], _∷_, _++_}
 use lib.ListN.{length}
 use Rattle.line_parser.specs.Places.{nameStart}
+use Rattle.property_table.specs.declared.Edition.{Edition}
 use Rattle.card_line.specs.Parts.{linePartsOf}
 use Rattle.card_line.specs.declared.LineParts.{LineParts}
 use Rattle.card_line.specs.declared.LineParts.the-variants.{Line, Fault}
@@ -19,10 +20,10 @@ recordBy w n (Fault k) = 0 ∷ 0 ∷ 0 ∷ 0 ∷ 0 ∷ 0 ∷ 0 ∷ 0 ∷ []
 abbrev pub numbers : Record → List ℕ
 numbers r = r .property ∷ r .start ∷ r .length ∷ r .«group_length» ∷ r .«name_length» ∷ r .«param_count» ∷ r .«value_start» ∷ r .kind ∷ []
 
-unfoldable pub recordOf : ℕ → List ℕ → List ℕ
-recordOf w l = recordBy w (length l) (linePartsOf l)
+unfoldable pub recordOf : Edition → ℕ → List ℕ → List ℕ
+recordOf e w l = recordBy w (length l) (linePartsOf e l)
 
 -- those of lines that stand one after the other from w on, each ended by CR LF
-unfoldable pub recordsFrom : ℕ → List (List ℕ) → List ℕ
-recordsFrom w [] = []
-recordsFrom w (l ∷ ls) = recordOf w l ++ recordsFrom (w + length l + 2) ls
+unfoldable pub recordsFrom : Edition → ℕ → List (List ℕ) → List ℕ
+recordsFrom e w [] = []
+recordsFrom e w (l ∷ ls) = recordOf e w l ++ recordsFrom e (w + length l + 2) ls

@@ -13,6 +13,7 @@ ghost use Rattle.reader_records.specs.Records.{numbers, recordOf, record
 use card_line::LineParts;
 use numbers::limit;
 use octets::classes::ClassTable;
+use property_table::Edition;
 use property_table::rows::PropertyTable;
 
 // One record: eight numbers.
@@ -28,13 +29,19 @@ pub struct Record {
 }
 
 // The record of the logical line l, which starts at w in the copy.
-fn record_of(t: &ClassTable, rows: &PropertyTable, l: &[u8], w: usize) -> Record
+fn record_of(
+    t: &ClassTable,
+    rows: &PropertyTable,
+    edition: Edition,
+    l: &[u8],
+    w: usize,
+) -> Record
     requires { ⌜ Classes (now t) ⌝ }
     requires { ⌜ Lists (now rows) ⌝ }
     requires { ⌜ w + length (now l) ≤ limit.octets ⌝ }
-    ensures { λ r. ⌜ numbers r ≡ recordOf w (now (l .entry)) ⌝ }
+    ensures { λ r. ⌜ numbers r ≡ recordOf edition w (now (l .entry)) ⌝ }
 {
-    let parsed = card_line::parts_of(t, rows, l);
+    let parsed = card_line::parts_of(t, rows, edition, l);
     let LineParts::Line(x) = parsed else {
         return Record {
             property: 0,
@@ -83,19 +90,25 @@ fn put_record(out: &mut [u32], at: usize, r: Record)
 }
 
 // Writes the records of the lines of s, which has no folds, to the start of out.
-fn write_records(t: &ClassTable, rows: &PropertyTable, s: &[u8], out: &mut [u32])
+fn write_records(
+    t: &ClassTable,
+    rows: &PropertyTable,
+    edition: Edition,
+    s: &[u8],
+    out: &mut [u32],
+)
     requires { ⌜ Classes (now t) ⌝ }
     requires { ⌜ Lists (now rows) ⌝ }
     requires { ⌜ length (now s) ≤ limit.octets ⌝ }
-    requires { ⌜ length (recordsFrom 0 (rawLines (now s))) ≤ length (now out) ⌝ }
-    ensures { λ _. ⌜ now (out .exit) ≡ overlay (recordsFrom 0 (rawLines (now (s .entry)))) (now (out .entry)) ⌝ }
+    requires { ⌜ length (recordsFrom edition 0 (rawLines (now s))) ≤ length (now out) ⌝ }
+    ensures { λ _. ⌜ now (out .exit) ≡ overlay (recordsFrom edition 0 (rawLines (now (s .entry)))) (now (out .entry)) ⌝ }
 {
     let mut at: usize = 0;
     let mut k: usize = 0;
     while at < s.len() {
         let span = line_folds::spans::line_at(s, at);
         let end = span.end;
-        let r = record_of(t, rows, &s[at..end], at);
+        let r = record_of(t, rows, edition, &s[at..end], at);
         put_record(out, k, r);
         k += limit::RECORD_LENGTH;
         at = end + 2;
@@ -103,14 +116,21 @@ fn write_records(t: &ClassTable, rows: &PropertyTable, s: &[u8], out: &mut [u32]
 }
 
 // Writes s without its folds to the start of copy, and the records of the lines there to the start of out.
-pub fn write_lines(t: &ClassTable, rows: &PropertyTable, s: &[u8], copy: &mut [u8], out: &mut [u32])
+pub fn write_lines(
+    t: &ClassTable,
+    rows: &PropertyTable,
+    edition: Edition,
+    s: &[u8],
+    copy: &mut [u8],
+    out: &mut [u32],
+)
     requires { ⌜ Classes (now t) ⌝ }
     requires { ⌜ Lists (now rows) ⌝ }
     requires { ⌜ length (now s) ≤ limit.octets ⌝ }
-    requires { ⌜ (length (unfolded (now s)) ≤ length (now copy)) × (length (recordsFrom 0 (rawLines (unfolded (now s)))) ≤ length (now out)) ⌝ }
+    requires { ⌜ (length (unfolded (now s)) ≤ length (now copy)) × (length (recordsFrom edition 0 (rawLines (unfolded (now s)))) ≤ length (now out)) ⌝ }
     ensures { λ _. ⌜ now (copy .exit) ≡ overlay (unfolded (now (s .entry))) (now (copy .entry)) ⌝ }
-    ensures { λ _. ⌜ now (out .exit) ≡ overlay (recordsFrom 0 (rawLines (unfolded (now (s .entry))))) (now (out .entry)) ⌝ }
+    ensures { λ _. ⌜ now (out .exit) ≡ overlay (recordsFrom edition 0 (rawLines (unfolded (now (s .entry))))) (now (out .entry)) ⌝ }
 {
     let n = line_unfolding::unfold(s, copy);
-    write_records(t, rows, &copy[..n], out);
+    write_records(t, rows, edition, &copy[..n], out);
 }

@@ -16,6 +16,7 @@ use Rattle.card_state.specs.State.{Card}
 use Rattle.card_state.specs.Kept.{Lies, cardOf, stepOf, Holds}
 use Rattle.card_state.specs.declared.Card.{Card as Kept}
 use Rattle.card_state.proofs.KeptLaws.{card-front, step-front}
+use Rattle.property_table.specs.declared.Edition.{Edition}
 use Rattle.card_judge.specs.Judge.{part, readBy, judgeLine, Keeping}
 use Rattle.card_judge.specs.declared.judge.Judgement.{Judgement}
 use Rattle.card_judge.proofs.SettleLaws.{part-size}
@@ -56,8 +57,8 @@ behind-after a q p h =
     ap (λ (k : ℕ). drop k (take a p ++ overlay q (drop a p))) (sym n) ∙ drop-append-seam (take a p) (overlay q (drop a p))
 
 -- a line l was judged with the front of p as store, and what is to be kept of it was laid behind the front
-module _ (c : Kept) (p q l : List ℕ) (j : Judgement) (at : ℕ) (lies : Lies c) (room : c .used ≤ length p) (keeps : Keeping c l j)
-    (judged : readBy j (take (c .used) p) l ≡ judgeLine (cardOf c (take (c .used) p)) at l) (laid : q ≡ behind (c .used) (part (j .from) (j .to) l) p) where
+module _ (ed : Edition) (c : Kept) (p q l : List ℕ) (j : Judgement) (at : ℕ) (lies : Lies c) (room : c .used ≤ length p) (keeps : Keeping c l j)
+    (judged : readBy j (take (c .used) p) l ≡ judgeLine ed (cardOf c (take (c .used) p)) at l) (laid : q ≡ behind (c .used) (part (j .from) (j .to) l) p) where
   size : length (part (j .from) (j .to) l) ≡ j .to - j .from
   size = part-size (j .from) (j .to) l (keeps .order) (keeps .inside)
 
@@ -71,12 +72,12 @@ module _ (c : Kept) (p q l : List ℕ) (j : Judgement) (at : ℕ) (lies : Lies c
       ∙ behind-front (c .used) (part (j .from) (j .to) l) p room
       ∙ sym (take-all (c .used + (j .to - j .from)) (take (c .used) p ++ part (j .from) (j .to) l) (omega (arith, n)))
 
-  pub span-judged : stepOf q (j .step) ≡ judgeLine (cardOf c p) at l
+  pub span-judged : stepOf q (j .step) ≡ judgeLine ed (cardOf c p) at l
   unfolding readBy
   span-judged =
       step-front (j .step) (c .used + (j .to - j .from)) q (take (c .used) p ++ part (j .from) (j .to) l) (keeps .holds) front
       ∙ judged
-      ∙ ap (λ (k : _). judgeLine k at l) (card-front c (take (c .used) p) p lies (take-all (c .used) (take (c .used) p) (omega (arith, length-take-le (c .used) p room))))
+      ∙ ap (λ (k : _). judgeLine ed k at l) (card-front c (take (c .used) p) p lies (take-all (c .used) (take (c .used) p) (omega (arith, length-take-le (c .used) p room))))
 
 -- the line that was unfolded behind the front of p
 module _ (c : Kept) (p l : List ℕ) (n : ℕ) (lies : Lies c) (room : c .used + length l ≤ length p) (size : n ≡ length l) where
@@ -138,16 +139,16 @@ module _ (c : Kept) (p s l : List ℕ) (lies : Lies c) (room : c .used + length 
   hand-part true e from to g h = ap (take (to - from)) (drop-drop from (c .used) (behind (c .used) l p)) ∙ moved c p l (length l) lies room refl from to g h
   hand-part false e from to g h = ap (part from to) (sym (e refl))
 
-  pub hand-judged : (folded : Bool) → (folded ≡ false → l ≡ s) → (j : Judgement) (at : ℕ) (q : List ℕ) → Keeping c l j
-      → readBy j (take (c .used) (behind (c .used) (hand folded) p)) l ≡ judgeLine (cardOf c (take (c .used) (behind (c .used) (hand folded) p))) at l
+  pub hand-judged : (ed : Edition) (folded : Bool) → (folded ≡ false → l ≡ s) → (j : Judgement) (at : ℕ) (q : List ℕ) → Keeping c l j
+      → readBy j (take (c .used) (behind (c .used) (hand folded) p)) l ≡ judgeLine ed (cardOf c (take (c .used) (behind (c .used) (hand folded) p))) at l
       → q ≡ behind (c .used) (part (j .from) (j .to) (pick folded (drop (c .used) (behind (c .used) (hand folded) p)) s)) (behind (c .used) (hand folded) p)
-      → stepOf q (j .step) ≡ judgeLine (cardOf c p) at l
-  hand-judged folded e j at q keeps judged there =
+      → stepOf q (j .step) ≡ judgeLine ed (cardOf c p) at l
+  hand-judged ed folded e j at q keeps judged there =
       let y = hand folded in
       let laid = behind (c .used) y p in
-      span-judged c laid q l j at lies (omega (arith, hand-room folded, laid-length c p y (length y) lies (hand-room folded) refl)) keeps judged
+      span-judged ed c laid q l j at lies (omega (arith, hand-room folded, laid-length c p y (length y) lies (hand-room folded) refl)) keeps judged
       (there ∙ ap (λ (x : List ℕ). behind (c .used) x laid) (hand-part folded e (j .from) (j .to) (keeps .order) (keeps .inside)))
-      ∙ ap (λ (x : Card). judgeLine x at l) (card-front c laid p lies (behind-before (c .used) y p (omega (arith, hand-room folded))))
+      ∙ ap (λ (x : Card). judgeLine ed x at l) (card-front c laid p lies (behind-before (c .used) y p (omega (arith, hand-room folded))))
 
 -- octets moved down one after the other
 module _ (b₀ : List ℕ) (to from n : ℕ) (down : to ≤ from) (room : from + n ≤ length b₀) where

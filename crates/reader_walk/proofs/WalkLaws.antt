@@ -9,6 +9,7 @@ use types.Run.{OneOf, miss}
 use Rattle.line_folds.specs.Folds.{lineLength, unfolded}
 use Rattle.line_folds.specs.Logical.{rawLines}
 use Rattle.line_folds.proofs.SpanLaws.{lines-turn, part-length}
+use Rattle.property_table.specs.declared.Edition.{Edition}
 use Rattle.card_judge.specs.Judge.{judgeLine}
 use Rattle.card_judge.proofs.CardLaws.{one-more}
 use Rattle.card_state.specs.State.{Card, Step, Next, Refused, Flawed}
@@ -19,15 +20,15 @@ use Rattle.card_state.proofs.Step.{the-type}
 use Rattle.reader_walk.specs.Walk.{onward, settled, judgeLines}
 
 -- the line from `at` to e is the first of those that are left; it was judged r
-module _ (s : List ℕ) (at e : ℕ) (lt : at < length s) (he : e ≡ at + lineLength (drop at s)) (le : e ≤ length s) where
-  pub judged : (c : Card) (r : Step) → r ≡ judgeLine c at (unfolded (take (e - at) (drop at s)))
-      → judgeLines (rawLines (drop at s)) at c ≡ onward (settled at (take (e - at) (drop at s)) r) (judgeLines (rawLines (drop (e + 2) s)) (e + 2))
+module _ (ed : Edition) (s : List ℕ) (at e : ℕ) (lt : at < length s) (he : e ≡ at + lineLength (drop at s)) (le : e ≤ length s) where
+  pub judged : (c : Card) (r : Step) → r ≡ judgeLine ed c at (unfolded (take (e - at) (drop at s)))
+      → judgeLines ed (rawLines (drop at s)) at c ≡ onward (settled at (take (e - at) (drop at s)) r) (judgeLines ed (rawLines (drop (e + 2) s)) (e + 2))
   unfolding judgeLines
   judged c r hr =
       let m : at + length (take (e - at) (drop at s)) + 2 ≡ e + 2 = rw (part-length s at e lt he le) (omega arith) in
-      ap (λ (ls : List (List ℕ)). judgeLines ls at c) (lines-turn s at e lt he le)
-      ∙ ap (λ (q : ℕ). onward (settled at (take (e - at) (drop at s)) (judgeLine c at (unfolded (take (e - at) (drop at s))))) (judgeLines (rawLines (drop (e + 2) s)) q)) m
-      ∙ ap (λ (q : Step). onward (settled at (take (e - at) (drop at s)) q) (judgeLines (rawLines (drop (e + 2) s)) (e + 2))) (sym hr)
+      ap (λ (ls : List (List ℕ)). judgeLines ed ls at c) (lines-turn s at e lt he le)
+      ∙ ap (λ (q : ℕ). onward (settled at (take (e - at) (drop at s)) (judgeLine ed c at (unfolded (take (e - at) (drop at s))))) (judgeLines ed (rawLines (drop (e + 2) s)) q)) m
+      ∙ ap (λ (q : Step). onward (settled at (take (e - at) (drop at s)) q) (judgeLines ed (rawLines (drop (e + 2) s)) (e + 2))) (sym hr)
 
 -- a refusal is handed up with its place, and the lines after it are not judged
 pub stopped-step : (store : List ℕ) (p : ℕ) (l : List ℕ) (f : Card → Step) (r : KeptStep) → OneOf (1 ∷ 2 ∷ []) (tagOf the-type r)
@@ -58,11 +59,11 @@ onward-next p l (Refused n q) f c′ e k = let z : _≡_ {A = ℕ} 0 1 = cc in a
 onward-next p l (Flawed n o) f c′ e k = let z : _≡_ {A = ℕ} 0 1 = cc in absurd (omega arith)
 
 -- each judged line is counted
-pub counted : (ls : List (List ℕ)) (p : ℕ) (c c′ : Card) → judgeLines ls p c ≡ Next c′ → c′ .lines ≡ c .lines + length ls
+pub counted : (ed : Edition) (ls : List (List ℕ)) (p : ℕ) (c c′ : Card) → judgeLines ed ls p c ≡ Next c′ → c′ .lines ≡ c .lines + length ls
 unfolding judgeLines
-counted [] p c c′ e =
+counted ed [] p c c′ e =
     let q : c ≡ c′ = cc in
     omega (arith, ap (λ (x : Card). x .lines) q)
-counted (l ∷ ls) p c c′ e =
-    onward-next p l (judgeLine c p (unfolded l)) (judgeLines ls (p + length l + 2)) c′ e
-    (λ d q r. omega (arith, one-more c d p (unfolded l) q, counted ls (p + length l + 2) d c′ r))
+counted ed (l ∷ ls) p c c′ e =
+    onward-next p l (judgeLine ed c p (unfolded l)) (judgeLines ed ls (p + length l + 2)) c′ e
+    (λ d q r. omega (arith, one-more ed c d p (unfolded l) q, counted ed ls (p + length l + 2) d c′ r))

@@ -6,6 +6,7 @@ use Rattle.numbers.specs.Limits as limit
 use Rattle.octets.specs.Room.{overlay}
 use Rattle.line_folds.specs.Folds.{unfolded}
 use Rattle.line_folds.specs.Places.{placeOf}
+use Rattle.property_table.specs.declared.Edition.{Edition}
 use Rattle.card_judge.specs.Judge.{judgeLine}
 use Rattle.card_state.specs.Kept.{Lies}
 use Rattle.card_state.specs.declared.Card.{Card as Kept}
@@ -24,9 +25,9 @@ settled p l (Halted n q) = Halted n q
 settled p l (Flawed n o) = Halted n (p + placeOf l o)
 
 -- the lines judged one after the other; they are as they came, and p is the place of the first of them in the input as given
-unfoldable pub judgeLines : List (List ℕ) → ℕ → Card → Step
-judgeLines [] p c = Next c
-judgeLines (l ∷ ls) p c = onward (settled p l (judgeLine c p (unfolded l))) (judgeLines ls (p + length l + 2))
+unfoldable pub judgeLines : Edition → List (List ℕ) → ℕ → Card → Step
+judgeLines e [] p c = Next c
+judgeLines e (l ∷ ls) p c = onward (settled p l (judgeLine e c p (unfolded l))) (judgeLines e ls (p + length l + 2))
 
 -- a list d with xs in the place of as many octets from a place on
 unfoldable pub behind : ℕ → List ℕ → List ℕ → List ℕ

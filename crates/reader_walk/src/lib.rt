@@ -20,6 +20,7 @@ use card_state::Card;
 use card_state::Step;
 use numbers::limit;
 use octets::classes::ClassTable;
+use property_table::Edition;
 use property_table::rows::PropertyTable;
 use value_automaton::states::Transitions;
 
@@ -41,6 +42,7 @@ fn judge_at_hand(
     t: &ClassTable,
     rows: &PropertyTable,
     steps: &Transitions,
+    edition: Edition,
     s: &[u8],
     folded: bool,
     buffer: &[u8],
@@ -50,15 +52,15 @@ fn judge_at_hand(
     requires { ⌜ Tables (now t) (now rows) (now steps) ⌝ }
     requires { ⌜ Counted (c .cards) (c .lines) ⌝ }
     requires { ⌜ Roomy c [] (now buffer) × (c .used + length (now s) ≤ limit.octets) ⌝ }
-    ensures { λ r. ⌜ readBy r (take (c .used) (now (buffer .entry))) (pick folded (drop (c .used) (now (buffer .entry))) (now (s .entry))) ≡ judgeLine (cardOf c (take (c .used) (now (buffer .entry)))) at (pick folded (drop (c .used) (now (buffer .entry))) (now (s .entry))) ⌝ }
+    ensures { λ r. ⌜ readBy r (take (c .used) (now (buffer .entry))) (pick folded (drop (c .used) (now (buffer .entry))) (now (s .entry))) ≡ judgeLine edition (cardOf c (take (c .used) (now (buffer .entry)))) at (pick folded (drop (c .used) (now (buffer .entry))) (now (s .entry))) ⌝ }
     ensures { λ r. ⌜ Keeping c (pick folded (drop (c .used) (now (buffer .entry))) (now (s .entry))) r ⌝ }
 {
     let used = c.used;
     let store = &buffer[..used];
     if folded {
-        return card_judge::judge::judge_line(t, rows, steps, &buffer[used..], store, at, c);
+        return card_judge::judge::judge_line(t, rows, steps, edition, &buffer[used..], store, at, c);
     }
-    card_judge::judge::judge_line(t, rows, steps, s, store, at, c)
+    card_judge::judge::judge_line(t, rows, steps, edition, s, store, at, c)
 }
 
 // Copies the octets from `from` up to `to` of the line at hand behind the first `used` octets.
@@ -79,6 +81,7 @@ fn judge_span(
     t: &ClassTable,
     rows: &PropertyTable,
     steps: &Transitions,
+    edition: Edition,
     s: &[u8],
     folded: bool,
     scratch: &mut [u8],
@@ -89,13 +92,13 @@ fn judge_span(
     requires { ⌜ Counted (c .cards) (c .lines) ⌝ }
     requires { ⌜ Roomy c (now s) (now scratch) ⌝ }
     requires { ⌜ (folded ≡ false → unfolded (now s) ≡ now s) ⌝ }
-    ensures { λ r. ⌜ stepOf (now (scratch .exit)) r ≡ judgeLine (cardOf c (now (scratch .entry))) at (unfolded (now (s .entry))) ⌝ }
+    ensures { λ r. ⌜ stepOf (now (scratch .exit)) r ≡ judgeLine edition (cardOf c (now (scratch .entry))) at (unfolded (now (s .entry))) ⌝ }
     ensures { λ r. ⌜ Holds (c .used + length (now (s .entry))) r ⌝ }
 {
     let used = c.used;
     let n = lay_behind(s, folded, scratch, used);
     let end = used + n;
-    let j = judge_at_hand(t, rows, steps, s, folded, &scratch[..end], at, c);
+    let j = judge_at_hand(t, rows, steps, edition, s, folded, &scratch[..end], at, c);
     let from = j.from;
     let to = j.to;
     keep_part(s, folded, scratch, used, from, to);
@@ -122,13 +125,14 @@ fn walk_in(
     t: &ClassTable,
     rows: &PropertyTable,
     steps: &Transitions,
+    edition: Edition,
     s: &[u8],
     scratch: &mut [u8],
 ) -> Step
     requires { ⌜ Tables (now t) (now rows) (now steps) ⌝ }
     requires { ⌜ length (now s) ≤ limit.octets ⌝ }
     requires { ⌜ (length (now s) ≤ length (now scratch)) × (length (now scratch) ≤ limit.octets) ⌝ }
-    ensures { λ r. ⌜ ((store : List ℕ) × (stepOf store r ≡ judgeLines (rawLines (now (s .entry))) 0 freshCard)) ⌝ }
+    ensures { λ r. ⌜ ((store : List ℕ) × (stepOf store r ≡ judgeLines edition (rawLines (now (s .entry))) 0 freshCard)) ⌝ }
 {
     let mut c = card_state::fresh();
     let mut at: usize = 0;
@@ -136,7 +140,7 @@ fn walk_in(
         let span = line_folds::spans::line_at(s, at);
         let end = span.end;
         let folded = span.cr != end;
-        let j = judge_span(t, rows, steps, &s[at..end], folded, scratch, at, c);
+        let j = judge_span(t, rows, steps, edition, &s[at..end], folded, scratch, at, c);
         let Step::Next(next) = j else {
             return settle(j, &s[at..end], at);
         };
@@ -147,15 +151,21 @@ fn walk_in(
 }
 
 // Judges the lines one after the other, up to the first refusal.
-pub fn walk(t: &ClassTable, rows: &PropertyTable, steps: &Transitions, s: &[u8]) -> Step
+pub fn walk(
+    t: &ClassTable,
+    rows: &PropertyTable,
+    steps: &Transitions,
+    edition: Edition,
+    s: &[u8],
+) -> Step
     requires { ⌜ Tables (now t) (now rows) (now steps) ⌝ }
     requires { ⌜ length (now s) ≤ limit.octets ⌝ }
-    ensures { λ r. ⌜ ((store : List ℕ) × (stepOf store r ≡ judgeLines (rawLines (now (s .entry))) 0 freshCard)) ⌝ }
+    ensures { λ r. ⌜ ((store : List ℕ) × (stepOf store r ≡ judgeLines edition (rawLines (now (s .entry))) 0 freshCard)) ⌝ }
 {
     if s.len() <= SHORT {
         let mut scratch = [0u8; SHORT];
-        return walk_in(t, rows, steps, s, &mut scratch);
+        return walk_in(t, rows, steps, edition, s, &mut scratch);
     }
     let mut scratch = [0u8; limit::OCTETS];
-    walk_in(t, rows, steps, s, &mut scratch)
+    walk_in(t, rows, steps, edition, s, &mut scratch)
 }

@@ -27,6 +27,7 @@ use Rattle.report_laws.specs.Totals.{total, after, taken}
 use Rattle.report_laws.proofs.Parts.{by-verdict, counts-past}
 use Rattle.report_laws.proofs.Sums.{logical-length}
 use Rattle.report_laws.proofs.Totals.{full}
+use Rattle.property_table.specs.declared.Edition.the-variants.{First}
 
 one-low : (t : Bool) → one t ≤ 1
 one-low true = omega arith
@@ -45,10 +46,10 @@ counted-low m ls = by (ltb m 39) refl
     by false e = omega (arith, counts-past ls m (ltb-false m 39 e))
 
 -- a card has a line
-card-some : {xs : List Line} → CardLines xs → 1 ≤ length xs
+card-some : {xs : List Line} → CardLines First xs → 1 ≤ length xs
 card-some (card b v x e) = omega arith
 
-cards-few : {k : ℕ} {xs : List Line} → Cards k xs → k ≤ length xs
+cards-few : {k : ℕ} {xs : List Line} → Cards First k xs → k ≤ length xs
 cards-few none = omega arith
 cards-few (more {k = k} {xs = xs} {ys = ys} a b) = omega (arith, card-some a, cards-few b, length-append xs ys)
 
@@ -74,8 +75,8 @@ refused-low n (linesOf m) = omega arith
 part-low : (c : Count) (i : List ℕ) (v : Verdict) → judgeOf i ≡ v → part c i ≤ 16384
 part-low c i (Refused n p) e = rw (by-verdict c i (Refused n p) e) (refused-low n c)
 part-low c i (Accepted k n) e =
-    let h = accepted-law i k n .0 e in
-    let m = lines-counted i k n e in
+    let h = accepted-law First i k n .0 e in
+    let m = lines-counted First i k n e in
     rw (by-verdict c i (Accepted k n) e)
     (accepted-low k n (length i) (logicalLines i) c (omega (arith, cards-few (h .cards), h .count, m, lines-few i, h .short)) (omega (arith, m, lines-few i, h .short)) (h .short)
     (omega (arith, logical-length i, lines-few i, h .short)))

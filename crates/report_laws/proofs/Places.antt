@@ -23,6 +23,7 @@ use Rattle.report_weights.specs.Parts.{part}
 use Rattle.report_weights.proofs.PlaceLaws.{at-refusal, at-property}
 use Rattle.report_laws.specs.Totals.{position, placeOf}
 use Rattle.report_laws.proofs.Parts.{by-verdict, counts-past}
+use Rattle.property_table.specs.declared.Edition.the-variants.{First}
 
 -- ---- the place of the count at a place is that place
 
@@ -116,7 +117,7 @@ property-past m h = by (ltb m 39) refl h
 refusal-none : (m : ℕ) (i : List ℕ) (v : Verdict) → judgeOf i ≡ v → 15 ≤ position m judging → part (refusedWith m) i ≡ 0
 refusal-none m i (Accepted k n) e h = by-verdict (refusedWith m) i (Accepted k n) e
 refusal-none m i (Refused n p) e h =
-    let low = judged (refusal-number (refused-law i n p .0 e)) in
+    let low = judged (refusal-number (refused-law First i n p .0 e)) in
     by-verdict (refusedWith m) i (Refused n p) e
     ∙ ap one (ne-eqb n m (λ q. let same = ap (λ (k : ℕ). position k judging) q in omega arith))
 

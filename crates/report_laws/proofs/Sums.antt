@@ -13,7 +13,7 @@ use Rattle.line_folds.specs.Folds.{unfolded}
 use Rattle.line_folds.specs.Logical.{rawLines, logicalLines}
 use Rattle.line_parser.specs.Parse.{Parse, got, bad}
 use Rattle.line_parser.specs.Rule.{Head, head}
-use Rattle.card_line.proofs.PartLaws.{row-low}
+use Rattle.property_table.proofs.RowLaws.{row-low}
 use Rattle.reader.specs.Outcome.{judgeOf}
 use Rattle.reader.specs.declared.Verdict.{Verdict}
 use Rattle.reader.specs.declared.Verdict.the-variants.{Accepted, Refused}
@@ -27,6 +27,7 @@ use Rattle.report_weights.specs.Counts.{uploads, accepted, lines, refusedWith, 
 use Rattle.report_weights.specs.Parts.{part}
 use Rattle.report_laws.specs.Totals.{total, sumOver}
 use Rattle.report_laws.proofs.Parts.{by-verdict}
+use Rattle.property_table.specs.declared.Edition.the-variants.{First}
 
 -- ---- sums
 
@@ -76,7 +77,7 @@ unfolding rowOfName
 row-below l = by (head l)
   where
     by : (m : Parse Head) → rowBy m < 39
-    by (got h k) = row-low (h .name)
+    by (got h k) = row-low First (h .name)
     by (bad e) = omega arith
 
 lines-sum : (ls : List (List ℕ)) → sumOver (λ m. linesWith m ls) (numbersFrom 0 39) ≡ length ls
@@ -100,7 +101,7 @@ one-lines i (Refused n p) e =
     ∙ sym (sum-same (λ m. part (linesOf m) i) (λ m. 0) (λ m. by-verdict (linesOf m) i (Refused n p) e) (numbersFrom 0 39) ∙ sum-none (numbersFrom 0 39))
 one-lines i (Accepted k n) e =
     let ls = logicalLines i in
-    by-verdict lines i (Accepted k n) e ∙ lines-counted i k n e ∙ sym (logical-length i) ∙ sym (lines-sum ls)
+    by-verdict lines i (Accepted k n) e ∙ lines-counted First i k n e ∙ sym (logical-length i) ∙ sym (lines-sum ls)
     ∙ sum-below (λ m. linesWith m ls) (λ m. part (linesOf m) i) 0 39
     (λ m h. sym (by-verdict (linesOf m) i (Accepted k n) e ∙ counts-at ls m (omega arith)))
 
@@ -143,7 +144,7 @@ one-upload i (Refused n p) e =
       by-verdict uploads i (Refused n p) e,
       by-verdict accepted i (Refused n p) e,
       sum-same (λ m. part (refusedWith m) i) (λ m. one (eqb n m)) (λ m. by-verdict (refusedWith m) i (Refused n p) e) judging,
-      one-number n (refusal-number (refused-law i n p .0 e)),
+      one-number n (refusal-number (refused-law First i n p .0 e)),
     )
 one-upload i (Accepted k n) e =
     omega (

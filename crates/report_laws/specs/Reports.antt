@@ -19,6 +19,7 @@ use Rattle.report.specs.Text.{reportText}
 use Rattle.report.specs.declared.Report.{Report}
 use Rattle.report.specs.declared.Answer.the-variants.{Refused}
 use Rattle.report_laws.specs.Totals.{total, after, taken, placeOf, countIn, sumOver}
+use Rattle.property_table.specs.declared.Edition.the-variants.{First}
 
 -- what the judgement of an accepted input adds: its cards, lines and octets, and of each property the lines that the grammar counts
 pub record AddsAccepted {i : List ℕ} {k n : ℕ} (h : InputOf i k n) : Type 0 where
@@ -27,7 +28,7 @@ pub record AddsAccepted {i : List ℕ} {k n : ℕ} (h : InputOf i k n) : Type 0 
   pub card : part cards i ≡ k
   pub line : part lines i ≡ n
   pub octet : part octets i ≡ length i
-  pub property : (m : ℕ) → part (linesOf m) i ≡ grammar.linesOf m (h .lines)
+  pub property : (m : ℕ) → part (linesOf m) i ≡ grammar.linesOf First m (h .lines)
   pub refusal : (m : ℕ) → part (refusedWith m) i ≡ 0
 
 -- that of a refused one adds an upload and a refusal with its number, and nothing else

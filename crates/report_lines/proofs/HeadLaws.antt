@@ -18,6 +18,7 @@ use Rattle.line_parser.specs.declared.rule.Part.{Part}
 use Rattle.line_parser.specs.declared.rule.Part.the-variants.{Named}
 use Rattle.line_parser.proofs.rule.Part.{the-type}
 use Rattle.line_parser.proofs.PartLaws.{Taken, run-le, head-parts}
+use Rattle.property_table.specs.declared.Edition.the-variants.{First}
 use Rattle.property_table.specs.Rows.{rowOf}
 use Rattle.report_lines.specs.Rows.{rowBy, rowOfName}
 
@@ -26,7 +27,7 @@ pub record NameAt (l : List ℕ) (g n : ℕ) : Type 0 where
   pub order : nameStart g ≤ n
   pub inside : n ≤ length l
   pub group : g ≤ n
-  pub row : rowOf (take (n - nameStart g) (drop (nameStart g) l)) ≡ rowOfName l
+  pub row : rowOf First (take (n - nameStart g) (drop (nameStart g) l)) ≡ rowOfName l
 
 taken-le : (l a : List ℕ) (k : ℕ) → Taken l a k → k ≤ length l
 taken-le l a k t = omega (arith, t .whole, run-le named l)
@@ -73,7 +74,7 @@ name-at l p g n e q = by (head l) refl (sym e ∙ q)
         let eg : length (h .group) ≡ g = cc in
         let en : k ≡ n = cc in
         let s = spelt l h k f in
-        rw (← eg, ← en) record { order = s .order; inside = s .inside; group = s .group; row = ap rowOf (s .octets) ∙ sym (ap rowBy f) }
+        rw (← eg, ← en) record { order = s .order; inside = s .inside; group = s .group; row = ap (rowOf First) (s .octets) ∙ sym (ap rowBy f) }
 
 -- where no name was found, the number is 0
 pub nameless : (l : List ℕ) (p : Part) → p ≡ headed (head l) → OneOf (0 ∷ 2 ∷ 3 ∷ 4 ∷ []) (tagOf the-type p) → 0 ≡ rowOfName l

@@ -6,11 +6,12 @@ use lib.Dec.{eqb}
 use Rattle.numbers.specs.Properties as property
 use Rattle.line_parser.specs.Parse.{Parse, got, bad}
 use Rattle.line_parser.specs.Rule.{Head, head}
+use Rattle.property_table.specs.declared.Edition.the-variants.{First}
 use Rattle.property_table.specs.Rows.{rowOf}
 
 -- by group and name, as far as they are read
 abbrev pub rowBy : Parse Head → ℕ
-rowBy (got h k) = rowOf (h .name)
+rowBy (got h k) = rowOf First (h .name)
 rowBy (bad e) = property.other
 
 -- the property number of a line by its name

@@ -16,6 +16,7 @@ use line_parser::rule::Part;
 use numbers::limit;
 use numbers::property;
 use octets::classes::ClassTable;
+use property_table::Edition;
 use property_table::rows::PropertyTable;
 
 // How many lines have each property number, 0 for names that are not listed.
@@ -37,7 +38,7 @@ fn row_of(t: &ClassTable, rows: &PropertyTable, s: &[u8]) -> usize
         return property::OTHER;
     };
     let start = card_line::name_start(group_length);
-    property_table::find_row(rows, &s[start..name_end])
+    property_table::find_row(rows, Edition::First, &s[start..name_end])
 }
 
 // The same of a line as it came: as it is where it has no fold, else unfolded into the scratch.

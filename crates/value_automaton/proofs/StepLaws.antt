@@ -14,7 +14,7 @@ use Rattle.octets.specs.Counts.{allIn}
 use Rattle.value_kinds.specs.Octets.{Octets, graphic, holds}
 use Rattle.value_kinds.specs.Shapes.{Shape, never, empty, one, _then_, _or_, many, nullable, dead, derivative, faultFrom}
 use Rattle.value_kinds.specs.Dates.{fours, others, year, months, month, day28, day29, day30, day31, hour, minute, second, lastMinute, offset, zoned, pastMinute, pastHour, clock, lastSecond, time, timed, leapDate, commonDate, noYear, dateAndOrTime, fullTime, leapFull, commonFull, timestamp}
-use Rattle.value_kinds.specs.Kinds.{text, texts, uri, component, parts, components, gender, pidmap, vcard, version}
+use Rattle.value_kinds.specs.Kinds.{text, texts, uri, component, parts, upTo, spread, components, gender, pidmap, vcard, version}
 use Rattle.value_automaton.specs.States.{stateCount, uriTail, firstNullable, stride, stepCount, states, stateShape, representative, Scanner, Next}
 use Rattle.value_kinds.specs.declared.Fault.the-variants.{Fits, Breaks}
 use Rattle.octets.proofs.Upto.{upto, alike}
@@ -23,11 +23,11 @@ use Rattle.value_kinds.proofs.QuietLaws.{run-many, itself}
 
 -- the state 0 alone is dead, and those from firstNullable on are nullable
 dead-right : (q : ℕ) → q < stateCount → dead (stateShape q) ≡ eqb q 0
-unfolding upto stateShape states dead text texts uri component parts components gender pidmap vcard version fours others year months month day28 day29 day30 day31 hour minute second lastMinute offset zoned pastMinute pastHour clock lastSecond time timed leapDate commonDate noYear dateAndOrTime fullTime leapFull commonFull timestamp
+unfolding upto stateShape states dead text texts uri component parts upTo spread components gender pidmap vcard version fours others year months month day28 day29 day30 day31 hour minute second lastMinute offset zoned pastMinute pastHour clock lastSecond time timed leapDate commonDate noYear dateAndOrTime fullTime leapFull commonFull timestamp
 dead-right q h = alike (λ j. dead (stateShape j)) (λ j. eqb j 0) stateCount refl q h
 
 ends-right : (q : ℕ) → q < stateCount → nullable (stateShape q) ≡ leb firstNullable q
-unfolding upto stateShape states nullable text texts uri component parts components gender pidmap vcard version fours others year months month day28 day29 day30 day31 hour minute second lastMinute offset zoned pastMinute pastHour clock lastSecond time timed leapDate commonDate noYear dateAndOrTime fullTime leapFull commonFull timestamp
+unfolding upto stateShape states nullable text texts uri component parts upTo spread components gender pidmap vcard version fours others year months month day28 day29 day30 day31 hour minute second lastMinute offset zoned pastMinute pastHour clock lastSecond time timed leapDate commonDate noYear dateAndOrTime fullTime leapFull commonFull timestamp
 ends-right q h = alike (λ j. nullable (stateShape j)) (λ j. leb firstNullable j) stateCount refl q h
 
 -- octets in the same sets leave the same shape

@@ -7,7 +7,7 @@ use lib.ListN.{getD}
 use Rattle.value_kinds.specs.Octets.{Octets, any, plain, inner, escapee, comma, semicolon, colon, scheme, graphic, digit, theC, theA, theR, theD, point, nought, minus, holds}
 use Rattle.value_kinds.specs.Shapes.{Shape, never, empty, one, _then_, _or_, many, derivative}
 use Rattle.value_kinds.specs.Dates.{fig, upTo1, upTo3, upTo8, nonzero, evenEnd, oddEnd, zeroEnd, fours, others, monthEnd, lateEnd, month, day28, day29, day30, day31, hour, minute, second, lastMinute, offset, zoned, pastMinute, pastHour, clock, lastSecond, time, timed, leapDate, commonDate, noYear, dateAndOrTime, fullTime, leapFull, commonFull, timestamp}
-use Rattle.value_kinds.specs.Kinds.{textOf, text, texts, uri, component, parts, components, gender, pidmap, vcard, version}
+use Rattle.value_kinds.specs.Kinds.{maybe, textOf, text, texts, uri, component, parts, upTo, spread, components, gender, pidmap, vcard, version}
 
 -- past a backslash
 abbrev pub escape : Octets → Shape
@@ -18,15 +18,15 @@ escapeIn mark own = escape own then many (one mark then textOf own)
 
 -- how many states there are
 abbrev pub stateCount : ℕ
-stateCount = 121
+stateCount = 163
 
 -- the state of the last part of a URI
 abbrev pub uriTail : ℕ
-uriTail = 104
+uriTail = 135
 
 -- the first state in which a value may end
 abbrev pub firstNullable : ℕ
-firstNullable = 101
+firstNullable = 132
 
 -- how many entries the table has for a state, one for each sort of octet and fill
 abbrev pub stride : ℕ
@@ -34,7 +34,7 @@ stride = 32
 
 -- how many entries it has for all states
 abbrev pub stepCount : ℕ
-stepCount = 3872
+stepCount = 5216
 
 -- state 0 is dead, and the nullable states are those from firstNullable on
 unfoldable pub states : List Shape
@@ -57,6 +57,37 @@ states =
     (parts 6) ∷
     (escapeIn comma inner then one semicolon then parts 6) ∷
     (escapeIn comma inner then one semicolon then parts 5) ∷
+    (spread 5 2) ∷
+    (spread 4 2) ∷
+    (escapeIn comma inner then one semicolon then spread 4 2) ∷
+    (spread 3 2) ∷
+    (escapeIn comma inner then one semicolon then spread 3 2) ∷
+    (spread 2 2) ∷
+    (escapeIn comma inner then one semicolon then spread 2 2) ∷
+    (escapeIn comma inner then one semicolon then upTo 2) ∷
+    (spread 7 11) ∷
+    (spread 6 11) ∷
+    (escapeIn comma inner then one semicolon then spread 6 11) ∷
+    (spread 5 11) ∷
+    (escapeIn comma inner then one semicolon then spread 5 11) ∷
+    (spread 4 11) ∷
+    (escapeIn comma inner then one semicolon then spread 4 11) ∷
+    (spread 3 11) ∷
+    (escapeIn comma inner then one semicolon then spread 3 11) ∷
+    (spread 2 11) ∷
+    (escapeIn comma inner then one semicolon then spread 2 11) ∷
+    (escapeIn comma inner then one semicolon then upTo 11) ∷
+    (escapeIn comma inner then maybe (one semicolon then upTo 0)) ∷
+    (escapeIn comma inner then maybe (one semicolon then upTo 1)) ∷
+    (escapeIn comma inner then maybe (one semicolon then upTo 2)) ∷
+    (escapeIn comma inner then maybe (one semicolon then upTo 3)) ∷
+    (escapeIn comma inner then maybe (one semicolon then upTo 4)) ∷
+    (escapeIn comma inner then maybe (one semicolon then upTo 5)) ∷
+    (escapeIn comma inner then maybe (one semicolon then upTo 6)) ∷
+    (escapeIn comma inner then maybe (one semicolon then upTo 7)) ∷
+    (escapeIn comma inner then maybe (one semicolon then upTo 8)) ∷
+    (escapeIn comma inner then maybe (one semicolon then upTo 9)) ∷
+    (escapeIn comma inner then maybe (one semicolon then upTo 10)) ∷
     (escapeIn semicolon inner) ∷
     pidmap ∷
     (many (one digit) then one semicolon then uri) ∷
@@ -145,6 +176,17 @@ states =
     texts ∷
     (many (one graphic)) ∷
     component ∷
+    (upTo 1) ∷
+    (upTo 2) ∷
+    (upTo 3) ∷
+    (upTo 4) ∷
+    (upTo 5) ∷
+    (upTo 6) ∷
+    (upTo 7) ∷
+    (upTo 8) ∷
+    (upTo 9) ∷
+    (upTo 10) ∷
+    (upTo 11) ∷
     components ∷
     gender ∷
     ((one semicolon then text) or empty) ∷

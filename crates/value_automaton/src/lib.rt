@@ -6,13 +6,14 @@ ghost use Rattle.numbers.specs.Kinds as kinds;
 ghost use Rattle.octets.specs.Classes.{bit};
 ghost use Rattle.value_kinds.specs.Octets.{neither};
 ghost use Rattle.value_kinds.specs.Shapes.{Matches};
-ghost use Rattle.value_kinds.specs.Kinds.{kindScan, valueScan, vcard, version};
+ghost use Rattle.value_kinds.specs.Kinds.{kindIn, valueIn, vcard, version};
 ghost use Rattle.value_automaton.specs.States.{Scanner};
 
 pub mod scanner;
 pub mod states;
 
 use numbers::property;
+use property_table::Edition;
 use states::Transitions;
 use value_kinds::Fault;
 
@@ -20,12 +21,12 @@ use value_kinds::Fault;
 const SHORT: usize = 32;
 
 // Whether s satisfies its kind: `Breaks` has the first octet from which nothing could, or the end.
-pub fn value_fault(steps: &Transitions, kind: usize, s: &[u8]) -> Fault
+pub fn value_fault(steps: &Transitions, edition: Edition, kind: usize, s: &[u8]) -> Fault
     requires { ⌜ Scanner (now steps) ⌝ }
     requires { ⌜ kind < kinds.count ⌝ }
-    ensures { λ r. ⌜ r ≡ kindScan kind (now (s .entry)) ⌝ }
+    ensures { λ r. ⌜ r ≡ kindIn edition kind (now (s .entry)) ⌝ }
 {
-    if value_kinds::fits_at_once(kind, s) {
+    if value_kinds::fits_at_once(edition, kind, s) {
         return Fault::Fits;
     }
     if SHORT <= s.len() {
@@ -33,7 +34,7 @@ pub fn value_fault(steps: &Transitions, kind: usize, s: &[u8]) -> Fault
             return Fault::Fits;
         }
     }
-    let first = scanner::start(kind);
+    let first = scanner::start(edition, kind);
     scanner::scan(steps, first, s)
 }
 
@@ -69,13 +70,13 @@ fn is_four(s: &[u8]) -> bool
 }
 
 // Whether s satisfies what its row asks: VCARD on BEGIN and END, 4.0 on VERSION, else the line's kind.
-pub fn judge_value(steps: &Transitions, row: usize, kind: usize, s: &[u8]) -> Fault
+pub fn judge_value(steps: &Transitions, edition: Edition, row: usize, kind: usize, s: &[u8]) -> Fault
     requires { ⌜ Scanner (now steps) ⌝ }
     requires { ⌜ kind < kinds.count ⌝ }
-    ensures { λ r. ⌜ r ≡ valueScan row kind (now (s .entry)) ⌝ }
+    ensures { λ r. ⌜ r ≡ valueIn edition row kind (now (s .entry)) ⌝ }
 {
     if !property_table::is_framing(row) {
-        return value_fault(steps, kind, s);
+        return value_fault(steps, edition, kind, s);
     }
     if row == property::VERSION {
         if is_four(s) {

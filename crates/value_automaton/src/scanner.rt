@@ -7,12 +7,13 @@ ghost use Rattle.numbers.specs.Kinds as kinds;
 ghost use Rattle.octets.specs.Counts.{allIn};
 ghost use Rattle.value_kinds.specs.Octets.{graphic, holds};
 ghost use Rattle.value_kinds.specs.Shapes.{faultFrom};
-ghost use Rattle.value_kinds.specs.Kinds.{shapeOf};
+ghost use Rattle.value_kinds.specs.Kinds.{shapeIn};
 ghost use Rattle.value_automaton.specs.States.{stateCount, uriTail, stateShape, Scanner, Next};
 use crate::states;
 use crate::states::Transitions;
 use numbers::kind;
 use octets::indices::wide;
+use property_table::Edition;
 use value_kinds::Fault;
 
 // The table as a value, which its users are lent: a use of the constant in a loop would build it there at each turn.
@@ -22,19 +23,41 @@ pub fn table() -> Transitions
     states::TABLE
 }
 
+// The state in which a value of N starts.
+fn start_of_name(edition: Edition) -> u8
+    ensures { λ r. ⌜ r < stateCount ⌝ }
+    ensures { λ r. ⌜ stateShape r ≡ shapeIn edition kinds.name ⌝ }
+{
+    match edition {
+        Edition::First => states::NAME,
+        Edition::Second => states::WIDER_NAME,
+    }
+}
+
+// The state in which a value of ADR starts.
+fn start_of_address(edition: Edition) -> u8
+    ensures { λ r. ⌜ r < stateCount ⌝ }
+    ensures { λ r. ⌜ stateShape r ≡ shapeIn edition kinds.address ⌝ }
+{
+    match edition {
+        Edition::First => states::ADDRESS,
+        Edition::Second => states::WIDER_ADDRESS,
+    }
+}
+
 // The state in which a value of each kind starts.
-pub fn start(kind: usize) -> u8
+pub fn start(edition: Edition, kind: usize) -> u8
     requires { ⌜ kind < kinds.count ⌝ }
     ensures { λ r. ⌜ r < stateCount ⌝ }
-    ensures { λ r. ⌜ stateShape r ≡ shapeOf kind ⌝ }
+    ensures { λ r. ⌜ stateShape r ≡ shapeIn edition kind ⌝ }
 {
     match kind {
         kind::ANYTHING => states::ANYTHING,
         kind::TEXT => states::TEXT,
         kind::TEXTS => states::TEXTS,
         kind::URI => states::URI,
-        kind::NAME => states::NAME,
-        kind::ADDRESS => states::ADDRESS,
+        kind::NAME => start_of_name(edition),
+        kind::ADDRESS => start_of_address(edition),
         kind::ORGANIZATION => states::ORGANIZATION,
         kind::GENDER => states::GENDER,
         kind::PIDMAP => states::PIDMAP,

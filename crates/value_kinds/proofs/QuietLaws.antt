@@ -1,19 +1,21 @@
 -- The laws of octets that all pass a test, and what they say of the loose kinds. Assumes nothing.
 use mathlib.Core.Path.{_≡_, refl, sym, ap, subst, _∙_}
 use mathlib.Core.Bool.{Bool, true, false, not, _&&_, false≢true}
-use mathlib.Core.List.{List, [], _∷_, _++_}
+use mathlib.Core.List.{List, [], _∷_, _++_, append-nil}
 use mathlib.Core.Logic.{_⊎_, inl, inr, ⊎-elim}
-use Prim.Native.Nat.{ℕ, zero, suc, _+_}
+use Prim.Native.Nat.{ℕ, zero, suc, _+_, _<_, _≤_}
 use native.Mathlib.Omega.{arith}
-use lib.Dec.{eqb}
-use borrow.Author.Tests.{ne-eqb, eqb-true}
+use lib.Dec.{eqb, leb, ltb}
+use borrow.Author.Tests.{ne-eqb, eqb-true, ltb-false, leb-false}
 use Rattle.octets.specs.Classes.{bit}
 use Rattle.value_kinds.specs.Octets.{Octets, any, plain, inner, comma, semicolon, backslash, escapee, neither, holds}
 use Rattle.value_kinds.specs.Shapes.{Shape, one, _then_, _or_, many, joined, each, Matches, faultFrom}
-use Rattle.value_kinds.specs.Kinds.{textOf, text, texts, component, parts, components, split, shapeOf, kindScan}
+use Rattle.value_kinds.specs.Kinds.{textOf, text, texts, component, parts, upTo, spread, between, mostOfName, mostOfAddress, components, split, shapeIn, kindIn}
 use Rattle.value_kinds.specs.AtOnce.{lacking, divided, fitsAtOnce}
 use Rattle.octets.specs.Counts.{allIn, count}
 use Rattle.octets.specs.Pick.{pick}
+use Rattle.property_table.specs.declared.Edition.{Edition}
+use Rattle.property_table.specs.declared.Edition.the-variants.{First, Second}
 use Rattle.value_kinds.specs.declared.Fault.the-variants.{Fits}
 use Rattle.octets.proofs.Bools.{by, and-both}
 use Rattle.value_kinds.proofs.ShapeLaws.{fits-from}
@@ -128,41 +130,69 @@ run-parts (x ∷ xs) e =
     (semicolon-or x k))
     (comma-or x (h .0))
 
+-- exactly so many components are some number of them from a least to a most
+few-up : (m s : ℕ) (v : List ℕ) → s ≤ m → Matches (parts (suc s)) v → Matches (upTo m) v
+unfolding Matches parts upTo
+few-up zero zero v h k = k
+few-up zero (suc s) v h k = absurd (omega arith)
+few-up (suc m) zero v h k = (v, [], sym (append-nil v), k, inr refl)
+few-up (suc m) (suc s) v h (u, w, e, k, (a, b, f, o, g)) = (u, w, e, k, inl (a, b, f, o, few-up m s b (omega arith) g))
+
+pub widen : (n m s : ℕ) (v : List ℕ) → n ≤ s → s ≤ n + m → Matches (parts (suc s)) v → Matches (spread (suc n) m) v
+unfolding Matches parts spread
+widen zero m s v g h k = few-up m s v (omega arith) k
+widen (suc n) m zero v g h k = absurd (omega arith)
+widen (suc n) m (suc s) v g h (u, w, e, k, (a, b, f, o, l)) = (u, w, e, k, (a, b, f, o, widen n m s b (omega arith) (omega arith) l))
+
 pub whole : (v : List ℕ) → Matches (many (one any)) v
 unfolding Matches joined each holds
 whole [] = ([], refl, tt)
 whole (x ∷ xs) = put (one any) x xs (x, refl, refl) (whole xs)
 
 -- what the tests of each octet say
-at-once-any : (v : List ℕ) → kindScan 0 v ≡ Fits
-unfolding kindScan shapeOf
-at-once-any v = fits-from (many (one any)) 0 v (whole v)
+module _ (e : Edition) (v : List ℕ) where
+  at-once-any : kindIn e 0 v ≡ Fits
+  unfolding kindIn shapeIn
+  at-once-any = fits-from (many (one any)) 0 v (whole v)
 
-at-once-text : (v : List ℕ) → lacking 92 44 v ≡ true → kindScan 1 v ≡ Fits
-unfolding kindScan shapeOf text holds
-at-once-text v e = fits-from text 0 v (run-many (one plain or one backslash then one escapee) (neither 92 44) (bare plain) v e)
+  at-once-text : lacking 92 44 v ≡ true → kindIn e 1 v ≡ Fits
+  unfolding kindIn shapeIn text holds
+  at-once-text h = fits-from text 0 v (run-many (one plain or one backslash then one escapee) (neither 92 44) (bare plain) v h)
 
-at-once-texts : (v : List ℕ) → lacking 92 92 v ≡ true → kindScan 2 v ≡ Fits
-unfolding kindScan shapeOf text texts
-at-once-texts v e = fits-from texts 0 v (run-split comma plain (neither 92 92) comma-or v e)
+  at-once-texts : lacking 92 92 v ≡ true → kindIn e 2 v ≡ Fits
+  unfolding kindIn shapeIn text texts
+  at-once-texts h = fits-from texts 0 v (run-split comma plain (neither 92 92) comma-or v h)
 
-at-once-components : (v : List ℕ) → lacking 92 44 v ≡ true → kindScan 6 v ≡ Fits
-unfolding kindScan shapeOf components holds
-at-once-components v e =
-    fits-from components 0 v (run-split semicolon inner (neither 92 44) (λ x h. ⊎-elim (λ k. inl k) (λ k. inr (k .0)) (semicolon-or x h)) v e)
+  at-once-components : lacking 92 44 v ≡ true → kindIn e 6 v ≡ Fits
+  unfolding kindIn shapeIn components holds
+  at-once-components h =
+      fits-from components 0 v (run-split semicolon inner (neither 92 44) (λ x k. ⊎-elim (λ l. inl l) (λ l. inr (l .0)) (semicolon-or x k)) v h)
 
-at-once-parts : (v : List ℕ) (n : ℕ) → divided n v ≡ true → faultFrom (parts (suc n)) 0 v ≡ Fits
-at-once-parts v n e =
-    let h = and-both (eqb (count (holds semicolon) v) n) (lacking 92 92 v) e in
-    fits-from (parts (suc n)) 0 v (subst (λ (m : ℕ). Matches (parts (suc m)) v) (eqb-true (count (holds semicolon) v) n (h .0)) (run-parts v (h .1)))
+-- the three tests of `divided`
+divided-parts : (v : List ℕ) (n hi : ℕ) → divided n hi v ≡ true
+    → (n ≤ count (holds semicolon) v) × (count (holds semicolon) v < hi) × (lacking 92 92 v ≡ true)
+divided-parts v n hi h =
+    let c = count (holds semicolon) v in
+    by (ltb c n)
+    (λ q. absurd (false≢true (rw q at h)))
+    (λ q. by (leb hi c)
+    (λ r. absurd (false≢true (rw (q, r) at h)))
+    (λ r. (ltb-false c n q, leb-false hi c r, rw (q, r) at h)))
 
-at-once-name : (v : List ℕ) → divided 4 v ≡ true → kindScan 4 v ≡ Fits
-unfolding kindScan shapeOf
-at-once-name v e = at-once-parts v 4 e
+at-once-parts : (v : List ℕ) (n m : ℕ) → divided n (suc n + m) v ≡ true → faultFrom (spread (suc n) m) 0 v ≡ Fits
+at-once-parts v n m h =
+    let d = divided-parts v n (suc n + m) h in
+    fits-from (spread (suc n) m) 0 v (widen n m (count (holds semicolon) v) v (d .0) (omega (arith, d .1)) (run-parts v (d .2)))
 
-at-once-address : (v : List ℕ) → divided 6 v ≡ true → kindScan 5 v ≡ Fits
-unfolding kindScan shapeOf
-at-once-address v e = at-once-parts v 6 e
+at-once-name : (e : Edition) (v : List ℕ) → divided 4 (mostOfName e) v ≡ true → kindIn e 4 v ≡ Fits
+unfolding kindIn shapeIn
+at-once-name First v h = at-once-parts v 4 0 h
+at-once-name Second v h = at-once-parts v 4 2 h
+
+at-once-address : (e : Edition) (v : List ℕ) → divided 6 (mostOfAddress e) v ≡ true → kindIn e 5 v ≡ Fits
+unfolding kindIn shapeIn
+at-once-address First v h = at-once-parts v 6 0 h
+at-once-address Second v h = at-once-parts v 6 11 h
 
 -- a choice by the kind's number that is true: of the kind, or of the others
 pub chosen : {A : Type 0} (k n : ℕ) (a b : Bool) → (k ≡ n → a ≡ true → A) → (b ≡ true → A) → pick (eqb k n) a b ≡ true → A
@@ -170,16 +200,16 @@ chosen k n a b f g e =
     by (eqb k n) (λ q. f (eqb-true k n q) (sym (ap (λ (t : Bool). pick t a b) q) ∙ e)) (λ q. g (sym (ap (λ (t : Bool). pick t a b) q) ∙ e))
 
 -- a value fits its kind where the tests of each octet say so
-pub at-once : (k : ℕ) (v : List ℕ) → fitsAtOnce k v ≡ true → kindScan k v ≡ Fits
+pub at-once : (e : Edition) (k : ℕ) (v : List ℕ) → fitsAtOnce e k v ≡ true → kindIn e k v ≡ Fits
 unfolding fitsAtOnce
-at-once k v e =
-    chosen k 0 true _ (λ q h. its 0 q (at-once-any v))
-    (chosen k 1 (lacking 92 44 v) _ (λ q h. its 1 q (at-once-text v h))
-    (chosen k 2 (lacking 92 92 v) _ (λ q h. its 2 q (at-once-texts v h))
-    (chosen k 4 (divided 4 v) _ (λ q h. its 4 q (at-once-name v h))
-    (chosen k 5 (divided 6 v) _ (λ q h. its 5 q (at-once-address v h))
-    (chosen k 6 (lacking 92 44 v) false (λ q h. its 6 q (at-once-components v h)) (λ h. absurd (false≢true h)))))))
-    e
+at-once e k v t =
+    chosen k 0 true _ (λ q h. its 0 q (at-once-any e v))
+    (chosen k 1 (lacking 92 44 v) _ (λ q h. its 1 q (at-once-text e v h))
+    (chosen k 2 (lacking 92 92 v) _ (λ q h. its 2 q (at-once-texts e v h))
+    (chosen k 4 (divided 4 (mostOfName e) v) _ (λ q h. its 4 q (at-once-name e v h))
+    (chosen k 5 (divided 6 (mostOfAddress e) v) _ (λ q h. its 5 q (at-once-address e v h))
+    (chosen k 6 (lacking 92 44 v) false (λ q h. its 6 q (at-once-components e v h)) (λ h. absurd (false≢true h)))))))
+    t
   where
-    its : (n : ℕ) → k ≡ n → kindScan n v ≡ Fits → kindScan k v ≡ Fits
-    its n q h = ap (λ (m : ℕ). kindScan m v) q ∙ h
+    its : (n : ℕ) → k ≡ n → kindIn e n v ≡ Fits → kindIn e k v ≡ Fits
+    its n q h = ap (λ (m : ℕ). kindIn e m v) q ∙ h

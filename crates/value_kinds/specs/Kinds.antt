@@ -1,10 +1,12 @@
 -- The kinds of value and the fixed values of a card, each a regular expression, by REFERENCE, The kinds of value. Assumes nothing.
-use Prim.Native.Nat.{ℕ, zero, suc}
+use Prim.Native.Nat.{ℕ, zero, suc, _-_}
 use mathlib.Core.List.{List, [], _∷_}
 use lib.Dec.{eqb}
 use lib.ListN.{getD}
 use Rattle.numbers.specs.Properties as property
 use Rattle.octets.specs.Pick.{pick}
+use Rattle.property_table.specs.declared.Edition.{Edition}
+use Rattle.property_table.specs.declared.Edition.the-variants.{First, Second}
 use Rattle.value_kinds.specs.Octets.{Octets, any, plain, inner, escapee, backslash, comma, semicolon, colon, letter, scheme, graphic, digit, sex, theV, theC, theA, theR, theD, four, point, nought}
 use Rattle.value_kinds.specs.Shapes.{Shape, never, empty, one, _then_, _or_, many, faultFrom}
 use Rattle.value_kinds.specs.Dates.{dateAndOrTime, timestamp, offset}
@@ -41,6 +43,36 @@ parts zero = never
 parts (suc zero) = component
 parts (suc (suc n)) = component then one semicolon then parts (suc n)
 
+-- one component and at most so many more
+unfoldable pub upTo : ℕ → Shape
+upTo zero = component
+upTo (suc m) = component then maybe (one semicolon then upTo m)
+
+-- so many components, and at most m more
+unfoldable pub spread : ℕ → ℕ → Shape
+spread zero m = never
+spread (suc zero) m = upTo m
+spread (suc (suc n)) m = component then one semicolon then spread (suc n) m
+
+-- from lo to hi components
+abbrev pub between : ℕ → ℕ → Shape
+between lo hi = spread lo (hi - lo)
+
+-- the fewest components of N and of ADR, and the most in each edition
+abbrev pub fewestOfName : ℕ
+fewestOfName = 5
+
+abbrev pub mostOfName : Edition → ℕ
+mostOfName First = 5
+mostOfName Second = 7
+
+abbrev pub fewestOfAddress : ℕ
+fewestOfAddress = 7
+
+abbrev pub mostOfAddress : Edition → ℕ
+mostOfAddress First = 7
+mostOfAddress Second = 18
+
 -- one or more components, no bare comma
 unfoldable pub components : Shape
 components = split semicolon (textOf inner)
@@ -51,12 +83,19 @@ gender = maybe (one sex) then maybe (one semicolon then text)
 unfoldable pub pidmap : Shape
 pidmap = one digit then many (one digit) then one semicolon then uri
 
--- kinds 0 to 11; no other number is a kind's
-unfoldable pub shapeOf : ℕ → Shape
-shapeOf k = getD (many (one any) ∷ text ∷ texts ∷ uri ∷ parts 5 ∷ parts 7 ∷ components ∷ gender ∷ pidmap ∷ dateAndOrTime ∷ timestamp ∷ offset ∷ []) k never
+-- kinds 0 to 11 in an edition; no other number is a kind's
+unfoldable pub shapeIn : Edition → ℕ → Shape
+shapeIn e k =
+    getD
+    (many (one any) ∷ text ∷ texts ∷ uri ∷ between fewestOfName (mostOfName e) ∷ between fewestOfAddress (mostOfAddress e)
+    ∷ components ∷ gender ∷ pidmap ∷ dateAndOrTime ∷ timestamp ∷ offset ∷ [])
+    k never
 
-unfoldable pub kindScan : ℕ → List ℕ → Fault
-kindScan k v = faultFrom (shapeOf k) 0 v
+unfoldable pub kindIn : Edition → ℕ → List ℕ → Fault
+kindIn e k v = faultFrom (shapeIn e k) 0 v
+
+abbrev pub kindScan : ℕ → List ℕ → Fault
+kindScan = kindIn First
 
 -- VCARD in any case
 unfoldable pub vcard : Shape
@@ -67,8 +106,11 @@ unfoldable pub version : Shape
 version = one four then one point then one nought
 
 -- the value of a line: rows 1 BEGIN and 2 END have VCARD, 34 VERSION has 4.0, any other row a value of the line's kind
-unfoldable pub lineShape : ℕ → ℕ → Shape
-lineShape row k = pick (eqb row property.begin) vcard (pick (eqb row property.end) vcard (pick (eqb row property.version) version (shapeOf k)))
+unfoldable pub lineShape : Edition → ℕ → ℕ → Shape
+lineShape e row k = pick (eqb row property.begin) vcard (pick (eqb row property.end) vcard (pick (eqb row property.version) version (shapeIn e k)))
 
-unfoldable pub valueScan : ℕ → ℕ → List ℕ → Fault
-valueScan row k v = faultFrom (lineShape row k) 0 v
+unfoldable pub valueIn : Edition → ℕ → ℕ → List ℕ → Fault
+valueIn e row k v = faultFrom (lineShape e row k) 0 v
+
+abbrev pub valueScan : ℕ → ℕ → List ℕ → Fault
+valueScan = valueIn First

@@ -4,11 +4,13 @@ ghost use mathlib.Core.Bool.{not};
 ghost use Rattle.octets.specs.Classes.{bit};
 ghost use Rattle.octets.specs.Counts.{allIn, count};
 ghost use Rattle.value_kinds.specs.Octets.{neither, graphic, semicolon, holds};
+ghost use Rattle.value_kinds.specs.Kinds.{mostOfName, mostOfAddress};
 ghost use Rattle.value_kinds.specs.AtOnce.{lacking, divided, fitsAtOnce};
 
 pub mod pairs;
 
 use numbers::kind;
+use property_table::Edition;
 
 // A value fits, or the first octet from which nothing could, or the end.
 pub enum Fault {
@@ -69,26 +71,50 @@ fn count_semicolons(s: &[u8]) -> usize
     n
 }
 
-// Whether s has n semicolons, and no backslash.
-fn has_semicolons(s: &[u8], n: usize) -> bool
-    ensures { λ r. ⌜ r ≡ divided n (now (s .entry)) ⌝ }
+// Whether s has so many semicolons or more, but fewer than `most`, and no backslash.
+fn has_semicolons(s: &[u8], least: usize, most: usize) -> bool
+    ensures { λ r. ⌜ r ≡ divided least most (now (s .entry)) ⌝ }
 {
-    if count_semicolons(s) != n {
+    let n = count_semicolons(s);
+    if n < least {
+        return false;
+    }
+    if most <= n {
         return false;
     }
     lacks(b'\\', b'\\', s)
 }
 
+// The most components of N.
+fn most_of_name(edition: Edition) -> usize
+    ensures { λ r. ⌜ r ≡ mostOfName edition ⌝ }
+{
+    match edition {
+        Edition::First => 5,
+        Edition::Second => 7,
+    }
+}
+
+// The most components of ADR.
+fn most_of_address(edition: Edition) -> usize
+    ensures { λ r. ⌜ r ≡ mostOfAddress edition ⌝ }
+{
+    match edition {
+        Edition::First => 7,
+        Edition::Second => 18,
+    }
+}
+
 // Whether a look at each octet by itself shows that s fits; no such look settles kinds 3 and 7 to 11.
-pub fn fits_at_once(kind: usize, s: &[u8]) -> bool
-    ensures { λ r. ⌜ r ≡ fitsAtOnce kind (now (s .entry)) ⌝ }
+pub fn fits_at_once(edition: Edition, kind: usize, s: &[u8]) -> bool
+    ensures { λ r. ⌜ r ≡ fitsAtOnce edition kind (now (s .entry)) ⌝ }
 {
     match kind {
         kind::ANYTHING => true,
         kind::TEXT => lacks(b'\\', b',', s),
         kind::TEXTS => lacks(b'\\', b'\\', s),
-        kind::NAME => has_semicolons(s, 4),
-        kind::ADDRESS => has_semicolons(s, 6),
+        kind::NAME => has_semicolons(s, 4, most_of_name(edition)),
+        kind::ADDRESS => has_semicolons(s, 6, most_of_address(edition)),
         kind::ORGANIZATION => lacks(b'\\', b',', s),
         _ => false,
     }

@@ -11,9 +11,10 @@ use borrow.Author.Tests.{leb-true, ltb-true, eqb-true, le-leb, lt-ltb, eq-eqb, e
 use Rattle.octets.specs.Pick.{pick}
 use Rattle.octets.proofs.Bools.{by, and-both, or-some}
 use Rattle.octets.proofs.Upto.{upto}
+use Rattle.property_table.specs.declared.Edition.{Edition}
 use Rattle.value_kinds.specs.Octets.{Octets, digit, theT, theZ, minus, sign, figures, among, holds}
 use Rattle.value_kinds.specs.Shapes.{Shape, never, empty, one, _then_, _or_, Matches, nullable, chain, isNever, fork, derivative}
-use Rattle.value_kinds.specs.Kinds.{shapeOf, kindScan}
+use Rattle.value_kinds.specs.Kinds.{shapeIn, kindIn}
 use Rattle.value_kinds.specs.declared.Fault.the-variants.{Fits as fitting}
 use Rattle.value_laws.proofs.KindLaws.{fits-kind}
 use Rattle.value_kinds.specs.Dates.{fours, others, year, months, month, day28, day29, day30, day31, hour, minute, second, lastMinute, offset, zoned, pastMinute, pastHour, clock, lastSecond, time, timed, leapDate, commonDate, noYear, dateAndOrTime, fullTime, leapFull, commonFull, timestamp}
@@ -469,14 +470,14 @@ any-from v (only-time {v = w} t) = inr (inr (head-from theT time 84 (84 ∷ w) w
 pub date-words : (v : List ℕ) → Matches dateAndOrTime v ↔ DateAndOrTime v
 date-words v = (any-to v, any-from v)
 
-pub kind-9 : (v : List ℕ) → (kindScan 9 v ≡ fitting) ↔ DateAndOrTime v
-unfolding shapeOf
-kind-9 v = through (fits-kind 9 v) (date-words v)
+pub kind-9 : (e : Edition) (v : List ℕ) → (kindIn e 9 v ≡ fitting) ↔ DateAndOrTime v
+unfolding shapeIn
+kind-9 e v = through (fits-kind e 9 v) (date-words v)
 
-pub kind-10 : (v : List ℕ) → (kindScan 10 v ≡ fitting) ↔ Timestamp v
-unfolding shapeOf
-kind-10 v = through (fits-kind 10 v) (timestamp-words v)
+pub kind-10 : (e : Edition) (v : List ℕ) → (kindIn e 10 v ≡ fitting) ↔ Timestamp v
+unfolding shapeIn
+kind-10 e v = through (fits-kind e 10 v) (timestamp-words v)
 
-pub kind-11 : (v : List ℕ) → (kindScan 11 v ≡ fitting) ↔ Offset v
-unfolding shapeOf
-kind-11 v = through (fits-kind 11 v) (offset-words v)
+pub kind-11 : (e : Edition) (v : List ℕ) → (kindIn e 11 v ≡ fitting) ↔ Offset v
+unfolding shapeIn
+kind-11 e v = through (fits-kind e 11 v) (offset-words v)

@@ -2,18 +2,20 @@
 -- Assumes nothing.
 use mathlib.Core.Path.{_≡_, refl, sym, ap, subst, _∙_}
 use mathlib.Core.Bool.{Bool, true, false, not, _&&_}
-use mathlib.Core.List.{List, [], _∷_, _++_}
+use mathlib.Core.List.{List, [], _∷_, _++_, append-nil}
 use mathlib.Core.Logic.{inl, inr, ⊎-elim, _↔_}
-use Prim.Native.Nat.{ℕ, zero, suc, _+_}
+use Prim.Native.Nat.{ℕ, zero, suc, _+_, _≤_}
 use native.Mathlib.Nat.{zero-add}
 use native.Mathlib.Omega.{arith}
 use lib.Dec.{eqb}
 use borrow.Author.Tests.{eqb-true}
+use Rattle.property_table.specs.declared.Edition.{Edition}
+use Rattle.property_table.specs.declared.Edition.the-variants.{First, Second}
 use Rattle.value_kinds.specs.Octets.{Octets, plain, inner, comma, semicolon, backslash, escapee, holds}
 use Rattle.value_kinds.specs.Shapes.{one, _then_, _or_, joined, each, Matches}
-use Rattle.value_kinds.specs.Kinds.{textOf, split, text, texts, component, parts, components, shapeOf}
-use Rattle.value_kinds.proofs.QuietLaws.{put, grow, cut, nothing, part-first, part-next, part-own, part-comma, semicolon-or}
-use Rattle.value_laws.specs.Words.{Escaped, ends, bare, bare-comma, bare-semicolon, escape, Text, Texts, Semicolons, In}
+use Rattle.value_kinds.specs.Kinds.{textOf, split, text, texts, component, parts, upTo, spread, components, shapeIn, mostOfName, mostOfAddress}
+use Rattle.value_kinds.proofs.QuietLaws.{put, grow, cut, nothing, part-first, part-next, part-own, part-comma, semicolon-or, widen}
+use Rattle.value_laws.specs.Words.{Escaped, ends, bare, bare-comma, bare-semicolon, escape, Text, Texts, Semicolons, Components, In}
 
 recount : {c s d t : ℕ} {v : List ℕ} → c ≡ d → s ≡ t → Escaped c s v → Escaped d t v
 recount {s = s} {d = d} {v = v} e f h = subst (λ (n : ℕ). Escaped d n v) f (subst (λ (n : ℕ). Escaped n s v) e h)
@@ -156,23 +158,50 @@ to-parts (bare-comma {s = s} {x = x} {v = v} p h) = part-first x v s (part-comma
 to-parts (bare-semicolon {s = s} {x = x} {v = v} p h) = part-next x v s p (to-parts h)
 to-parts (escape {s = s} {b = b} {x = x} {v = v} p q h) = pair-parts s b x v p q (to-parts h)
 
+-- some number of components from a least to a most are exactly so many
+few-down : (m : ℕ) (v : List ℕ) → Matches (upTo m) v → (s : ℕ) × (s ≤ m) × Matches (parts (suc s)) v
+unfolding Matches parts upTo
+few-down zero v k = (0, omega arith, k)
+few-down (suc m) v (u, w, e, k, inl (a, b, f, o, g)) =
+    let d = few-down m b g in
+    (suc (d .0), omega (arith, d .1), (u, w, e, k, (a, b, f, o, d .2)))
+few-down (suc m) v (u, w, e, k, inr z) =
+    let whole : v ≡ u = e ∙ ap (λ (l : List ℕ). u ++ l) z ∙ append-nil u in
+    (0, omega arith, subst (Matches component) (sym whole) k)
+
+narrow : (n m : ℕ) (v : List ℕ) → Matches (spread (suc n) m) v → (s : ℕ) × (n ≤ s) × (s ≤ n + m) × Matches (parts (suc s)) v
+unfolding Matches parts spread
+narrow zero m v k = let d = few-down m v k in (d .0, omega arith, omega (arith, d .1), d .2)
+narrow (suc n) m v (u, w, e, k, (a, b, f, o, g)) =
+    let d = narrow n m b g in
+    (suc (d .0), omega (arith, d .1), omega (arith, d .2), (u, w, e, k, (a, b, f, o, d .3)))
+
+-- from n + 1 to n + 1 + m components
+is-spread : (n m : ℕ) (v : List ℕ) → Matches (spread (suc n) m) v ↔ Components (suc n) (suc n + m) v
+is-spread n m v = (
+  λ h. let d = narrow n m v h in (d .0, omega (arith, d .1), omega (arith, d .2), of-parts (d .0) v (d .3)),
+  λ h. widen n m (h .0) v (omega (arith, h .1)) (omega (arith, h .2)) (to-parts (h .3 .1)),
+)
+
 -- the kinds
-pub is-text : (v : List ℕ) → Matches (shapeOf 1) v ↔ Text v
-unfolding shapeOf text
-is-text v = (of-plain v, λ h. to-text (h .1) refl)
+pub is-text : (e : Edition) (v : List ℕ) → Matches (shapeIn e 1) v ↔ Text v
+unfolding shapeIn text
+is-text e v = (of-plain v, λ h. to-text (h .1) refl)
 
-pub is-texts : (v : List ℕ) → Matches (shapeOf 2) v ↔ Texts v
-unfolding shapeOf text texts
-is-texts v = (of-texts v, λ h. to-texts (h .2))
+pub is-texts : (e : Edition) (v : List ℕ) → Matches (shapeIn e 2) v ↔ Texts v
+unfolding shapeIn text texts
+is-texts e v = (of-texts v, λ h. to-texts (h .2))
 
-pub is-five : (v : List ℕ) → Matches (shapeOf 4) v ↔ Semicolons 4 v
-unfolding shapeOf
-is-five v = (of-parts 4 v, λ h. to-parts (h .1))
+pub is-name : (e : Edition) (v : List ℕ) → Matches (shapeIn e 4) v ↔ Components 5 (mostOfName e) v
+unfolding shapeIn
+is-name First v = is-spread 4 0 v
+is-name Second v = is-spread 4 2 v
 
-pub is-seven : (v : List ℕ) → Matches (shapeOf 5) v ↔ Semicolons 6 v
-unfolding shapeOf
-is-seven v = (of-parts 6 v, λ h. to-parts (h .1))
+pub is-address : (e : Edition) (v : List ℕ) → Matches (shapeIn e 5) v ↔ Components 7 (mostOfAddress e) v
+unfolding shapeIn
+is-address First v = is-spread 6 0 v
+is-address Second v = is-spread 6 11 v
 
-pub is-components : (v : List ℕ) → Matches (shapeOf 6) v ↔ Text v
-unfolding shapeOf components
-is-components v = (of-components v, λ h. to-components (h .1) refl)
+pub is-components : (e : Edition) (v : List ℕ) → Matches (shapeIn e 6) v ↔ Text v
+unfolding shapeIn components
+is-components e v = (of-components v, λ h. to-components (h .1) refl)

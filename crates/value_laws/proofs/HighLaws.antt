@@ -13,10 +13,12 @@ use Rattle.octets.specs.Classes.{letter as isLetter, digit as isDigit}
 use Rattle.octets.specs.Cases.{lower}
 use Rattle.octets.proofs.Bools.{and-both}
 use Rattle.octets.proofs.Upto.{upto, alike}
+use Rattle.property_table.specs.declared.Edition.{Edition}
+use Rattle.property_table.specs.declared.Edition.the-variants.{First, Second}
 use Rattle.value_kinds.specs.Octets.{Octets, any, plain, inner, escapee, backslash, comma, semicolon, colon, letter, scheme, graphic, digit, sex, theV, theC, theA, theR, theD, four, point, nought, theT, theZ, minus, sign, figures, among, holds}
 use Rattle.value_kinds.specs.Shapes.{Shape, never, empty, one, _then_, _or_, many, joined, each, Matches}
 use Rattle.value_kinds.specs.Dates.{fours, others, year, months, month, day28, day29, day30, day31, hour, minute, second, lastMinute, offset, zoned, pastMinute, pastHour, clock, lastSecond, time, timed, leapDate, commonDate, noYear, dateAndOrTime, fullTime, leapFull, commonFull, timestamp}
-use Rattle.value_kinds.specs.Kinds.{text, texts, uri, component, parts, components, gender, pidmap, vcard, version, shapeOf, lineShape}
+use Rattle.value_kinds.specs.Kinds.{text, texts, uri, component, parts, upTo, spread, components, gender, pidmap, vcard, version, shapeIn, lineShape}
 
 -- an octet that no ASCII character is
 abbrev pub High : ℕ → Type 0
@@ -197,20 +199,21 @@ module _ (a b : ℕ) (ha : High a) (hb : High b) where
       grown-one t (many r) (u ++ (a ∷ b ∷ w)) (grow-many r (λ x y. grow true r e x y) vs u w q h)
 
 -- so it is in each kind and each fixed value
-kind-pumps : (k : ℕ) → k < kinds.count → pumps false (shapeOf k) ≡ true
-unfolding upto pumps holds isLetter isDigit lower among shapeOf text texts uri component parts components gender pidmap fours others year months month day28 day29 day30 day31 hour minute second lastMinute offset zoned pastMinute pastHour clock lastSecond time timed leapDate commonDate noYear dateAndOrTime fullTime leapFull commonFull timestamp
-kind-pumps k h = alike (λ j. pumps false (shapeOf j)) (λ j. true) kinds.count refl k h
+kind-pumps : (ed : Edition) (k : ℕ) → k < kinds.count → pumps false (shapeIn ed k) ≡ true
+unfolding upto pumps holds isLetter isDigit lower among shapeIn text texts uri component parts upTo spread components gender pidmap fours others year months month day28 day29 day30 day31 hour minute second lastMinute offset zoned pastMinute pastHour clock lastSecond time timed leapDate commonDate noYear dateAndOrTime fullTime leapFull commonFull timestamp
+kind-pumps First k h = alike (λ j. pumps false (shapeIn First j)) (λ j. true) kinds.count refl k h
+kind-pumps Second k h = alike (λ j. pumps false (shapeIn Second j)) (λ j. true) kinds.count refl k h
 
 pick-pumps : (t : Bool) (a b : Shape) → pumps false a ≡ true → pumps false b ≡ true → pumps false (pick t a b) ≡ true
 pick-pumps true a b e f = e
 pick-pumps false a b e f = f
 
-line-pumps : (row k : ℕ) → k < kinds.count → pumps false (lineShape row k) ≡ true
+line-pumps : (ed : Edition) (row k : ℕ) → k < kinds.count → pumps false (lineShape ed row k) ≡ true
 unfolding lineShape pumps holds vcard version lower
-line-pumps row k h =
-    pick-pumps (eqb row 1) vcard _ refl (pick-pumps (eqb row 2) vcard _ refl (pick-pumps (eqb row 34) version (shapeOf k) refl (kind-pumps k h)))
+line-pumps ed row k h =
+    pick-pumps (eqb row 1) vcard _ refl (pick-pumps (eqb row 2) vcard _ refl (pick-pumps (eqb row 34) version (shapeIn ed k) refl (kind-pumps ed k h)))
 
 -- where a line's value may have an octet from 80 on, it may have another right after it
-pub another-high : (row k : ℕ) → k < kinds.count → (a b : ℕ) → High a → High b → (u w : List ℕ)
-    → Matches (lineShape row k) (u ++ (a ∷ w)) → Matches (lineShape row k) (u ++ (a ∷ b ∷ w))
-another-high row k h a b ha hb u w m = grow a b ha hb false (lineShape row k) (line-pumps row k h) u w m
+pub another-high : (ed : Edition) (row k : ℕ) → k < kinds.count → (a b : ℕ) → High a → High b → (u w : List ℕ)
+    → Matches (lineShape ed row k) (u ++ (a ∷ w)) → Matches (lineShape ed row k) (u ++ (a ∷ b ∷ w))
+another-high ed row k h a b ha hb u w m = grow a b ha hb false (lineShape ed row k) (line-pumps ed row k h) u w m

@@ -11,5 +11,6 @@ pub mod DateWords
 pub mod OffsetLaws
 pub mod DateTable
 pub mod RowLaws
+pub mod NewLaws
 pub mod ChoiceLaws
 pub mod LineKindLaws

@@ -11,31 +11,31 @@ use borrow.Author.Tests.{eq-eqb, eqb-true}
 use Rattle.octets.specs.Pick.{pick}
 use Rattle.octets.specs.Cases.{lower, same}
 use Rattle.octets.specs.Ascii.{octets}
-use Rattle.property_table.specs.Rows.{rows, rowAt, kindAt, framing, takesValue, ruleAt, kindNamed, says, valueKind, dateKind, zoneKind, lineKind}
+use Rattle.property_table.specs.Rows.{rows, newer, allRows, rowAt, kindAt, framing, takesValue, ruleAt, kindNamed, says, valueKind, dateKind, zoneKind, lineKind}
 use Rattle.octets.proofs.Bools.{by, or-some}
 use Rattle.octets.proofs.Upto.{upto, alike}
 use Rattle.value_laws.proofs.RowLaws.{same-both}
 use Rattle.value_laws.specs.LineKinds.{Is, IsOther, Birthday, Valued, Fixed, KindOf, date-text, date-foreign, date, offset, text, uri, other, unnamed, fixed}
 
 -- the rule of a row, by what the row is
-rule-by : (n : ℕ) → n < 39 → ruleAt n ≡ pick (eqb n 10 || eqb n 11) 2 (pick (eqb n 18) 3 (pick (takesValue n) 1 0))
-unfolding upto ruleAt takesValue framing kindAt rowAt rows
-rule-by n h = alike ruleAt (λ j. pick (eqb j 10 || eqb j 11) 2 (pick (eqb j 18) 3 (pick (takesValue j) 1 0))) 39 refl n h
+rule-by : (n : ℕ) → n < 44 → ruleAt n ≡ pick (eqb n 10 || eqb n 11) 2 (pick (eqb n 18) 3 (pick (takesValue n) 1 0))
+unfolding upto ruleAt takesValue framing kindAt rowAt rows newer allRows
+rule-by n h = alike ruleAt (λ j. pick (eqb j 10 || eqb j 11) 2 (pick (eqb j 18) 3 (pick (takesValue j) 1 0))) 44 refl n h
 
 birthday-kind : takesValue 10 ≡ false
-unfolding takesValue framing kindAt rowAt rows
+unfolding takesValue framing kindAt rowAt rows newer allRows
 birthday-kind = refl
 
 anniversary-kind : takesValue 11 ≡ false
-unfolding takesValue framing kindAt rowAt rows
+unfolding takesValue framing kindAt rowAt rows newer allRows
 anniversary-kind = refl
 
 zone-valued : takesValue 18 ≡ true
-unfolding takesValue framing kindAt rowAt rows
+unfolding takesValue framing kindAt rowAt rows newer allRows
 zone-valued = refl
 
 zone-own : kindAt 18 ≡ 1
-unfolding kindAt rowAt rows
+unfolding kindAt rowAt rows newer allRows
 zone-own = refl
 
 is-birthday : (n : ℕ) → Birthday n → (eqb n 10 || eqb n 11) ≡ true
@@ -46,7 +46,7 @@ birthday-is : (n : ℕ) → (eqb n 10 || eqb n 11) ≡ true → Birthday n
 birthday-is n e = ⊎-elim (λ h. inl (eqb-true n 10 h)) (λ h. inr (eqb-true n 11 h)) (or-some (eqb n 10) (eqb n 11) e)
 
 -- the kind by the rule
-module _ (n : ℕ) (value calscale : Option (List ℕ)) (low : n < 39) where
+module _ (n : ℕ) (value calscale : Option (List ℕ)) (low : n < 44) where
   of-date : Birthday n → lineKind n value calscale ≡ dateKind value calscale
   unfolding lineKind
   of-date b = rw (rule-by n low, is-birthday n b)
@@ -120,7 +120,7 @@ valued-no-date n t = by (eqb n 10 || eqb n 11) (λ e. absurd (clash (birthday-is
     clash (inl e) = false≢true (sym birthday-kind ∙ subst (λ (k : ℕ). takesValue k ≡ true) e t)
     clash (inr e) = false≢true (sym anniversary-kind ∙ subst (λ (k : ℕ). takesValue k ≡ true) e t)
 
-module _ (n : ℕ) (value calscale : Option (List ℕ)) (low : n < 39) where
+module _ (n : ℕ) (value calscale : Option (List ℕ)) (low : n < 44) where
   abbrev NoOffset : Type 0
   NoOffset = n ≡ 18 → Is (octets "utc-offset") value → ⊥
 
@@ -165,7 +165,7 @@ valued-to n (some v) calscale t f =
     by (same v (octets "text")) (λ e. rw e (text t (v, refl, e)))
     (λ e. by (same v (octets "uri")) (λ g. rw (e, g) (uri t (v, refl, g))) (λ g. rw (e, g) (other t f (v, refl, e) (v, refl, g))))
 
-module _ (n : ℕ) (value calscale : Option (List ℕ)) (low : n < 39) where
+module _ (n : ℕ) (value calscale : Option (List ℕ)) (low : n < 44) where
   date-to : Birthday n → KindOf n value calscale (dateKind value calscale)
   unfolding dateKind
   date-to b =

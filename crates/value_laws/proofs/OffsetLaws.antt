@@ -7,8 +7,9 @@ use Prim.Native.Nat.{ℕ, _+_, _*_, _-_, _/_, _%_, _<_, _≤_}
 use native.Mathlib.Omega.{arith}
 use lib.IntN.{ℤ, pos, negℤ}
 use Rattle.numbers.specs.Refusals as refusal
+use Rattle.property_table.specs.declared.Edition.the-variants.{First}
 use Rattle.value_kinds.specs.Shapes.{Matches}
-use Rattle.value_kinds.specs.Kinds.{shapeOf, kindScan}
+use Rattle.value_kinds.specs.Kinds.{shapeIn, kindScan}
 use Rattle.value_kinds.specs.declared.Fault.{Fault}
 use Rattle.value_kinds.specs.declared.Fault.the-variants.{Fits as fitting, Breaks as breaking}
 use Rattle.value_offsets.specs.Minutes.{digitAt, pairAt, timeOf, isBehind, signed, minutesBy, minutesOf}
@@ -51,12 +52,12 @@ stands-gives (minutes-behind {h = h} {m = m} l k) = ap (λ (n : ℕ). negℤ (po
 
 minutes-from : (v : List ℕ) (z : ℤ) → StandsFor z v → minutesOf v ≡ Minutes z
 unfolding minutesOf
-minutes-from v z h = ap (λ (f : Fault). minutesBy f v) (kind-11 v .1 (stands-offset h)) ∙ ap Minutes (stands-gives h)
+minutes-from v z h = ap (λ (f : Fault). minutesBy f v) (kind-11 First v .1 (stands-offset h)) ∙ ap Minutes (stands-gives h)
 
 by-fault : (v : List ℕ) (z : ℤ) (f : Fault) → kindScan 11 v ≡ f → minutesBy f v ≡ Minutes z → StandsFor z v
 by-fault v z fitting e h =
     let same : signed (isBehind v) (timeOf v) ≡ z = cc in
-    subst (λ (y : ℤ). StandsFor y v) same (offset-stands v (kind-11 v .0 e))
+    subst (λ (y : ℤ). StandsFor y v) same (offset-stands v (kind-11 First v .0 e))
 by-fault v z (breaking o) e h = let n : _≡_ {A = ℕ} 0 1 = cc in absurd (omega arith)
 
 minutes-to : (v : List ℕ) (z : ℤ) → minutesOf v ≡ Minutes z → StandsFor z v
@@ -80,10 +81,10 @@ range-law (minutes-behind {h = h} {m = m} l k) = (h * 60 + m, omega arith, inr r
 -- the scan breaks off where an offset does
 breaks-offset : (v : List ℕ) (o : ℕ) → (kindScan 11 v ≡ breaking o) ↔ Dead Offset v o
 breaks-offset v o =
-    let b = breaks-kind 11 v o (omega arith) in
-    let same : (w : List ℕ) → Matches (shapeOf 11) w ↔ Offset w = λ w. (λ m. kind-11 w .0 (fits-kind 11 w .1 m), λ m. fits-kind 11 w .0 (kind-11 w .1 m)) in (
-      λ e. dead-alike (Matches (shapeOf 11)) Offset same v o (b .0 e),
-      λ h. b .1 (dead-alike Offset (Matches (shapeOf 11)) (λ w. (same w .1, same w .0)) v o h),
+    let b = breaks-kind First 11 v o (omega arith) in
+    let same : (w : List ℕ) → Matches (shapeIn First 11) w ↔ Offset w = λ w. (λ m. kind-11 First w .0 (fits-kind First 11 w .1 m), λ m. fits-kind First 11 w .0 (kind-11 First w .1 m)) in (
+      λ e. dead-alike (Matches (shapeIn First 11)) Offset same v o (b .0 e),
+      λ h. b .1 (dead-alike Offset (Matches (shapeIn First 11)) (λ w. (same w .1, same w .0)) v o h),
     )
 
 refused-to : (v : List ℕ) (n p : ℕ) (f : Fault) → kindScan 11 v ≡ f → minutesBy f v ≡ Refused n p → (n ≡ refusal.value) × Dead Offset v p

@@ -8,16 +8,18 @@ use lib.Dec.{eqb}
 use borrow.Author.Tests.{eqb-true, ne-eqb}
 use Rattle.octets.specs.Cases.{lower, same}
 use Rattle.octets.specs.Ascii.{octets}
+use Rattle.property_table.specs.declared.Edition.{Edition}
+use Rattle.property_table.specs.declared.Edition.the-variants.{First}
 use Rattle.value_kinds.specs.Octets.{Octets, scheme, graphic, digit, colon, semicolon, letter, sex, theV, theC, theA, theR, theD, four, point, nought, holds}
 use Rattle.value_kinds.specs.Shapes.{Shape, empty, one, _then_, _or_, many, joined, each, Matches}
-use Rattle.value_kinds.specs.Kinds.{text, uri, gender, pidmap, vcard, version, shapeOf, kindScan, valueScan, lineShape}
+use Rattle.value_kinds.specs.Kinds.{text, uri, gender, pidmap, vcard, version, mostOfName, mostOfAddress, shapeIn, kindIn, valueIn, lineShape}
 use Rattle.octets.specs.Counts.{allIn}
 use Rattle.value_kinds.specs.declared.Fault.the-variants.{Fits}
 use Rattle.octets.proofs.Bools.{and-both}
 use Rattle.value_kinds.proofs.QuietLaws.{run-many, itself, whole}
-use Rattle.value_laws.specs.Words.{In, All, Text, Texts, Semicolons, Uri, Gender, Pidmap}
+use Rattle.value_laws.specs.Words.{In, All, Text, Texts, Components, Uri, Gender, Pidmap}
 use Rattle.value_laws.proofs.KindLaws.{fits-kind, fits-line}
-use Rattle.value_laws.proofs.Escapes.{is-text, is-texts, is-five, is-seven, is-components}
+use Rattle.value_laws.proofs.Escapes.{is-text, is-texts, is-name, is-address, is-components}
 
 abbrev pub through : {A B C : Type 0} → A ↔ B → B ↔ C → A ↔ C
 through f g = (λ a. g .0 (f .0 a), λ c. f .1 (g .1 c))
@@ -84,8 +86,8 @@ pidmap-words v = (to, from)
         (tail-from digit semicolon uri a m b k l (uri-words b .1 n))
 
 text-words : (v : List ℕ) → Matches text v ↔ Text v
-unfolding shapeOf
-text-words v = is-text v
+unfolding shapeIn
+text-words v = is-text First v
 
 gender-words : (v : List ℕ) → Matches gender v ↔ Gender v
 unfolding gender Matches
@@ -174,56 +176,57 @@ version-words v = (to, from)
         head-from four (one point then one nought) 52 v (46 ∷ 48 ∷ []) e refl
         (head-from point (one nought) 46 (46 ∷ 48 ∷ []) (48 ∷ []) refl refl (48, refl, refl))
 
--- kind 0 takes anything
-pub kind-0 : (v : List ℕ) → kindScan 0 v ≡ Fits
-unfolding shapeOf
-kind-0 v = fits-kind 0 v .1 (whole v)
+module _ (e : Edition) where
+  -- kind 0 takes anything
+  pub kind-0 : (v : List ℕ) → kindIn e 0 v ≡ Fits
+  unfolding shapeIn
+  kind-0 v = fits-kind e 0 v .1 (whole v)
 
--- kind 1: each backslash starts an escape, and no comma is bare
-pub kind-1 : (v : List ℕ) → (kindScan 1 v ≡ Fits) ↔ Text v
-kind-1 v = through (fits-kind 1 v) (is-text v)
+  -- kind 1: each backslash starts an escape, and no comma is bare
+  pub kind-1 : (v : List ℕ) → (kindIn e 1 v ≡ Fits) ↔ Text v
+  kind-1 v = through (fits-kind e 1 v) (is-text e v)
 
--- kind 2: each backslash starts an escape
-pub kind-2 : (v : List ℕ) → (kindScan 2 v ≡ Fits) ↔ Texts v
-kind-2 v = through (fits-kind 2 v) (is-texts v)
+  -- kind 2: each backslash starts an escape
+  pub kind-2 : (v : List ℕ) → (kindIn e 2 v ≡ Fits) ↔ Texts v
+  kind-2 v = through (fits-kind e 2 v) (is-texts e v)
 
-pub kind-3 : (v : List ℕ) → (kindScan 3 v ≡ Fits) ↔ Uri v
-unfolding shapeOf
-kind-3 v = through (fits-kind 3 v) (uri-words v)
+  pub kind-3 : (v : List ℕ) → (kindIn e 3 v ≡ Fits) ↔ Uri v
+  unfolding shapeIn
+  kind-3 v = through (fits-kind e 3 v) (uri-words v)
 
--- kinds 4 and 5: each backslash starts an escape, and four or six semicolons are bare
-pub kind-4 : (v : List ℕ) → (kindScan 4 v ≡ Fits) ↔ Semicolons 4 v
-kind-4 v = through (fits-kind 4 v) (is-five v)
+  -- kinds 4 and 5: each backslash starts an escape, and as many semicolons are bare as the edition lets N and ADR have
+  pub kind-4 : (v : List ℕ) → (kindIn e 4 v ≡ Fits) ↔ Components 5 (mostOfName e) v
+  kind-4 v = through (fits-kind e 4 v) (is-name e v)
 
-pub kind-5 : (v : List ℕ) → (kindScan 5 v ≡ Fits) ↔ Semicolons 6 v
-kind-5 v = through (fits-kind 5 v) (is-seven v)
+  pub kind-5 : (v : List ℕ) → (kindIn e 5 v ≡ Fits) ↔ Components 7 (mostOfAddress e) v
+  kind-5 v = through (fits-kind e 5 v) (is-address e v)
 
--- kind 6 takes what kind 1 does
-pub kind-6 : (v : List ℕ) → (kindScan 6 v ≡ Fits) ↔ Text v
-kind-6 v = through (fits-kind 6 v) (is-components v)
+  -- kind 6 takes what kind 1 does
+  pub kind-6 : (v : List ℕ) → (kindIn e 6 v ≡ Fits) ↔ Text v
+  kind-6 v = through (fits-kind e 6 v) (is-components e v)
 
-pub kind-7 : (v : List ℕ) → (kindScan 7 v ≡ Fits) ↔ Gender v
-unfolding shapeOf
-kind-7 v = through (fits-kind 7 v) (gender-words v)
+  pub kind-7 : (v : List ℕ) → (kindIn e 7 v ≡ Fits) ↔ Gender v
+  unfolding shapeIn
+  kind-7 v = through (fits-kind e 7 v) (gender-words v)
 
-pub kind-8 : (v : List ℕ) → (kindScan 8 v ≡ Fits) ↔ Pidmap v
-unfolding shapeOf
-kind-8 v = through (fits-kind 8 v) (pidmap-words v)
+  pub kind-8 : (v : List ℕ) → (kindIn e 8 v ≡ Fits) ↔ Pidmap v
+  unfolding shapeIn
+  kind-8 v = through (fits-kind e 8 v) (pidmap-words v)
 
--- BEGIN and END: VCARD in any case; VERSION: exactly 4.0
-pub fixed-begin : (k : ℕ) (v : List ℕ) → (valueScan 1 k v ≡ Fits) ↔ (same v (octets "VCARD") ≡ true)
-unfolding lineShape
-fixed-begin k v = through (fits-line 1 k v) (vcard-words v)
+  -- BEGIN and END: VCARD in any case; VERSION: exactly 4.0
+  pub fixed-begin : (k : ℕ) (v : List ℕ) → (valueIn e 1 k v ≡ Fits) ↔ (same v (octets "VCARD") ≡ true)
+  unfolding lineShape
+  fixed-begin k v = through (fits-line e 1 k v) (vcard-words v)
 
-pub fixed-end : (k : ℕ) (v : List ℕ) → (valueScan 2 k v ≡ Fits) ↔ (same v (octets "VCARD") ≡ true)
-unfolding lineShape
-fixed-end k v = through (fits-line 2 k v) (vcard-words v)
+  pub fixed-end : (k : ℕ) (v : List ℕ) → (valueIn e 2 k v ≡ Fits) ↔ (same v (octets "VCARD") ≡ true)
+  unfolding lineShape
+  fixed-end k v = through (fits-line e 2 k v) (vcard-words v)
 
-pub fixed-version : (k : ℕ) (v : List ℕ) → (valueScan 34 k v ≡ Fits) ↔ (v ≡ octets "4.0")
-unfolding lineShape
-fixed-version k v = through (fits-line 34 k v) (version-words v)
+  pub fixed-version : (k : ℕ) (v : List ℕ) → (valueIn e 34 k v ≡ Fits) ↔ (v ≡ octets "4.0")
+  unfolding lineShape
+  fixed-version k v = through (fits-line e 34 k v) (version-words v)
 
--- any other row: the line's kind
-pub by-kind : (row k : ℕ) (v : List ℕ) → (row ≡ 1 → ⊥) → (row ≡ 2 → ⊥) → (row ≡ 34 → ⊥) → valueScan row k v ≡ kindScan k v
-unfolding valueScan kindScan lineShape
-by-kind row k v e f g = rw (ne-eqb row 1 e, ne-eqb row 2 f, ne-eqb row 34 g)
+  -- any other row: the line's kind
+  pub by-kind : (row k : ℕ) (v : List ℕ) → (row ≡ 1 → ⊥) → (row ≡ 2 → ⊥) → (row ≡ 34 → ⊥) → valueIn e row k v ≡ kindIn e k v
+  unfolding valueIn kindIn lineShape
+  by-kind row k v f g h = rw (ne-eqb row 1 f, ne-eqb row 2 g, ne-eqb row 34 h)

@@ -1,5 +1,5 @@
 -- The values of each kind in plain words, to be held beside REFERENCE, The kinds of value. Assumes nothing.
-use Prim.Native.Nat.{ℕ, suc}
+use Prim.Native.Nat.{ℕ, suc, _≤_}
 use mathlib.Core.Path.{_≡_}
 use mathlib.Core.Bool.{true}
 use mathlib.Core.List.{List, [], _∷_, _++_}
@@ -32,6 +32,10 @@ Texts v = (c : ℕ) × (s : ℕ) × Escaped c s v
 -- so many bare semicolons
 abbrev pub Semicolons : ℕ → List ℕ → Type 0
 Semicolons n v = (c : ℕ) × Escaped c n v
+
+-- from lo to hi components, one more than there are bare semicolons
+abbrev pub Components : ℕ → ℕ → List ℕ → Type 0
+Components lo hi v = (n : ℕ) × (lo ≤ suc n) × (suc n ≤ hi) × Semicolons n v
 
 -- a letter, then letters, digits, `+`, `-`, `.`, then `:`, then octets 21-7E only
 abbrev pub Uri : List ℕ → Type 0

@@ -4,6 +4,7 @@ ghost use Prim.Native.Nat.{_≤_};
 ghost use Rattle.value_offsets.specs.Minutes.{digitAt, pairAt, timeOf, isBehind, signed, mostMinutes, Bounded, minutesOf};
 use numbers::kind;
 use numbers::refusal;
+use property_table::Edition;
 use value_kinds::Fault;
 
 // The minutes that an offset is ahead of UTC, below 0 where it is behind; or the refusal, with its place in the value.
@@ -77,7 +78,7 @@ pub fn minutes(value: &[u8]) -> Offset
     ensures { λ r. ⌜ Bounded r ⌝ }
 {
     let steps = value_automaton::scanner::table();
-    let f = value_automaton::value_fault(&steps, kind::OFFSET, value);
+    let f = value_automaton::value_fault(&steps, Edition::First, kind::OFFSET, value);
     if let Fault::Breaks(octet) = f {
         return Offset::Refused(refusal::VALUE, octet);
     }

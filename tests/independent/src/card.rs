@@ -4,7 +4,7 @@ use crate::characters::first_fault;
 use crate::content::{parse, ContentLine};
 use crate::line_faults::fault_of;
 use crate::lines::LogicalLine;
-use crate::properties::{first_value, is_frame, kind_of, row_of, Row, BEGIN, END, FN, KIND, MEMBER, VERSION};
+use crate::properties::{first_value, is_frame, kind_of, row_in, Edition, Row, BEGIN, END, FN, KIND, MEMBER, VERSION};
 use crate::refusal::{refuse, Refusal};
 use crate::wanted::Wanted;
 
@@ -20,6 +20,7 @@ pub struct AcceptedLine {
 /// What has been seen of the card that is being read; before BEGIN it has no lines.
 #[derive(Clone, Debug, Default)]
 pub struct Card {
+    edition: Edition,
     lines: usize,
     /// The instances of single properties so far: the property's number, and their ALTID value where they have one.
     instances: Vec<(u32, Option<Vec<u8>>)>,
@@ -29,6 +30,11 @@ pub struct Card {
 }
 
 impl Card {
+    /// Before the first line of a card of this edition.
+    pub fn of(edition: Edition) -> Card {
+        Card { edition, ..Card::default() }
+    }
+
     /// Whether BEGIN has been read and END hasn't.
     pub fn is_open(&self) -> bool {
         self.lines > 0
@@ -43,7 +49,7 @@ impl Card {
             return refuse(fault, line.start);
         }
         let parts = parse(&line.octets).expect("a line without a fault has its parts");
-        let row = row_of(&parts.name);
+        let row = row_in(self.edition, &parts.name);
         if self.is_out_of_order(row) {
             return refuse(9, line.start);
         }
@@ -51,7 +57,7 @@ impl Card {
             return refuse(8, line.start);
         }
         let kind = kind_of(row, &parts.parameters);
-        let wanted = wanted_of(row, kind);
+        let wanted = wanted_of(self.edition, row, kind);
         if !wanted.fits(&parts.value) {
             return refuse(7, line.place(parts.value_start + wanted.first_dead(&parts.value)));
         }
@@ -103,7 +109,7 @@ impl Card {
         if self.has_member && !self.is_group {
             return refuse(12, start);
         }
-        *self = Card::default();
+        *self = Card::of(self.edition);
         Ok(())
     }
 }
@@ -114,10 +120,11 @@ fn is_control(octet: u8) -> bool {
 }
 
 /// BEGIN, END and VERSION have fixed values; any other line's value has its kind.
-fn wanted_of(row: Row, kind: u32) -> Wanted {
+fn wanted_of(edition: Edition, row: Row, kind: u32) -> Wanted {
     match row.number {
         BEGIN | END => Wanted::Vcard,
         VERSION => Wanted::Version,
+        _ if edition == Edition::Second && matches!(kind, 4 | 5) => Wanted::Wider(kind),
         _ => Wanted::Kind(kind),
     }
 }

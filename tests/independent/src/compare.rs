@@ -9,6 +9,7 @@ use std::thread;
 use crate::console::Console;
 use crate::generator::dates::dates;
 use crate::generator::alternatives::alternatives;
+use crate::generator::editions::editions;
 use crate::generator::folds::folds;
 use crate::generator::labels::labels;
 use crate::generator::line_faults::line_faults;
@@ -30,6 +31,7 @@ pub struct Plan {
     pub names: usize,
     pub dates: usize,
     pub octets: usize,
+    pub editions: usize,
     pub alternatives: usize,
     pub folds: usize,
     pub texts: usize,
@@ -50,6 +52,7 @@ impl Default for Plan {
             names: 30_000,
             dates: 60_000,
             octets: 40_000,
+            editions: 40_000,
             alternatives: 30_000,
             folds: 10_000,
             texts: 80_000,
@@ -81,6 +84,7 @@ pub fn steps(plan: Plan) -> impl Iterator<Item = Step> {
         .chain(names(plan.seed).take(plan.names).map(of("names")))
         .chain(dates(plan.seed).take(plan.dates).map(of("dates")))
         .chain(octets(plan.seed).take(plan.octets).map(of("octets")))
+        .chain(editions(plan.seed).take(plan.editions).map(of("editions")))
         .chain(alternatives(plan.seed).take(plan.alternatives).map(of("alternatives")))
         .chain(folds(plan.seed).take(plan.folds).map(of("folds")))
         .chain(texts(plan.seed).take(plan.texts).map(of("texts")))

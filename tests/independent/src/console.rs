@@ -21,10 +21,11 @@ use std::io::{self, BufRead, BufReader, Read, Write};
 
 use crate::dates::minutes;
 use crate::desk::Desk;
-use crate::folder::{fold, fold_in};
+use crate::folder::{fold, fold_by};
 use crate::hex::word_of;
 use crate::labels::{decode, encode};
-use crate::reader::{judge, read, Counts, RECORD_NUMBERS};
+use crate::properties::Edition;
+use crate::reader::{judge, judge_in, read_in, Counts, RECORD_NUMBERS};
 use crate::refusal::Refusal;
 use crate::report::Report;
 use crate::requests::{request_of, Request};
@@ -72,9 +73,17 @@ impl Console {
     fn answer_request(&mut self, request: Request) -> String {
         match request {
             Request::Judge { octets } => verdict_line(judge(&octets)),
-            Request::Read { copy_room, record_room, octets } => read_answer(copy_room, record_room, &octets),
+            Request::Read { copy_room, record_room, octets } => {
+                read_answer(Edition::First, copy_room, record_room, &octets)
+            }
+            Request::JudgeIn { edition, octets } => verdict_line(judge_in(edition, &octets)),
+            Request::ReadIn { edition, copy_room, record_room, octets } => {
+                read_answer(edition, copy_room, record_room, &octets)
+            }
             Request::Fold { room, octets } => room_answer(fold, room, &octets),
-            Request::FoldIn { style, room, octets } => room_answer(|input, out| fold_in(style, input, out), room, &octets),
+            Request::FoldIn { edition, style, room, octets } => {
+                room_answer(|input, out| fold_by(edition, style, input, out), room, &octets)
+            }
             Request::Escape { room, octets } => room_answer(escape, room, &octets),
             Request::Unescape { room, octets } => room_answer(unescape, room, &octets),
             Request::Encode { rule, room, octets } => {
@@ -138,11 +147,11 @@ impl Console {
     }
 }
 
-/// The answer of the reader with rooms of these sizes.
-fn read_answer(copy_room: usize, record_room: usize, octets: &[u8]) -> String {
+/// The answer of the reader in an edition, with rooms of these sizes.
+fn read_answer(edition: Edition, copy_room: usize, record_room: usize, octets: &[u8]) -> String {
     let mut copy = vec![ROOM_OCTET; copy_room];
     let mut records = vec![ROOM_NUMBER; record_room];
-    let verdict = read(octets, &mut copy, &mut records);
+    let verdict = read_in(edition, octets, &mut copy, &mut records);
     let numbers_written = verdict.map_or(0, |counts| RECORD_NUMBERS * counts.lines);
     let octets_written = copy_length(&records[..numbers_written]);
     let touched = copy[octets_written..].iter().any(|&octet| octet != ROOM_OCTET)

@@ -1,7 +1,8 @@
 // Knows folding: how an accepted input's logical lines are cut into physical lines, as read or with their names in capitals.
 
 use crate::card::AcceptedLine;
-use crate::reader::accepted_lines;
+use crate::properties::Edition;
+use crate::reader::accepted_lines_in;
 use crate::refusal::{refuse, Refusal, MOST_OCTETS};
 use crate::text::write;
 
@@ -28,10 +29,15 @@ pub fn fold_as_read(input: &[u8], out: &mut [u8]) -> Result<usize, Refusal> {
     fold_in(Style::AsRead, input, out)
 }
 
-/// Writes the folded form of an accepted input in a style to the room; answers the octets written.
+/// Folds in a style, in edition one.
 pub fn fold_in(style: Style, input: &[u8], out: &mut [u8]) -> Result<usize, Refusal> {
+    fold_by(Edition::First, style, input, out)
+}
+
+/// Writes the folded form of an input that the edition accepts in a style to the room; answers the octets written.
+pub fn fold_by(edition: Edition, style: Style, input: &[u8], out: &mut [u8]) -> Result<usize, Refusal> {
     let mut folded = Vec::new();
-    for line in accepted_lines(input)? {
+    for line in accepted_lines_in(edition, input)? {
         folded.extend(folded_line(&styled(style, line), MOST_LINE_OCTETS));
     }
     if folded.len() > MOST_OCTETS {

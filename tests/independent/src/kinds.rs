@@ -1,17 +1,29 @@
 // Knows the kinds of value, 0 to 11, and which values fit each.
 
+use std::ops::RangeInclusive;
+
 use crate::dates::{is_date_and_or_time, is_offset, is_timestamp};
+use crate::properties::Edition;
 use crate::text::first_bad_escape;
 
-/// Whether the value fits the kind.
+/// Whether the value fits the kind in edition one.
 pub fn fits(kind: u32, value: &[u8]) -> bool {
+    fits_in(Edition::First, kind, value)
+}
+
+/// Whether the value fits the kind; edition two lets N and ADR have more components.
+pub fn fits_in(edition: Edition, kind: u32, value: &[u8]) -> bool {
+    let (name, address) = match edition {
+        Edition::First => (5..=5, 7..=7),
+        Edition::Second => (5..=7, 7..=18),
+    };
     match kind {
         0 => true,
         1 => is_text(value),
         2 => is_text_list(value),
         3 => is_uri(value),
-        4 => is_structure_of_lists(value, 5),
-        5 => is_structure_of_lists(value, 7),
+        4 => is_structure_of_lists(value, name),
+        5 => is_structure_of_lists(value, address),
         6 => split_bare(value, b';').into_iter().all(is_text),
         7 => is_gender(value),
         8 => is_client_pid_map(value),
@@ -33,9 +45,9 @@ fn is_text_list(value: &[u8]) -> bool {
 }
 
 /// Kinds 4 and 5: so many components split by bare `;`, each a kind 2 list.
-fn is_structure_of_lists(value: &[u8], count: usize) -> bool {
+fn is_structure_of_lists(value: &[u8], counts: RangeInclusive<usize>) -> bool {
     let components = split_bare(value, b';');
-    components.len() == count && components.into_iter().all(is_text_list)
+    counts.contains(&components.len()) && components.into_iter().all(is_text_list)
 }
 
 /// Kind 3: a letter, then letters, digits, `+`, `-`, `.`, then `:`, then octets 21-7E only.

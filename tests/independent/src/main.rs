@@ -19,7 +19,7 @@ const USAGE: &str = "usage:
                                                compares another console with this one
   independent routines PROGRAM [COUNTS] [-- ARGUMENTS]
                                                compares the C routines, called by tests/routines.c, with this program
-COUNTS: --readers N --line-faults N --names N --dates N --octets N --alternatives N --folds N --texts N --labels N --lists N --desks N --reports N --protocol N --seed S; a family of 0 is left out";
+COUNTS: --readers N --line-faults N --names N --dates N --octets N --editions N --alternatives N --folds N --texts N --labels N --lists N --desks N --reports N --protocol N --seed S; a family of 0 is left out";
 
 fn main() -> ExitCode {
     let arguments: Vec<String> = std::env::args().skip(1).collect();
@@ -69,7 +69,7 @@ fn generate(plan: Plan) -> Result<(), String> {
 }
 
 fn run_survey(plan: Plan) -> Result<(), String> {
-    for family in ["protocol", "readers", "line faults", "names", "dates", "octets", "alternatives", "folds", "texts", "labels", "lists", "reports"] {
+    for family in ["protocol", "readers", "line faults", "names", "dates", "octets", "editions", "alternatives", "folds", "texts", "labels", "lists", "reports"] {
         let lines = steps(plan).filter(|step| step.family == family).map(|step| step.line);
         println!("{family}: {}", survey(lines));
     }
@@ -106,6 +106,7 @@ fn plan_of(words: &[&str]) -> Result<Plan, String> {
             "--names" => plan.names = count as usize,
             "--dates" => plan.dates = count as usize,
             "--octets" => plan.octets = count as usize,
+            "--editions" => plan.editions = count as usize,
             "--alternatives" => plan.alternatives = count as usize,
             "--folds" => plan.folds = count as usize,
             "--texts" => plan.texts = count as usize,

@@ -72,13 +72,39 @@ pub const ROWS: [Row; 38] = [
     many(38, "CALURI", 3),
 ];
 
+/// The edition of the rules: RFC 6350 alone, or with RFC 9554.
+#[derive(Clone, Copy, Debug, Default, PartialEq, Eq)]
+pub enum Edition {
+    #[default]
+    First,
+    Second,
+}
+
+/// Both editions, in the console's order; its numbers count from 1.
+pub const EDITIONS: [Edition; 2] = [Edition::First, Edition::Second];
+
+/// The rows that edition two adds.
+pub const NEWER: [Row; 5] = [
+    single(39, "CREATED", 10),
+    many(40, "GRAMGENDER", 1),
+    single(41, "LANGUAGE", 0),
+    many(42, "PRONOUNS", 1),
+    many(43, "SOCIALPROFILE", 3),
+];
+
 /// Any other name: number 0, kind 0.
 pub const UNLISTED: Row = many(0, "", 0);
 
-/// The row of this name, compared without case.
+/// The row of this name in edition one, compared without case.
 pub fn row_of(name: &[u8]) -> Row {
+    row_in(Edition::First, name)
+}
+
+/// The row of this name in an edition, compared without case.
+pub fn row_in(edition: Edition, name: &[u8]) -> Row {
     let same = |row: &Row| row.name.as_bytes().eq_ignore_ascii_case(name);
-    ROWS.into_iter().find(same).unwrap_or(UNLISTED)
+    let newer = NEWER.into_iter().filter(|_| edition == Edition::Second);
+    ROWS.into_iter().chain(newer).find(same).unwrap_or(UNLISTED)
 }
 
 /// Whether the row is BEGIN, VERSION or END, the lines that frame a card.

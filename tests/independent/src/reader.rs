@@ -2,7 +2,7 @@
 
 use crate::card::{AcceptedLine, Card};
 use crate::lines::{first_lone_line_end, logical_lines};
-use crate::properties::END;
+use crate::properties::{Edition, END};
 use crate::refusal::{refuse, Refusal, MOST_OCTETS};
 
 /// What an accepting reader answers.
@@ -15,14 +15,29 @@ pub struct Counts {
 /// Numbers in the record of one logical line.
 pub const RECORD_NUMBERS: usize = 8;
 
-/// The verdict on an input: refusals 1 to 12, or the counts.
+/// The verdict on an input in edition one: refusals 1 to 12, or the counts.
 pub fn judge(input: &[u8]) -> Result<Counts, Refusal> {
-    Ok(counts_of(&accepted_lines(input)?))
+    judge_in(Edition::First, input)
+}
+
+/// The verdict on an input in an edition.
+pub fn judge_in(edition: Edition, input: &[u8]) -> Result<Counts, Refusal> {
+    Ok(counts_of(&accepted_lines_in(edition, input)?))
 }
 
 /// The verdict with 13 and 14; writes copy and records, and nothing on any refusal.
 pub fn read(input: &[u8], copy_room: &mut [u8], record_room: &mut [u32]) -> Result<Counts, Refusal> {
-    let lines = accepted_lines(input)?;
+    read_in(Edition::First, input, copy_room, record_room)
+}
+
+/// The same in an edition.
+pub fn read_in(
+    edition: Edition,
+    input: &[u8],
+    copy_room: &mut [u8],
+    record_room: &mut [u32],
+) -> Result<Counts, Refusal> {
+    let lines = accepted_lines_in(edition, input)?;
     let copy = copy_of(&lines);
     let records = records_of(&lines);
     if copy_room.len() < copy.len() {
@@ -38,8 +53,13 @@ pub fn read(input: &[u8], copy_room: &mut [u8], record_room: &mut [u32]) -> Resu
 
 /// The logical lines of an accepted input, or the first refusal of 1 to 12.
 pub fn accepted_lines(input: &[u8]) -> Result<Vec<AcceptedLine>, Refusal> {
+    accepted_lines_in(Edition::First, input)
+}
+
+/// The same in an edition.
+pub fn accepted_lines_in(edition: Edition, input: &[u8]) -> Result<Vec<AcceptedLine>, Refusal> {
     check_whole(input)?;
-    let mut card = Card::default();
+    let mut card = Card::of(edition);
     let mut accepted = Vec::new();
     for line in logical_lines(input) {
         accepted.push(card.take(line)?);

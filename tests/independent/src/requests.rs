@@ -3,6 +3,7 @@
 use crate::folder::{Style, STYLES};
 use crate::hex::{octets_of, word_of};
 use crate::labels::{Rule, RULES};
+use crate::properties::{Edition, EDITIONS};
 use crate::report::{count_named, Count};
 
 /// The most octets or numbers of room that can be asked for.
@@ -20,7 +21,9 @@ pub enum Request {
     Judge { octets: Vec<u8> },
     Read { copy_room: usize, record_room: usize, octets: Vec<u8> },
     Fold { room: usize, octets: Vec<u8> },
-    FoldIn { style: Style, room: usize, octets: Vec<u8> },
+    JudgeIn { edition: Edition, octets: Vec<u8> },
+    ReadIn { edition: Edition, copy_room: usize, record_room: usize, octets: Vec<u8> },
+    FoldIn { edition: Edition, style: Style, room: usize, octets: Vec<u8> },
     Escape { room: usize, octets: Vec<u8> },
     Unescape { room: usize, octets: Vec<u8> },
     Encode { rule: Rule, room: usize, octets: Vec<u8> },
@@ -61,10 +64,19 @@ fn entry_request(words: &[&[u8]]) -> Option<Request> {
             record_room: size_of(records, MOST_ROOM)?,
             octets: octets_of(octets)?,
         }),
+        [b"judge-in", edition, octets] => {
+            Some(Request::JudgeIn { edition: edition_of(edition)?, octets: octets_of(octets)? })
+        }
+        [b"read-in", edition, copy, records, octets] => Some(Request::ReadIn {
+            edition: edition_of(edition)?,
+            copy_room: size_of(copy, MOST_ROOM)?,
+            record_room: size_of(records, MOST_ROOM)?,
+            octets: octets_of(octets)?,
+        }),
         [b"fold-in", edition, style, room, octets] => {
-            number_of(edition, 1).filter(|&edition| edition == 1)?;
+            let edition = edition_of(edition)?;
             let style = *STYLES.get(size_of(style, STYLES.len())?)?;
-            Some(Request::FoldIn { style, room: size_of(room, MOST_ROOM)?, octets: octets_of(octets)? })
+            Some(Request::FoldIn { edition, style, room: size_of(room, MOST_ROOM)?, octets: octets_of(octets)? })
         }
         [word @ (b"encode" | b"decode"), rule, room, octets] => {
             let rule = *RULES.get(size_of(rule, RULES.len())?)?;
@@ -139,6 +151,11 @@ fn number_of(word: &[u8], most: u64) -> Option<u64> {
     Some(number).filter(|&number| number <= most)
 }
 
+/// An edition by its number, 1 or 2.
+fn edition_of(word: &[u8]) -> Option<Edition> {
+    EDITIONS.get(size_of(word, EDITIONS.len())?.checked_sub(1)?).copied()
+}
+
 /// A decimal number of octets or numbers, up to a limit.
 fn size_of(word: &[u8], most: usize) -> Option<usize> {
     number_of(word, most as u64).map(|number| number as usize)
@@ -171,7 +188,27 @@ pub fn label_line(word: &str, rule: Rule, room: usize, octets: &[u8]) -> String 
 
 /// The line `fold-in 1 STYLE ROOM OCTETS`.
 pub fn fold_in_line(style: usize, room: usize, octets: &[u8]) -> String {
-    format!("fold-in 1 {style} {room} {}", word_of(octets))
+    fold_by_line(Edition::First, style, room, octets)
+}
+
+/// The number of an edition.
+fn number_of_edition(edition: Edition) -> usize {
+    1 + edition as usize
+}
+
+/// The line `fold-in EDITION STYLE ROOM OCTETS`.
+pub fn fold_by_line(edition: Edition, style: usize, room: usize, octets: &[u8]) -> String {
+    format!("fold-in {} {style} {room} {}", number_of_edition(edition), word_of(octets))
+}
+
+/// The line `judge-in EDITION OCTETS`.
+pub fn judge_in_line(edition: Edition, octets: &[u8]) -> String {
+    format!("judge-in {} {}", number_of_edition(edition), word_of(octets))
+}
+
+/// The line `read-in EDITION COPYROOM RECORDROOM OCTETS`.
+pub fn read_in_line(edition: Edition, copy_room: usize, record_room: usize, octets: &[u8]) -> String {
+    format!("read-in {} {copy_room} {record_room} {}", number_of_edition(edition), word_of(octets))
 }
 
 /// The line `add TICKET TICK OCTETS`, at tick 0.

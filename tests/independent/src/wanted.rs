@@ -1,6 +1,7 @@
 // Knows what the value of a line is held to, and the first octet from which no continuation could still satisfy it: continuations are tried.
 
-use crate::kinds::fits;
+use crate::kinds::{fits, fits_in};
+use crate::properties::Edition;
 
 /// What a value has to be: the word of BEGIN and END, the number of VERSION, or of a kind.
 #[derive(Clone, Copy, Debug, PartialEq, Eq)]
@@ -8,6 +9,8 @@ pub enum Wanted {
     Vcard,
     Version,
     Kind(u32),
+    /// N and ADR of edition two.
+    Wider(u32),
 }
 
 impl Wanted {
@@ -17,6 +20,7 @@ impl Wanted {
             Wanted::Vcard => value.eq_ignore_ascii_case(b"VCARD"),
             Wanted::Version => value == b"4.0",
             Wanted::Kind(kind) => fits(kind, value),
+            Wanted::Wider(kind) => fits_in(Edition::Second, kind, value),
         }
     }
 
@@ -47,13 +51,13 @@ impl Wanted {
             Wanted::Kind(0) => &[b""],
             Wanted::Kind(1 | 2 | 6 | 7) => &[b"n"],
             Wanted::Kind(3) => &[b"a:"],
-            Wanted::Kind(4) => &[b"n;;;;", b"n;;;", b"n;;", b"n;", b"n"],
-            Wanted::Kind(5) => &[b"n;;;;;;", b"n;;;;;", b"n;;;;", b"n;;;", b"n;;", b"n;", b"n"],
+            Wanted::Kind(4) | Wanted::Wider(4) => &[b"n;;;;", b"n;;;", b"n;;", b"n;", b"n"],
+            Wanted::Kind(5) | Wanted::Wider(5) => &[b"n;;;;;;", b"n;;;;;", b"n;;;;", b"n;;;", b"n;;", b"n;", b"n"],
             Wanted::Kind(8) => &[b"1;a:"],
             Wanted::Kind(9) => &[b"00001101", b"00001130", b"0000", b"--01"],
             Wanted::Kind(10) => &[b"00001101T000000", b"00001130T000000"],
             Wanted::Kind(11) => &[b"+0000"],
-            Wanted::Kind(_) => unreachable!("the documents have kinds 0 to 11"),
+            Wanted::Kind(_) | Wanted::Wider(_) => unreachable!("the documents have kinds 0 to 11, and 4 and 5 are wider in edition two"),
         };
         rows.iter().flat_map(|row| (0..=row.len()).map(|start| &row[start..])).collect()
     }
@@ -71,6 +75,8 @@ mod tests {
         all.push((Wanted::Kind(3), b"a1+:\\ \x7F\xC3", 2));
         all.push((Wanted::Kind(4), b"a\\,;n", 5));
         all.push((Wanted::Kind(5), b"\\,;n", 7));
+        all.push((Wanted::Wider(4), b"a\\,;n", 5));
+        all.push((Wanted::Wider(5), b"\\,;n", 7));
         all.push((Wanted::Kind(7), b"MuX;\\,n", 1));
         all.push((Wanted::Kind(8), b"1;a: \xC3", 4));
         all.push((Wanted::Kind(9), b"0123469-T+Z", 4));
@@ -161,12 +167,14 @@ mod tests {
 
     #[test]
     fn the_dead_octet_is_the_first_after_which_nothing_goes_on() {
-        let goods: [(Wanted, &[u8]); 9] = [
+        let goods: [(Wanted, &[u8]); 11] = [
             (Wanted::Vcard, b"VCARD"),
             (Wanted::Version, b"4.0"),
             (Wanted::Kind(1), b"a\\,;b"),
             (Wanted::Kind(3), b"ab:c"),
             (Wanted::Kind(4), b"a;,;\\n;;"),
+            (Wanted::Wider(4), b"a;,;\\n;;;b"),
+            (Wanted::Wider(5), b";;;;;;a;;;;;;;;;\\n;;"),
             (Wanted::Kind(8), b"12;ab:c"),
             (Wanted::Kind(9), b"20240229T1059+0130"),
             (Wanted::Kind(10), b"20230430T235960Z"),

@@ -12,6 +12,7 @@ const NOTHING: Plan = Plan {
     names: 0,
     dates: 0,
     octets: 0,
+    editions: 0,
     alternatives: 0,
     folds: 0,
     texts: 0,
@@ -31,6 +32,7 @@ fn small() -> Plan {
         names: 200,
         dates: 400,
         octets: 400,
+        editions: 400,
         alternatives: 200,
         folds: 500,
         texts: 1_000,
@@ -56,7 +58,7 @@ fn compare_side(side: Side, script: &str, plan: Plan) -> Result<String, String> 
 fn the_own_console_gives_the_same_answers() {
     let counts = compare(Side::Console, SELF, &["console".to_string()], small()).expect("no difference");
     assert!(counts.starts_with(
-        "same answers: protocol 188, readers 2000, line faults 300, names 200, dates 400, octets 400, alternatives 200, folds 500, texts 1000, labels 1000, 60 lists of "
+        "same answers: protocol 188, readers 2000, line faults 300, names 200, dates 400, octets 400, editions 400, alternatives 200, folds 500, texts 1000, labels 1000, 60 lists of "
     ));
 }
 
@@ -116,7 +118,7 @@ fn the_c_routines_are_asked_for_what_they_answer() {
     let report = compare_side(Side::Routines, &touched, plan).expect_err("a difference");
     assert!(report.starts_with("difference in folds, request "), "{report}");
     assert!(report.contains("request:\nfold ") && report.ends_with(" touched"), "{report}");
-    let unescapes = Plan { readers: 0, line_faults: 0, names: 0, dates: 0, octets: 0, alternatives: 0, folds: 0, ..small() };
+    let unescapes = Plan { readers: 0, line_faults: 0, names: 0, dates: 0, octets: 0, editions: 0, alternatives: 0, folds: 0, ..small() };
     let same = compare_side(Side::Routines, "\"$0\" console", unescapes);
     assert_eq!(same, Ok("same answers: texts 1000".to_string()));
 }

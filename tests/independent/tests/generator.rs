@@ -322,6 +322,7 @@ fn a_family_of_0_is_left_out() {
         names: 0,
         dates: 0,
         octets: 0,
+        editions: 0,
         alternatives: 0,
         folds: 0,
         texts: 5,

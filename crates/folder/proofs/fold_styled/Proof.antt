@@ -7,15 +7,15 @@ use borrow.Author.Needs.{needs}
 use Rattle.folder.proofs.fold_styled.Statement.{statement}
 use Rattle.folder.proofs.fold_styled.Tie as tie
 
-judge-requires : tie.Need-judge-requires
-judge-requires c κs = search needs
+judge-as-requires : tie.Need-judge-as-requires
+judge-as-requires c κs = search needs
 
 enum-known-v : tie.Need-enum-known-v
 enum-known-v c = search needs
 
 fold-text-requires : tie.Need-fold-text-requires
 fold-text-requires c κs =
-    accepted _ _ _ (sym (c .before .before .before .before .judge .ensures) ∙ c .before .before .v .given .1)
+    accepted _ _ _ _ (sym (c .before .before .before .before .judge-as .ensures) ∙ c .before .before .v .given .1)
 
 enum-known-v-2 : tie.Need-enum-known-v-2
 enum-known-v-2 c = search needs
@@ -26,7 +26,7 @@ same-length c = search needs
 returns : tie.Need-returns
 unfolding foldIn foldBy
 returns c =
-    let v = c .before .before .before .before .before .before .before .judge in
+    let v = c .before .before .before .before .before .before .before .judge-as in
     let a = c .before .before .before .before .before .before .before .before .before .before .args in
     c .before .before .fold-text .ensures
     ∙ sym (ap (λ (r : Verdict). foldBy (a .style) r (a .input .now) (a .out .now)) (sym (v .ensures) ∙ c .before .before .before .before .before .v .given .1))
@@ -34,7 +34,7 @@ returns c =
 returns-2 : tie.Need-returns-2
 unfolding foldIn foldBy
 returns-2 c =
-    let v = c .before .before .before .judge in
+    let v = c .before .before .before .judge-as in
     let a = c .before .before .before .before .before .before .args in
     sym (ap (λ (r : Verdict). foldBy (a .style) r (a .input .now) (a .out .now)) (sym (v .ensures) ∙ c .before .v2 .given .1))
 
@@ -42,7 +42,7 @@ pub fold-styled-spec : {M : Type 1} → statement M
 fold-styled-spec =
     tie.close
     (tie.spec
-    judge-requires
+    judge-as-requires
     enum-known-v
     fold-text-requires
     enum-known-v-2

@@ -1,83 +1,33 @@
 -- `property_table::find_row` meets its contract. Assumes nothing.
 use borrow.Author.Needs.{needs}
 use mathlib.Core.Path.{_≡_, sym, _∙_}
-use mathlib.Core.List.{List}
-use Prim.Native.Nat.{ℕ, zero, suc, _-_, _%_, _<_}
+use Prim.Native.Nat.{_<_, _≤_}
 use native.Mathlib.Omega.{arith}
-use Rattle.property_table.specs.Rows.{nextOf}
-use Rattle.property_table.proofs.RowLaws.{Along, Onward, along-first, onward-next, search-found}
+use borrow.Author.Tests.{lt-ltb, le-ltb}
+use Rattle.property_table.specs.Rows.{rowCount}
+use Rattle.property_table.proofs.RowLaws.{has-row, row-clipped}
 use Rattle.property_table.proofs.find_row.Statement.{statement}
 use Rattle.property_table.proofs.find_row.Tie as tie
 
-abbrev Inv-loop : tie.InvT-loop
-Inv-loop rows name row₀ row = Along name row
+find-any-requires : tie.Need-find-any-requires
+find-any-requires c κs = search needs
 
--- rows go up, and 0 is the end
-abbrev μ-loop : tie.MeasureT-loop
-μ-loop rows name row₀ row = (39 - row) % 39
+row-count-requires : tie.Need-row-count-requires
+row-count-requires c κs = search needs
 
-falls : (n m : ℕ) → 0 < n → n < 39 → m < 39 → (0 < m → n < m) → (39 - m) % 39 < (39 - n) % 39
-falls n zero p h l f = omega arith
-falls n (suc m) p h l f = let up = f (omega arith) in omega arith
-
-first-chosen-requires : tie.Need-first-chosen-requires Inv-loop μ-loop
-first-chosen-requires c κs = search needs
-
-loop-holds : tie.Need-loop-holds Inv-loop μ-loop
-loop-holds c = rw (c .first-chosen .ensures) (along-first (c .before .before .args .name .now))
-
-spells-requires : tie.Need-spells-requires Inv-loop μ-loop
-spells-requires c κs = (search needs, (c .before .loop .inv .low, c .before .loop .inv .agree (c .loop-test .taken)))
-
-returns : tie.Need-returns Inv-loop μ-loop
+returns : tie.Need-returns
 returns c =
-    let i = c .before .before in
-    let l = i .before in
-    let v = l .before .before .before .args .name .now in
-    let on = l .loop .inv in
-    (sym (on .here (i .loop-test .taken) ∙ search-found v (l .loop .row) (on .low) (sym (c .before .spells .ensures) ∙ c .if1 .taken)), on .low)
+    let k = c .before .before in
+    let a = k .before .before .args in
+    let low : k .find-any .result < rowCount (a .edition) = omega (arith, c .before .row-count .ensures) in
+    (sym (row-clipped (a .edition) (a .name .now) ∙ rw (sym (k .find-any .ensures .0), lt-ltb _ _ low)), low)
 
-next-chosen-requires : tie.Need-next-chosen-requires Inv-loop μ-loop
-next-chosen-requires c κs = (search needs, c .before .before .before .loop .inv .low)
-
--- the turn's start, and the name
-abbrev start : tie.Else1 Inv-loop μ-loop → tie.At-loop Inv-loop μ-loop
-start c = c .before .before .before
-
-abbrev sought : tie.At-loop Inv-loop μ-loop → List ℕ
-sought l = l .before .before .before .args .name .now
-
--- the search goes on at the next row, which comes later
-onward : (c : tie.Else1 Inv-loop μ-loop) → Onward (sought (start c)) (suc (start c .loop .row)) (nextOf (start c .loop .row))
-onward c =
-    let l = start c in
-    onward-next (sought l) (l .loop .row) (c .before .before .loop-test .taken) (l .loop .inv) (sym (c .before .spells .ensures) ∙ c .if1 .left)
-
-loop-less : tie.Need-loop-less Inv-loop μ-loop
-loop-less c =
-    let l = start (c .before) .loop in
-    let on = onward (c .before) in
-    rw (c .next-chosen .ensures) (falls (l .row) (nextOf (l .row)) (c .before .before .before .loop-test .taken) (l .inv .low) (on .on .low) (on .after))
-
-loop-again : tie.Need-loop-again Inv-loop μ-loop
-loop-again c = rw (c .next-chosen .ensures) (onward (c .before) .on)
-
-returns-2 : tie.Need-returns-2 Inv-loop μ-loop
+returns-2 : tie.Need-returns-2
 returns-2 c =
-    let over : c .before .loop .row ≡ 0 = omega arith in
-    (sym (c .before .loop .inv .over over), omega arith)
+    let k = c .before .before in
+    let a = k .before .before .args in
+    let high : rowCount (a .edition) ≤ k .find-any .result = omega (arith, c .before .row-count .ensures) in
+    (sym (row-clipped (a .edition) (a .name .now) ∙ rw (sym (k .find-any .ensures .0), le-ltb _ _ high)), has-row (a .edition))
 
 pub find-row-spec : {M : Type 1} → statement M
-find-row-spec =
-    tie.close
-    (tie.spec
-    Inv-loop
-    μ-loop
-    first-chosen-requires
-    loop-holds
-    spells-requires
-    returns
-    next-chosen-requires
-    loop-less
-    loop-again
-    returns-2)
+find-row-spec = tie.close (tie.spec find-any-requires row-count-requires returns returns-2)

@@ -5,8 +5,9 @@ use Prim.Native.Nat.{ℕ}
 use native.Mathlib.Omega.{arith}
 use lib.ListN.{length}
 use Rattle.octets.specs.Room.{overlay}
+use Rattle.property_table.specs.declared.Edition.{Edition}
 use Rattle.line_folds.specs.Folds.{unfolded}
-use Rattle.reader.specs.Outcome.{judgeOf, copyOf}
+use Rattle.reader.specs.Outcome.{judgeIn, copyOf}
 use Rattle.reader.specs.declared.Verdict.the-variants.{Accepted}
 use Rattle.reader.proofs.AcceptLaws.{accepting, lines-counted, lines-few}
 use Rattle.reader.proofs.ReadLaws.{copied, recorded, read-refused, numbers-counted, read-13, read-14, read-written}
@@ -15,11 +16,11 @@ use Rattle.reader.proofs.read.Statement.{statement}
 use Rattle.reader.proofs.read.Tie as tie
 
 -- the copy's length is that of the input without its folds
-size : (i : List ℕ) (k n : ℕ) → judgeOf i ≡ Accepted k n → {m : ℕ} → m ≡ length (unfolded i) → m ≡ length (copyOf i)
-size i k n e h = h ∙ ap length (copied i k n e)
+size : (ed : Edition) (i : List ℕ) (k n : ℕ) → judgeIn ed i ≡ Accepted k n → {m : ℕ} → m ≡ length (unfolded i) → m ≡ length (copyOf i)
+size ed i k n e h = h ∙ ap length (copied ed i k n e)
 
-judge-requires : tie.Need-judge-requires
-judge-requires c κs = search needs
+judge-as-requires : tie.Need-judge-as-requires
+judge-as-requires c κs = search needs
 
 enum-known-v : tie.Need-enum-known-v
 enum-known-v c = search needs
@@ -30,28 +31,31 @@ enum-told c = search needs
 returns : tie.Need-returns
 returns c =
     let a = c .before .before .before .before .before .before .args in
-    read-refused (a .input .now) (a .copy .now) (a .records .now) (c .before .before .judge .result) _ _ (c .before .before .judge .ensures) (c .enum-told .given .1)
+    read-refused (a .edition) (a .input .now) (a .copy .now) (a .records .now) (c .before .before .judge-as .result) _ _ (c .before .before .judge-as .ensures) (c .enum-told .given .1)
 
 unfolded-length-requires : tie.Need-unfolded-length-requires
-unfolded-length-requires c κs = accepting (c .before .before .before .before .before .before .before .args .input .now) _ _ (sym (c .before .before .before .judge .ensures) ∙ c .before .v .given .1) .short
+unfolded-length-requires c κs =
+    let a = c .before .before .before .before .before .before .before .args in
+    accepting (a .edition) (a .input .now) _ _ (sym (c .before .before .before .judge-as .ensures) ∙ c .before .v .given .1) .short
 
 returns-2 : tie.Need-returns-2
 returns-2 c =
     let a = c .before .before .before .before .before .before .before .before .before .args in
-    let e = sym (c .before .before .before .before .before .judge .ensures) ∙ c .before .before .before .v .given .1 in
-    read-13 (a .input .now) (a .copy .now) (a .records .now) _ _ _ e (size (a .input .now) _ _ e (c .before .unfolded-length .ensures)) (c .if1 .taken)
+    let e = sym (c .before .before .before .before .before .judge-as .ensures) ∙ c .before .before .before .v .given .1 in
+    read-13 (a .edition) (a .input .now) (a .copy .now) (a .records .now) _ _ _ e (size (a .edition) (a .input .now) _ _ e (c .before .unfolded-length .ensures)) (c .if1 .taken)
 
 mul-numbers : tie.Need-mul-numbers
 mul-numbers c =
-    let i = c .before .before .before .before .before .before .before .before .before .args .input .now in
-    let e = sym (c .before .before .before .before .before .judge .ensures) ∙ c .before .before .before .v .given .1 in
-    omega (arith, accepting i _ _ e .short, lines-counted i _ _ e, lines-few i)
+    let a = c .before .before .before .before .before .before .before .before .before .args in
+    let i = a .input .now in
+    let e = sym (c .before .before .before .before .before .judge-as .ensures) ∙ c .before .before .before .v .given .1 in
+    omega (arith, accepting (a .edition) i _ _ e .short, lines-counted (a .edition) i _ _ e, lines-few i)
 
 returns-3 : tie.Need-returns-3
 returns-3 c =
     let a = c .before .before .before .before .before .before .before .before .before .before .args in
-    let e = sym (c .before .before .before .before .before .before .judge .ensures) ∙ c .before .before .before .before .v .given .1 in
-    read-14 (a .input .now) (a .copy .now) (a .records .now) _ _ _ e (size (a .input .now) _ _ e (c .before .before .unfolded-length .ensures)) (c .before .if1 .left) (c .if2 .taken)
+    let e = sym (c .before .before .before .before .before .before .judge-as .ensures) ∙ c .before .before .before .before .v .given .1 in
+    read-14 (a .edition) (a .input .now) (a .copy .now) (a .records .now) _ _ _ e (size (a .edition) (a .input .now) _ _ e (c .before .before .unfolded-length .ensures)) (c .before .if1 .left) (c .if2 .taken)
 
 table-requires : tie.Need-table-requires
 table-requires c κs = search needs
@@ -66,9 +70,9 @@ write-lines-requires c κs =
     let c16 = c8 .before .before .before .before .before .before .before .before in
     let a = c16 .args in
     let i = a .input .now in
-    let e = sym (c8 .before .before .before .before .judge .ensures) ∙ c8 .before .before .v .given .1 in
-    let r = numbers-counted i (a .copy .now) (a .records .now) _ _ _ e (size (a .input .now) _ _ e (c8 .unfolded-length .ensures)) in
-    (c5 .table .ensures, (c .before .before .before .before .table2 .ensures, (accepting i _ _ e .short, (omega (arith, c8 .unfolded-length .ensures, c5 .before .before .if1 .left), rw (recorded i _ _ e) (omega (arith, r, c5 .before .if2 .left))))))
+    let e = sym (c8 .before .before .before .before .judge-as .ensures) ∙ c8 .before .before .v .given .1 in
+    let r = numbers-counted (a .edition) i (a .copy .now) (a .records .now) _ _ _ e (size (a .edition) (a .input .now) _ _ e (c8 .unfolded-length .ensures)) in
+    (c5 .table .ensures, (c .before .before .before .before .table2 .ensures, (accepting (a .edition) i _ _ e .short, (omega (arith, c8 .unfolded-length .ensures, c5 .before .before .if1 .left), rw (recorded (a .edition) i _ _ e) (omega (arith, r, c5 .before .if2 .left))))))
 
 same-length : tie.Need-same-length
 same-length c = search needs
@@ -82,16 +86,16 @@ returns-4 c =
     let c17 = c11 .before .before .before .before .before .before in
     let a = c17 .before .before .before .before .args in
     let i = a .input .now in
-    let e = sym (c17 .judge .ensures) ∙ c11 .before .before .before .before .v .given .1 in
+    let e = sym (c17 .judge-as .ensures) ∙ c11 .before .before .before .before .v .given .1 in
     let w = c .before .before .before .before .write-lines .ensures in
-    read-written i (a .copy .now) (a .records .now) _ _ _ e (size (a .input .now) _ _ e (c11 .before .before .unfolded-length .ensures)) (c11 .before .if1 .left) (c11 .if2 .left) _ _
-    (w .0 ∙ ap (λ (l : List ℕ). overlay l (a .copy .now)) (copied i _ _ e)) (w .1 ∙ ap (λ (l : List ℕ). overlay l (a .records .now)) (recorded i _ _ e))
+    read-written (a .edition) i (a .copy .now) (a .records .now) _ _ _ e (size (a .edition) (a .input .now) _ _ e (c11 .before .before .unfolded-length .ensures)) (c11 .before .if1 .left) (c11 .if2 .left) _ _
+    (w .0 ∙ ap (λ (l : List ℕ). overlay l (a .copy .now)) (copied (a .edition) i _ _ e)) (w .1 ∙ ap (λ (l : List ℕ). overlay l (a .records .now)) (recorded (a .edition) i _ _ e))
 
 pub read-spec : {M : Type 1} → statement M
 read-spec =
     tie.close
     (tie.spec
-    judge-requires
+    judge-as-requires
     enum-known-v
     enum-told
     returns

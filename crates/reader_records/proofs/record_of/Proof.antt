@@ -17,12 +17,12 @@ within : (c : tie.After-parsed)
     × (c .parsed .given .0 .0 .«value_start» ≤ length (c .before .before .before .before .args .l .now))
     × (c .parsed .given .0 .0 .«group_length» ≤ c .parsed .given .0 .0 .«name_end»)
     × (c .parsed .given .0 .0 .«param_count» ≤ length (c .before .before .before .before .args .l .now))
-    × (c .parsed .given .0 .0 .row < 39)
+    × (c .parsed .given .0 .0 .row < 44)
     × (c .parsed .given .0 .0 .kind < 12)
-within c = parts-fit (c .before .before .before .before .args .l .now) (c .parsed .given .0 .0) (sym (c .before .before .parts-of .ensures) ∙ c .parsed .given .1)
+within c = parts-fit (c .before .before .before .before .args .edition) (c .before .before .before .before .args .l .now) (c .parsed .given .0 .0) (sym (c .before .before .parts-of .ensures) ∙ c .parsed .given .1)
 
 long : (c : tie.After-parsed) → nameStart (c .parsed .given .0 .0 .«group_length») ≤ c .parsed .given .0 .0 .«name_end»
-long c = name-long (c .before .before .before .before .args .l .now) (c .parsed .given .0 .0) (sym (c .before .before .parts-of .ensures) ∙ c .parsed .given .1)
+long c = name-long (c .before .before .before .before .args .edition) (c .before .before .before .before .args .l .now) (c .parsed .given .0 .0) (sym (c .before .before .parts-of .ensures) ∙ c .parsed .given .1)
 
 parts-of-requires : tie.Need-parts-of-requires
 parts-of-requires c κs = search needs
@@ -43,44 +43,44 @@ name-start-requires : tie.Need-name-start-requires
 name-start-requires c κs =
     omega (arith, within (c .before), c .before .before .before .before .before .pre .1 .1)
 
-cast-t8 : tie.Need-cast-t8
-cast-t8 c =
-    omega (arith, within (c .before .before .before))
-
 cast-t9 : tie.Need-cast-t9
 cast-t9 c =
-    omega (arith, c .before .before .before .before .before .before .before .pre .1 .1)
+    omega (arith, within (c .before .before .before))
 
-cast-t11 : tie.Need-cast-t11
-cast-t11 c =
+cast-t10 : tie.Need-cast-t10
+cast-t10 c =
     omega (arith, c .before .before .before .before .before .before .before .pre .1 .1)
 
 cast-t12 : tie.Need-cast-t12
 cast-t12 c =
+    omega (arith, c .before .before .before .before .before .before .before .pre .1 .1)
+
+cast-t13 : tie.Need-cast-t13
+cast-t13 c =
     omega (arith, within (c .before .before .before .before), c .before .before .before .before .before .before .before .before .pre .1 .1)
 
-sub-t13 : tie.Need-sub-t13
-sub-t13 c =
+sub-t14 : tie.Need-sub-t14
+sub-t14 c =
     omega (arith, c .before .before .before .name-start .ensures, long (c .before .before .before .before .before))
-
-cast-t14 : tie.Need-cast-t14
-cast-t14 c =
-    omega (arith, within (c .before .before .before .before .before), c .before .before .before .before .before .before .before .before .before .pre .1 .1)
 
 cast-t15 : tie.Need-cast-t15
 cast-t15 c =
+    omega (arith, within (c .before .before .before .before .before), c .before .before .before .before .before .before .before .before .before .pre .1 .1)
+
+cast-t16 : tie.Need-cast-t16
+cast-t16 c =
     omega (arith, within (c .before .before .before .before .before .before), c .before .before .before .before .before .before .before .before .before .before .pre .1 .1)
 
-add-t16 : tie.Need-add-t16
-add-t16 c =
-    omega (arith, within (c .before .before .before .before .before .before .before), c .before .before .before .before .before .before .before .before .before .before .before .pre .1 .1)
-
-cast-t17 : tie.Need-cast-t17
-cast-t17 c =
+add-t17 : tie.Need-add-t17
+add-t17 c =
     omega (arith, within (c .before .before .before .before .before .before .before), c .before .before .before .before .before .before .before .before .before .before .before .pre .1 .1)
 
 cast-t18 : tie.Need-cast-t18
 cast-t18 c =
+    omega (arith, within (c .before .before .before .before .before .before .before), c .before .before .before .before .before .before .before .before .before .before .before .pre .1 .1)
+
+cast-t19 : tie.Need-cast-t19
+cast-t19 c =
     omega (arith, within (c .before .before .before .before .before .before .before .before))
 
 returns-2 : tie.Need-returns-2
@@ -105,14 +105,14 @@ record-of-spec =
     enum-told
     returns
     name-start-requires
-    cast-t8
     cast-t9
-    cast-t11
+    cast-t10
     cast-t12
-    sub-t13
-    cast-t14
+    cast-t13
+    sub-t14
     cast-t15
-    add-t16
-    cast-t17
+    cast-t16
+    add-t17
     cast-t18
+    cast-t19
     returns-2)

@@ -50,7 +50,7 @@ returns c =
     let a = c .before .before .before .before .before .before .before .before .before .before .before .before .args in
     let u = c .before .before .before .before .before .before .before .«unfold» in (
       u .ensures .1 ∙ ap (λ (n : ℕ). unfolded (a .s .now) ++ drop n (a .copy .now)) (u .ensures .0),
-      c .before .before .write-records .ensures ∙ ap (λ (l : List ℕ). overlay (recordsFrom 0 (rawLines l)) (a .out .now)) (text (c .before .before .before .before)),
+      c .before .before .write-records .ensures ∙ ap (λ (l : List ℕ). overlay (recordsFrom (a .edition) 0 (rawLines l)) (a .out .now)) (text (c .before .before .before .before)),
     )
 
 pub write-lines-spec : {M : Type 1} → statement M

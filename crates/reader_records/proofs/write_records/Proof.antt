@@ -9,21 +9,25 @@ use Rattle.octets.proofs.Writes.{Written, start, room, put, finish}
 use Rattle.line_folds.specs.Logical.{rawLines}
 use Rattle.line_folds.proofs.LineLaws.{lines-end}
 use Rattle.line_folds.proofs.SpanLaws.{part-length}
+use Rattle.property_table.specs.declared.Edition.{Edition}
 use Rattle.reader_records.specs.Records.{recordOf, recordsFrom}
 use Rattle.reader_records.proofs.RecordLaws.{record-length, records-turn}
 use Rattle.reader_records.proofs.write_records.Statement.{statement}
 use Rattle.reader_records.proofs.write_records.Tie as tie
 
 abbrev Inv-loop : tie.InvT-loop
-Inv-loop t rows s out₀ at₀ k₀ out at k = Written (recordsFrom 0 (rawLines s)) (recordsFrom at (rawLines (drop at s))) out₀ out k
+Inv-loop t rows ed s out₀ at₀ k₀ out at k = Written (recordsFrom ed 0 (rawLines s)) (recordsFrom ed at (rawLines (drop at s))) out₀ out k
 
 abbrev μ-loop : tie.MeasureT-loop
-μ-loop t rows s out₀ at₀ k₀ out at k = length s - at
+μ-loop t rows ed s out₀ at₀ k₀ out at k = length s - at
 
 -- the line of this turn
 module _ (c : tie.After-line-at Inv-loop μ-loop) where
   abbrev S : List ℕ
   S = c .before .before .before .before .before .args .s .now
+
+  abbrev D : Edition
+  D = c .before .before .before .before .before .args .edition
 
   abbrev P : ℕ
   P = c .before .before .loop .at
@@ -34,8 +38,8 @@ module _ (c : tie.After-line-at Inv-loop μ-loop) where
   abbrev X : List ℕ
   X = take (E - P) (drop P S)
 
-  turn : recordsFrom P (rawLines (drop P S)) ≡ recordOf P X ++ recordsFrom (E + 2) (rawLines (drop (E + 2) S))
-  turn = records-turn S P E (c .before .loop-test .taken) (c .line-at .ensures .1) (c .line-at .ensures .2)
+  turn : recordsFrom D P (rawLines (drop P S)) ≡ recordOf D P X ++ recordsFrom D (E + 2) (rawLines (drop (E + 2) S))
+  turn = records-turn D S P E (c .before .loop-test .taken) (c .line-at .ensures .1) (c .line-at .ensures .2)
 
   inside : (P ≤ E) × (E ≤ length S) × (length S ≤ 16384)
   inside = (omega (arith, c .line-at .ensures .1), c .line-at .ensures .2, c .before .before .before .before .before .pre .1 .1 .0)
@@ -48,8 +52,8 @@ module _ (c : tie.After-line-at Inv-loop μ-loop) where
       omega (
         arith,
         room (c .before .before .loop .inv) (c .before .before .before .before .before .pre .1 .1 .1),
-        ap length turn ∙ length-append (recordOf P X) (recordsFrom (E + 2) (rawLines (drop (E + 2) S))),
-        record-length P X,
+        ap length turn ∙ length-append (recordOf D P X) (recordsFrom D (E + 2) (rawLines (drop (E + 2) S))),
+        record-length D P X,
       )
 
 loop-holds : tie.Need-loop-holds Inv-loop μ-loop
@@ -92,10 +96,10 @@ loop-again : tie.Need-loop-again Inv-loop μ-loop
 loop-again c =
     let b = c .before .before .before .before .before .before in
     let l = b .before .before .loop in
-    let eight = record-length (P b) (X b) in
-    rw eight at (put (l .inv) (recordOf (P b) (X b)) _ _ (turn b) (rw eight (fits b))
+    let eight = record-length (D b) (P b) (X b) in
+    rw eight at (put (l .inv) (recordOf (D b) (P b) (X b)) _ _ (turn b) (rw eight (fits b))
     (c .before .before .put-record .ensures ∙ ap (λ (x : List ℕ). take (l .k) (l .out) ++ x ++ drop (l .k + 8) (l .out)) (c .before .before .before .before .record-of .ensures)
-    ∙ ap (λ (n : ℕ). take (l .k) (l .out) ++ recordOf (P b) (X b) ++ drop (l .k + n) (l .out)) (sym eight)))
+    ∙ ap (λ (n : ℕ). take (l .k) (l .out) ++ recordOf (D b) (P b) (X b) ++ drop (l .k + n) (l .out)) (sym eight)))
 
 same-length : tie.Need-same-length Inv-loop μ-loop
 same-length c = c .before .loop .inv .same
@@ -106,7 +110,7 @@ returns c =
     let l = c .before .loop in
     let s = c .before .before .before .before .args .s .now in
     let f = finish (rw (lines-end s (l .at) (c .loop-test .left)) at (l .inv)) in
-    f .1 ∙ ap (λ (n : ℕ). recordsFrom 0 (rawLines s) ++ drop n (c .before .before .before .before .args .out .now)) (f .0)
+    f .1 ∙ ap (λ (n : ℕ). recordsFrom (c .before .before .before .before .args .edition) 0 (rawLines s) ++ drop n (c .before .before .before .before .args .out .now)) (f .0)
 
 pub write-records-spec : {M : Type 1} → statement M
 write-records-spec =

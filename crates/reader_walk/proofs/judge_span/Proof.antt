@@ -81,7 +81,7 @@ hand c = pick (start c .args .folded) (unfolded (start c .args .s .now)) []
 -- the judgement is that of the unfolded line, with the values that are kept as store
 heard : (c : tie.After-judge-at-hand)
     → (readBy (c .judge-at-hand .result) (take (start c .args .c .used) (behind (start c .args .c .used) (hand c) (start c .args .scratch .now))) (unfolded (start c .args .s .now))
-    ≡ judgeLine (cardOf (start c .args .c) (take (start c .args .c .used) (behind (start c .args .c .used) (hand c) (start c .args .scratch .now)))) (start c .args .at) (unfolded (start c .args .s .now)))
+    ≡ judgeLine (start c .args .edition) (cardOf (start c .args .c) (take (start c .args .c .used) (behind (start c .args .c .used) (hand c) (start c .args .scratch .now)))) (start c .args .at) (unfolded (start c .args .s .now)))
     × Keeping (start c .args .c) (unfolded (start c .args .s .now)) (c .judge-at-hand .result)
 heard c =
     let s = start c in
@@ -114,7 +114,7 @@ returns c =
     let u = h .before .before .before .before .lay-behind in
     let k = heard h in
     let m = c .before .before .keep-part in (
-      hand-judged (a .c) (a .scratch .now) (a .s .now) (unfolded (a .s .now)) (s .pre .1 .1 .0 .lies) (fits s) (a .folded) (plain s) j (a .at) (m .last .1 .1 .0) (k .1) (k .0)
+      hand-judged (a .c) (a .scratch .now) (a .s .now) (unfolded (a .s .now)) (s .pre .1 .1 .0 .lies) (fits s) (a .edition) (a .folded) (plain s) j (a .at) (m .last .1 .1 .0) (k .1) (k .0)
           (subst (λ (x : List ℕ). m .last .1 .1 .0 ≡ behind (a .c .used) (part (j .from) (j .to) (pick (a .folded) (drop (a .c .used) x) (a .s .now))) x) (u .ensures .1) (m .ensures)),
       holds-more (j .step) (a .c .used + (j .to - j .from)) (a .c .used + length (a .s .now)) (omega (arith, k .1 .order, k .1 .inside, unfold-shorter (a .s .now))) (k .1 .holds),
     )

@@ -5,6 +5,7 @@ use mathlib.Core.List.{List}
 use Prim.Native.Nat.{ℕ, _+_, _-_, _≤_}
 use native.Mathlib.Omega.{arith}
 use lib.ListN.{length, take, drop}
+use Rattle.property_table.specs.declared.Edition.{Edition}
 use Rattle.line_folds.specs.Logical.{rawLines}
 use Rattle.line_folds.proofs.LineLaws.{lines-end}
 use Rattle.card_state.specs.State.{Step, freshCard}
@@ -18,12 +19,12 @@ use Rattle.reader_walk.proofs.walk_in.Statement.{statement}
 use Rattle.reader_walk.proofs.walk_in.Tie as tie
 
 abbrev Inv-loop : tie.InvT-loop
-Inv-loop t rows steps s scratch₀ c₀ at₀ scratch c at =
+Inv-loop t rows steps ed s scratch₀ c₀ at₀ scratch c at =
     (length scratch ≡ length scratch₀) × (c .cards ≤ c .lines) × (c .lines ≤ at) × Lies c × (c .used ≤ at)
-    × (judgeLines (rawLines s) 0 freshCard ≡ judgeLines (rawLines (drop at s)) at (cardOf c scratch))
+    × (judgeLines ed (rawLines s) 0 freshCard ≡ judgeLines ed (rawLines (drop at s)) at (cardOf c scratch))
 
 abbrev μ-loop : tie.MeasureT-loop
-μ-loop t rows steps s scratch₀ c₀ at₀ scratch c at =
+μ-loop t rows steps ed s scratch₀ c₀ at₀ scratch c at =
     length s - at
 
 -- the line at hand, as it came
@@ -32,15 +33,18 @@ line c =
     let at = c .before .before .before .before .before .before .loop .at in
     take (c .before .before .before .before .line-at .result .end - at) (drop at (c .before .before .before .before .before .before .before .before .before .before .args .s .now))
 
+abbrev edition : tie.After-judge-span Inv-loop μ-loop → Edition
+edition c = c .before .before .before .before .before .before .before .before .before .before .args .edition
+
 -- one turn, judged
 turn : (c : tie.After-judge-span Inv-loop μ-loop)
-    → judgeLines (rawLines (c .before .before .before .before .before .before .before .before .before .before .args .s .now)) 0 freshCard
-    ≡ onward (settled (c .before .before .before .before .before .before .loop .at) (line c) (stepOf (c .judge-span .last .1 .1 .1 .1 .1 .0) (c .judge-span .result))) (judgeLines (rawLines (drop (c .before .before .before .before .line-at .result .end + 2) (c .before .before .before .before .before .before .before .before .before .before .args .s .now))) (c .before .before .before .before .line-at .result .end + 2))
+    → judgeLines (edition c) (rawLines (c .before .before .before .before .before .before .before .before .before .before .args .s .now)) 0 freshCard
+    ≡ onward (settled (c .before .before .before .before .before .before .loop .at) (line c) (stepOf (c .judge-span .last .1 .1 .1 .1 .1 .1 .0) (c .judge-span .result))) (judgeLines (edition c) (rawLines (drop (c .before .before .before .before .line-at .result .end + 2) (c .before .before .before .before .before .before .before .before .before .before .args .s .now))) (c .before .before .before .before .line-at .result .end + 2))
 turn c =
     let l = c .before .before .before .before .before .before .loop in
     let v = c .before .before .before .before .line-at in
     let s = c .before .before .before .before .before .before .before .before .before .before .args .s .now in
-    l .inv .5 ∙ judged s (l .at) (v .result .end) (c .before .before .before .before .before .loop-test .taken) (v .ensures .1) (v .ensures .2) (cardOf (l .c) (l .scratch)) (stepOf (c .judge-span .last .1 .1 .1 .1 .1 .0) (c .judge-span .result)) (c .judge-span .ensures .0)
+    l .inv .5 ∙ judged (edition c) s (l .at) (v .result .end) (c .before .before .before .before .before .loop-test .taken) (v .ensures .1) (v .ensures .2) (cardOf (l .c) (l .scratch)) (stepOf (c .judge-span .last .1 .1 .1 .1 .1 .1 .0) (c .judge-span .result)) (c .judge-span .ensures .0)
 
 fresh-requires : tie.Need-fresh-requires Inv-loop μ-loop
 fresh-requires c κs = search needs
@@ -54,7 +58,7 @@ loop-holds c =
       omega arith,
       none-lie,
       omega arith,
-      ap (judgeLines (rawLines (c .before .before .before .args .s .now)) 0) (sym (fresh-card _)),
+      ap (judgeLines (c .before .before .before .args .edition) (rawLines (c .before .before .before .args .s .now)) 0) (sym (fresh-card _)),
     )
 
 line-at-requires : tie.Need-line-at-requires Inv-loop μ-loop
@@ -115,7 +119,7 @@ returns : tie.Need-returns Inv-loop μ-loop
 returns c =
     let c5 = c .before .before .before .before .before in
     let j = c5 .judge-span in
-    let store = j .last .1 .1 .1 .1 .1 .0 in
+    let store = j .last .1 .1 .1 .1 .1 .1 .0 in
     (store, c .settle .ensures store ∙ sym (turn c5 ∙ stopped-step store _ (line c5) _ (j .result) (c .before .before .match .keys2)))
 
 add-at : tie.Need-add-at Inv-loop μ-loop
@@ -141,13 +145,13 @@ loop-again c =
     let j = c5 .judge-span in
     let n = part-length (a .s .now) (l .at) (v .result .end) (c5 .before .before .before .before .before .loop-test .taken) (v .ensures .1) (v .ensures .2) in
     let holds = subst (Holds (l .c .used + length (take (v .result .end - l .at) (drop (l .at) (a .s .now))))) e (j .ensures .1) in
-    let more = one-more (cardOf (l .c) (l .scratch)) (cardOf next (j .last .1 .1 .1 .1 .1 .0)) (l .at) _ (sym (j .ensures .0) ∙ ap (stepOf (j .last .1 .1 .1 .1 .1 .0)) e) in (
+    let more = one-more (a .edition) (cardOf (l .c) (l .scratch)) (cardOf next (j .last .1 .1 .1 .1 .1 .1 .0)) (l .at) _ (sym (j .ensures .0) ∙ ap (stepOf (j .last .1 .1 .1 .1 .1 .1 .0)) e) in (
       omega (arith, j, l .inv .0),
       omega (arith, l .inv .1, more .0, more .1, more .2),
       omega (arith, v .ensures .1, l .inv .2, more .0),
       holds .0,
       omega (arith, holds .1, n, l .inv .4, v .ensures .1),
-      turn c5 ∙ ap (λ (r : Step). onward (settled (l .at) (line c5) r) (judgeLines (rawLines (drop (v .result .end + 2) (a .s .now))) (v .result .end + 2))) (ap (stepOf (j .last .1 .1 .1 .1 .1 .0)) e),
+      turn c5 ∙ ap (λ (r : Step). onward (settled (l .at) (line c5) r) (judgeLines (a .edition) (rawLines (drop (v .result .end + 2) (a .s .now))) (v .result .end + 2))) (ap (stepOf (j .last .1 .1 .1 .1 .1 .1 .0)) e),
     )
 
 same-length-2 : tie.Need-same-length-2 Inv-loop μ-loop
@@ -157,7 +161,7 @@ returns-2 : tie.Need-returns-2 Inv-loop μ-loop
 unfolding judgeLines stepOf
 returns-2 c =
     let l = c .before .loop in
-    (l .scratch, sym (l .inv .5 ∙ ap (λ (ls : List (List ℕ)). judgeLines ls (l .at) (cardOf (l .c) (l .scratch))) (lines-end (c .before .before .before .before .before .args .s .now) (l .at) (c .loop-test .left))))
+    (l .scratch, sym (l .inv .5 ∙ ap (λ (ls : List (List ℕ)). judgeLines (c .before .before .before .before .before .args .edition) ls (l .at) (cardOf (l .c) (l .scratch))) (lines-end (c .before .before .before .before .before .args .s .now) (l .at) (c .loop-test .left))))
 
 pub walk-in-spec : {M : Type 1} → statement M
 walk-in-spec =

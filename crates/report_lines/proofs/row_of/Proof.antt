@@ -4,6 +4,7 @@ use mathlib.Core.Path.{_≡_, sym, ap, _∙_}
 use Prim.Native.Nat.{ℕ, _-_}
 use native.Mathlib.Omega.{arith}
 use lib.ListN.{take, drop}
+use Rattle.property_table.specs.declared.Edition.the-variants.{First}
 use Rattle.property_table.specs.Rows.{rowOf}
 use Rattle.report_lines.proofs.HeadLaws.{NameAt, name-at, nameless}
 use Rattle.report_lines.proofs.row_of.Statement.{statement}
@@ -42,7 +43,7 @@ returns-2 : tie.Need-returns-2
 returns-2 c =
     let s = c .before .before .before .before .before .before .before .before .args .s .now in
     let n = c .before .before .before .before .head .given .0 .1 .0 in
-    let e = ap (λ (i : ℕ). rowOf (take (n - i) (drop i s))) (c .before .before .name-start .ensures) in
+    let e = ap (λ (i : ℕ). rowOf First (take (n - i) (drop i s))) (c .before .before .name-start .ensures) in
     (c .find-row .ensures .0 ∙ e ∙ here (c .before .before .before) .row, c .find-row .ensures .1)
 
 pub row-of-spec : {M : Type 1} → statement M

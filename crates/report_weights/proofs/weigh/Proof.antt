@@ -28,7 +28,7 @@ count-lines-requires : tie.Need-count-lines-requires
 count-lines-requires c κs =
     let m = c .before .before .before .before .before in
     let e = sym (m .before .before .judge .ensures) ∙ m .v2 .given .1 in
-    (c .before .before .before .table .ensures, (c .before .before .table2 .ensures, accepting _ _ _ e .short))
+    (c .before .before .before .table .ensures, (c .before .before .table2 .ensures, accepting _ _ _ _ e .short))
 
 weigh-accepted-requires : tie.Need-weigh-accepted-requires
 weigh-accepted-requires c κs = search needs

@@ -2,7 +2,7 @@
 use borrow.Author.Needs.{needs}
 use mathlib.Core.Path.{sym, ap, _∙_}
 use Rattle.value_kinds.specs.Shapes.{Shape, faultFrom}
-use Rattle.value_kinds.specs.Kinds.{kindScan}
+use Rattle.value_kinds.specs.Kinds.{kindIn}
 use Rattle.value_kinds.proofs.QuietLaws.{at-once}
 use Rattle.value_kinds.proofs.PairLaws.{by-pairs}
 use Rattle.value_automaton.proofs.value_fault.Statement.{statement}
@@ -14,7 +14,7 @@ fits-at-once-requires c κs = search needs
 returns : tie.Need-returns
 returns c =
     let a = c .before .before .before .args in
-    sym (at-once (a .kind) (a .s .now) (sym (c .before .fits-at-once .ensures) ∙ c .if1 .taken))
+    sym (at-once (a .edition) (a .kind) (a .s .now) (sym (c .before .fits-at-once .ensures) ∙ c .if1 .taken))
 
 fits-by-pairs-requires : tie.Need-fits-by-pairs-requires
 fits-by-pairs-requires c κs = search needs
@@ -22,7 +22,7 @@ fits-by-pairs-requires c κs = search needs
 returns-2 : tie.Need-returns-2
 returns-2 c =
     let a = c .before .before .before .before .before .before .args in
-    sym (by-pairs (a .kind) (a .s .now) (sym (c .before .fits-by-pairs .ensures) ∙ c .if3 .taken))
+    sym (by-pairs (a .edition) (a .kind) (a .s .now) (sym (c .before .fits-by-pairs .ensures) ∙ c .if3 .taken))
 
 start-requires : tie.Need-start-requires
 start-requires c κs = search needs
@@ -31,7 +31,7 @@ scan-requires : tie.Need-scan-requires
 scan-requires c κs = search needs
 
 returns-3 : tie.Need-returns-3
-unfolding kindScan
+unfolding kindIn
 returns-3 c = c .scan .ensures ∙ ap (λ (r : Shape). faultFrom r 0 (c .before .before .before .before .before .before .args .s .now)) (c .before .start .ensures .1)
 
 pub value-fault-spec : {M : Type 1} → statement M

@@ -1,6 +1,7 @@
 -- `value_kinds::fits_at_once` meets its contract. Assumes nothing.
 use borrow.Author.Needs.{needs}
 use borrow.Author.Tests.{ne-eqb}
+use mathlib.Core.Path.{sym}
 use Rattle.value_kinds.specs.AtOnce.{fitsAtOnce}
 use Rattle.value_kinds.proofs.fits_at_once.Statement.{statement}
 use Rattle.value_kinds.proofs.fits_at_once.Tie as tie
@@ -11,8 +12,14 @@ lacks-requires c κs = search needs
 lacks-requires-2 : tie.Need-lacks-requires-2
 lacks-requires-2 c κs = search needs
 
+most-of-name-requires : tie.Need-most-of-name-requires
+most-of-name-requires c κs = search needs
+
 has-semicolons-requires : tie.Need-has-semicolons-requires
 has-semicolons-requires c κs = search needs
+
+most-of-address-requires : tie.Need-most-of-address-requires
+most-of-address-requires c κs = search needs
 
 has-semicolons-requires-2 : tie.Need-has-semicolons-requires-2
 has-semicolons-requires-2 c κs = search needs
@@ -34,11 +41,11 @@ returns-3 c = rw (c .before .match .keys3) (c .lacks2 .ensures)
 
 returns-4 : tie.Need-returns-4
 unfolding fitsAtOnce
-returns-4 c = rw (c .before .match .keys4) (c .has-semicolons .ensures)
+returns-4 c = rw (c .before .before .match .keys4, sym (c .before .most-of-name .ensures)) (c .has-semicolons .ensures)
 
 returns-5 : tie.Need-returns-5
 unfolding fitsAtOnce
-returns-5 c = rw (c .before .match .keys5) (c .has-semicolons2 .ensures)
+returns-5 c = rw (c .before .before .match .keys5, sym (c .before .most-of-address .ensures)) (c .has-semicolons2 .ensures)
 
 returns-6 : tie.Need-returns-6
 unfolding fitsAtOnce
@@ -64,7 +71,9 @@ fits-at-once-spec =
     (tie.spec
     lacks-requires
     lacks-requires-2
+    most-of-name-requires
     has-semicolons-requires
+    most-of-address-requires
     has-semicolons-requires-2
     lacks-requires-3
     returns

@@ -3,6 +3,7 @@
 pub mod alternatives;
 pub mod dates;
 pub mod desks;
+pub mod editions;
 pub mod faults;
 pub mod folds;
 pub mod grammar;

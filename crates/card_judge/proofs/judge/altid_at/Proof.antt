@@ -16,7 +16,7 @@ returns-2 c =
     let s = c .before .before .before .before in
     let l = s .args .s .now in
     looked-for (s .args .once) (firstValue altidName l) (c .before .before .if1 .left)
-    ∙ no-params l (s .args .x) (read l (s .args .x) (s .pre .1)) altidName (c .if2 .taken)
+    ∙ no-params (s .pre .1 .0) l (s .args .x) (read (s .pre .1 .0) l (s .args .x) (s .pre .1 .1)) altidName (c .if2 .taken)
 
 slice-aggregate-param-first : tie.Need-slice-aggregate-param-first
 slice-aggregate-param-first c = search needs
@@ -30,7 +30,7 @@ returns-3 c =
     let s = c .before .before .before .before .before .before in
     let l = s .args .s .now in
     rw (looked-for (s .args .once) (firstValue altidName l) (c .before .before .before .before .if1 .left))
-    (found-spans l (s .args .x .«name_end») (read-accepted l (s .args .x) (read l (s .args .x) (s .pre .1))) altidName (c .param-first .result) (c .param-first .ensures))
+    (found-spans l (s .args .x .«name_end») (read-accepted (s .pre .1 .0) l (s .args .x) (read (s .pre .1 .0) l (s .args .x) (s .pre .1 .1))) altidName (c .param-first .result) (c .param-first .ensures))
 
 pub altid-at-spec : {M : Type 1} → statement M
 altid-at-spec = tie.close (tie.spec returns returns-2 slice-aggregate-param-first param-first-requires returns-3)

@@ -42,8 +42,9 @@ enum-known-x : tie.Need-enum-known-x
 enum-known-x c = search needs
 
 -- the line by its parts
-there : (c : tie.After-known-told2) → Read (c .before .before .before .before .before .before .before .before .args .s .now) (c .before .x .given .0 .0)
-there c = read _ _ (sym (c .before .x .given .1) ∙ c .before .before .before .parts-of .ensures)
+there : (c : tie.After-known-told2)
+    → Read (c .before .before .before .before .before .before .before .before .args .edition) (c .before .before .before .before .before .before .before .before .args .s .now) (c .before .x .given .0 .0)
+there c = read _ _ _ (sym (c .before .x .given .1) ∙ c .before .before .before .parts-of .ensures)
 
 sub-judge-parts : tie.Need-sub-judge-parts
 sub-judge-parts c = there c .inside
@@ -63,7 +64,7 @@ judge-parts-requires c κs =
     let size : length (take (length l - v) (drop v l)) ≤ length l - v = simp length-take (omega arith) in (
       s .pre .0,
       (
-        sym x ∙ c .before .before .before .before .parts-of .ensures,
+        (s .args .edition, sym x ∙ c .before .before .before .before .parts-of .ensures),
         (
           (there (c .before) .listed, there (c .before) .low),
           (omega (arith, there (c .before) .inside, size, s .pre .1 .1 .short), s .pre .1),
@@ -75,7 +76,7 @@ returns-2 : tie.Need-returns-2
 returns-2 c =
     let a = c .before .before .before .before .before .before .before .before .before .args in
     stopped (a .c) (a .store .now) (a .s .now) (c .unkept2 .result) _ (a .at) _ (c .unkept2 .ensures)
-    (refused (cardOf (a .c) (a .store .now)) (a .at) (a .s .now) (rw (← c .before .before .before .before .before .before .first-bad .ensures) (c .before .before .before .before .before .if1 .left))
+    (refused (a .edition) (cardOf (a .c) (a .store .now)) (a .at) (a .s .now) (rw (← c .before .before .before .before .before .before .first-bad .ensures) (c .before .before .before .before .before .if1 .left))
     (sym (c .before .before .e .given .1) ∙ c .before .before .before .before .parts-of .ensures))
 
 returns-3 : tie.Need-returns-3
@@ -83,7 +84,7 @@ returns-3 c =
     let s = c .before .before .before .before .before .before .before .before .before .before in
     let a = s .args in (
       c .judge-parts .ensures .0
-          ∙ judged (cardOf (a .c) (a .store .now)) (a .at) (a .s .now) (rw (← c .before .before .before .before .before .before .before .first-bad .ensures) (c .before .before .before .before .before .before .if1 .left)) _ (there (c .before .before)),
+          ∙ judged (a .edition) (cardOf (a .c) (a .store .now)) (a .at) (a .s .now) (rw (← c .before .before .before .before .before .before .before .first-bad .ensures) (c .before .before .before .before .before .before .if1 .left)) _ (there (c .before .before)),
       c .judge-parts .ensures .1,
     )
 

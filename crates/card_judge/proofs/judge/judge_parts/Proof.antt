@@ -26,13 +26,13 @@ judge-value-requires c κs = search needs
 -- the judgement by what the three tests answered
 found : (c : tie.After-judge-value)
     → let a = c .before .before .before .before .before .before .args in
-    judgeParts (cardOf (a .c) (a .store .now)) (a .at) (a .x .row) (a .x .«group_length») (a .x .«param_count») (a .x .kind) (firstValue altidName (a .s .now)) (a .x .«value_start») (a .value .now)
+    judgeParts (a .edition) (cardOf (a .c) (a .store .now)) (a .at) (a .x .row) (a .x .«group_length») (a .x .«param_count») (a .x .kind) (firstValue altidName (a .s .now)) (a .x .«value_start») (a .value .now)
     ≡ pick (not (c .before .before .in-order .result)) (Refused 9 (a .at)) (pick (c .before .is-laden .result) (Refused 8 (a .at))
     (fitting (a .x .«value_start») (c .judge-value .result) (entered (cardOf (a .c) (a .store .now)) (a .at) (a .x .row) (firstValue altidName (a .s .now)) (a .value .now))))
 unfolding cardOf
 found c =
     let a = c .before .before .before .before .before .before .args in
-    tests (cardOf (a .c) (a .store .now)) (a .at) (a .x .row) (a .x .«group_length») (a .x .«param_count») (a .x .kind) (firstValue altidName (a .s .now)) (a .x .«value_start») (a .value .now)
+    tests (a .edition) (cardOf (a .c) (a .store .now)) (a .at) (a .x .row) (a .x .«group_length») (a .x .«param_count») (a .x .kind) (firstValue altidName (a .s .now)) (a .x .«value_start») (a .value .now)
     (c .before .before .in-order .ensures) (c .before .is-laden .ensures) (c .judge-value .ensures)
 
 unkept-requires : tie.Need-unkept-requires
@@ -56,10 +56,10 @@ enum-known-fault : tie.Need-enum-known-fault
 enum-known-fault c = search needs
 
 -- the octet lies within the value
-add-t19 : tie.Need-add-t19
-add-t19 c =
+add-t20 : tie.Need-add-t20
+add-t20 c =
     let s = c .before .before .before .before .before .before .before .before .before .before .before .before in
-    omega (arith, s .pre .1 .1 .1 .0, fault-inside _ _ _ _ (sym (c .before .before .before .before .before .before .judge-value .ensures) ∙ c .before .before .fault .given .1))
+    omega (arith, s .pre .1 .1 .1 .0, fault-inside _ _ _ _ _ (sym (c .before .before .before .before .before .before .judge-value .ensures) ∙ c .before .before .fault .given .1))
 
 unkept-requires-3 : tie.Need-unkept-requires-3
 unkept-requires-3 c κs = search needs
@@ -117,7 +117,7 @@ judge-parts-spec =
     unkept-requires-2
     returns-2
     enum-known-fault
-    add-t19
+    add-t20
     unkept-requires-3
     returns-3
     enum-told

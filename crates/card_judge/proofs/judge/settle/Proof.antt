@@ -7,15 +7,15 @@ use native.Mathlib.Omega.{arith}
 use Rattle.card_line.specs.Parts.{altidName, firstValue}
 use Rattle.card_state.specs.State.{onceFlag}
 use Rattle.card_state.specs.Kept.{Holds}
-use Rattle.card_state.proofs.KeptLaws.{once-eight}
+use Rattle.card_state.proofs.KeptLaws.{once-ten}
 use Rattle.card_judge.specs.Judge.{part, readBy}
 use Rattle.card_judge.proofs.SettleLaws.{stopped, takes-lies, takes-counts, takes-used, told-second, told-on}
 use Rattle.card_judge.proofs.judge.settle.Statement.{statement}
 use Rattle.card_judge.proofs.judge.settle.Tie as tie
 
--- the property's number is one of eight, or 0
-low : (s : tie.Start) → s .args .once ≤ 8
-low s = omega (arith, once-eight (s .args .x .row) (s .pre .1 .1 .0 .0), s .pre .1 .1 .0 .1 .0)
+-- the property's number is one of ten, or 0
+low : (s : tie.Start) → s .args .once ≤ 10
+low s = omega (arith, once-ten (s .args .x .row) (s .pre .1 .1 .0 .0), s .pre .1 .1 .0 .1 .0)
 
 altid-at-requires : tie.Need-altid-at-requires
 altid-at-requires c κs = search needs

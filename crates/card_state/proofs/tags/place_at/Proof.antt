@@ -1,6 +1,6 @@
 -- `card_state::tags::place_at` meets its contract. Assumes nothing.
 use Rattle.card_state.specs.Kept.{placesOf}
-use Rattle.card_state.proofs.KeptLaws.{eighth}
+use Rattle.card_state.proofs.KeptLaws.{later, tenth}
 use Rattle.card_state.proofs.tags.place_at.Statement.{statement}
 use Rattle.card_state.proofs.tags.place_at.Tie as tie
 
@@ -34,10 +34,18 @@ returns-7 c = rw (c .if7 .taken)
 
 returns-8 : tie.Need-returns-8
 unfolding placesOf
-returns-8 c =
-    let s = c .before .before .before .before .before .before .before in
-    let last = eighth (s .args .k) (s .pre .0) (s .pre .1) (c .before .before .before .before .before .before .if1 .left) (c .before .before .before .before .before .if2 .left) (c .before .before .before .before .if3 .left) (c .before .before .before .if4 .left) (c .before .before .if5 .left) (c .before .if6 .left) (c .if7 .left) in
+returns-8 c = rw (c .if8 .taken)
+
+returns-9 : tie.Need-returns-9
+unfolding placesOf
+returns-9 c = rw (c .if9 .taken)
+
+returns-10 : tie.Need-returns-10
+unfolding placesOf
+returns-10 c =
+    let s = c .before .before .before .before .before .before .before .before .before in
+    let last = tenth (s .args .k) (later (s .args .k) (s .pre .0) (c .before .before .before .before .before .before .before .before .if1 .left) (c .before .before .before .before .before .before .before .if2 .left) (c .before .before .before .before .before .before .if3 .left) (c .before .before .before .before .before .if4 .left) (c .before .before .before .before .if5 .left)) (s .pre .1) (c .before .before .before .if6 .left) (c .before .before .if7 .left) (c .before .if8 .left) (c .if9 .left) in
     rw last
 
 pub place-at-spec : {M : Type 1} → statement M
-place-at-spec = tie.close (tie.spec returns returns-2 returns-3 returns-4 returns-5 returns-6 returns-7 returns-8)
+place-at-spec = tie.close (tie.spec returns returns-2 returns-3 returns-4 returns-5 returns-6 returns-7 returns-8 returns-9 returns-10)

@@ -1,6 +1,6 @@
 -- `card_state::tags::with_place` meets its contract. Assumes nothing.
 use Rattle.card_state.specs.Kept.{placesOf}
-use Rattle.card_state.proofs.KeptLaws.{eighth}
+use Rattle.card_state.proofs.KeptLaws.{later}
 use Rattle.card_state.proofs.tags.with_place.Statement.{statement}
 use Rattle.card_state.proofs.tags.with_place.Tie as tie
 
@@ -24,20 +24,13 @@ returns-5 : tie.Need-returns-5
 unfolding placesOf
 returns-5 c = rw (c .if5 .taken)
 
+with-later-place-requires : tie.Need-with-later-place-requires
+with-later-place-requires c κs =
+    let s = c .before .before .before .before .before in
+    (later (s .args .k) (s .pre .0) (c .before .before .before .before .if1 .left) (c .before .before .before .if2 .left) (c .before .before .if3 .left) (c .before .if4 .left) (c .if5 .left), s .pre .1)
+
 returns-6 : tie.Need-returns-6
-unfolding placesOf
-returns-6 c = rw (c .if6 .taken)
-
-returns-7 : tie.Need-returns-7
-unfolding placesOf
-returns-7 c = rw (c .if7 .taken)
-
-returns-8 : tie.Need-returns-8
-unfolding placesOf
-returns-8 c =
-    let s = c .before .before .before .before .before .before .before in
-    let last = eighth (s .args .k) (s .pre .0) (s .pre .1) (c .before .before .before .before .before .before .if1 .left) (c .before .before .before .before .before .if2 .left) (c .before .before .before .before .if3 .left) (c .before .before .before .if4 .left) (c .before .before .if5 .left) (c .before .if6 .left) (c .if7 .left) in
-    rw last
+returns-6 c = c .with-later-place .ensures
 
 pub with-place-spec : {M : Type 1} → statement M
-with-place-spec = tie.close (tie.spec returns returns-2 returns-3 returns-4 returns-5 returns-6 returns-7 returns-8)
+with-place-spec = tie.close (tie.spec returns returns-2 returns-3 returns-4 returns-5 with-later-place-requires returns-6)

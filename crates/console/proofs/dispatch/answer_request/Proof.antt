@@ -2,7 +2,8 @@
 use denote.Ref.{now}
 use mathlib.Core.Path.{ap, _∙_}
 use borrow.Author.Needs.{needs}
-use Rattle.console_entries.specs.Entries.{judgeAnswer, offsetAnswer, readAnswer, writeAnswer, chosenAnswer, foldAnswer}
+use Rattle.console_entries.specs.Entries.{judgeAnswer, judgeInAnswer, offsetAnswer, readAnswer, readInAnswer, writeAnswer, chosenAnswer, foldAnswer}
+use Rattle.property_table.specs.declared.Edition.the-variants.{First}
 use Rattle.label_carets.specs.declared.Rule.the-variants.{Rfc6350, Rfc6868}
 use Rattle.console_desk.specs.DeskAnswers.{State, withPool}
 use Rattle.console_entries.specs.declared.entries.Writer.the-variants.{Fold, Escape, Unescape, Encode, Decode}
@@ -147,6 +148,24 @@ put-offset-answer-requires c κs = search needs
 with-output-requires-9 : tie.Need-with-output-requires-9
 with-output-requires-9 c κs = search needs
 
+enum-told-19 : tie.Need-enum-told-19
+enum-told-19 c = search needs
+
+put-judge-in-answer-requires : tie.Need-put-judge-in-answer-requires
+put-judge-in-answer-requires c κs = search needs
+
+with-output-requires-10 : tie.Need-with-output-requires-10
+with-output-requires-10 c κs = search needs
+
+enum-told-20 : tie.Need-enum-told-20
+enum-told-20 c = search needs
+
+put-read-in-answer-requires : tie.Need-put-read-in-answer-requires
+put-read-in-answer-requires c κs = search needs
+
+with-output-requires-11 : tie.Need-with-output-requires-11
+with-output-requires-11 c κs = search needs
+
 answer-bad-requires : tie.Need-answer-bad-requires
 answer-bad-requires c κs = search needs
 
@@ -157,7 +176,7 @@ returns : tie.Need-returns
 unfolding answerBy
 returns c =
     let a = c .before .before .before .before .before .before .before .before .before .before .args in
-    rw (c .before .before .before .before .before .enum-told .given .1) (said (a .c) (now (a .pool)) (now (a .out)) (judgeAnswer (now (a .sent))) (c .with-output .ensures) (c .before .before .before .put-judge-answer .ensures))
+    rw (c .before .before .before .before .before .enum-told .given .1) (said (a .c) (now (a .pool)) (now (a .out)) (judgeAnswer First (now (a .sent))) (c .with-output .ensures) (c .before .before .before .put-judge-answer .ensures))
 
 same-length-2 : tie.Need-same-length-2
 same-length-2 c = search needs
@@ -166,7 +185,7 @@ returns-2 : tie.Need-returns-2
 unfolding answerBy
 returns-2 c =
     let a = c .before .before .before .before .before .before .before .before .before .before .args in
-    rw (c .before .before .before .before .before .enum-told2 .given .1) (said (a .c) (now (a .pool)) (now (a .out)) (readAnswer (a .q .first) (a .q .second) (now (a .sent))) (c .with-output2 .ensures) (c .before .before .before .put-read-answer .ensures))
+    rw (c .before .before .before .before .before .enum-told2 .given .1) (said (a .c) (now (a .pool)) (now (a .out)) (readAnswer First (a .q .first) (a .q .second) (now (a .sent))) (c .with-output2 .ensures) (c .before .before .before .put-read-answer .ensures))
 
 same-length-3 : tie.Need-same-length-3
 same-length-3 c = search needs
@@ -322,10 +341,28 @@ same-length-27 : tie.Need-same-length-27
 same-length-27 c = search needs
 
 returns-19 : tie.Need-returns-19
+unfolding answerBy
 returns-19 c =
+    let a = c .before .before .before .before .before .before .before .before .before .before .args in
+    rw (c .before .before .before .before .before .enum-told19 .given .1) (said (a .c) (now (a .pool)) (now (a .out)) (judgeInAnswer (a .q .first) (now (a .sent))) (c .with-output10 .ensures) (c .before .before .before .put-judge-in-answer .ensures))
+
+same-length-28 : tie.Need-same-length-28
+same-length-28 c = search needs
+
+returns-20 : tie.Need-returns-20
+unfolding answerBy
+returns-20 c =
+    let a = c .before .before .before .before .before .before .before .before .before .before .args in
+    rw (c .before .before .before .before .before .enum-told20 .given .1) (said (a .c) (now (a .pool)) (now (a .out)) (readInAnswer (a .q .first) (a .q .second) (a .q .third) (now (a .sent))) (c .with-output11 .ensures) (c .before .before .before .put-read-in-answer .ensures))
+
+same-length-29 : tie.Need-same-length-29
+same-length-29 c = search needs
+
+returns-21 : tie.Need-returns-21
+returns-21 c =
     let a = c .before .before .before .before .before .before .before .before .args in
     ap (λ (x : State). withPool x (now (a .pool))) (c .before .before .answer-bad .ensures)
-    ∙ none-of-these (a .q .name) (a .q .first) (a .q .second) (a .q .third) (now (a .sent)) _ (now (a .pool)) (c .before .before .before .before .match .keys19)
+    ∙ none-of-these (a .q .name) (a .q .first) (a .q .second) (a .q .third) (now (a .sent)) _ (now (a .pool)) (c .before .before .before .before .match .keys21)
 
 pub answer-request-spec : {M : Type 1} → statement M
 answer-request-spec =
@@ -376,6 +413,12 @@ answer-request-spec =
     enum-told-18
     put-offset-answer-requires
     with-output-requires-9
+    enum-told-19
+    put-judge-in-answer-requires
+    with-output-requires-10
+    enum-told-20
+    put-read-in-answer-requires
+    with-output-requires-11
     answer-bad-requires
     same-length
     returns
@@ -422,4 +465,8 @@ answer-request-spec =
     same-length-26
     returns-18
     same-length-27
-    returns-19)
+    returns-19
+    same-length-28
+    returns-20
+    same-length-29
+    returns-21)

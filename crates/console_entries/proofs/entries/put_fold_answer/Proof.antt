@@ -5,8 +5,8 @@ use borrow.Author.Needs.{needs}
 use Rattle.console_entries.proofs.entries.put_fold_answer.Statement.{statement}
 use Rattle.console_entries.proofs.entries.put_fold_answer.Tie as tie
 
-put-bad-requires : tie.Need-put-bad-requires
-put-bad-requires c κs = search needs
+put-styled-answer-requires : tie.Need-put-styled-answer-requires
+put-styled-answer-requires c κs = search needs
 
 same-length : tie.Need-same-length
 same-length c = search needs
@@ -15,10 +15,10 @@ returns : tie.Need-returns
 unfolding foldAnswer
 returns c =
     let t = c .before .before in
-    rw (ne-eqb _ _ (t .before .before .if1 .taken)) (t .put-bad .ensures)
+    rw (eq-eqb _ _ (t .before .before .if1 .taken)) (t .put-styled-answer .ensures)
 
-put-chosen-answer-requires : tie.Need-put-chosen-answer-requires
-put-chosen-answer-requires c κs = search needs
+put-styled-answer-requires-2 : tie.Need-put-styled-answer-requires-2
+put-styled-answer-requires-2 c κs = search needs
 
 same-length-2 : tie.Need-same-length-2
 same-length-2 c = search needs
@@ -27,15 +27,30 @@ returns-2 : tie.Need-returns-2
 unfolding foldAnswer
 returns-2 c =
     let t = c .before .before in
-    rw (eq-eqb _ _ (t .before .before .if1 .left)) (t .put-chosen-answer .ensures)
+    rw (ne-eqb _ _ (t .before .before .before .if1 .left), eq-eqb _ _ (t .before .before .if2 .taken)) (t .put-styled-answer2 .ensures)
+
+put-bad-requires : tie.Need-put-bad-requires
+put-bad-requires c κs = search needs
+
+same-length-3 : tie.Need-same-length-3
+same-length-3 c = search needs
+
+returns-3 : tie.Need-returns-3
+unfolding foldAnswer
+returns-3 c =
+    let t = c .before .before in
+    rw (ne-eqb _ _ (t .before .before .before .if1 .left), ne-eqb _ _ (t .before .before .if2 .left)) (t .put-bad .ensures)
 
 pub put-fold-answer-spec : {M : Type 1} → statement M
 put-fold-answer-spec =
     tie.close
     (tie.spec
-    put-bad-requires
+    put-styled-answer-requires
     same-length
     returns
-    put-chosen-answer-requires
+    put-styled-answer-requires-2
     same-length-2
-    returns-2)
+    returns-2
+    put-bad-requires
+    same-length-3
+    returns-3)

@@ -11,8 +11,8 @@ use mathlib.Core.List.{_++_}
 use Rattle.console_entries.proofs.entries.put_judge_answer.Statement.{statement}
 use Rattle.console_entries.proofs.entries.put_judge_answer.Tie as tie
 
-judge-requires : tie.Need-judge-requires
-judge-requires c κs = search needs
+judge-as-requires : tie.Need-judge-as-requires
+judge-as-requires c κs = search needs
 
 put-verdict-requires : tie.Need-put-verdict-requires
 put-verdict-requires c κs = search needs
@@ -28,7 +28,7 @@ unfolding judgeAnswer
 returns c =
     let put-end = c .before .before .put-end in
     let put-verdict = c .before .before .before .before .before .before .put-verdict in
-    let judge = c .before .before .before .before .before .before .before .judge in
+    let judge = c .before .before .before .before .before .before .before .judge-as in
     let a = c .before .before .before .before .before .before .before .before .before .before .before .args in
     let o = page (a .at) (now (a .out)) in
     then (verdictText (judge .result)) lineEnd o (put-verdict .ensures) (put-end .ensures)
@@ -36,4 +36,4 @@ returns c =
 
 pub put-judge-answer-spec : {M : Type 1} → statement M
 put-judge-answer-spec =
-    tie.close (tie.spec judge-requires put-verdict-requires put-end-requires same-length returns)
+    tie.close (tie.spec judge-as-requires put-verdict-requires put-end-requires same-length returns)

@@ -45,8 +45,8 @@ returns c =
     let read = c15 .read in
     let a = c22 .args in
     let o = page (a .at) (now (a .out)) in
-    let copy = read .last .1 .0 in
-    let records = read .last .1 .1 .0 in
+    let copy = read .last .1 .1 .0 in
+    let records = read .last .1 .1 .1 .0 in
     then (verdictText (read .result)) (roomsText (lines-of .result) copy records) o (put-verdict .ensures) (put-rooms .ensures)
     ∙ ap (λ (n : ℕ). added (verdictText (read .result) ++ roomsText n copy records) o) (lines-of .ensures)
     ∙ ap (λ (t : Taken). added (takenAnswer t) o) (read .ensures)

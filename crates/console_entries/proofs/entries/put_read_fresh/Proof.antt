@@ -35,7 +35,7 @@ returns c =
     let t = c .before .before .before .before in
     let s = t .before .before .before .before .before .before in
     let a = s .args in
-    read-part (now (a .input)) 70000 (a .r) (page (a .at) (now (a .out))) (s .pre .0) (a .k) (s .pre .1) (t .put-read .ensures)
+    read-part (now (a .input)) 70000 (a .r) (page (a .at) (now (a .out))) (s .pre .0) (a .edition) (a .k) (s .pre .1) (t .put-read .ensures)
 
 pub put-read-fresh-spec : {M : Type 1} → statement M
 put-read-fresh-spec =

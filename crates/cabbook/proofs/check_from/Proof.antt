@@ -1,16 +1,16 @@
--- `cabbook::check_all` meets its contract. Assumes nothing.
+-- `cabbook::check_from` meets its contract. Assumes nothing.
 use borrow.Author.Needs.{needs}
 use mathlib.Core.Logic.{⊎-elim}
 use Prim.Native.Nat.{_≤_, _-_}
 use native.Mathlib.Omega.{arith}
-use Rattle.cabbook.proofs.check_all.Statement.{statement}
-use Rattle.cabbook.proofs.check_all.Tie as tie
+use Rattle.cabbook.proofs.check_from.Statement.{statement}
+use Rattle.cabbook.proofs.check_from.Tie as tie
 
 abbrev Inv-loop : tie.InvT-loop
-Inv-loop count status₀ i₀ status i = status ≤ 2
+Inv-loop edition first count status₀ i₀ status i = status ≤ 2
 
 abbrev μ-loop : tie.MeasureT-loop
-μ-loop count status₀ i₀ status i = count - i
+μ-loop edition first count status₀ i₀ status i = count - i
 
 slice-aggregate-print-usage : tie.Need-slice-aggregate-print-usage Inv-loop μ-loop
 slice-aggregate-print-usage c = search needs
@@ -39,8 +39,8 @@ loop-again c = ⊎-elim (λ w. omega arith) (λ w. omega arith) (c .if2 .came)
 returns-2 : tie.Need-returns-2 Inv-loop μ-loop
 returns-2 c = search needs
 
-pub check-all-spec : {M : Type 1} → statement M
-check-all-spec =
+pub check-from-spec : {M : Type 1} → statement M
+check-from-spec =
     tie.close
     (tie.spec
     Inv-loop
