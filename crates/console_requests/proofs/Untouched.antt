@@ -20,7 +20,7 @@ use Rattle.console_requests.proofs.RequestLaws.{no-octets}
 use Rattle.console_requests.specs.Names.{Row, rows, noRow, fits, search, rowOf}
 use Rattle.console_requests.specs.Requests.{numberAt, octetsAt, makeRequest, whole, requestOf}
 use Rattle.console_requests.specs.declared.Name.{Name}
-use Rattle.console_requests.specs.declared.Name.the-variants.{Judge, Read, Fold, Escape, Unescape, Desk, Open, Add, Check, Show, Held, Release, Pool, Next, Encode, Decode, FoldIn, Offset, Report, Take, Print, Count, Bad}
+use Rattle.console_requests.specs.declared.Name.the-variants.{Judge, Read, Fold, Escape, Unescape, Desk, Open, Add, Check, Show, Held, Release, Pool, Next, Encode, Decode, FoldIn, Offset, Report, Take, Print, Count, JudgeIn, ReadIn, Bad}
 
 -- bad octets leave the room as it was
 short-room : (t : Bool) (xs room out : List ℕ) → pick t (taken NoOctets room) (taken (Are (length xs)) out) .answer ≡ NoOctets
