@@ -99,7 +99,8 @@ fn octets_point_at_octets_and_at_ends_with_folds_right_before() {
         let ["no", number @ ("5" | "7"), place] = words.as_slice() else { continue };
         let (input, place): (Vec<u8>, usize) = (input_of(&line), place.parse().expect("a place"));
         let which = usize::from(*number == "7");
-        after_a_fold[which] += usize::from(input[..place].ends_with(b"\r\n ") || input[..place].ends_with(b"\r\n\t"));
+        after_a_fold[which] +=
+            usize::from(input[..place].ends_with(b"\r\n ") || input[..place].ends_with(b"\r\n\t"));
         ends[which] += usize::from(input[place] == b'\r');
     }
     assert!(after_a_fold[0] >= 100 && after_a_fold[1] >= 300, "{after_a_fold:?}");

@@ -122,9 +122,14 @@ fn a14_to_a18_kinds() {
     ] {
         assert_eq!(line_verdict(line), Ok((1, 5)), "{line}");
     }
-    for (line, octet) in
-        [("URL::a", 4), ("URL:", 4), ("ORG:a,b", 5), ("ORG:\\x", 5), ("NICKNAME:\\x", 10), ("CLIENTPIDMAP:;a:", 13)]
-    {
+    for (line, octet) in [
+        ("URL::a", 4),
+        ("URL:", 4),
+        ("ORG:a,b", 5),
+        ("ORG:\\x", 5),
+        ("NICKNAME:\\x", 10),
+        ("CLIENTPIDMAP:;a:", 13),
+    ] {
         assert_eq!(line_verdict(line), Err((7, 32 + octet)), "{line}");
     }
 }

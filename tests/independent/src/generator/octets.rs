@@ -65,11 +65,13 @@ enum Asked {
     Offset(String),
 }
 
-/// Every line with no fold and with one fold, two and three before each of its octets and at its end, and with a fold before every octet.
+/// Every line with no fold and with one fold, two and three before each of its octets and at its end, and with a fold before every octet; and BEGIN
+/// alone.
 pub fn by_hand() -> Vec<Vec<u8>> {
     let lines = LINES.iter().map(|line| line.as_bytes()).chain(BAD_OCTETS.iter().copied());
     let mut inputs: Vec<Vec<u8>> =
         lines.flat_map(|line| with_folds(line).into_iter().map(|line| card(2, true, &line))).collect();
+    inputs.extend(FRAMES.iter().map(|value| format!("BEGIN:{value}\r\n").into_bytes()));
     for value in FRAMES {
         for (index, name) in ["BEGIN", "VERSION", "END"].into_iter().enumerate() {
             let line = format!("{name}:{value}");
