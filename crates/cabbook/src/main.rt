@@ -94,7 +94,7 @@ struct Chosen {
 }
 
 // The edition that the argument after the command chooses, edition one where it does not.
-fn chosen(count: usize) -> Chosen
+fn chosen_edition(count: usize) -> Chosen
     ensures { λ r. ⌜ r .first ≤ 4 ⌝ }
 {
     if !has_option(FIRST_FILE, b"--edition", count) {
@@ -141,11 +141,12 @@ fn check_from(edition: Edition, first: usize, count: usize) -> u8
 
 // Judges the files in the edition that is chosen.
 fn check_all(count: usize) -> u8 {
-    let c = chosen(count);
+    let c = chosen_edition(count);
     if !c.known {
         return usage::print_usage(b"--edition takes 1 or 2");
     }
-    check_from(c.edition, c.first, count)
+    let edition = c.edition;
+    check_from(edition, c.first, count)
 }
 
 // Prints the report of the files that the arguments from the second on name; `--bars` may stand anywhere among them.
@@ -196,16 +197,17 @@ fn apply_by_rule(old: Form, new: Form, count: usize) -> u8 {
 
 // Shows the one file that is named in the edition that is chosen.
 fn show_one(count: usize) -> u8 {
-    let c = chosen(count);
+    let c = chosen_edition(count);
     if !c.known {
         return usage::print_usage(b"--edition takes 1 or 2");
     }
-    apply_to_one(Command::Show(c.edition), c.first, count)
+    let edition = c.edition;
+    apply_to_one(Command::Show(edition), c.first, count)
 }
 
 // Writes the one file that is named, folded in the edition that is chosen, its names in capitals or as read.
 fn fold_one(count: usize) -> u8 {
-    let c = chosen(count);
+    let c = chosen_edition(count);
     if !c.known {
         return usage::print_usage(b"--edition takes 1 or 2");
     }
