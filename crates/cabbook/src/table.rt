@@ -11,8 +11,8 @@ use libc::STDOUT_FILENO;
 use numbers::field;
 use numbers::limit;
 use numbers::property;
-use property_table::Edition;
 use octets::indices::wide_number;
+use property_table::Edition;
 use reader::Verdict;
 
 // The most lines of an input: a line has at least four octets, as `A:` and CR LF.

@@ -15,10 +15,7 @@ fn print_commands(to: i32) {
         to,
         b"  cabbook show [--edition N] FILE     the cards as a table\n",
     );
-    io::write_all(
-        to,
-        b"  cabbook fold [--edition N] [--as-read] FILE\n",
-    );
+    io::write_all(to, b"  cabbook fold [--edition N] [--as-read] FILE\n");
     io::write_all(
         to,
         b"                                      the cards folded, names in capitals or as read\n",

@@ -150,12 +150,7 @@ fn kind_at(
 }
 
 // The parts of a line, or the fault by which it breaks the line rule.
-pub fn parts_of(
-    t: &ClassTable,
-    rows: &PropertyTable,
-    edition: Edition,
-    s: &[u8],
-) -> LineParts
+pub fn parts_of(t: &ClassTable, rows: &PropertyTable, edition: Edition, s: &[u8]) -> LineParts
     requires { ⌜ Classes (now t) ⌝ }
     requires { ⌜ Lists (now rows) ⌝ }
     requires { ⌜ length (now s) ≤ limit.octets ⌝ }

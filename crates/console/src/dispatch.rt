@@ -28,12 +28,7 @@ fn answer_request(q: Request, c: Console, sent: &[u8], pool: &mut [u8], out: &mu
     let k = q.second;
     let m = q.third;
     match name {
-        Name::Judge => c.with_output(entries::put_judge_answer(
-            Edition::First,
-            sent,
-            out,
-            c.at,
-        )),
+        Name::Judge => c.with_output(entries::put_judge_answer(Edition::First, sent, out, c.at)),
         Name::Read => c.with_output(entries::put_read_answer(
             Edition::First,
             n,

@@ -29,13 +29,7 @@ pub struct Record {
 }
 
 // The record of the logical line l, which starts at w in the copy.
-fn record_of(
-    t: &ClassTable,
-    rows: &PropertyTable,
-    edition: Edition,
-    l: &[u8],
-    w: usize,
-) -> Record
+fn record_of(t: &ClassTable, rows: &PropertyTable, edition: Edition, l: &[u8], w: usize) -> Record
     requires { ⌜ Classes (now t) ⌝ }
     requires { ⌜ Lists (now rows) ⌝ }
     requires { ⌜ w + length (now l) ≤ limit.octets ⌝ }
@@ -90,13 +84,7 @@ fn put_record(out: &mut [u32], at: usize, r: Record)
 }
 
 // Writes the records of the lines of s, which has no folds, to the start of out.
-fn write_records(
-    t: &ClassTable,
-    rows: &PropertyTable,
-    edition: Edition,
-    s: &[u8],
-    out: &mut [u32],
-)
+fn write_records(t: &ClassTable, rows: &PropertyTable, edition: Edition, s: &[u8], out: &mut [u32])
     requires { ⌜ Classes (now t) ⌝ }
     requires { ⌜ Lists (now rows) ⌝ }
     requires { ⌜ length (now s) ≤ limit.octets ⌝ }

@@ -58,7 +58,16 @@ fn judge_at_hand(
     let used = c.used;
     let store = &buffer[..used];
     if folded {
-        return card_judge::judge::judge_line(t, rows, steps, edition, &buffer[used..], store, at, c);
+        return card_judge::judge::judge_line(
+            t,
+            rows,
+            steps,
+            edition,
+            &buffer[used..],
+            store,
+            at,
+            c,
+        );
     }
     card_judge::judge::judge_line(t, rows, steps, edition, s, store, at, c)
 }

@@ -70,7 +70,13 @@ fn is_four(s: &[u8]) -> bool
 }
 
 // Whether s satisfies what its row asks: VCARD on BEGIN and END, 4.0 on VERSION, else the line's kind.
-pub fn judge_value(steps: &Transitions, edition: Edition, row: usize, kind: usize, s: &[u8]) -> Fault
+pub fn judge_value(
+    steps: &Transitions,
+    edition: Edition,
+    row: usize,
+    kind: usize,
+    s: &[u8],
+) -> Fault
     requires { ⌜ Scanner (now steps) ⌝ }
     requires { ⌜ kind < kinds.count ⌝ }
     ensures { λ r. ⌜ r ≡ valueIn edition row kind (now (s .entry)) ⌝ }
