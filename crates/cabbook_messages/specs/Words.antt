@@ -47,6 +47,14 @@ messages =
     message refusal.quote "quote left open or out of place" ∷
     message refusal.noColon "no colon" ∷
     message refusal.noLabel "newline or quote mark, which RFC 6350 can't write" ∷
+    message refusal.bufferLength "lent buffer hasn't 16,384 octets" ∷
+    message refusal.claim "state claims over 16,384 octets of the buffer" ∷
+    message refusal.notTakenIn "not a version 3 card that can be taken in" ∷
+    message refusal.notGivenOut "can't be given out in version 3" ∷
+    message refusal.noPlan "no pairing of the two cards' lines would pass" ∷
+    message refusal.mergeLimit "more than one card, over 16 CLIENTPIDMAP lines, or a number over 65,535" ∷
+    message refusal.sourceRow "row isn't the card's CLIENTPIDMAP lines in order" ∷
+    message refusal.plan "plan doesn't pass, another would" ∷
     message refusal.reportFull "a count of the report would pass 4,294,967,295" ∷
     []
 

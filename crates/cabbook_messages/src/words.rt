@@ -8,7 +8,7 @@ use octets::indices::wide;
 const HEAD: usize = 2;
 
 // tools/messages makes the table from here on.
-const SIZE: usize = 1008;
+const SIZE: usize = 1369;
 
 const MESSAGES: [u8; SIZE] = *b"\
     \x01\x18input over 16,384 octets\
@@ -40,6 +40,14 @@ const MESSAGES: [u8; SIZE] = *b"\
     \x2a\x1fquote left open or out of place\
     \x2b\x08no colon\
     \x2c\x31newline or quote mark, which RFC 6350 can't write\
+    \x2d\x20lent buffer hasn't 16,384 octets\
+    \x2e\x2dstate claims over 16,384 octets of the buffer\
+    \x32\x29not a version 3 card that can be taken in\
+    \x33\x1fcan't be given out in version 3\
+    \x46\x2dno pairing of the two cards' lines would pass\
+    \x47\x47more than one card, over 16 CLIENTPIDMAP lines, or a number over 65,535\
+    \x48\x30row isn't the card's CLIENTPIDMAP lines in order\
+    \x49\x20plan doesn't pass, another would\
     \x50\x2ea count of the report would pass 4,294,967,295";
 
 // The table as a value.

@@ -37,6 +37,18 @@ flags = 32
 abbrev pub recordLength : ℕ
 recordLength = 8
 
+-- the most entries of a row of sources, and the most CLIENTPIDMAP lines of a card in a merge
+abbrev pub sources : ℕ
+sources = 16
+
+-- the largest number of a PID or a CLIENTPIDMAP in a merge
+abbrev pub sourceNumber : ℕ
+sourceNumber = 65535
+
+-- the most logical lines of an accepted input: a line has at least 4 octets with its CR LF
+abbrev pub lines : ℕ
+lines = 4096
+
 -- the factor of a refusal's number in the answer of a C routine
 abbrev pub word : ℕ
 word = 4294967296

@@ -118,6 +118,38 @@ noColon = 43
 abbrev pub noLabel : ℕ
 noLabel = 44
 
+-- a lent buffer that has not 16,384 octets; at 0
+abbrev pub bufferLength : ℕ
+bufferLength = 45
+
+-- a state that claims over 16,384 octets of the buffer; at 0
+abbrev pub claim : ℕ
+claim = 46
+
+-- a line that a version 3 card can't be taken in with, at its start; or FN, N or VERSION missing, at the END line's start
+abbrev pub notTakenIn : ℕ
+notTakenIn = 50
+
+-- a line that can't be given out in version 3, at its start; or N missing, at the END line's start
+abbrev pub notGivenOut : ℕ
+notGivenOut = 51
+
+-- two cards for which no plan would pass; at 0
+abbrev pub noPlan : ℕ
+noPlan = 70
+
+-- several cards in one input, over 16 entries or CLIENTPIDMAP lines, or a number over 65,535 in a PID or a CLIENTPIDMAP; at 0
+abbrev pub mergeLimit : ℕ
+mergeLimit = 71
+
+-- a row of entries that is not its card's CLIENTPIDMAP lines in order; at 0
+abbrev pub sourceRow : ℕ
+sourceRow = 72
+
+-- a plan that does not pass where another would; at 0
+abbrev pub plan : ℕ
+plan = 73
+
 -- a count of a report would pass 4,294,967,295; at 0
 abbrev pub reportFull : ℕ
 reportFull = 80
@@ -144,6 +176,8 @@ refusals =
     ++ copyRoom ∷ recordRoom ∷ room ∷ formTooLong ∷ []
     ++ noFreeSlot ∷ ticketsUsedUp ∷ notOpen ∷ slotFull ∷ poolLength ∷ unsound ∷ slotCount ∷ []
     ++ escape ∷ textOctet ∷ []
-    ++ name ∷ parameter ∷ quote ∷ noColon ∷ noLabel ∷ []
+    ++ name ∷ parameter ∷ quote ∷ noColon ∷ noLabel ∷ bufferLength ∷ claim ∷ []
+    ++ notTakenIn ∷ notGivenOut ∷ []
+    ++ noPlan ∷ mergeLimit ∷ sourceRow ∷ plan ∷ []
     ++ reportFull ∷ []
     ++ replayCall ∷ replayPool ∷ replayLog ∷ []

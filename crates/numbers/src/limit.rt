@@ -27,6 +27,15 @@ pub const FLAGS: usize = 32;
 // The numbers of a record.
 pub const RECORD_LENGTH: usize = 8;
 
+// The most entries of a row of sources, and the most CLIENTPIDMAP lines of a card in a merge.
+pub const SOURCES: usize = 16;
+
+// The largest number of a PID or a CLIENTPIDMAP in a merge.
+pub const SOURCE_NUMBER: usize = 65535;
+
+// The most logical lines of an accepted input: a line has at least 4 octets with its CR LF.
+pub const LINES: usize = 4096;
+
 // The factor of a refusal's number in the answer of a C routine.
 pub const WORD: u64 = 4294967296;
 

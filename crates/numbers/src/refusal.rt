@@ -87,6 +87,30 @@ pub const NO_COLON: u32 = 43;
 // A value with a newline or a quote mark, which RFC 6350's labels can't hold; at the first such octet.
 pub const NO_LABEL: u32 = 44;
 
+// A lent buffer that has not 16,384 octets; at 0.
+pub const BUFFER_LENGTH: u32 = 45;
+
+// A state that claims over 16,384 octets of the buffer; at 0.
+pub const CLAIM: u32 = 46;
+
+// A line that a version 3 card can't be taken in with, at its start; or FN, N or VERSION missing, at the END line's start.
+pub const NOT_TAKEN_IN: u32 = 50;
+
+// A line that can't be given out in version 3, at its start; or N missing, at the END line's start.
+pub const NOT_GIVEN_OUT: u32 = 51;
+
+// Two cards for which no plan would pass; at 0.
+pub const NO_PLAN: u32 = 70;
+
+// Several cards in one input, over 16 entries or CLIENTPIDMAP lines, or a number over 65,535 in a PID or a CLIENTPIDMAP; at 0.
+pub const MERGE_LIMIT: u32 = 71;
+
+// A row of entries that is not its card's CLIENTPIDMAP lines in order; at 0.
+pub const SOURCE_ROW: u32 = 72;
+
+// A plan that does not pass where another would; at 0.
+pub const PLAN: u32 = 73;
+
 // A count of a report would pass 4,294,967,295; at 0.
 pub const REPORT_FULL: u32 = 80;
 
