@@ -1,3 +1,2 @@
 -- The law that the proof of the answers cites. Assumes nothing.
 mod Said
-pub mod Others

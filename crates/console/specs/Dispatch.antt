@@ -8,45 +8,55 @@ use Rattle.octets.specs.Slices.{part}
 use Rattle.console_requests.specs.Requests.{Requested, requestOf}
 use Rattle.console_requests.specs.declared.Request.{Request}
 use Rattle.console_requests.specs.declared.Name.{Name}
-use Rattle.console_requests.specs.declared.Name.the-variants.{Judge, Read, Fold, Escape, Unescape, Desk, Open, Add, Check, Show, Held, Release, Pool, Next, Encode, Decode, FoldIn, Offset, Report, Take, Print, Count, JudgeIn, ReadIn, Bad}
+use Rattle.console_requests.specs.declared.Name.the-variants.{ToEntry, ToDesk, ToReport, Bad}
+use Rattle.console_requests.specs.declared.EntryCall.{EntryCall}
+use Rattle.console_requests.specs.declared.EntryCall.the-variants.{Judge, Read, Fold, Escape, Unescape, Encode, Decode, FoldIn, Offset, JudgeIn, ReadIn}
+use Rattle.console_requests.specs.declared.DeskCall.{DeskCall}
+use Rattle.console_requests.specs.declared.DeskCall.the-variants.{Desk, Open, Add, Check, Show, Held, Release, Pool, Next}
+use Rattle.console_requests.specs.declared.ReportCall.{ReportCall}
+use Rattle.console_requests.specs.declared.ReportCall.the-variants.{Report, Take, Print, Count}
 use Rattle.property_table.specs.declared.Edition.the-variants.{First}
-use Rattle.label_carets.specs.declared.Rule.the-variants.{Rfc6350, Rfc6868}
-use Rattle.console_entries.specs.Entries.{judgeAnswer, judgeInAnswer, offsetAnswer, readAnswer, readInAnswer, writeAnswer, chosenAnswer, foldAnswer}
+use Rattle.console_entries.specs.Entries.{judgeAnswer, judgeInAnswer, offsetAnswer, readAnswer, readInAnswer, writeAnswer, encodeAnswer, decodeAnswer, foldAnswer}
 use Rattle.console_desk.specs.DeskAnswers.{State, WithPool, withPool, says, saysBad, deskAnswer, nextAnswer, changeAnswer, lookAnswer, poolAnswer}
 use Rattle.report.specs.declared.Report.{Report as ReportValue}
 use Rattle.console_report.specs.ReportAnswers.{KeptState, kept, keptOf, freshAnswer, takeAnswer, printsAnswer, countAnswer}
 use Rattle.console_report.specs.declared.Kept.{Kept}
-use Rattle.console_entries.specs.declared.entries.Writer.the-variants.{Fold as toFold, Escape as toEscape, Unescape as toUnescape, Encode as toEncode, Decode as toDecode}
+use Rattle.console_entries.specs.declared.entries.Writer.the-variants.{Fold as toFold, Escape as toEscape, Unescape as toUnescape}
 use Rattle.console_desk.specs.declared.Change.the-variants.{Open as toOpen, Add as toAdd, Release as toRelease}
 use Rattle.console_desk.specs.declared.Look.the-variants.{Check as toCheck, Show as toShow, Held as toHeld}
 
--- each request to an entry or the desk, with its numbers and the octets that it sends; any other is none
-unfoldable pub answerBy : Name → ℕ → ℕ → ℕ → List ℕ → State → List ℕ → WithPool
-answerBy Judge n k m sent t pool = withPool (says (judgeAnswer First sent) t) pool
-answerBy Read n k m sent t pool = withPool (says (readAnswer First n k sent) t) pool
-answerBy Fold n k m sent t pool = withPool (says (writeAnswer toFold n sent) t) pool
-answerBy Escape n k m sent t pool = withPool (says (writeAnswer toEscape n sent) t) pool
-answerBy Unescape n k m sent t pool = withPool (says (writeAnswer toUnescape n sent) t) pool
-answerBy Desk n k m sent t pool = deskAnswer n k t pool
-answerBy Open n k m sent t pool = changeAnswer toOpen n k sent t pool
-answerBy Add n k m sent t pool = changeAnswer toAdd n k sent t pool
-answerBy Check n k m sent t pool = withPool (lookAnswer toCheck n t pool) pool
-answerBy Show n k m sent t pool = withPool (lookAnswer toShow n t pool) pool
-answerBy Held n k m sent t pool = withPool (lookAnswer toHeld n t pool) pool
-answerBy Release n k m sent t pool = changeAnswer toRelease n k sent t pool
-answerBy Pool n k m sent t pool = withPool (poolAnswer n k t pool) pool
-answerBy Next n k m sent t pool = withPool (nextAnswer n t) pool
-answerBy Encode n k m sent t pool = withPool (says (chosenAnswer (toEncode Rfc6350) (toEncode Rfc6868) n k sent) t) pool
-answerBy Decode n k m sent t pool = withPool (says (chosenAnswer (toDecode Rfc6350) (toDecode Rfc6868) n k sent) t) pool
-answerBy FoldIn n k m sent t pool = withPool (says (foldAnswer n k m sent) t) pool
-answerBy Offset n k m sent t pool = withPool (says (offsetAnswer sent) t) pool
-answerBy JudgeIn n k m sent t pool = withPool (says (judgeInAnswer n sent) t) pool
-answerBy ReadIn n k m sent t pool = withPool (says (readInAnswer n k m sent) t) pool
-answerBy Report n k m sent t pool = withPool (saysBad t) pool
-answerBy Take n k m sent t pool = withPool (saysBad t) pool
-answerBy Print n k m sent t pool = withPool (saysBad t) pool
-answerBy Count n k m sent t pool = withPool (saysBad t) pool
-answerBy Bad n k m sent t pool = withPool (saysBad t) pool
+-- each request to an entry, with its numbers and the octets that it sends
+unfoldable pub entryText : EntryCall → ℕ → ℕ → ℕ → List ℕ → List ℕ
+entryText Judge n k m sent = judgeAnswer First sent
+entryText Read n k m sent = readAnswer First n k sent
+entryText Fold n k m sent = writeAnswer toFold n sent
+entryText Escape n k m sent = writeAnswer toEscape n sent
+entryText Unescape n k m sent = writeAnswer toUnescape n sent
+entryText Encode n k m sent = encodeAnswer n k sent
+entryText Decode n k m sent = decodeAnswer n k sent
+entryText FoldIn n k m sent = foldAnswer n k m sent
+entryText Offset n k m sent = offsetAnswer sent
+entryText JudgeIn n k m sent = judgeInAnswer n sent
+entryText ReadIn n k m sent = readInAnswer n k m sent
+
+-- each request of the desk
+unfoldable pub deskTurn : DeskCall → ℕ → ℕ → List ℕ → State → List ℕ → WithPool
+deskTurn Desk n k sent t pool = deskAnswer n k t pool
+deskTurn Open n k sent t pool = changeAnswer toOpen n k sent t pool
+deskTurn Add n k sent t pool = changeAnswer toAdd n k sent t pool
+deskTurn Check n k sent t pool = withPool (lookAnswer toCheck n t pool) pool
+deskTurn Show n k sent t pool = withPool (lookAnswer toShow n t pool) pool
+deskTurn Held n k sent t pool = withPool (lookAnswer toHeld n t pool) pool
+deskTurn Release n k sent t pool = changeAnswer toRelease n k sent t pool
+deskTurn Pool n k sent t pool = withPool (poolAnswer n k t pool) pool
+deskTurn Next n k sent t pool = withPool (nextAnswer n t) pool
+
+-- each request of the report
+unfoldable pub reportTurn : ReportCall → ℕ → ℕ → List ℕ → KeptState → KeptState
+reportTurn Report n k sent s = freshAnswer s
+reportTurn Take n k sent s = takeAnswer sent s
+reportTurn Print n k sent s = printsAnswer n s
+reportTurn Count n k sent s = countAnswer n k s
 
 -- desk, output and report, and the pool
 pub record Whole : Type 0 where
@@ -63,33 +73,20 @@ wholeOf k out pool = whole (keptOf k out) pool
 abbrev pub beside : WithPool → ReportValue → Whole
 beside x r = whole (kept (x .state) r) (x .pool)
 
--- each request of the report, and any other
+-- the output is added to, and all else stays
+abbrev pub saying : State → Whole → Whole
+saying t w = whole (kept t (w .kept .report)) (w .pool)
+
+-- a line that is no request
+abbrev pub saysNone : Whole → Whole
+saysNone w = saying (saysBad (w .kept .state)) w
+
+-- each request by whom it is for
 unfoldable pub answerAny : Name → ℕ → ℕ → ℕ → List ℕ → Whole → Whole
-answerAny Report n k m sent w = whole (freshAnswer (w .kept)) (w .pool)
-answerAny Take n k m sent w = whole (takeAnswer sent (w .kept)) (w .pool)
-answerAny Print n k m sent w = whole (printsAnswer n (w .kept)) (w .pool)
-answerAny Count n k m sent w = whole (countAnswer n k (w .kept)) (w .pool)
-answerAny Judge n k m sent w = beside (answerBy Judge n k m sent (w .kept .state) (w .pool)) (w .kept .report)
-answerAny Read n k m sent w = beside (answerBy Read n k m sent (w .kept .state) (w .pool)) (w .kept .report)
-answerAny Fold n k m sent w = beside (answerBy Fold n k m sent (w .kept .state) (w .pool)) (w .kept .report)
-answerAny Escape n k m sent w = beside (answerBy Escape n k m sent (w .kept .state) (w .pool)) (w .kept .report)
-answerAny Unescape n k m sent w = beside (answerBy Unescape n k m sent (w .kept .state) (w .pool)) (w .kept .report)
-answerAny Desk n k m sent w = beside (answerBy Desk n k m sent (w .kept .state) (w .pool)) (w .kept .report)
-answerAny Open n k m sent w = beside (answerBy Open n k m sent (w .kept .state) (w .pool)) (w .kept .report)
-answerAny Add n k m sent w = beside (answerBy Add n k m sent (w .kept .state) (w .pool)) (w .kept .report)
-answerAny Check n k m sent w = beside (answerBy Check n k m sent (w .kept .state) (w .pool)) (w .kept .report)
-answerAny Show n k m sent w = beside (answerBy Show n k m sent (w .kept .state) (w .pool)) (w .kept .report)
-answerAny Held n k m sent w = beside (answerBy Held n k m sent (w .kept .state) (w .pool)) (w .kept .report)
-answerAny Release n k m sent w = beside (answerBy Release n k m sent (w .kept .state) (w .pool)) (w .kept .report)
-answerAny Pool n k m sent w = beside (answerBy Pool n k m sent (w .kept .state) (w .pool)) (w .kept .report)
-answerAny Next n k m sent w = beside (answerBy Next n k m sent (w .kept .state) (w .pool)) (w .kept .report)
-answerAny Encode n k m sent w = beside (answerBy Encode n k m sent (w .kept .state) (w .pool)) (w .kept .report)
-answerAny Decode n k m sent w = beside (answerBy Decode n k m sent (w .kept .state) (w .pool)) (w .kept .report)
-answerAny FoldIn n k m sent w = beside (answerBy FoldIn n k m sent (w .kept .state) (w .pool)) (w .kept .report)
-answerAny Offset n k m sent w = beside (answerBy Offset n k m sent (w .kept .state) (w .pool)) (w .kept .report)
-answerAny JudgeIn n k m sent w = beside (answerBy JudgeIn n k m sent (w .kept .state) (w .pool)) (w .kept .report)
-answerAny ReadIn n k m sent w = beside (answerBy ReadIn n k m sent (w .kept .state) (w .pool)) (w .kept .report)
-answerAny Bad n k m sent w = beside (answerBy Bad n k m sent (w .kept .state) (w .pool)) (w .kept .report)
+answerAny (ToEntry e) n k m sent w = saying (says (entryText e n k m sent) (w .kept .state)) w
+answerAny (ToDesk d) n k m sent w = beside (deskTurn d n k sent (w .kept .state) (w .pool)) (w .kept .report)
+answerAny (ToReport r) n k m sent w = whole (reportTurn r n k sent (w .kept)) (w .pool)
+answerAny Bad n k m sent w = saysNone w
 
 abbrev pub answerTo : Request → List ℕ → Whole → Whole
 answerTo q sent w = answerAny (q .name) (q .first) (q .second) (q .third) sent w
@@ -112,4 +109,4 @@ mostSent = 70000
 -- a longer line is no request
 unfoldable pub answerLine : List ℕ → Whole → Whole
 answerLine line w =
-    pick (ltb mostLine (length line)) (whole (kept (saysBad (w .kept .state)) (w .kept .report)) (w .pool)) (answerIn line (replicate mostSent 0) w)
+    pick (ltb mostLine (length line)) (saysNone w) (answerIn line (replicate mostSent 0) w)

@@ -18,6 +18,7 @@ use Rattle.reader.specs.declared.Verdict.the-variants.{Accepted, Refused}
 use Rattle.folder_raising.specs.declared.Style.the-variants.{AsRead, Raised}
 use Rattle.folder.specs.Outcome.{foldIn, foldOutcome}
 use Rattle.text.specs.Outcomes.{escapeOutcome, unescapeOutcome}
+use Rattle.label_carets.specs.declared.Rule.the-variants.{Rfc6350, Rfc6868}
 use Rattle.label.specs.Outcomes.{encodeOutcome, decodeOutcome}
 use Rattle.value_offsets.specs.Minutes.{minutesOf}
 use Rattle.console_answers.specs.Texts.{lineEnd, badLine, verdictText, offsetText, writtenText, octetsWord, joined, spaced, roomEnd}
@@ -121,6 +122,12 @@ writeAnswer e r i = within r (writeText (outcomeOf e i (octetRoom r)))
 -- of two entries the one for 0, the other for 1; any other number is no request
 unfoldable pub chosenAnswer : Writer → Writer → ℕ → ℕ → List ℕ → List ℕ
 chosenAnswer old new which r i = pick (eqb which 0) (writeAnswer old r i) (pick (eqb which 1) (writeAnswer new r i) badLine)
+
+abbrev pub encodeAnswer : ℕ → ℕ → List ℕ → List ℕ
+encodeAnswer rule r i = chosenAnswer (Encode Rfc6350) (Encode Rfc6868) rule r i
+
+abbrev pub decodeAnswer : ℕ → ℕ → List ℕ → List ℕ
+decodeAnswer rule r i = chosenAnswer (Decode Rfc6350) (Decode Rfc6868) rule r i
 
 -- style 0 is as read, style 1 is raised
 unfoldable pub foldAnswer : ℕ → ℕ → ℕ → List ℕ → List ℕ

@@ -4,7 +4,7 @@ ghost use Prim.Native.Nat.{_+_, _≤_};
 ghost use Rattle.octets.specs.Room.{filled};
 ghost use Rattle.program_output.specs.Pages.{page, added};
 ghost use Rattle.console_entries.specs.Rooms.{mostRoom, octetRoom, numberRoom};
-ghost use Rattle.console_entries.specs.Entries.{lineEndLength, linesOf, count, numbersOf, copyLength, takenText, roomsText, readText, outcomeOf, writeText, judgeAnswer, judgeInAnswer, offsetAnswer, readAnswer, readInAnswer, writeAnswer, chosenAnswer, foldAnswer};
+ghost use Rattle.console_entries.specs.Entries.{lineEndLength, linesOf, count, numbersOf, copyLength, takenText, roomsText, readText, outcomeOf, writeText, judgeAnswer, judgeInAnswer, offsetAnswer, readAnswer, readInAnswer, writeAnswer, chosenAnswer, encodeAnswer, decodeAnswer, foldAnswer};
 use crate::rooms;
 use folder_raising::Style;
 use label_carets::Rule;
@@ -250,8 +250,8 @@ pub fn put_write_answer(entry: Writer, r: usize, input: &[u8], out: &mut [u8], a
     put_write_fresh(entry, r, input, out, at)
 }
 
-// Adds the answer to `encode RULE ROOM OCTETS`, and to the others that choose between two entries: that of the one for 0, of the other for 1.
-pub fn put_chosen_answer(
+// Adds the answer of one of two entries: of the one for 0, of the other for 1.
+fn put_chosen_answer(
     old: Writer,
     new: Writer,
     which: usize,
@@ -269,6 +269,36 @@ pub fn put_chosen_answer(
         return put_write_answer(new, r, input, out, at);
     }
     console_answers::put_bad(out, at)
+}
+
+// Adds the answer to `encode RULE ROOM OCTETS`.
+pub fn put_encode_answer(rule: usize, r: usize, input: &[u8], out: &mut [u8], at: usize) -> usize
+    ensures { λ q. ⌜ page q (now (out .exit)) ≡ added (encodeAnswer rule r (now (input .entry))) (page at (now (out .entry))) ⌝ }
+{
+    put_chosen_answer(
+        Writer::Encode(Rule::Rfc6350),
+        Writer::Encode(Rule::Rfc6868),
+        rule,
+        r,
+        input,
+        out,
+        at,
+    )
+}
+
+// Adds the answer to `decode RULE ROOM OCTETS`.
+pub fn put_decode_answer(rule: usize, r: usize, input: &[u8], out: &mut [u8], at: usize) -> usize
+    ensures { λ q. ⌜ page q (now (out .exit)) ≡ added (decodeAnswer rule r (now (input .entry))) (page at (now (out .entry))) ⌝ }
+{
+    put_chosen_answer(
+        Writer::Decode(Rule::Rfc6350),
+        Writer::Decode(Rule::Rfc6868),
+        rule,
+        r,
+        input,
+        out,
+        at,
+    )
 }
 
 // Adds the answer to `fold-in EDITION STYLE ROOM OCTETS` in an edition: style 0 is as read and 1 is raised.

@@ -48,52 +48,52 @@ true-T b e = rw e tt
 
 -- what the table has for a row
 pub record Listed (t : List ℕ) (n : ℕ) : Type 0 where
-  pub spelt : take (length (rowAt n .spelling)) (drop (n * 11) t) ≡ rowAt n .spelling
-  pub long : getD t (n * 11 + 8) 0 ≡ length (rowAt n .spelling)
-  pub short : length (rowAt n .spelling) ≤ 8
-  pub numbers : getD t (n * 11 + 9) 0 ≡ rowAt n .numbers
+  pub spelt : take (length (rowAt n .spelling)) (drop (n * 13) t) ≡ rowAt n .spelling
+  pub long : getD t (n * 13 + 10) 0 ≡ length (rowAt n .spelling)
+  pub short : length (rowAt n .spelling) ≤ 10
+  pub numbers : getD t (n * 13 + 11) 0 ≡ rowAt n .numbers
   pub few : rowAt n .numbers ≤ mostNumbers
-  pub octets : getD t (n * 11 + 10) 0 ≡ rowAt n .octets
+  pub octets : getD t (n * 13 + 12) 0 ≡ rowAt n .octets
   pub once : rowAt n .octets ≤ 1
 
-row-length : (n : ℕ) → n < tableRows → length (entries n) ≡ 11
+row-length : (n : ℕ) → n < tableRows → length (entries n) ≡ 13
 unfolding entries rowAt rows octets upto
-row-length n h = same-upto (λ j. length (entries j)) (λ j. 11) tableRows refl n h
+row-length n h = same-upto (λ j. length (entries j)) (λ j. 13) tableRows refl n h
 
 module _ (t : List ℕ) (table : Lists t) (n : ℕ) (h : n < tableRows) where
-  at : (i : ℕ) → i < 11 → getD t (n * 11 + i) 0 ≡ getD (entries n) i 0
+  at : (i : ℕ) → i < 13 → getD t (n * 13 + i) 0 ≡ getD (entries n) i 0
   unfolding Lists
-  at i l = entry-at entries 11 tableRows row-length t table n h i l
+  at i l = entry-at entries 13 tableRows row-length t table n h i l
 
-  short-name : length (rowAt n .spelling) ≤ 8
+  short-name : length (rowAt n .spelling) ≤ 10
   unfolding rowAt rows octets upto
-  short-name = leb→le _ _ (true-T _ (each-row (λ j. leb (length (rowAt j .spelling)) 8) refl n h))
+  short-name = leb→le _ _ (true-T _ (each-row (λ j. leb (length (rowAt j .spelling)) 10) refl n h))
 
-  spelt-at : take (length (rowAt n .spelling)) (drop (n * 11) t) ≡ take (length (rowAt n .spelling)) (entries n)
+  spelt-at : take (length (rowAt n .spelling)) (drop (n * 13) t) ≡ take (length (rowAt n .spelling)) (entries n)
   unfolding Lists
-  spelt-at = front-at entries 11 tableRows row-length t table n h (length (rowAt n .spelling)) (omega (arith, short-name))
+  spelt-at = front-at entries 13 tableRows row-length t table n h (length (rowAt n .spelling)) (omega (arith, short-name))
 
   pub listed : Listed t n
   unfolding entries rowAt rows octets upto
   listed =
       record {
         spelt = spelt-at ∙ same-upto (λ j. take (length (rowAt j .spelling)) (entries j)) (λ j. rowAt j .spelling) tableRows refl n h;
-        long = at 8 (omega arith) ∙ same-upto (λ j. getD (entries j) 8 0) (λ j. length (rowAt j .spelling)) tableRows refl n h;
+        long = at 10 (omega arith) ∙ same-upto (λ j. getD (entries j) 10 0) (λ j. length (rowAt j .spelling)) tableRows refl n h;
         short = short-name;
-        numbers = at 9 (omega arith) ∙ same-upto (λ j. getD (entries j) 9 0) (λ j. rowAt j .numbers) tableRows refl n h;
+        numbers = at 11 (omega arith) ∙ same-upto (λ j. getD (entries j) 11 0) (λ j. rowAt j .numbers) tableRows refl n h;
         few = leb→le _ _ (true-T _ (each-row (λ j. leb (rowAt j .numbers) mostNumbers) refl n h));
-        octets = at 10 (omega arith) ∙ same-upto (λ j. getD (entries j) 10 0) (λ j. rowAt j .octets) tableRows refl n h;
+        octets = at 12 (omega arith) ∙ same-upto (λ j. getD (entries j) 12 0) (λ j. rowAt j .octets) tableRows refl n h;
         once = leb→le _ _ (true-T _ (each-row (λ j. leb (rowAt j .octets) 1) refl n h));
       }
 
-pub listed-length : (t : List ℕ) → Lists t → length t ≡ 11 * tableRows
+pub listed-length : (t : List ℕ) → Lists t → length t ≡ 13 * tableRows
 unfolding Lists TableOf entriesFrom entries rowAt rows octets
 listed-length t e = ap length e
 
 -- the part of the table that spells a row's name
-pub spelt-part : (t : List ℕ) (n e : ℕ) → Listed t n → e ≡ getD t (n * 11 + 8) 0 → take (n * 11 + e - n * 11) (drop (n * 11) t) ≡ rowAt n .spelling
+pub spelt-part : (t : List ℕ) (n e : ℕ) → Listed t n → e ≡ getD t (n * 13 + 10) 0 → take (n * 13 + e - n * 13) (drop (n * 13) t) ≡ rowAt n .spelling
 spelt-part t n e l q =
-    let k : n * 11 + e - n * 11 ≡ length (rowAt n .spelling) = omega (arith, l .long) in
+    let k : n * 13 + e - n * 13 ≡ length (rowAt n .spelling) = omega (arith, l .long) in
     rw k (l .spelt)
 
 -- a row fits by its count of words and its name

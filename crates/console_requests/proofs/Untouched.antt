@@ -20,7 +20,7 @@ use Rattle.console_requests.proofs.RequestLaws.{no-octets}
 use Rattle.console_requests.specs.Names.{Row, rows, noRow, fits, search, rowOf}
 use Rattle.console_requests.specs.Requests.{numberAt, octetsAt, makeRequest, whole, requestOf}
 use Rattle.console_requests.specs.declared.Name.{Name}
-use Rattle.console_requests.specs.declared.Name.the-variants.{Judge, Read, Fold, Escape, Unescape, Desk, Open, Add, Check, Show, Held, Release, Pool, Next, Encode, Decode, FoldIn, Offset, Report, Take, Print, Count, JudgeIn, ReadIn, Bad}
+use Rattle.console_requests.specs.declared.Name.the-variants.{ToEntry, ToDesk, ToReport, Bad}
 
 -- bad octets leave the room as it was
 short-room : (t : Bool) (xs room out : List ℕ) → pick t (taken NoOctets room) (taken (Are (length xs)) out) .answer ≡ NoOctets
@@ -54,30 +54,9 @@ at-room w o room e = last-room (eqb o 0) w room e
 
 -- a row of the table has a name
 named : Name → Bool
-named Judge = true
-named Read = true
-named Fold = true
-named Escape = true
-named Unescape = true
-named Desk = true
-named Open = true
-named Add = true
-named Check = true
-named Show = true
-named Held = true
-named Release = true
-named Pool = true
-named Next = true
-named Encode = true
-named Decode = true
-named FoldIn = true
-named Offset = true
-named Report = true
-named Take = true
-named Print = true
-named Count = true
-named JudgeIn = true
-named ReadIn = true
+named (ToEntry e) = true
+named (ToDesk d) = true
+named (ToReport r) = true
 named Bad = false
 
 all-named : List Row → Bool

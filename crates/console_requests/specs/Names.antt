@@ -11,7 +11,10 @@ use Rattle.octets.specs.Ascii.{octets}
 use Rattle.octets.specs.Tables.{TableOf}
 use Rattle.program_numbers.specs.Alike.{alike}
 use Rattle.console_requests.specs.declared.Name.{Name}
-use Rattle.console_requests.specs.declared.Name.the-variants.{Judge, Read, Fold, Escape, Unescape, Desk, Open, Add, Check, Show, Held, Release, Pool, Next, Encode, Decode, FoldIn, Offset, Report, Take, Print, Count, JudgeIn, ReadIn, Bad}
+use Rattle.console_requests.specs.declared.Name.the-variants.{ToEntry, ToDesk, ToReport, Bad}
+use Rattle.console_requests.specs.declared.EntryCall.the-variants.{Judge, Read, Fold, Escape, Unescape, Encode, Decode, FoldIn, Offset, JudgeIn, ReadIn}
+use Rattle.console_requests.specs.declared.DeskCall.the-variants.{Desk, Open, Add, Check, Show, Held, Release, Pool, Next}
+use Rattle.console_requests.specs.declared.ReportCall.the-variants.{Report, Take, Print, Count}
 
 pub record Row : Type 0 where
   pub name : Name
@@ -31,30 +34,30 @@ row n s k o = record { name = n; spelling = octets s; numbers = k; octets = o }
 
 unfoldable pub rows : List Row
 rows =
-    row Judge "judge" 0 withOctets ∷
-    row Read "read" 2 withOctets ∷
-    row Fold "fold" 1 withOctets ∷
-    row Escape "escape" 1 withOctets ∷
-    row Unescape "unescape" 1 withOctets ∷
-    row Desk "desk" 2 alone ∷
-    row Open "open" 2 alone ∷
-    row Add "add" 2 withOctets ∷
-    row Check "check" 1 alone ∷
-    row Show "show" 1 alone ∷
-    row Held "held" 1 alone ∷
-    row Release "release" 1 alone ∷
-    row Pool "pool" 2 alone ∷
-    row Next "next" 1 alone ∷
-    row Encode "encode" 2 withOctets ∷
-    row Decode "decode" 2 withOctets ∷
-    row FoldIn "fold-in" 3 withOctets ∷
-    row Offset "offset" 0 withOctets ∷
-    row Report "report" 0 alone ∷
-    row Take "take" 0 withOctets ∷
-    row Print "print" 1 alone ∷
-    row Count "count" 2 alone ∷
-    row JudgeIn "judge-in" 1 withOctets ∷
-    row ReadIn "read-in" 3 withOctets ∷
+    row (ToEntry Judge) "judge" 0 withOctets ∷
+    row (ToEntry Read) "read" 2 withOctets ∷
+    row (ToEntry Fold) "fold" 1 withOctets ∷
+    row (ToEntry Escape) "escape" 1 withOctets ∷
+    row (ToEntry Unescape) "unescape" 1 withOctets ∷
+    row (ToDesk Desk) "desk" 2 alone ∷
+    row (ToDesk Open) "open" 2 alone ∷
+    row (ToDesk Add) "add" 2 withOctets ∷
+    row (ToDesk Check) "check" 1 alone ∷
+    row (ToDesk Show) "show" 1 alone ∷
+    row (ToDesk Held) "held" 1 alone ∷
+    row (ToDesk Release) "release" 1 alone ∷
+    row (ToDesk Pool) "pool" 2 alone ∷
+    row (ToDesk Next) "next" 1 alone ∷
+    row (ToEntry Encode) "encode" 2 withOctets ∷
+    row (ToEntry Decode) "decode" 2 withOctets ∷
+    row (ToEntry FoldIn) "fold-in" 3 withOctets ∷
+    row (ToEntry Offset) "offset" 0 withOctets ∷
+    row (ToReport Report) "report" 0 alone ∷
+    row (ToReport Take) "take" 0 withOctets ∷
+    row (ToReport Print) "print" 1 alone ∷
+    row (ToReport Count) "count" 2 alone ∷
+    row (ToEntry JudgeIn) "judge-in" 1 withOctets ∷
+    row (ToEntry ReadIn) "read-in" 3 withOctets ∷
     []
 
 -- how many requests there are
@@ -89,9 +92,9 @@ search w k (r ∷ rs) = pick (fits w k r) r (search w k rs)
 unfoldable pub rowOf : List ℕ → ℕ → Row
 rowOf w k = search w k rows
 
--- the eleven entries that the table has for a row: its name, filled up to eight by points, the name's length, numbers, octets
+-- the thirteen entries that the table has for a row: its name, filled up to ten by points, the name's length, numbers, octets
 unfoldable pub entries : ℕ → List ℕ
-entries n = take 8 (rowAt n .spelling ++ octets "........") ++ length (rowAt n .spelling) ∷ rowAt n .numbers ∷ rowAt n .octets ∷ []
+entries n = take 10 (rowAt n .spelling ++ octets "..........") ++ length (rowAt n .spelling) ∷ rowAt n .numbers ∷ rowAt n .octets ∷ []
 
 -- a list is the table of requests, with a last row for none
 unfoldable pub Lists : List ℕ → Type 0

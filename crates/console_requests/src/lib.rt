@@ -10,13 +10,23 @@ ghost use Rattle.console_requests.specs.Requests.{noRequest, makeRequest
 use program_numbers::decimal::Number;
 use program_numbers::hex::Octets;
 
-// The requests, and what a line has that is none.
-pub enum Name {
+// The requests to the entries that keep nothing.
+pub enum EntryCall {
     Judge,
     Read,
     Fold,
     Escape,
     Unescape,
+    Encode,
+    Decode,
+    FoldIn,
+    Offset,
+    JudgeIn,
+    ReadIn,
+}
+
+// The requests of the desk.
+pub enum DeskCall {
     Desk,
     Open,
     Add,
@@ -26,16 +36,21 @@ pub enum Name {
     Release,
     Pool,
     Next,
-    Encode,
-    Decode,
-    FoldIn,
-    Offset,
+}
+
+// The requests of the report.
+pub enum ReportCall {
     Report,
     Take,
     Print,
     Count,
-    JudgeIn,
-    ReadIn,
+}
+
+// The requests, and what a line has that is none.
+pub enum Name {
+    ToEntry(EntryCall),
+    ToDesk(DeskCall),
+    ToReport(ReportCall),
     Bad,
 }
 

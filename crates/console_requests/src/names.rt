@@ -2,20 +2,23 @@
 ghost use mathlib.Core.Path.{_≡_};
 ghost use Prim.Native.Nat.{_<_, _≤_};
 ghost use Rattle.console_requests.specs.Names.{Lists, rowAt, fits, rowOf, tableRows, mostNumbers};
+use crate::DeskCall;
+use crate::EntryCall;
 use crate::Name;
+use crate::ReportCall;
 use octets::indices::wide;
 
 // The entries of a row.
-const ROW: usize = 11;
+const ROW: usize = 13;
 
 // Where a row has its name's length.
-const LENGTH: usize = 8;
+const LENGTH: usize = 10;
 
 // Where a row has how many numbers stand after the name.
-const NUMBERS: usize = 9;
+const NUMBERS: usize = 11;
 
 // Where a row has 1 if octets stand after the numbers.
-const OCTETS: usize = 10;
+const OCTETS: usize = 12;
 
 // The entries of the table.
 const TABLE: usize = ROW * (NO_REQUEST + 1);
@@ -23,33 +26,33 @@ const TABLE: usize = ROW * (NO_REQUEST + 1);
 // The row of no request, after those of the requests.
 const NO_REQUEST: usize = 24;
 
-// Eleven entries for each row, and a last row for no request: name, its length, how many numbers stand after it, 1 where octets do.
+// Thirteen entries for each row, and a last row for no request: name, its length, how many numbers stand after it, 1 where octets do.
 const ROWS: [u8; TABLE] = *b"\
-    judge...\x05\x00\x01\
-    read....\x04\x02\x01\
-    fold....\x04\x01\x01\
-    escape..\x06\x01\x01\
-    unescape\x08\x01\x01\
-    desk....\x04\x02\x00\
-    open....\x04\x02\x00\
-    add.....\x03\x02\x01\
-    check...\x05\x01\x00\
-    show....\x04\x01\x00\
-    held....\x04\x01\x00\
-    release.\x07\x01\x00\
-    pool....\x04\x02\x00\
-    next....\x04\x01\x00\
-    encode..\x06\x02\x01\
-    decode..\x06\x02\x01\
-    fold-in.\x07\x03\x01\
-    offset..\x06\x00\x01\
-    report..\x06\x00\x00\
-    take....\x04\x00\x01\
-    print...\x05\x01\x00\
-    count...\x05\x02\x00\
-    judge-in\x08\x01\x01\
-    read-in.\x07\x03\x01\
-    ........\x00\x00\x00";
+    judge.....\x05\x00\x01\
+    read......\x04\x02\x01\
+    fold......\x04\x01\x01\
+    escape....\x06\x01\x01\
+    unescape..\x08\x01\x01\
+    desk......\x04\x02\x00\
+    open......\x04\x02\x00\
+    add.......\x03\x02\x01\
+    check.....\x05\x01\x00\
+    show......\x04\x01\x00\
+    held......\x04\x01\x00\
+    release...\x07\x01\x00\
+    pool......\x04\x02\x00\
+    next......\x04\x01\x00\
+    encode....\x06\x02\x01\
+    decode....\x06\x02\x01\
+    fold-in...\x07\x03\x01\
+    offset....\x06\x00\x01\
+    report....\x06\x00\x00\
+    take......\x04\x00\x01\
+    print.....\x05\x01\x00\
+    count.....\x05\x02\x00\
+    judge-in..\x08\x01\x01\
+    read-in...\x07\x03\x01\
+    ..........\x00\x00\x00";
 
 // The table as a value, which its users are lent.
 pub fn table() -> [u8; TABLE]
@@ -114,30 +117,30 @@ pub fn name_at(row: usize) -> Name
     ensures { λ r. ⌜ r ≡ rowAt row .name ⌝ }
 {
     match row {
-        0 => Name::Judge,
-        1 => Name::Read,
-        2 => Name::Fold,
-        3 => Name::Escape,
-        4 => Name::Unescape,
-        5 => Name::Desk,
-        6 => Name::Open,
-        7 => Name::Add,
-        8 => Name::Check,
-        9 => Name::Show,
-        10 => Name::Held,
-        11 => Name::Release,
-        12 => Name::Pool,
-        13 => Name::Next,
-        14 => Name::Encode,
-        15 => Name::Decode,
-        16 => Name::FoldIn,
-        17 => Name::Offset,
-        18 => Name::Report,
-        19 => Name::Take,
-        20 => Name::Print,
-        21 => Name::Count,
-        22 => Name::JudgeIn,
-        23 => Name::ReadIn,
+        0 => Name::ToEntry(EntryCall::Judge),
+        1 => Name::ToEntry(EntryCall::Read),
+        2 => Name::ToEntry(EntryCall::Fold),
+        3 => Name::ToEntry(EntryCall::Escape),
+        4 => Name::ToEntry(EntryCall::Unescape),
+        5 => Name::ToDesk(DeskCall::Desk),
+        6 => Name::ToDesk(DeskCall::Open),
+        7 => Name::ToDesk(DeskCall::Add),
+        8 => Name::ToDesk(DeskCall::Check),
+        9 => Name::ToDesk(DeskCall::Show),
+        10 => Name::ToDesk(DeskCall::Held),
+        11 => Name::ToDesk(DeskCall::Release),
+        12 => Name::ToDesk(DeskCall::Pool),
+        13 => Name::ToDesk(DeskCall::Next),
+        14 => Name::ToEntry(EntryCall::Encode),
+        15 => Name::ToEntry(EntryCall::Decode),
+        16 => Name::ToEntry(EntryCall::FoldIn),
+        17 => Name::ToEntry(EntryCall::Offset),
+        18 => Name::ToReport(ReportCall::Report),
+        19 => Name::ToReport(ReportCall::Take),
+        20 => Name::ToReport(ReportCall::Print),
+        21 => Name::ToReport(ReportCall::Count),
+        22 => Name::ToEntry(EntryCall::JudgeIn),
+        23 => Name::ToEntry(EntryCall::ReadIn),
         _ => Name::Bad,
     }
 }

@@ -15,8 +15,8 @@ request-of-requires c κs = search needs
 part-requires : tie.Need-part-requires
 part-requires c κs = search needs
 
-answer-any-requires : tie.Need-answer-any-requires
-answer-any-requires c κs = search needs
+answer-request-requires : tie.Need-answer-request-requires
+answer-request-requires c κs = search needs
 
 same-length : tie.Need-same-length
 same-length c = search needs
@@ -34,7 +34,7 @@ returns c =
     let request-of = c .before .before .before .before .before .before .before .before .before .before .before .request-of in
     let a = c .before .before .before .before .before .before .before .before .before .before .before .before .before .before .before .before .before .args in
     let w = wholeOf (a .k) (now (a .out)) (now (a .pool)) in
-    c .before .before .before .before .answer-any .ensures
+    c .before .before .before .before .answer-request .ensures
     ∙ ap (λ (l : List ℕ). answerTo (request-of .result) l w) (part .ensures)
     ∙ ap (λ (x : Requested). answerFrom x w) (request-of .ensures)
 
@@ -44,7 +44,7 @@ answer-in-spec =
     (tie.spec
     request-of-requires
     part-requires
-    answer-any-requires
+    answer-request-requires
     same-length
     same-length-2
     same-length-3
