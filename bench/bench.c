@@ -1,4 +1,4 @@
-/* The benchmark's tables: the unit's routines and desk calls beside plain C, EVCard and memcpy; and what an input costs by its size and shape.
+/* The benchmark's tables: the unit's routines and desk calls beside plain and tuned C, EVCard and memcpy; and what an input costs by its size and shape.
  *
  *   bench time FOLDER TIMES            times the tables' jobs; the file TIMES keeps the best time of each over several runs
  *   bench count FOLDER                 the tables' jobs for callgrind, which counts their instructions
@@ -22,6 +22,9 @@ static const struct row {
     {JUDGE, "dense", LIMIT},
     {JUDGE, "small", LIMIT},
     {JUDGE, "small", 43},
+    {JUDGE, "card87", LIMIT},
+    {JUDGE, "card290", LIMIT},
+    {JUDGE, "card1024", LIMIT},
     {JUDGE, "long", LIMIT},
     {JUDGE, "damaged", LIMIT},
     {READ, "book", LIMIT},
@@ -32,6 +35,10 @@ static const struct row {
     {FOLD, "book", LIMIT},
     {FOLD, "dense", LIMIT},
     {FOLD, "small", LIMIT},
+    {FOLD, "small", 43},
+    {FOLD, "card87", LIMIT},
+    {FOLD, "card290", LIMIT},
+    {FOLD, "card1024", LIMIT},
     {FOLD, "long", LIMIT},
     {FOLD, "damaged", LIMIT},
     {UNESCAPE, "escaped", LIMIT},
@@ -85,13 +92,13 @@ static const struct desk_row {
 #define DESK_ROWS LENGTH(desk_rows)
 
 static struct input inputs[ROWS], chunks[DESK_ROWS];
-/* the unit's, plain C's and EVCard's */
-static struct job jobs[ROWS][3];
+enum who { UNIT, PLAIN, TUNED, EVCARD, WHO };
+static struct job jobs[ROWS][WHO];
 /* by whether the n calls are made: the difference is what they cost */
 static struct calls calls[DESK_ROWS][2];
 static struct job desks[DESK_ROWS][DESKS][2];
 /* the same one after the other */
-#define ROW_JOBS (3 * ROWS)
+#define ROW_JOBS (WHO * ROWS)
 #define DESK_JOBS (2 * DESKS * DESK_ROWS)
 static struct job *const row_jobs = &jobs[0][0], *const call_jobs = &desks[0][0][0];
 
@@ -99,10 +106,12 @@ static void make_jobs(const char *folder) {
     for (size_t r = 0; r < ROWS; r++) {
         const struct row *row = &rows[r];
         load(&inputs[r], folder, row->input, row->most);
-        jobs[r][0] = (struct job){.run = unit_jobs[row->routine], .what = &inputs[r]};
-        jobs[r][1] = (struct job){.run = plain_jobs[row->routine], .what = &inputs[r]};
-        if (row->routine == READ && strcmp(row->input, "damaged") != 0) jobs[r][2] = (struct job){.run = evcard_read, .what = &inputs[r]};
-        if (jobs[r][1].run) compare(jobs[r][0].run, jobs[r][1].run, &inputs[r], row->input);
+        jobs[r][UNIT] = (struct job){.run = unit_jobs[row->routine], .what = &inputs[r]};
+        jobs[r][PLAIN] = (struct job){.run = plain_jobs[row->routine], .what = &inputs[r]};
+        jobs[r][TUNED] = (struct job){.run = tuned_jobs[row->routine], .what = &inputs[r]};
+        if (row->routine == READ && strcmp(row->input, "damaged") != 0) jobs[r][EVCARD] = (struct job){.run = evcard_read, .what = &inputs[r]};
+        for (size_t who = PLAIN; who <= TUNED; who++)
+            if (jobs[r][who].run) compare(jobs[r][UNIT].run, jobs[r][who].run, &inputs[r], row->input);
     }
     for (size_t r = 0; r < DESK_ROWS; r++) {
         const struct desk_row *row = &desk_rows[r];
@@ -120,14 +129,14 @@ static size_t repeats(size_t r) { return inputs[r].length < 1000 ? 100 : 2; }
 
 static void count_jobs(void) {
     for (size_t r = 0; r < ROWS; r++)
-        for (size_t who = 0; who < 2; who++)
+        for (size_t who = UNIT; who <= TUNED; who++)
             if (jobs[r][who].run) counted(&jobs[r][who], repeats(r));
     for (size_t r = 0; r < DESK_ROWS; r++)
         for (size_t d = 0; d < DESKS; d++)
             for (size_t made = 0; made < 2; made++) counted(&desks[r][d][made], 1);
 }
 
-static double row_counts[ROWS][2], desk_counts[DESK_ROWS][DESKS][2];
+static double row_counts[ROWS][EVCARD], desk_counts[DESK_ROWS][DESKS][2];
 
 /* The next number of the file, or 0 where there is none. */
 static double next_number(FILE *f) {
@@ -153,7 +162,7 @@ static void write_times(const char *path) {
 static void read_counts(const char *path) {
     FILE *f = fopen(path, "r");
     for (size_t r = 0; r < ROWS; r++)
-        for (size_t who = 0; who < 2; who++)
+        for (size_t who = UNIT; who <= TUNED; who++)
             if (jobs[r][who].run) row_counts[r][who] = next_number(f);
     for (size_t r = 0; r < DESK_ROWS; r++)
         for (size_t d = 0; d < DESKS; d++)
@@ -172,18 +181,19 @@ static void cell(double x, int digits) {
 /* The rate of a job on an input, or 0 where there is none. */
 static double rate(const struct input *in, const struct job *job) { return job->run ? in->length / job->seconds / 1e6 : 0; }
 
+/* The unit's rate as times that of another, or 0 where there is none. */
+static double times(size_t r, enum who who) { return jobs[r][who].run ? rate(&inputs[r], &jobs[r][UNIT]) / rate(&inputs[r], &jobs[r][who]) : 0; }
+
 static void print_rows(void) {
-    printf("| Routine  | Input   | Octets | Unit MB/s | C MB/s    | Unit / C  | EVCard    | Unit inst | C inst    |\n");
-    printf("|---|---|---|---|---|---|---|---|---|\n");
+    printf("| Routine  | Input    | Octets | Unit MB/s | Plain C   | Tuned C   | / plain   | / tuned   | EVCard    | Unit inst | Plain     | Tuned     |\n");
+    printf("|---|---|---|---|---|---|---|---|---|---|---|---|\n");
     for (size_t r = 0; r < ROWS; r++) {
         const struct input *in = &inputs[r];
-        double plain = rate(in, &jobs[r][1]);
-        printf("| %-8s | %-7s | %6zu |", routine_names[rows[r].routine], in->name, in->length);
-        cell(rate(in, &jobs[r][0]), 0);
-        cell(plain, 0);
-        cell(plain > 0 ? rate(in, &jobs[r][0]) / plain : 0, 2);
-        cell(rate(in, &jobs[r][2]), 1);
-        for (size_t who = 0; who < 2; who++) cell(row_counts[r][who] / repeats(r) / in->length, 1);
+        printf("| %-8s | %-8s | %6zu |", routine_names[rows[r].routine], in->name, in->length);
+        for (size_t who = UNIT; who <= TUNED; who++) cell(rate(in, &jobs[r][who]), 0);
+        for (size_t who = PLAIN; who <= TUNED; who++) cell(times(r, who), 2);
+        cell(rate(in, &jobs[r][EVCARD]), 1);
+        for (size_t who = UNIT; who <= TUNED; who++) cell(row_counts[r][who] / repeats(r) / in->length, 1);
         printf("\n");
     }
 }

@@ -74,6 +74,19 @@ def dense_card(dice):
     return b"".join(line.encode() + b"\r\n" for line in lines)
 
 
+def single(length, lines):
+    """One card of so many octets: these lines, and a note that fills it up."""
+    octets = b"".join(fold(line) for line in ["BEGIN:VCARD", "VERSION:4.0", *lines])
+    end = b"END:VCARD\r\n"
+    missing = length - len(octets) - len(end)
+    words, note = "Linie 4 und Schicht 2 vom Depot Lindenhof ", b""
+    for letters in range(missing):
+        note = fold("NOTE:" + (words * 30)[:letters])
+        if len(note) == missing:
+            return octets + note + end
+    raise SystemExit(f"book.py: no card of {length} octets")
+
+
 def filled(make):
     """As many cards as an input holds."""
     dice, book = random.Random(7), b""
@@ -98,7 +111,19 @@ def main():
     def encoded(value):
         return value.replace("^", "^^").replace("\n", "^n").replace('"', "^'")
 
+    name = ["FN:Anna Klein", "TEL:+49 30 5550"]
+    person = [
+        "UID:urn:uuid:4fbe8971-0bc3-424c-9c26-36a9f1d2c3b4",
+        "FN:Anna Klein",
+        "N:Klein;Anna;;;",
+        "TEL;VALUE=uri;TYPE=work:tel:+49-30-5550-4711",
+        "EMAIL:anna@tram.example",
+        "REV:20261115T050012Z",
+    ]
     files = {
+        "card87": single(87, name),
+        "card290": single(290, person),
+        "card1024": single(1024, person),
         "book": book,
         "dense": filled(dense_card),
         "small": small * (LIMIT // len(small)),

@@ -1,4 +1,4 @@
-/* The routines as jobs: the unit's, of which read, escape, encode, decode, take and the desk's calls are for the benchmark alone, and plain C's. */
+/* The routines as jobs: the unit's, of which read, escape, encode, decode, take and the desk's calls are for the benchmark alone, and C's. */
 #include "jobs.h"
 #include "gerstebolk.h"
 #include <stdio.h>
@@ -46,10 +46,14 @@ JOB(c_unescape, plain_unescape(IN, OUT))
 JOB(c_escape, number_of(plain_escape(IN, OUT)))
 JOB(c_encode, number_of(plain_encode(IN, OUT)))
 JOB(c_decode, number_of(plain_decode(IN, OUT)))
+JOB(c_tuned_judge, tuned_judge(IN))
+JOB(c_tuned_fold, tuned_fold(IN, OUT))
+JOB(c_tuned_unescape, tuned_unescape(IN, OUT))
 
 const char *const routine_names[ROUTINES] = {"judge", "read", "fold", "unescape", "escape", "encode", "decode", "take", "memcpy"};
 uint64_t (*const unit_jobs[ROUTINES])(const void *) = {unit_judge, unit_read, unit_fold, unit_unescape, unit_escape, unit_encode, unit_decode, unit_take, copy_octets};
 uint64_t (*const plain_jobs[ROUTINES])(const void *) = {c_judge, c_read, c_fold, c_unescape, c_escape, c_encode, c_decode, NULL, NULL};
+uint64_t (*const tuned_jobs[ROUTINES])(const void *) = {[JUDGE] = c_tuned_judge, [FOLD] = c_tuned_fold, [UNESCAPE] = c_tuned_unescape};
 
 #define DESK_JOB(name, answer)               \
     static uint64_t name(const void *what) { \
@@ -64,13 +68,13 @@ DESK_JOB(c_desk_o2, number_of(plain_desk_o2(CALLS)))
 
 uint64_t (*const desk_jobs[DESKS])(const void *) = {unit_desk, c_desk_o3, c_desk_o2};
 
-void compare(uint64_t (*of_unit)(const void *), uint64_t (*of_plain)(const void *), const void *what, const char *name) {
+void compare(uint64_t (*of_unit)(const void *), uint64_t (*of_c)(const void *), const void *what, const char *name) {
     memset(&rooms, 0, sizeof rooms);
     uint64_t answer = of_unit(what);
     expected = rooms;
     memset(&rooms, 0, sizeof rooms);
-    if (of_plain(what) != answer || memcmp(&rooms, &expected, sizeof rooms) != 0) {
-        fprintf(stderr, "bench: %s: the unit and plain C differ\n", name);
+    if (of_c(what) != answer || memcmp(&rooms, &expected, sizeof rooms) != 0) {
+        fprintf(stderr, "bench: %s: the unit and C differ\n", name);
         exit(1);
     }
 }

@@ -1,4 +1,4 @@
-/* The routines as jobs: the unit's, plain C's and EVCard's, on the same rooms. */
+/* The routines as jobs: the unit's, plain C's, tuned C's and EVCard's, on the same rooms. */
 #ifndef JOBS_H
 #define JOBS_H
 #include "plain.h"
@@ -11,6 +11,8 @@ extern const char *const routine_names[ROUTINES];
 extern uint64_t (*const unit_jobs[ROUTINES])(const void *input);
 /* Plain C's, none for TAKE and MEMCPY. */
 extern uint64_t (*const plain_jobs[ROUTINES])(const void *input);
+/* Tuned C's, for JUDGE, FOLD and UNESCAPE alone. */
+extern uint64_t (*const tuned_jobs[ROUTINES])(const void *input);
 
 /* Calls to a fresh desk of 40 slots: openings, additions of the chunk, and then n calls of a kind. */
 struct calls {
@@ -28,6 +30,6 @@ extern uint64_t (*const desk_jobs[DESKS])(const void *calls);
 /* EVCard's reading of all cards of an input, where evcard.c is linked. */
 __attribute__((weak)) uint64_t evcard_read(const void *input);
 
-/* Ends the program where the unit and plain C differ in an answer or in what they write. */
-void compare(uint64_t (*of_unit)(const void *), uint64_t (*of_plain)(const void *), const void *what, const char *name);
+/* Ends the program where the unit and a C program differ in an answer or in what they write. */
+void compare(uint64_t (*of_unit)(const void *), uint64_t (*of_c)(const void *), const void *what, const char *name);
 #endif

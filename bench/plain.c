@@ -1,4 +1,4 @@
-/* A plain C program of the unit's checks, written for comparison: straightforward loops, no table but the list of properties. */
+/* Reading with copy and records, escaping, and labels in plain C, written for comparison: straightforward loops, no table but the list of properties. */
 #include "plain.h"
 #include <string.h>
 #include <strings.h>
@@ -453,12 +453,6 @@ static uint64_t judge_all(const uint8_t *in, size_t len, struct card *c) {
     return 0;
 }
 
-uint64_t plain_judge(const uint8_t *in, size_t len) {
-    struct card c;
-    uint64_t r = judge_all(in, len, &c);
-    return r ? r : c.cards;
-}
-
 uint64_t plain_read(const uint8_t *in, size_t len, uint8_t *copy, size_t copy_room, uint32_t *rec, size_t rec_room) {
     struct card c;
     uint8_t buf[LIMIT];
@@ -489,68 +483,6 @@ uint64_t plain_read(const uint8_t *in, size_t len, uint8_t *copy, size_t copy_ro
     return c.cards;
 }
 
-/* Folds one line to out, or only counts where out is null. */
-static size_t fold_line(const uint8_t *s, size_t n, uint8_t *out) {
-    size_t i = 0, w = 0, room = 75;
-    while (n - i > room) {
-        size_t e = i + room;
-        while ((s[e] & 0xC0) == 0x80) e--;
-        if (out) {
-            memcpy(out + w, s + i, e - i);
-            memcpy(out + w + (e - i), "\r\n ", 3);
-        }
-        w += e - i + 3;
-        i = e;
-        room = 74;
-    }
-    if (out) {
-        memcpy(out + w, s + i, n - i);
-        memcpy(out + w + (n - i), "\r\n", 2);
-    }
-    return w + (n - i) + 2;
-}
-
-/* Raises the letters of a line's group, name and parameter names. */
-static void raise_names(uint8_t *s, size_t n) {
-    int value = 0, quoted = 0;
-    for (size_t i = 0; i < n; i++) {
-        if (quoted) {
-            quoted = s[i] != '"';
-        } else if (value) {
-            if (s[i] == ':') return;
-            quoted = s[i] == '"';
-            value = s[i] != ';';
-        } else {
-            if (s[i] == ':') return;
-            value = s[i] == '=';
-            if (s[i] >= 'a' && s[i] <= 'z') s[i] -= 32;
-        }
-    }
-}
-
-uint64_t plain_fold(const uint8_t *in, size_t len, uint8_t *out, size_t room) {
-    struct card c;
-    uint8_t buf[LIMIT];
-    uint64_t r = judge_all(in, len, &c);
-    if (r) return r;
-    size_t need = 0, n;
-    for (size_t at = 0; at < len;) {
-        size_t end = line_end(in, len, at, buf, &n);
-        need += fold_line(buf, n, NULL);
-        at = end + 2;
-    }
-    if (need > LIMIT) return REFUSE(16, LIMIT);
-    if (room < need) return REFUSE(15, need);
-    size_t w = 0;
-    for (size_t at = 0; at < len;) {
-        size_t end = line_end(in, len, at, buf, &n);
-        raise_names(buf, n);
-        w += fold_line(buf, n, out + w);
-        at = end + 2;
-    }
-    return w;
-}
-
 uint64_t plain_escape(const uint8_t *in, size_t len, uint8_t *out, size_t room) {
     if (len > LIMIT) return REFUSE(1, LIMIT);
     size_t bad = first_bad(in, len, 1);
@@ -572,34 +504,6 @@ uint64_t plain_escape(const uint8_t *in, size_t len, uint8_t *out, size_t room) 
         } else {
             out[w++] = b;
         }
-    }
-    return w;
-}
-
-uint64_t plain_unescape(const uint8_t *in, size_t len, uint8_t *out, size_t room) {
-    if (len > LIMIT) return REFUSE(1, LIMIT);
-    size_t bad = first_bad(in, len, 0);
-    if (bad < len) return REFUSE(31, bad);
-    size_t need = 0;
-    for (size_t i = 0; i < len; i++) {
-        if (in[i] == ',') return REFUSE(30, i);
-        if (in[i] == '\\') {
-            if (i + 1 >= len) return REFUSE(30, i);
-            uint8_t b = in[i + 1];
-            if (b != '\\' && b != ',' && b != ';' && b != 'n' && b != 'N') return REFUSE(30, i);
-            i++;
-        }
-        need++;
-    }
-    if (room < need) return REFUSE(15, need);
-    size_t w = 0;
-    for (size_t i = 0; i < len; i++) {
-        uint8_t b = in[i];
-        if (b == '\\') {
-            b = in[++i];
-            if (b == 'n' || b == 'N') b = 10;
-        }
-        out[w++] = b;
     }
     return w;
 }

@@ -1,4 +1,4 @@
-/* A plain C program of the unit's checks, written for comparison: the same answers, one u64 each (refusal * 2^32 + place, or a count). */
+/* C programs of the unit's checks, written for comparison: the same answers, one u64 each (refusal * 2^32 + place, or a count). */
 #ifndef PLAIN_H
 #define PLAIN_H
 #include <stddef.h>
@@ -6,12 +6,17 @@
 
 #define REFUSE(n, p) (((uint64_t)(n) << 32) + (uint64_t)(p))
 
+/* routines.c, plain and tuned. */
 uint64_t plain_judge(const uint8_t *in, size_t len);
-uint64_t plain_read(const uint8_t *in, size_t len, uint8_t *copy, size_t copy_room, uint32_t *rec, size_t rec_room);
 uint64_t plain_fold(const uint8_t *in, size_t len, uint8_t *out, size_t room);
-uint64_t plain_escape(const uint8_t *in, size_t len, uint8_t *out, size_t room);
 uint64_t plain_unescape(const uint8_t *in, size_t len, uint8_t *out, size_t room);
-/* Labels by RFC 6868. */
+uint64_t tuned_judge(const uint8_t *in, size_t len);
+uint64_t tuned_fold(const uint8_t *in, size_t len, uint8_t *out, size_t room);
+uint64_t tuned_unescape(const uint8_t *in, size_t len, uint8_t *out, size_t room);
+
+/* plain.c; labels by RFC 6868. */
+uint64_t plain_read(const uint8_t *in, size_t len, uint8_t *copy, size_t copy_room, uint32_t *rec, size_t rec_room);
+uint64_t plain_escape(const uint8_t *in, size_t len, uint8_t *out, size_t room);
 uint64_t plain_encode(const uint8_t *in, size_t len, uint8_t *out, size_t room);
 uint64_t plain_decode(const uint8_t *in, size_t len, uint8_t *out, size_t room);
 
