@@ -15,6 +15,7 @@ ghost use Rattle.folder_raising.specs.Walk.{raised, written};
 use folder_raising::Style;
 use numbers::limit;
 use numbers::refusal;
+use octets::rooms::Written;
 
 // How many octets the logical line s has when it is folded anew: as it is where it has no fold, else unfolded into the scratch.
 fn line_length(s: &[u8], folds: bool, scratch: &mut [u8]) -> usize
@@ -69,55 +70,69 @@ pub fn write_styled(style: Style, s: &[u8], folds: bool, scratch: &mut [u8], d: 
     }
 }
 
-// How many octets the logical lines of a text have when they are folded.
-pub fn text_length(s: &[u8]) -> usize
-    requires { ⌜ All Clean (logicalLines (now s)) × (length (now s) ≤ limit.octets) ⌝ }
+// How many octets the logical lines of a text have when they are folded; a line with a fold is unfolded into the scratch.
+pub fn text_length(s: &[u8], scratch: &mut [u8]) -> usize
+    requires { ⌜ All Clean (logicalLines (now s)) × (length (now s) ≤ limit.octets) × (length (now s) ≤ length (now scratch)) ⌝ }
     ensures { λ r. ⌜ r ≡ length (foldedLines (logicalLines (now (s .entry)))) ⌝ }
 {
-    let mut scratch = [0u8; limit::OCTETS];
     let mut at: usize = 0;
     let mut n: usize = 0;
     while at < s.len() {
         let span = line_folds::spans::line_at(s, at);
         let end = span.end;
         let folds = span.cr != end;
-        n += line_length(&s[at..end], folds, &mut scratch);
+        n += line_length(&s[at..end], folds, scratch);
         at = end + 2;
     }
     n
 }
 
 // Writes them in a style to the start of out, which has room for them, and answers how many octets that are.
-pub fn write_text(style: Style, s: &[u8], out: &mut [u8]) -> usize
-    requires { ⌜ All Clean (logicalLines (now s)) × (length (now s) ≤ limit.octets) × (length (foldedLines (logicalLines (now s))) ≤ length (now out)) ⌝ }
+pub fn write_text(style: Style, s: &[u8], scratch: &mut [u8], out: &mut [u8]) -> usize
+    requires { ⌜ All Clean (logicalLines (now s)) × (length (now s) ≤ limit.octets) × (length (now s) ≤ length (now scratch)) × (length (foldedLines (logicalLines (now s))) ≤ length (now out)) ⌝ }
     ensures { λ r. ⌜ r ≡ length (foldedLines (map (written style) (logicalLines (now (s .entry))))) ⌝ }
     ensures { λ _. ⌜ now (out .exit) ≡ overlay (foldedLines (map (written style) (logicalLines (now (s .entry))))) (now (out .entry)) ⌝ }
 {
-    let mut scratch = [0u8; limit::OCTETS];
     let mut at: usize = 0;
     let mut w: usize = 0;
     while at < s.len() {
         let span = line_folds::spans::line_at(s, at);
         let end = span.end;
         let folds = span.cr != end;
-        w += write_styled(style, &s[at..end], folds, &mut scratch, &mut out[w..]);
+        w += write_styled(style, &s[at..end], folds, scratch, &mut out[w..]);
         at = end + 2;
     }
     w
 }
 
+// Folds a text in a style, with a scratch that holds it: 16, 15, else the octets written.
+fn fold_in(style: Style, s: &[u8], scratch: &mut [u8], out: &mut [u8]) -> Written
+    requires { ⌜ All Clean (logicalLines (now s)) × (length (now s) ≤ limit.octets) × (length (now s) ≤ length (now scratch)) ⌝ }
+    ensures { λ r. ⌜ filled r (now (out .exit)) ≡ fillBounded (foldedLines (map (written style) (logicalLines (now (s .entry))))) (now (out .entry)) ⌝ }
+{
+    let n = text_length(s, scratch);
+    if limit::OCTETS < n {
+        return Written::Refused(refusal::FORM_TOO_LONG, limit::OCTETS);
+    }
+    if out.len() < n {
+        return Written::Refused(refusal::ROOM, n);
+    }
+    let w = write_text(style, s, scratch, out);
+    Written::Wrote(w)
+}
+
+// A text of at most so many octets is folded with a scratch of as many, since the scratch is made at each call.
+const SHORT: usize = 1024;
+
 // Folds a text in a style: 16 where the folded form is over 16,384 octets, 15 where out is too small for it, else the octets written.
-pub fn fold_text(style: Style, s: &[u8], out: &mut [u8]) -> octets::rooms::Written
+pub fn fold_text(style: Style, s: &[u8], out: &mut [u8]) -> Written
     requires { ⌜ All Clean (logicalLines (now s)) × (length (now s) ≤ limit.octets) ⌝ }
     ensures { λ r. ⌜ filled r (now (out .exit)) ≡ fillBounded (foldedLines (map (written style) (logicalLines (now (s .entry))))) (now (out .entry)) ⌝ }
 {
-    let n = text_length(s);
-    if limit::OCTETS < n {
-        return octets::rooms::Written::Refused(refusal::FORM_TOO_LONG, limit::OCTETS);
+    if s.len() <= SHORT {
+        let mut scratch = [0u8; SHORT];
+        return fold_in(style, s, &mut scratch, out);
     }
-    if out.len() < n {
-        return octets::rooms::Written::Refused(refusal::ROOM, n);
-    }
-    let w = write_text(style, s, out);
-    octets::rooms::Written::Wrote(w)
+    let mut scratch = [0u8; limit::OCTETS];
+    fold_in(style, s, &mut scratch, out)
 }

@@ -1,10 +1,10 @@
 -- `crate::text::write_text` meets its contract. Assumes nothing.
 use borrow.Author.Needs.{needs}
-use mathlib.Core.Path.{_≡_, ap, _∙_}
+use mathlib.Core.Path.{_≡_, refl, ap, _∙_}
 use mathlib.Core.List.{List, map}
 use Prim.Native.Nat.{ℕ, _+_, _-_, _≤_}
 use native.Mathlib.Omega.{arith}
-use lib.ListN.{length, take, drop, length-append, length-take, length-drop, length-replicate}
+use lib.ListN.{length, take, drop, length-append, length-take, length-drop}
 use Rattle.octets.proofs.Writes.{Written, start, room, finish}
 use Rattle.line_folds.specs.Folds.{unfolded}
 use Rattle.line_folds.specs.Logical.{logicalLines}
@@ -18,22 +18,22 @@ use Rattle.folder.proofs.text.write_text.Statement.{statement}
 use Rattle.folder.proofs.text.write_text.Tie as tie
 
 abbrev Inv-loop : tie.InvT-loop
-Inv-loop style s out₀ scratch₀ at₀ w₀ out scratch at w =
-    (length scratch ≡ 16384) × All Clean (logicalLines (drop at s))
+Inv-loop style s scratch₀ out₀ at₀ w₀ scratch out at w =
+    (length scratch ≡ length scratch₀) × All Clean (logicalLines (drop at s))
     × Written (foldedLines (map (written style) (logicalLines s))) (foldedLines (map (written style) (logicalLines (drop at s)))) out₀ out w
 
 abbrev μ-loop : tie.MeasureT-loop
-μ-loop style s out₀ scratch₀ at₀ w₀ out scratch at w = length s - at
+μ-loop style s scratch₀ out₀ at₀ w₀ scratch out at w = length s - at
 
 abbrev At : Type 0
 At = tie.After-struct-known Inv-loop μ-loop
 
 abbrev S : At → List ℕ
-S c = c .before .before .before .before .before .before .args .s .now
+S c = c .before .before .before .before .before .before .before .args .s .now
 
 -- the line in the style
 abbrev F : At → List ℕ → List ℕ
-F c = written (c .before .before .before .before .before .before .args .style)
+F c = written (c .before .before .before .before .before .before .before .args .style)
 
 abbrev P : At → ℕ
 P c = c .before .before .before .loop .at
@@ -55,16 +55,16 @@ module _ (c : At) where
 
   roomy : c .before .before .before .loop .w + length (folded (F c (unfolded (L c)))) ≤ length (c .before .before .before .loop .out)
   roomy =
-      let st = c .before .before .before .before .before .before .args .style in
+      let st = c .before .before .before .before .before .before .before .args .style in
       let rest = foldedLines (map (F c) (logicalLines (drop (E c + 2) (S c)))) in
       let t = fold-turn (S c) (P c) (E c) (c .before .before .loop-test .taken) (c .before .line-at .ensures .1) (c .before .line-at .ensures .2) (F c) in
-      omega (arith, room (c .before .before .before .loop .inv .2) (rw (styled-lines st (logicalLines (S c))) (c .before .before .before .before .before .before .pre .2)), ap length t, length-append (folded (F c (unfolded (L c)))) rest)
+      omega (arith, room (c .before .before .before .loop .inv .2) (rw (styled-lines st (logicalLines (S c))) (c .before .before .before .before .before .before .before .pre .3)), ap length t, length-append (folded (F c (unfolded (L c)))) rest)
 
   plain-roomy : c .before .before .before .loop .w + length (folded (unfolded (L c))) ≤ length (c .before .before .before .loop .out)
-  plain-roomy = rw (styled-folded (c .before .before .before .before .before .before .args .style) (unfolded (L c))) at roomy
+  plain-roomy = rw (styled-folded (c .before .before .before .before .before .before .before .args .style) (unfolded (L c))) at roomy
 
 loop-holds : tie.Need-loop-holds Inv-loop μ-loop
-loop-holds c = (simp length-replicate, c .before .before .pre .0, start _ _)
+loop-holds c = (refl, c .before .before .before .pre .0, start _ _)
 
 line-at-requires : tie.Need-line-at-requires Inv-loop μ-loop
 line-at-requires c κs = omega arith
@@ -77,9 +77,6 @@ part-write-styled-start c = omega arith
 
 part-write-styled-end : tie.Need-part-write-styled-end Inv-loop μ-loop
 part-write-styled-end c = omega arith
-
-slice-aggregate-write-styled : tie.Need-slice-aggregate-write-styled Inv-loop μ-loop
-slice-aggregate-write-styled c = search needs
 
 sub-write-styled-2 : tie.Need-sub-write-styled-2 Inv-loop μ-loop
 sub-write-styled-2 c = omega (arith, roomy (c .before .before))
@@ -94,10 +91,10 @@ write-styled-requires : tie.Need-write-styled-requires Inv-loop μ-loop
 write-styled-requires c κs =
     let t = c .before .before .before in
     let v = t .before .line-at in
-    ((clean t .0, omega (arith, len t, t .before .before .before .before .before .before .pre .1, t .before .before .before .loop .inv .0), simp (length-take, length-drop) (omega (arith, plain-roomy t))), whole (S t) (P t) (v .result .cr) (E t) (v .ensures .0))
+    ((clean t .0, omega (arith, len t, t .before .before .before .before .before .before .before .pre .2, t .before .before .before .loop .inv .0), simp (length-take, length-drop) (omega (arith, plain-roomy t))), whole (S t) (P t) (v .result .cr) (E t) (v .ensures .0))
 
 add-w : tie.Need-add-w Inv-loop μ-loop
-add-w c = omega (arith, roomy (c .before .before .before .before .before .before .before), c .before .before .before .write-styled .ensures .0)
+add-w c = omega (arith, roomy (c .before .before .before .before .before .before .before .before), c .before .before .before .before .write-styled .ensures .0)
 
 add-at : tie.Need-add-at Inv-loop μ-loop
 add-at c = omega arith
@@ -107,9 +104,9 @@ loop-less c = omega arith
 
 loop-again : tie.Need-loop-again Inv-loop μ-loop
 loop-again c =
-    let t = c .before .before .before .before .before .before .before in
+    let t = c .before .before .before .before .before .before .before .before in
     let v = t .before .line-at in
-    let r = c .before .before .before .write-styled in (
+    let r = c .before .before .before .before .write-styled in (
       omega (arith, r .kept, t .before .before .before .loop .inv .0),
       clean t .1,
       rw (r .ensures .0 .0) (put-part (t .before .before .before .loop .inv .2) (folded (F t (unfolded (L t)))) (foldedLines (map (F t) (logicalLines (drop (E t + 2) (S t))))) _
@@ -117,12 +114,15 @@ loop-again c =
     )
 
 same-length : tie.Need-same-length Inv-loop μ-loop
-same-length c = c .before .loop .inv .2 .same
+same-length c = c .before .loop .inv .0
+
+same-length-2 : tie.Need-same-length-2 Inv-loop μ-loop
+same-length-2 c = c .before .loop .inv .2 .same
 
 returns : tie.Need-returns Inv-loop μ-loop
 returns c =
     let l = c .before in
-    let a = l .before .before .before .args in
+    let a = l .before .before .before .before .args in
     let none = ap (λ (ls : List (List ℕ)). foldedLines (map (written (a .style)) ls)) (none-left (a .s .now) (l .loop .at) (c .loop-test .left)) ∙ nothing in
     let f = finish (rw none at (l .loop .inv .2)) in
     (f .0, f .1 ∙ rw (f .0))
@@ -138,7 +138,6 @@ write-text-spec =
     sub-write-styled
     part-write-styled-start
     part-write-styled-end
-    slice-aggregate-write-styled
     sub-write-styled-2
     part-write-styled-start-2
     part-write-styled-end-2
@@ -148,4 +147,5 @@ write-text-spec =
     loop-less
     loop-again
     same-length
+    same-length-2
     returns)
