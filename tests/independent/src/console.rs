@@ -30,6 +30,7 @@ use crate::refusal::Refusal;
 use crate::report::Report;
 use crate::requests::{request_of, Request};
 use crate::text::{escape, unescape};
+use crate::version3::{give_out, take_in};
 
 /// What each octet of room and of a new pool is at first.
 const ROOM_OCTET: u8 = 165;
@@ -92,6 +93,8 @@ impl Console {
             Request::Decode { rule, room, octets } => {
                 room_answer(|label, out| decode(rule, label, out), room, &octets)
             }
+            Request::Version3In { room, octets } => room_answer(take_in, room, &octets),
+            Request::Version3Out { room, octets } => room_answer(give_out, room, &octets),
             Request::Offset { octets } => number_line(minutes(&octets)),
             Request::Desk { slots, pool } => self.new_desk(slots, pool),
             Request::Open { tram, tick } => {

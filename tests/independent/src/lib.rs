@@ -27,4 +27,5 @@ pub mod report;
 pub mod requests;
 pub mod survey;
 pub mod text;
+pub mod version3;
 pub mod wanted;

@@ -29,6 +29,8 @@ pub enum Request {
     Encode { rule: Rule, room: usize, octets: Vec<u8> },
     Decode { rule: Rule, room: usize, octets: Vec<u8> },
     Offset { octets: Vec<u8> },
+    Version3In { room: usize, octets: Vec<u8> },
+    Version3Out { room: usize, octets: Vec<u8> },
     Desk { slots: u64, pool: usize },
     Open { tram: u32, tick: u32 },
     Add { ticket: u32, tick: u32, chunk: Vec<u8> },
@@ -94,6 +96,8 @@ fn entry_request(words: &[&[u8]]) -> Option<Request> {
                 b"fold" => Some(Request::Fold { room, octets }),
                 b"escape" => Some(Request::Escape { room, octets }),
                 b"unescape" => Some(Request::Unescape { room, octets }),
+                b"v3-in" => Some(Request::Version3In { room, octets }),
+                b"v3-out" => Some(Request::Version3Out { room, octets }),
                 _ => None,
             }
         }
@@ -176,7 +180,7 @@ pub fn read_line(copy_room: usize, record_room: usize, octets: &[u8]) -> String 
     format!("read {copy_room} {record_room} {}", word_of(octets))
 }
 
-/// The line `WORD ROOM OCTETS`, for fold, escape and unescape.
+/// The line `WORD ROOM OCTETS`, for fold, escape, unescape, v3-in and v3-out.
 pub fn room_line(word: &str, room: usize, octets: &[u8]) -> String {
     format!("{word} {room} {}", word_of(octets))
 }

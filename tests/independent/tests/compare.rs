@@ -20,6 +20,7 @@ const NOTHING: Plan = Plan {
     lists: 0,
     desks: 0,
     reports: 0,
+    version3: 0,
     seed: 1,
 };
 
@@ -40,6 +41,7 @@ fn small() -> Plan {
         lists: 60,
         desks: 0,
         reports: 40,
+        version3: 300,
         seed: 5,
     }
 }

@@ -22,6 +22,8 @@ use independent::generator::{
     reports::reports,
     texts,
     texts::texts,
+    version3,
+    version3::version3,
 };
 use independent::console::Console;
 use independent::examples::m_with;
@@ -252,6 +254,23 @@ fn reports_reach_15_and_80_and_every_count_on_both_sides_of_its_limit() {
 }
 
 #[test]
+fn version_3_reaches_every_refusal_both_ways() {
+    let reader = (1..=5).chain([8, 9, 15, 16]).chain(40..=43);
+    let mut numbers_in: Vec<u32> = reader.clone().chain([50]).collect();
+    let mut numbers_out: Vec<u32> = reader.chain([7, 10, 11, 51]).collect();
+    numbers_in.sort();
+    numbers_out.sort();
+    for (start, numbers, number) in [("v3-in ", numbers_in, 50), ("v3-out ", numbers_out, 51)] {
+        let survey = survey(version3(1).take(40_000).filter(|line| line.starts_with(start)));
+        assert_eq!(survey.refusals.keys().copied().collect::<Vec<u32>>(), numbers, "{start}");
+        assert!(times(&survey, number) >= 1_000 && times(&survey, 16) >= 50, "{start}{survey}");
+        assert!(survey.accepted >= 5_000 && survey.bad_requests == 0, "{start}{survey}");
+    }
+    let asked = last_words(version3(1).take(Plan::default().version3));
+    assert!(version3::by_hand().iter().all(|(_, input)| asked.contains(&word_of(input))));
+}
+
+#[test]
 fn a_usual_run_takes_over_20_000_judgements_after_those_by_hand() {
     assert!(reports::by_hand().len() < Plan::default().reports);
     let of_the_gate = reports(1).take(9_000).flatten().filter(|line| line.starts_with("take ")).count();
@@ -266,7 +285,7 @@ fn together_they_reach_every_refusal_of_the_paper() {
     let desk_values = survey_desks(plan.seed, plan.desks).expect("desk and ledger agree");
     let mut reached = requests.refusals;
     reached.extend(desk_values.refusals);
-    let all = (1..=5).chain(7..=16).chain(20..=26).chain([30, 31]).chain(40..=44).chain([80]);
+    let all = (1..=5).chain(7..=16).chain(20..=26).chain([30, 31]).chain(40..=44).chain([50, 51, 80]);
     assert_eq!(reached.into_keys().collect::<Vec<u32>>(), all.collect::<Vec<u32>>());
 }
 
@@ -331,6 +350,7 @@ fn a_family_of_0_is_left_out() {
         lists: 0,
         desks: 0,
         reports: 0,
+        version3: 0,
         seed: 1,
     };
     let families: Vec<&str> = steps(plan).map(|step| step.family).collect();

@@ -18,6 +18,7 @@ pub mod protocol;
 pub mod reports;
 pub mod rooms;
 pub mod texts;
+pub mod version3;
 
 use crate::dice::Dice;
 use crate::examples::{reader_examples, source_examples, PaperExample};
