@@ -14,6 +14,7 @@ use crate::generator::folds::folds;
 use crate::generator::labels::labels;
 use crate::generator::line_faults::line_faults;
 use crate::generator::lists::lists;
+use crate::generator::merges::merges;
 use crate::generator::names::names;
 use crate::generator::octets::octets;
 use crate::generator::protocol::protocol;
@@ -25,7 +26,7 @@ use crate::ledger_console::LedgerConsole;
 use crate::survey::Survey;
 
 /// Families of which the comparison says how often each refusal was reached.
-const SURVEYED: [&str; 1] = ["version3"];
+const SURVEYED: [&str; 2] = ["version3", "merges"];
 
 /// How much of each family is compared; a family of 0 is left out. Desk values are compared inside this program (`beside`).
 #[derive(Clone, Copy, Debug, PartialEq, Eq)]
@@ -45,6 +46,7 @@ pub struct Plan {
     pub desks: usize,
     pub reports: usize,
     pub version3: usize,
+    pub merges: usize,
     pub seed: u64,
 }
 
@@ -67,6 +69,7 @@ impl Default for Plan {
             desks: 3_000,
             reports: 3_000,
             version3: 40_000,
+            merges: 40_000,
             seed: 1,
         }
     }
@@ -99,6 +102,7 @@ pub fn steps(plan: Plan) -> impl Iterator<Item = Step> {
         .chain(calls)
         .chain(mornings)
         .chain(version3(plan.seed).take(plan.version3).map(of("version3")))
+        .chain(merges(plan.seed).take(plan.merges).map(of("merges")))
 }
 
 /// The steps of lists whose requests belong together.

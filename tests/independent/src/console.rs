@@ -14,6 +14,7 @@
 //   POOL octets, for the call hands a desk back; a `bad request` replaces neither.
 // - `pool FROM COUNT` past the end of the pool is `bad request`; COUNT 0 gives `-`.
 // - `show` has no refusal: `-` for an empty part, whatever the reason (READINGS A24).
+// - PARTS that come apart into another number of parts than four, or five for `check-plan`, are `bad request`.
 // - `read` answers no count of copy octets, so the console takes from the last record where the
 //   copy ends.
 
@@ -24,6 +25,7 @@ use crate::desk::Desk;
 use crate::folder::{fold, fold_by};
 use crate::hex::word_of;
 use crate::labels::{decode, encode};
+use crate::merging::{check, plan, Edits};
 use crate::properties::Edition;
 use crate::reader::{judge, judge_in, read_in, Counts, RECORD_NUMBERS};
 use crate::refusal::Refusal;
@@ -130,6 +132,8 @@ impl Console {
                 number_line(answer)
             }
             Request::Print { room } => room_answer(|_, out| self.report.print(out), room, &[]),
+            Request::Plan { room, edits } => plan_answer(room, &edits),
+            Request::CheckPlan { edits, plan } => number_line(check(&edits, &plan)),
             Request::Count { count, number } => {
                 self.report.set(count, number);
                 format!("ok {number}")
@@ -187,6 +191,20 @@ fn room_answer(
     let touched = touched_word(past.iter().any(|&octet| octet != ROOM_OCTET));
     match answer {
         Ok(count) => format!("ok {count} {}{touched}", word_of(written)),
+        Err(refusal) => refusal_line(refusal) + touched,
+    }
+}
+
+/// The answer of the planner, with room for so many numbers.
+fn plan_answer(room: usize, edits: &Edits) -> String {
+    let mut out = vec![ROOM_NUMBER; room];
+    let answer = plan(edits, &mut out);
+    let (written, past) = out.split_at(answer.map_or(0, |pairs| 2 * pairs));
+    let touched = touched_word(past.iter().any(|&number| number != ROOM_NUMBER));
+    let numbers: Vec<String> = written.iter().map(u32::to_string).collect();
+    let numbers = if numbers.is_empty() { "-".to_string() } else { numbers.join(",") };
+    match answer {
+        Ok(pairs) => format!("ok {pairs} {numbers}{touched}"),
         Err(refusal) => refusal_line(refusal) + touched,
     }
 }

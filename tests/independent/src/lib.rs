@@ -20,6 +20,7 @@ pub mod ledger;
 pub mod ledger_console;
 pub mod line_faults;
 pub mod lines;
+pub mod merging;
 pub mod properties;
 pub mod reader;
 pub mod refusal;

@@ -3,6 +3,7 @@
 use crate::folder::{Style, STYLES};
 use crate::hex::{octets_of, word_of};
 use crate::labels::{Rule, RULES};
+use crate::merging::{Edits, Source};
 use crate::properties::{Edition, EDITIONS};
 use crate::report::{count_named, Count};
 
@@ -44,6 +45,8 @@ pub enum Request {
     Take { octets: Vec<u8> },
     Print { room: usize },
     Count { count: Count, number: u32 },
+    Plan { room: usize, edits: Edits },
+    CheckPlan { edits: Edits, plan: Vec<u32> },
 }
 
 /// The request of a line without its LF, or nothing for a bad request.
@@ -53,7 +56,10 @@ pub fn request_of(line: &[u8]) -> Option<Request> {
         return None;
     }
     let words: Vec<&[u8]> = line.split(|&octet| octet == b' ').collect();
-    entry_request(&words).or_else(|| desk_request(&words)).or_else(|| report_request(&words))
+    entry_request(&words)
+        .or_else(|| desk_request(&words))
+        .or_else(|| report_request(&words))
+        .or_else(|| merge_request(&words))
 }
 
 /// The requests to reader, folder, text and labels.
@@ -140,6 +146,54 @@ fn report_request(words: &[&[u8]]) -> Option<Request> {
         }),
         _ => None,
     }
+}
+
+/// The requests to planner and checker.
+fn merge_request(words: &[&[u8]]) -> Option<Request> {
+    match words {
+        [b"plan", room, octets] => {
+            let room = size_of(room, MOST_ROOM)?;
+            let parts = parts_of(&octets_of(octets)?)?;
+            let [first, second, rows @ ..] = parts.as_slice() else { return None };
+            Some(Request::Plan { room, edits: edits_of(first, second, rows)? })
+        }
+        [b"check-plan", octets] => {
+            let parts = parts_of(&octets_of(octets)?)?;
+            let [first, second, rows @ .., plan] = parts.as_slice() else { return None };
+            Some(Request::CheckPlan { edits: edits_of(first, second, rows)?, plan: numbers_of(plan)? })
+        }
+        _ => None,
+    }
+}
+
+/// The parts of PARTS, each after its length as four octets, the highest first.
+fn parts_of(mut octets: &[u8]) -> Option<Vec<Vec<u8>>> {
+    let mut parts = Vec::new();
+    while !octets.is_empty() {
+        let length = numbers_of(octets.get(..4)?)?[0] as usize;
+        parts.push(octets.get(4..4 + length)?.to_vec());
+        octets = &octets[4 + length..];
+    }
+    Some(parts)
+}
+
+/// The numbers of four octets each, the highest first.
+fn numbers_of(octets: &[u8]) -> Option<Vec<u32>> {
+    let number = |part: &[u8]| u32::from_be_bytes(part.try_into().expect("four octets"));
+    (octets.len() % 4 == 0).then(|| octets.chunks(4).map(number).collect())
+}
+
+/// Two cards and their rows, of which there are two; an entry has three numbers.
+fn edits_of(first: &[u8], second: &[u8], rows: &[Vec<u8>]) -> Option<Edits> {
+    let [one, other] = rows else { return None };
+    Some(Edits { cards: [first.to_vec(), second.to_vec()], rows: [sources_of(one)?, sources_of(other)?] })
+}
+
+/// The entries of a row.
+fn sources_of(octets: &[u8]) -> Option<Vec<Source>> {
+    let numbers = numbers_of(octets)?;
+    let source = |entry: &[u32]| Source { number: entry[0], place: entry[1], length: entry[2] };
+    (numbers.len() % 3 == 0).then(|| numbers.chunks(3).map(source).collect())
 }
 
 /// A decimal number up to a limit; leading zeros are allowed, a sign isn't.
@@ -232,4 +286,26 @@ pub fn at_tick_0(line: &str) -> String {
         ["add", ticket, chunk] => format!("add {ticket} 0 {chunk}"),
         _ => line.to_string(),
     }
+}
+
+/// The line `plan ROOM PARTS`.
+pub fn plan_line(room: usize, edits: &Edits) -> String {
+    format!("plan {room} {}", word_of(&parts_octets(edits, None)))
+}
+
+/// The line `check-plan PARTS`.
+pub fn check_plan_line(edits: &Edits, plan: &[u32]) -> String {
+    format!("check-plan {}", word_of(&parts_octets(edits, Some(plan))))
+}
+
+/// The octets of PARTS: both cards, both rows and the plan, where there is one.
+fn parts_octets(edits: &Edits, plan: Option<&[u32]>) -> Vec<u8> {
+    let octets = |numbers: &[u32]| numbers.iter().flat_map(|number| number.to_be_bytes()).collect::<Vec<u8>>();
+    let row = |row: &[Source]| {
+        octets(&row.iter().flat_map(|source| [source.number, source.place, source.length]).collect::<Vec<u32>>())
+    };
+    let mut parts = edits.cards.to_vec();
+    parts.extend(edits.rows.iter().map(|sources| row(sources)));
+    parts.extend(plan.map(octets));
+    parts.iter().flat_map(|part| [&octets(&[part.len() as u32]), part.as_slice()].concat()).collect()
 }

@@ -21,6 +21,7 @@ const NOTHING: Plan = Plan {
     desks: 0,
     reports: 0,
     version3: 0,
+    merges: 0,
     seed: 1,
 };
 
@@ -42,6 +43,7 @@ fn small() -> Plan {
         desks: 0,
         reports: 40,
         version3: 300,
+        merges: 300,
         seed: 5,
     }
 }

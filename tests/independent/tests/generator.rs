@@ -16,6 +16,8 @@ use independent::generator::{
     line_faults::line_faults,
     lists,
     lists::lists,
+    merges,
+    merges::merges,
     names::{names, names_by_hand, LONGEST},
     octets::octets,
     readers, reports,
@@ -30,6 +32,7 @@ use independent::examples::m_with;
 use independent::hex::{octets_of, word_of};
 use independent::properties::row_of;
 use independent::report::{moved, which_of};
+use independent::requests::{check_plan_line, plan_line};
 use independent::survey::{survey, Survey};
 
 /// How often a refusal number came.
@@ -271,6 +274,27 @@ fn version_3_reaches_every_refusal_both_ways() {
 }
 
 #[test]
+fn merges_reach_every_refusal_of_planner_and_checker() {
+    for (start, last) in [("plan ", 14), ("check-plan ", 73)] {
+        let survey = survey(merges(1).take(40_000).filter(|line| line.starts_with(start)));
+        let reached: Vec<u32> = survey.refusals.keys().copied().collect();
+        assert!([1, 2, 3, 4, 7, 9, 11, last, 70, 71, 72].iter().all(|number| reached.contains(number)), "{start}{survey}");
+        assert!(reached.iter().all(|number| *number < 44 || (70..=73).contains(number)), "{start}{survey}");
+        for number in [last, 70, 71, 72] {
+            assert!(times(&survey, number) >= 500, "{start}{number}: {survey}");
+        }
+        assert!(survey.accepted >= 2_000 && survey.bad_requests == 0, "{start}{survey}");
+    }
+    let asked = last_words(merges(1).take(Plan::default().merges));
+    let of = |(edits, plan): &merges::Asked| match plan {
+        Some(numbers) => check_plan_line(edits, numbers),
+        None => plan_line(0, edits),
+    };
+    let words = last_words(merges::by_hand().iter().map(of));
+    assert!(words.is_subset(&asked));
+}
+
+#[test]
 fn a_usual_run_takes_over_20_000_judgements_after_those_by_hand() {
     assert!(reports::by_hand().len() < Plan::default().reports);
     let of_the_gate = reports(1).take(9_000).flatten().filter(|line| line.starts_with("take ")).count();
@@ -285,7 +309,7 @@ fn together_they_reach_every_refusal_of_the_paper() {
     let desk_values = survey_desks(plan.seed, plan.desks).expect("desk and ledger agree");
     let mut reached = requests.refusals;
     reached.extend(desk_values.refusals);
-    let all = (1..=5).chain(7..=16).chain(20..=26).chain([30, 31]).chain(40..=44).chain([50, 51, 80]);
+    let all = (1..=5).chain(7..=16).chain(20..=26).chain([30, 31]).chain(40..=44).chain([50, 51]).chain(70..=73).chain([80]);
     assert_eq!(reached.into_keys().collect::<Vec<u32>>(), all.collect::<Vec<u32>>());
 }
 
@@ -351,6 +375,7 @@ fn a_family_of_0_is_left_out() {
         desks: 0,
         reports: 0,
         version3: 0,
+        merges: 0,
         seed: 1,
     };
     let families: Vec<&str> = steps(plan).map(|step| step.family).collect();

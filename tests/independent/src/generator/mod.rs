@@ -11,6 +11,7 @@ pub mod hand;
 pub mod labels;
 pub mod line_faults;
 pub mod lists;
+pub mod merges;
 pub mod mutation;
 pub mod names;
 pub mod octets;
