@@ -22,11 +22,12 @@ use crate::generator::readers;
 use crate::generator::reports::reports;
 use crate::generator::texts::texts;
 use crate::generator::version3::version3;
+use crate::generator::watches::watches;
 use crate::ledger_console::LedgerConsole;
 use crate::survey::Survey;
 
 /// Families of which the comparison says how often each refusal was reached.
-const SURVEYED: [&str; 2] = ["version3", "merges"];
+const SURVEYED: [&str; 3] = ["version3", "merges", "watches"];
 
 /// How much of each family is compared; a family of 0 is left out. Desk values are compared inside this program (`beside`).
 #[derive(Clone, Copy, Debug, PartialEq, Eq)]
@@ -47,6 +48,7 @@ pub struct Plan {
     pub reports: usize,
     pub version3: usize,
     pub merges: usize,
+    pub watches: usize,
     pub seed: u64,
 }
 
@@ -70,6 +72,7 @@ impl Default for Plan {
             reports: 3_000,
             version3: 40_000,
             merges: 40_000,
+            watches: 1_500,
             seed: 1,
         }
     }
@@ -103,6 +106,7 @@ pub fn steps(plan: Plan) -> impl Iterator<Item = Step> {
         .chain(mornings)
         .chain(version3(plan.seed).take(plan.version3).map(of("version3")))
         .chain(merges(plan.seed).take(plan.merges).map(of("merges")))
+        .chain(listed("watches", watches(plan.seed).take(plan.watches)))
 }
 
 /// The steps of lists whose requests belong together.

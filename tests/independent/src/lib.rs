@@ -30,3 +30,4 @@ pub mod survey;
 pub mod text;
 pub mod version3;
 pub mod wanted;
+pub mod watching;

@@ -13,6 +13,9 @@ pub const MOST_ROOM: usize = 70_000;
 /// The most octets of pool that can be asked for.
 pub const MOST_POOL: usize = 655_360;
 
+/// The most octets of a buffer for chunks that can be asked for.
+pub const MOST_BUFFER: usize = 20_000;
+
 /// The most octets of a request line, its LF and a CR before it not counted.
 pub const MOST_LINE: usize = 140_000;
 
@@ -47,6 +50,11 @@ pub enum Request {
     Count { count: Count, number: u32 },
     Plan { room: usize, edits: Edits },
     CheckPlan { edits: Edits, plan: Vec<u32> },
+    Begin { length: usize },
+    Chunk { octets: Vec<u8> },
+    End,
+    Buffer { from: usize, count: usize },
+    Claim { count: u32 },
 }
 
 /// The request of a line without its LF, or nothing for a bad request.
@@ -60,6 +68,7 @@ pub fn request_of(line: &[u8]) -> Option<Request> {
         .or_else(|| desk_request(&words))
         .or_else(|| report_request(&words))
         .or_else(|| merge_request(&words))
+        .or_else(|| watch_request(&words))
 }
 
 /// The requests to reader, folder, text and labels.
@@ -162,6 +171,20 @@ fn merge_request(words: &[&[u8]]) -> Option<Request> {
             let [first, second, rows @ .., plan] = parts.as_slice() else { return None };
             Some(Request::CheckPlan { edits: edits_of(first, second, rows)?, plan: numbers_of(plan)? })
         }
+        _ => None,
+    }
+}
+
+/// The requests to the reader of chunks, the one that looks at its buffer and the one that sets a count of its state.
+fn watch_request(words: &[&[u8]]) -> Option<Request> {
+    match words {
+        [b"begin", length] => Some(Request::Begin { length: size_of(length, MOST_BUFFER)? }),
+        [b"chunk", octets] => Some(Request::Chunk { octets: octets_of(octets)? }),
+        [b"end"] => Some(Request::End),
+        [b"buffer", from, count] => {
+            Some(Request::Buffer { from: size_of(from, MOST_BUFFER)?, count: size_of(count, MOST_BUFFER)? })
+        }
+        [b"claim", count] => Some(Request::Claim { count: number_of(count, u64::from(u32::MAX))? as u32 }),
         _ => None,
     }
 }

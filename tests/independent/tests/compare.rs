@@ -22,6 +22,7 @@ const NOTHING: Plan = Plan {
     reports: 0,
     version3: 0,
     merges: 0,
+    watches: 0,
     seed: 1,
 };
 
@@ -44,6 +45,7 @@ fn small() -> Plan {
         reports: 40,
         version3: 300,
         merges: 300,
+        watches: 30,
         seed: 5,
     }
 }

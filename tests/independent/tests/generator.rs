@@ -26,6 +26,8 @@ use independent::generator::{
     texts::texts,
     version3,
     version3::version3,
+    watches,
+    watches::watches,
 };
 use independent::console::Console;
 use independent::examples::m_with;
@@ -295,6 +297,26 @@ fn merges_reach_every_refusal_of_planner_and_checker() {
 }
 
 #[test]
+fn watches_reach_every_refusal_of_chunk_and_end() {
+    let lists: Vec<Vec<String>> = watches(1).take(Plan::default().watches).collect();
+    assert!(watches::by_hand().len() < lists.len());
+    let survey = survey(lists.iter().flatten().cloned());
+    let reached: Vec<u32> = survey.refusals.keys().copied().collect();
+    assert_eq!(reached, (1..=5).chain(7..=12).chain(40..=43).chain([45, 46]).collect::<Vec<u32>>(), "{survey}");
+    assert!(times(&survey, 45) >= 50 && times(&survey, 46) >= 300 && survey.bad_requests == 0, "{survey}");
+    for list in lists {
+        assert!(list[0].starts_with("begin "));
+        assert!(list[1..].iter().all(|line| !line.starts_with("begin ")));
+        let of_full_length = list[0] == "begin 16384";
+        let chunks = list.iter().filter(|line| line.starts_with("chunk ")).count();
+        let ends = list.iter().filter(|line| *line == "end").count();
+        let buffers = list.iter().filter(|line| *line == "buffer 0 16384").count();
+        assert!(ends >= chunks || list.len() == 5, "{list:?}");
+        assert!(!of_full_length || buffers >= chunks, "{list:?}");
+    }
+}
+
+#[test]
 fn a_usual_run_takes_over_20_000_judgements_after_those_by_hand() {
     assert!(reports::by_hand().len() < Plan::default().reports);
     let of_the_gate = reports(1).take(9_000).flatten().filter(|line| line.starts_with("take ")).count();
@@ -309,7 +331,7 @@ fn together_they_reach_every_refusal_of_the_paper() {
     let desk_values = survey_desks(plan.seed, plan.desks).expect("desk and ledger agree");
     let mut reached = requests.refusals;
     reached.extend(desk_values.refusals);
-    let all = (1..=5).chain(7..=16).chain(20..=26).chain([30, 31]).chain(40..=44).chain([50, 51]).chain(70..=73).chain([80]);
+    let all = (1..=5).chain(7..=16).chain(20..=26).chain([30, 31]).chain(40..=46).chain([50, 51]).chain(70..=73).chain([80]);
     assert_eq!(reached.into_keys().collect::<Vec<u32>>(), all.collect::<Vec<u32>>());
 }
 
@@ -376,6 +398,7 @@ fn a_family_of_0_is_left_out() {
         reports: 0,
         version3: 0,
         merges: 0,
+        watches: 0,
         seed: 1,
     };
     let families: Vec<&str> = steps(plan).map(|step| step.family).collect();

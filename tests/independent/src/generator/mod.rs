@@ -20,6 +20,7 @@ pub mod reports;
 pub mod rooms;
 pub mod texts;
 pub mod version3;
+pub mod watches;
 
 use crate::dice::Dice;
 use crate::examples::{reader_examples, source_examples, PaperExample};
