@@ -37,11 +37,35 @@ const SINGLES: [&str; 8] = [
 const NAMES: [&str; 12] =
     ["TEL", "TEL", "TEL", "EMAIL", "NOTE", "X-A", "x-a", "X-b", "FN", "TITLE", "created", "CREATED"];
 
-/// Requests without end: large ones, then by hand and by chance.
+/// Lines that try the words themselves and PARTS that do not come apart; most are no requests.
+fn words() -> Vec<String> {
+    let none = "00000000";
+    let lines = [
+        "plan", "plan 0", "plan -", "plan 0 -", "check-plan", "check-plan -", "plan 0 00",
+        "check-plan 000000", "plan 0 0 0",
+    ];
+    let mut words: Vec<String> = lines.map(str::to_string).to_vec();
+    for count in 0..=6 {
+        let parts = none.repeat(count);
+        words.extend([0, 70_000, 70_001].map(|room| format!("plan {room} {parts}")));
+        words.push(format!("check-plan {parts}"));
+        for last in [
+            "00", "0000000141", "00000001", "0000000400000000", "0000000c00000000", "ffffffff", "80000000",
+            "000000020000",
+        ] {
+            words.extend([format!("plan 9 {parts}{last}"), format!("check-plan {parts}{last}")]);
+        }
+        words.push(format!("plan 9 {parts}0000000c{}", "00".repeat(12)));
+        words.push(format!("check-plan {parts}0000000c{}", "00".repeat(12)));
+    }
+    words
+}
+
+/// Requests without end: the words, large ones, then by hand and by chance.
 pub fn merges(seed: u64) -> impl Iterator<Item = String> {
     let asked = mixed(seed, by_hand(), 1, by_chance);
     let requests = asked.enumerate().map(|(turn, asked)| request(&asked, turn));
-    large().into_iter().chain(requests)
+    words().into_iter().chain(large()).chain(requests)
 }
 
 /// The request; the planner's room goes round with the turn.

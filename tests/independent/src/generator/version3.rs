@@ -72,7 +72,14 @@ const OTHER_LINES: [&str; 16] = [
     "XML:a",
 ];
 
-/// Requests without end: large forms, then by hand and by chance; each card both ways.
+/// Lines that try the words themselves; most are no requests.
+const WORDS: [&str; 16] = [
+    "v3-in", "v3-in 1", "v3-in -", "v3-in 1 -", "v3-in 1 - -", "v3-in 70000 -", "v3-in 70001 -", "v3-in x -",
+    "v3-in 1 6", "V3-in 1 -", "v3-out", "v3-out 1 -", "v3-out 00 -", "v3-out 70001 -", "v3-out 1 0g",
+    "v3-ou 1 -",
+];
+
+/// Requests without end: the words, large forms, then by hand and by chance; each card both ways.
 pub fn version3(seed: u64) -> impl Iterator<Item = String> {
     let cards = mixed(seed, by_hand(), 2, |dice| match dice.once_in(2) {
         true => (Way::In, card_of_version_3(dice)),
@@ -81,7 +88,7 @@ pub fn version3(seed: u64) -> impl Iterator<Item = String> {
     let requests = cards
         .enumerate()
         .flat_map(|(turn, (way, input))| [way.request(&input, turn), back(way, input, turn)]);
-    large().into_iter().chain(requests)
+    WORDS.map(str::to_string).into_iter().chain(large()).chain(requests)
 }
 
 /// The request of the other way: what was taken in is given out and the other way round; a refused card goes as it is, mostly with the version that is wanted.

@@ -8,7 +8,17 @@ use crate::hex::{octets_of, word_of};
 use crate::refusal::MOST_OCTETS;
 use crate::watching::parts;
 
-/// Lists without end: those by hand, then cuttings by chance.
+/// Requests before the first `begin`, and lines that try the words themselves; several are no requests.
+const WORDS: [&str; 40] = [
+    "end", "chunk 61", "buffer 0 0", "buffer 0 1", "buffer 1 0", "chunk -", "claim 16385", "end", "begin",
+    "begin -", "begin 20001", "begin 1 1", "begin 020000", "buffer 0 20000", "buffer 0 20001",
+    "buffer 20000 0", "buffer 20001 0", "begin 16384", "end 0", "end ", "buffer 0", "buffer 16383 1",
+    "buffer 16384 1", "buffer 16384 0", "buffer 0 16385", "buffer x 1", "chunk", "chunk 6", "chunk 61 61",
+    "chunk 4a", "buffer 0 2", "begin x", "begin 16384 ", "buffer 0 2", "claim", "claim x",
+    "claim 4294967296", "claim 1", "end", "Chunk 61",
+];
+
+/// Lists without end: the words, those by hand, then cuttings by chance.
 pub fn watches(seed: u64) -> impl Iterator<Item = Vec<String>> {
     let sources = source_inputs();
     let mut tagged = alternatives(seed).map(|line| last_octets(&line));
@@ -22,7 +32,7 @@ pub fn watches(seed: u64) -> impl Iterator<Item = Vec<String>> {
         };
         list_by_chance(&mut dice, &input)
     });
-    by_hand().into_iter().chain(by_chance)
+    [WORDS.map(str::to_string).to_vec()].into_iter().chain(by_hand()).chain(by_chance)
 }
 
 /// The octets of a request's last word.
