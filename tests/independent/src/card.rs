@@ -42,13 +42,7 @@ impl Card {
 
     /// Checks 5, 40 to 43, 9, 8, 7, 10 of the line and, at END, 11 and 12; then counts it in.
     pub fn take(&mut self, line: LogicalLine) -> Result<AcceptedLine, Refusal> {
-        if let Some(fault) = first_fault(&line.octets, |octet| !is_control(octet)) {
-            return refuse(5, line.place(fault));
-        }
-        if let Some(fault) = fault_of(&line.octets) {
-            return refuse(fault, line.start);
-        }
-        let parts = parse(&line.octets).expect("a line without a fault has its parts");
+        let parts = readable(&line)?;
         let row = row_in(self.edition, &parts.name);
         if self.is_out_of_order(row) {
             return refuse(9, line.start);
@@ -111,6 +105,17 @@ impl Card {
         }
         *self = Card::of(self.edition);
         Ok(())
+    }
+}
+
+/// Checks 5 and 40 to 43 of a line; then its parts.
+pub fn readable(line: &LogicalLine) -> Result<ContentLine, Refusal> {
+    if let Some(fault) = first_fault(&line.octets, |octet| !is_control(octet)) {
+        return refuse(5, line.place(fault));
+    }
+    match fault_of(&line.octets) {
+        Some(fault) => refuse(fault, line.start),
+        None => Ok(parse(&line.octets).expect("a line without a fault has its parts")),
     }
 }
 

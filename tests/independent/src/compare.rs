@@ -14,13 +14,20 @@ use crate::generator::folds::folds;
 use crate::generator::labels::labels;
 use crate::generator::line_faults::line_faults;
 use crate::generator::lists::lists;
+use crate::generator::merges::merges;
 use crate::generator::names::names;
 use crate::generator::octets::octets;
 use crate::generator::protocol::protocol;
 use crate::generator::readers;
 use crate::generator::reports::reports;
 use crate::generator::texts::texts;
+use crate::generator::version3::version3;
+use crate::generator::watches::watches;
 use crate::ledger_console::LedgerConsole;
+use crate::survey::Survey;
+
+/// Families of which the comparison says how often each refusal was reached.
+const SURVEYED: [&str; 3] = ["version3", "merges", "watches"];
 
 /// How much of each family is compared; a family of 0 is left out. Desk values are compared inside this program (`beside`).
 #[derive(Clone, Copy, Debug, PartialEq, Eq)]
@@ -39,6 +46,9 @@ pub struct Plan {
     pub lists: usize,
     pub desks: usize,
     pub reports: usize,
+    pub version3: usize,
+    pub merges: usize,
+    pub watches: usize,
     pub seed: u64,
 }
 
@@ -60,6 +70,9 @@ impl Default for Plan {
             lists: 2_000,
             desks: 3_000,
             reports: 3_000,
+            version3: 40_000,
+            merges: 40_000,
+            watches: 1_500,
             seed: 1,
         }
     }
@@ -91,6 +104,9 @@ pub fn steps(plan: Plan) -> impl Iterator<Item = Step> {
         .chain(labels(plan.seed).take(plan.labels).map(of("labels")))
         .chain(calls)
         .chain(mornings)
+        .chain(version3(plan.seed).take(plan.version3).map(of("version3")))
+        .chain(merges(plan.seed).take(plan.merges).map(of("merges")))
+        .chain(listed("watches", watches(plan.seed).take(plan.watches)))
 }
 
 /// The steps of lists whose requests belong together.
@@ -227,6 +243,7 @@ struct Own {
     list: Vec<String>,
     counts: Vec<(&'static str, usize)>,
     lists: BTreeMap<&'static str, usize>,
+    surveys: BTreeMap<&'static str, Survey>,
 }
 
 impl Own {
@@ -237,6 +254,9 @@ impl Own {
         let expected = side.answer(&step, self.console.answer(step.line.as_bytes()));
         if received != expected {
             return Err(self.report(&step, "expected", &expected, &received));
+        }
+        if SURVEYED.contains(&step.family) {
+            self.surveys.entry(step.family).or_default().count(&expected);
         }
         if step.family == "lists" {
             match self.ledger.answer(step.line.as_bytes()) {
@@ -275,7 +295,7 @@ impl Own {
         report + &format!("request:\n{}\n{who}:\n{expected}\nreceived:\n{received}", step.line)
     }
 
-    /// One line with the counts of each family.
+    /// One line with the counts of each family, and one for each family of which the refusals are counted.
     fn counts(&self) -> String {
         let mut line = "same answers:".to_string();
         for (family, count) in &self.counts {
@@ -284,6 +304,7 @@ impl Own {
                 None => format!(" {family} {count},"),
             };
         }
-        line.trim_end_matches(',').to_string()
+        let surveys = self.surveys.iter().map(|(family, survey)| format!("\n{family}: {survey}"));
+        line.trim_end_matches(',').to_string() + &surveys.collect::<String>()
     }
 }

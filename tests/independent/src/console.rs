@@ -14,6 +14,9 @@
 //   POOL octets, for the call hands a desk back; a `bad request` replaces neither.
 // - `pool FROM COUNT` past the end of the pool is `bad request`; COUNT 0 gives `-`.
 // - `show` has no refusal: `-` for an empty part, whatever the reason (READINGS A24).
+// - PARTS that come apart into another number of parts than four, or five for `check-plan`, are `bad request`.
+// - `buffer FROM COUNT` past the end of the buffer is `bad request`; COUNT 0 gives `-`. A buffer of `begin` has at most 20,000 octets.
+// - After a `claim` of another count than the true one that is not 46, the documents leave the answers free: here the state is as before.
 // - `read` answers no count of copy octets, so the console takes from the last record where the
 //   copy ends.
 
@@ -24,12 +27,15 @@ use crate::desk::Desk;
 use crate::folder::{fold, fold_by};
 use crate::hex::word_of;
 use crate::labels::{decode, encode};
+use crate::merging::{check, plan, Edits};
 use crate::properties::Edition;
 use crate::reader::{judge, judge_in, read_in, Counts, RECORD_NUMBERS};
 use crate::refusal::Refusal;
 use crate::report::Report;
 use crate::requests::{request_of, Request};
 use crate::text::{escape, unescape};
+use crate::version3::{give_out, take_in};
+use crate::watching::Watch;
 
 /// What each octet of room and of a new pool is at first.
 const ROOM_OCTET: u8 = 165;
@@ -40,25 +46,27 @@ const ROOM_NUMBER: u32 = 2_779_096_485;
 /// The answer to a line that is no request.
 pub const BAD_REQUEST: &str = "bad request";
 
-/// The desk, the pool and the report that the console keeps from request to request.
+/// The desk, the pool, the report, and the state and buffer of the reader of chunks, that the console keeps from request to request.
 #[derive(Clone, Debug, PartialEq, Eq)]
 pub struct Console {
     desk: Desk,
     pool: Vec<u8>,
     report: Report,
+    watch: Watch,
+    buffer: Vec<u8>,
 }
 
 impl Default for Console {
-    /// Before the first `desk` there is a refused desk and an empty pool.
+    /// Before the first `desk` there is a refused desk and an empty pool, before the first `begin` a fresh state and an empty buffer.
     fn default() -> Console {
-        Console { desk: Desk::new(0).1, pool: Vec::new(), report: Report::default() }
+        Console::at(Desk::new(0).1, Vec::new())
     }
 }
 
 impl Console {
     /// A console that begins with this desk value and this pool.
     pub fn at(desk: Desk, pool: Vec<u8>) -> Console {
-        Console { desk, pool, report: Report::default() }
+        Console { desk, pool, report: Report::default(), watch: Watch::default(), buffer: Vec::new() }
     }
 
     /// The answer to one line, given without its LF.
@@ -92,6 +100,8 @@ impl Console {
             Request::Decode { rule, room, octets } => {
                 room_answer(|label, out| decode(rule, label, out), room, &octets)
             }
+            Request::Version3In { room, octets } => room_answer(take_in, room, &octets),
+            Request::Version3Out { room, octets } => room_answer(give_out, room, &octets),
             Request::Offset { octets } => number_line(minutes(&octets)),
             Request::Desk { slots, pool } => self.new_desk(slots, pool),
             Request::Open { tram, tick } => {
@@ -127,6 +137,23 @@ impl Console {
                 number_line(answer)
             }
             Request::Print { room } => room_answer(|_, out| self.report.print(out), room, &[]),
+            Request::Begin { length } => {
+                (self.watch, self.buffer) = (Watch::default(), vec![ROOM_OCTET; length]);
+                "ok 0".to_string()
+            }
+            Request::Chunk { octets } => {
+                number_line(self.watch.chunk(&mut self.buffer, &octets).map(|()| 0))
+            }
+            Request::End => verdict_line(self.watch.end(&self.buffer)),
+            Request::Buffer { from, count } => {
+                self.buffer.get(from..from + count).map_or(BAD_REQUEST.to_string(), word_of)
+            }
+            Request::Claim { count } => {
+                self.watch.claim(count as usize);
+                format!("ok {count}")
+            }
+            Request::Plan { room, edits } => plan_answer(room, &edits),
+            Request::CheckPlan { edits, plan } => number_line(check(&edits, &plan)),
             Request::Count { count, number } => {
                 self.report.set(count, number);
                 format!("ok {number}")
@@ -184,6 +211,20 @@ fn room_answer(
     let touched = touched_word(past.iter().any(|&octet| octet != ROOM_OCTET));
     match answer {
         Ok(count) => format!("ok {count} {}{touched}", word_of(written)),
+        Err(refusal) => refusal_line(refusal) + touched,
+    }
+}
+
+/// The answer of the planner, with room for so many numbers.
+fn plan_answer(room: usize, edits: &Edits) -> String {
+    let mut out = vec![ROOM_NUMBER; room];
+    let answer = plan(edits, &mut out);
+    let (written, past) = out.split_at(answer.map_or(0, |pairs| 2 * pairs));
+    let touched = touched_word(past.iter().any(|&number| number != ROOM_NUMBER));
+    let numbers: Vec<String> = written.iter().map(u32::to_string).collect();
+    let numbers = if numbers.is_empty() { "-".to_string() } else { numbers.join(",") };
+    match answer {
+        Ok(pairs) => format!("ok {pairs} {numbers}{touched}"),
         Err(refusal) => refusal_line(refusal) + touched,
     }
 }

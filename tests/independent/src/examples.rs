@@ -79,6 +79,48 @@ fn finish(example: Option<&mut SourceExample>, shape: &str) {
     }
 }
 
+/// An example of source 004: the whole version 3 input, and the unfolded lines that it is taken in as, or the console's refusal.
+#[derive(Clone, Debug)]
+pub struct Version3Example {
+    pub section: String,
+    pub input: Vec<u8>,
+    pub answer: Result<Vec<String>, String>,
+}
+
+/// All examples of source 004, whose form its first lines tell.
+pub fn version3_examples() -> Vec<Version3Example> {
+    let mut examples = Vec::new();
+    for block in include_str!("../data/source-004.txt").split("\n@ ").skip(1) {
+        let (header, lines) = block.split_once('\n').expect("a header and lines");
+        let words: Vec<&str> = header.splitn(3, ' ').collect();
+        let [section, shape, answer] = words.as_slice() else { panic!("no header: {header}") };
+        let lines = || lines.lines().filter(|line| !line.is_empty() && !line.starts_with('#'));
+        let given: Vec<&str> = lines().filter(|line| !line.starts_with("> ")).collect();
+        let wanted: Vec<&str> = lines().filter_map(|line| line.strip_prefix("> ")).collect();
+        let input = version3_card(shape, ["VERSION:3.0", "N:A"], &given);
+        let taken = version3_card(shape, ["VERSION:4.0", "N:A;;;;"], &wanted);
+        let ended: Vec<u8> = input.iter().flat_map(|line| format!("{line}\r\n").into_bytes()).collect();
+        examples.push(Version3Example {
+            section: section.to_string(),
+            input: ended,
+            answer: if *answer == "ok" { Ok(taken) } else { Err(answer.to_string()) },
+        });
+    }
+    examples
+}
+
+/// The lines in the frame of their shape, with this VERSION and N.
+fn version3_card(shape: &str, [version, name]: [&str; 2], lines: &[&str]) -> Vec<String> {
+    let before: &[&str] = match shape {
+        "card" => &[],
+        "inside" => &["BEGIN:VCARD", version],
+        "line" => &["BEGIN:VCARD", version, "FN:A", name],
+        _ => panic!("unknown shape {shape}"),
+    };
+    let after: &[&str] = if shape == "card" { &[] } else { &["END:VCARD"] };
+    [before, lines, after].concat().into_iter().map(str::to_string).collect()
+}
+
 /// An example of document 01: a run of requests, each with the answer that the paper gives it.
 #[derive(Clone, Debug)]
 pub struct PaperExample {

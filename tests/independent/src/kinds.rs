@@ -82,7 +82,7 @@ fn is_client_pid_map(value: &[u8]) -> bool {
 }
 
 /// The parts of the value between bare separators; an octet after a backslash is never bare.
-fn split_bare(value: &[u8], separator: u8) -> Vec<&[u8]> {
+pub fn split_bare(value: &[u8], separator: u8) -> Vec<&[u8]> {
     let mut parts = Vec::new();
     let mut start = 0;
     let mut at = 0;

@@ -19,7 +19,7 @@ const USAGE: &str = "usage:
                                                compares another console with this one
   independent routines PROGRAM [COUNTS] [-- ARGUMENTS]
                                                compares the C routines, called by tests/routines.c, with this program
-COUNTS: --readers N --line-faults N --names N --dates N --octets N --editions N --alternatives N --folds N --texts N --labels N --lists N --desks N --reports N --protocol N --seed S; a family of 0 is left out";
+COUNTS: --readers N --line-faults N --names N --dates N --octets N --editions N --alternatives N --folds N --texts N --labels N --lists N --desks N --reports N --version3 N --merges N --watches N --protocol N --seed S; a family of 0 is left out";
 
 fn main() -> ExitCode {
     let arguments: Vec<String> = std::env::args().skip(1).collect();
@@ -69,7 +69,7 @@ fn generate(plan: Plan) -> Result<(), String> {
 }
 
 fn run_survey(plan: Plan) -> Result<(), String> {
-    for family in ["protocol", "readers", "line faults", "names", "dates", "octets", "editions", "alternatives", "folds", "texts", "labels", "lists", "reports"] {
+    for family in ["protocol", "readers", "line faults", "names", "dates", "octets", "editions", "alternatives", "folds", "texts", "labels", "lists", "reports", "version3", "merges", "watches"] {
         let lines = steps(plan).filter(|step| step.family == family).map(|step| step.line);
         println!("{family}: {}", survey(lines));
     }
@@ -113,6 +113,9 @@ fn plan_of(words: &[&str]) -> Result<Plan, String> {
             "--labels" => plan.labels = count as usize,
             "--desks" => plan.desks = count as usize,
             "--reports" => plan.reports = count as usize,
+            "--merges" => plan.merges = count as usize,
+            "--watches" => plan.watches = count as usize,
+            "--version3" => plan.version3 = count as usize,
             "--lists" => plan.lists = count as usize,
             "--protocol" => plan.protocol = count as usize,
             "--seed" => plan.seed = count,

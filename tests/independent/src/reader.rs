@@ -71,7 +71,7 @@ pub fn accepted_lines_in(edition: Edition, input: &[u8]) -> Result<Vec<AcceptedL
 }
 
 /// Checks 1, 2, 3, 4, each over the whole input as given.
-fn check_whole(input: &[u8]) -> Result<(), Refusal> {
+pub fn check_whole(input: &[u8]) -> Result<(), Refusal> {
     if input.len() > MOST_OCTETS {
         return refuse(1, MOST_OCTETS);
     }

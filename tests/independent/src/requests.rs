@@ -3,6 +3,7 @@
 use crate::folder::{Style, STYLES};
 use crate::hex::{octets_of, word_of};
 use crate::labels::{Rule, RULES};
+use crate::merging::{Edits, Source};
 use crate::properties::{Edition, EDITIONS};
 use crate::report::{count_named, Count};
 
@@ -11,6 +12,9 @@ pub const MOST_ROOM: usize = 70_000;
 
 /// The most octets of pool that can be asked for.
 pub const MOST_POOL: usize = 655_360;
+
+/// The most octets of a buffer for chunks that can be asked for.
+pub const MOST_BUFFER: usize = 20_000;
 
 /// The most octets of a request line, its LF and a CR before it not counted.
 pub const MOST_LINE: usize = 140_000;
@@ -29,6 +33,8 @@ pub enum Request {
     Encode { rule: Rule, room: usize, octets: Vec<u8> },
     Decode { rule: Rule, room: usize, octets: Vec<u8> },
     Offset { octets: Vec<u8> },
+    Version3In { room: usize, octets: Vec<u8> },
+    Version3Out { room: usize, octets: Vec<u8> },
     Desk { slots: u64, pool: usize },
     Open { tram: u32, tick: u32 },
     Add { ticket: u32, tick: u32, chunk: Vec<u8> },
@@ -42,6 +48,13 @@ pub enum Request {
     Take { octets: Vec<u8> },
     Print { room: usize },
     Count { count: Count, number: u32 },
+    Plan { room: usize, edits: Edits },
+    CheckPlan { edits: Edits, plan: Vec<u32> },
+    Begin { length: usize },
+    Chunk { octets: Vec<u8> },
+    End,
+    Buffer { from: usize, count: usize },
+    Claim { count: u32 },
 }
 
 /// The request of a line without its LF, or nothing for a bad request.
@@ -51,7 +64,11 @@ pub fn request_of(line: &[u8]) -> Option<Request> {
         return None;
     }
     let words: Vec<&[u8]> = line.split(|&octet| octet == b' ').collect();
-    entry_request(&words).or_else(|| desk_request(&words)).or_else(|| report_request(&words))
+    entry_request(&words)
+        .or_else(|| desk_request(&words))
+        .or_else(|| report_request(&words))
+        .or_else(|| merge_request(&words))
+        .or_else(|| watch_request(&words))
 }
 
 /// The requests to reader, folder, text and labels.
@@ -94,6 +111,8 @@ fn entry_request(words: &[&[u8]]) -> Option<Request> {
                 b"fold" => Some(Request::Fold { room, octets }),
                 b"escape" => Some(Request::Escape { room, octets }),
                 b"unescape" => Some(Request::Unescape { room, octets }),
+                b"v3-in" => Some(Request::Version3In { room, octets }),
+                b"v3-out" => Some(Request::Version3Out { room, octets }),
                 _ => None,
             }
         }
@@ -138,6 +157,68 @@ fn report_request(words: &[&[u8]]) -> Option<Request> {
     }
 }
 
+/// The requests to planner and checker.
+fn merge_request(words: &[&[u8]]) -> Option<Request> {
+    match words {
+        [b"plan", room, octets] => {
+            let room = size_of(room, MOST_ROOM)?;
+            let parts = parts_of(&octets_of(octets)?)?;
+            let [first, second, rows @ ..] = parts.as_slice() else { return None };
+            Some(Request::Plan { room, edits: edits_of(first, second, rows)? })
+        }
+        [b"check-plan", octets] => {
+            let parts = parts_of(&octets_of(octets)?)?;
+            let [first, second, rows @ .., plan] = parts.as_slice() else { return None };
+            Some(Request::CheckPlan { edits: edits_of(first, second, rows)?, plan: numbers_of(plan)? })
+        }
+        _ => None,
+    }
+}
+
+/// The requests to the reader of chunks, the one that looks at its buffer and the one that sets a count of its state.
+fn watch_request(words: &[&[u8]]) -> Option<Request> {
+    match words {
+        [b"begin", length] => Some(Request::Begin { length: size_of(length, MOST_BUFFER)? }),
+        [b"chunk", octets] => Some(Request::Chunk { octets: octets_of(octets)? }),
+        [b"end"] => Some(Request::End),
+        [b"buffer", from, count] => {
+            Some(Request::Buffer { from: size_of(from, MOST_BUFFER)?, count: size_of(count, MOST_BUFFER)? })
+        }
+        [b"claim", count] => Some(Request::Claim { count: number_of(count, u64::from(u32::MAX))? as u32 }),
+        _ => None,
+    }
+}
+
+/// The parts of PARTS, each after its length as four octets, the highest first.
+fn parts_of(mut octets: &[u8]) -> Option<Vec<Vec<u8>>> {
+    let mut parts = Vec::new();
+    while !octets.is_empty() {
+        let length = numbers_of(octets.get(..4)?)?[0] as usize;
+        parts.push(octets.get(4..4 + length)?.to_vec());
+        octets = &octets[4 + length..];
+    }
+    Some(parts)
+}
+
+/// The numbers of four octets each, the highest first.
+fn numbers_of(octets: &[u8]) -> Option<Vec<u32>> {
+    let number = |part: &[u8]| u32::from_be_bytes(part.try_into().expect("four octets"));
+    (octets.len() % 4 == 0).then(|| octets.chunks(4).map(number).collect())
+}
+
+/// Two cards and their rows, of which there are two; an entry has three numbers.
+fn edits_of(first: &[u8], second: &[u8], rows: &[Vec<u8>]) -> Option<Edits> {
+    let [one, other] = rows else { return None };
+    Some(Edits { cards: [first.to_vec(), second.to_vec()], rows: [sources_of(one)?, sources_of(other)?] })
+}
+
+/// The entries of a row.
+fn sources_of(octets: &[u8]) -> Option<Vec<Source>> {
+    let numbers = numbers_of(octets)?;
+    let source = |entry: &[u32]| Source { number: entry[0], place: entry[1], length: entry[2] };
+    (numbers.len() % 3 == 0).then(|| numbers.chunks(3).map(source).collect())
+}
+
 /// A decimal number up to a limit; leading zeros are allowed, a sign isn't.
 fn number_of(word: &[u8], most: u64) -> Option<u64> {
     if word.is_empty() {
@@ -176,7 +257,7 @@ pub fn read_line(copy_room: usize, record_room: usize, octets: &[u8]) -> String 
     format!("read {copy_room} {record_room} {}", word_of(octets))
 }
 
-/// The line `WORD ROOM OCTETS`, for fold, escape and unescape.
+/// The line `WORD ROOM OCTETS`, for fold, escape, unescape, v3-in and v3-out.
 pub fn room_line(word: &str, room: usize, octets: &[u8]) -> String {
     format!("{word} {room} {}", word_of(octets))
 }
@@ -228,4 +309,26 @@ pub fn at_tick_0(line: &str) -> String {
         ["add", ticket, chunk] => format!("add {ticket} 0 {chunk}"),
         _ => line.to_string(),
     }
+}
+
+/// The line `plan ROOM PARTS`.
+pub fn plan_line(room: usize, edits: &Edits) -> String {
+    format!("plan {room} {}", word_of(&parts_octets(edits, None)))
+}
+
+/// The line `check-plan PARTS`.
+pub fn check_plan_line(edits: &Edits, plan: &[u32]) -> String {
+    format!("check-plan {}", word_of(&parts_octets(edits, Some(plan))))
+}
+
+/// The octets of PARTS: both cards, both rows and the plan, where there is one.
+fn parts_octets(edits: &Edits, plan: Option<&[u32]>) -> Vec<u8> {
+    let octets = |numbers: &[u32]| numbers.iter().flat_map(|number| number.to_be_bytes()).collect::<Vec<u8>>();
+    let row = |row: &[Source]| {
+        octets(&row.iter().flat_map(|source| [source.number, source.place, source.length]).collect::<Vec<u32>>())
+    };
+    let mut parts = edits.cards.to_vec();
+    parts.extend(edits.rows.iter().map(|sources| row(sources)));
+    parts.extend(plan.map(octets));
+    parts.iter().flat_map(|part| [&octets(&[part.len() as u32]), part.as_slice()].concat()).collect()
 }

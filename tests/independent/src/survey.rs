@@ -58,7 +58,9 @@ impl std::fmt::Display for Survey {
         for (number, count) in &self.refusals {
             write!(formatter, " {number}:{count}")?;
         }
-        write!(formatter, "; kinds")?;
+        if !self.kinds.is_empty() {
+            write!(formatter, "; kinds")?;
+        }
         for (kind, count) in &self.kinds {
             write!(formatter, " {kind}:{count}")?;
         }

@@ -40,7 +40,7 @@ pub fn escape(text: &[u8], out: &mut [u8]) -> Result<usize, Refusal> {
 }
 
 /// The text with a backslash before each backslash, comma and semicolon, and 0A as `\n`.
-fn escaped_form(text: &[u8]) -> Vec<u8> {
+pub fn escaped_form(text: &[u8]) -> Vec<u8> {
     let mut escaped = Vec::new();
     for &octet in text {
         match octet {
@@ -67,7 +67,7 @@ pub fn unescape(text: &[u8], out: &mut [u8]) -> Result<usize, Refusal> {
 }
 
 /// The text with each escape, all of them good, replaced by what it stands for.
-fn unescaped_form(text: &[u8]) -> Vec<u8> {
+pub fn unescaped_form(text: &[u8]) -> Vec<u8> {
     let mut unescaped = Vec::new();
     let mut octets = text.iter().copied();
     while let Some(octet) = octets.next() {

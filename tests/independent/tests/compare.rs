@@ -20,6 +20,9 @@ const NOTHING: Plan = Plan {
     lists: 0,
     desks: 0,
     reports: 0,
+    version3: 0,
+    merges: 0,
+    watches: 0,
     seed: 1,
 };
 
@@ -40,6 +43,9 @@ fn small() -> Plan {
         lists: 60,
         desks: 0,
         reports: 40,
+        version3: 300,
+        merges: 300,
+        watches: 30,
         seed: 5,
     }
 }

@@ -16,18 +16,25 @@ use independent::generator::{
     line_faults::line_faults,
     lists,
     lists::lists,
+    merges,
+    merges::merges,
     names::{names, names_by_hand, LONGEST},
     octets::octets,
     readers, reports,
     reports::reports,
     texts,
     texts::texts,
+    version3,
+    version3::version3,
+    watches,
+    watches::watches,
 };
 use independent::console::Console;
 use independent::examples::m_with;
 use independent::hex::{octets_of, word_of};
 use independent::properties::row_of;
 use independent::report::{moved, which_of};
+use independent::requests::{check_plan_line, plan_line};
 use independent::survey::{survey, Survey};
 
 /// How often a refusal number came.
@@ -252,6 +259,64 @@ fn reports_reach_15_and_80_and_every_count_on_both_sides_of_its_limit() {
 }
 
 #[test]
+fn version_3_reaches_every_refusal_both_ways() {
+    let reader = (1..=5).chain([8, 9, 15, 16]).chain(40..=43);
+    let mut numbers_in: Vec<u32> = reader.clone().chain([50]).collect();
+    let mut numbers_out: Vec<u32> = reader.chain([7, 10, 11, 51]).collect();
+    numbers_in.sort();
+    numbers_out.sort();
+    for (start, numbers, number) in [("v3-in ", numbers_in, 50), ("v3-out ", numbers_out, 51)] {
+        let survey = survey(version3(1).take(40_000).filter(|line| line.starts_with(start)));
+        assert_eq!(survey.refusals.keys().copied().collect::<Vec<u32>>(), numbers, "{start}");
+        assert!(times(&survey, number) >= 1_000 && times(&survey, 16) >= 50, "{start}{survey}");
+        assert!(survey.accepted >= 5_000 && survey.bad_requests <= 12, "{start}{survey}");
+    }
+    let asked = last_words(version3(1).take(Plan::default().version3));
+    assert!(version3::by_hand().iter().all(|(_, input)| asked.contains(&word_of(input))));
+}
+
+#[test]
+fn merges_reach_every_refusal_of_planner_and_checker() {
+    for (start, last) in [("plan ", 14), ("check-plan ", 73)] {
+        let survey = survey(merges(1).take(40_000).filter(|line| line.starts_with(start)));
+        let reached: Vec<u32> = survey.refusals.keys().copied().collect();
+        assert!([1, 2, 3, 4, 7, 9, 11, last, 70, 71, 72].iter().all(|number| reached.contains(number)), "{start}{survey}");
+        assert!(reached.iter().all(|number| *number < 44 || (70..=73).contains(number)), "{start}{survey}");
+        for number in [last, 70, 71, 72] {
+            assert!(times(&survey, number) >= 500, "{start}{number}: {survey}");
+        }
+        assert!(survey.accepted >= 2_000 && survey.bad_requests <= 100, "{start}{survey}");
+    }
+    let asked = last_words(merges(1).take(Plan::default().merges));
+    let of = |(edits, plan): &merges::Asked| match plan {
+        Some(numbers) => check_plan_line(edits, numbers),
+        None => plan_line(0, edits),
+    };
+    let words = last_words(merges::by_hand().iter().map(of));
+    assert!(words.is_subset(&asked));
+}
+
+#[test]
+fn watches_reach_every_refusal_of_chunk_and_end() {
+    let lists: Vec<Vec<String>> = watches(1).take(Plan::default().watches).collect();
+    assert!(watches::by_hand().len() < lists.len());
+    let survey = survey(lists.iter().flatten().cloned());
+    let reached: Vec<u32> = survey.refusals.keys().copied().collect();
+    assert_eq!(reached, (1..=5).chain(7..=12).chain(40..=43).chain([45, 46]).collect::<Vec<u32>>(), "{survey}");
+    assert!(times(&survey, 45) >= 50 && times(&survey, 46) >= 300 && survey.bad_requests <= 24, "{survey}");
+    for list in &lists[1..] {
+        assert!(list[0].starts_with("begin "));
+        assert!(list[1..].iter().all(|line| !line.starts_with("begin ")));
+        let of_full_length = list[0] == "begin 16384";
+        let chunks = list.iter().filter(|line| line.starts_with("chunk ")).count();
+        let ends = list.iter().filter(|line| *line == "end").count();
+        let buffers = list.iter().filter(|line| *line == "buffer 0 16384").count();
+        assert!(ends >= chunks || list.len() == 5, "{list:?}");
+        assert!(!of_full_length || buffers >= chunks, "{list:?}");
+    }
+}
+
+#[test]
 fn a_usual_run_takes_over_20_000_judgements_after_those_by_hand() {
     assert!(reports::by_hand().len() < Plan::default().reports);
     let of_the_gate = reports(1).take(9_000).flatten().filter(|line| line.starts_with("take ")).count();
@@ -266,7 +331,7 @@ fn together_they_reach_every_refusal_of_the_paper() {
     let desk_values = survey_desks(plan.seed, plan.desks).expect("desk and ledger agree");
     let mut reached = requests.refusals;
     reached.extend(desk_values.refusals);
-    let all = (1..=5).chain(7..=16).chain(20..=26).chain([30, 31]).chain(40..=44).chain([80]);
+    let all = (1..=5).chain(7..=16).chain(20..=26).chain([30, 31]).chain(40..=46).chain([50, 51]).chain(70..=73).chain([80]);
     assert_eq!(reached.into_keys().collect::<Vec<u32>>(), all.collect::<Vec<u32>>());
 }
 
@@ -303,7 +368,7 @@ fn every_list_begins_with_its_desk() {
 #[test]
 fn the_same_seed_gives_the_same_lines_and_another_gives_others() {
     let plan =
-        Plan { readers: 60_000, folds: 4_000, texts: 70_000, labels: 30_000, lists: 60, ..Plan::default() };
+        Plan { readers: 60_000, folds: 4_000, texts: 70_000, labels: 30_000, lists: 60, version3: 8_000, merges: 8_000, watches: 200, ..Plan::default() };
     assert!(steps(plan).eq(steps(plan)));
     assert!(!steps(plan).eq(steps(Plan { seed: 2, ..plan })));
 }
@@ -331,6 +396,9 @@ fn a_family_of_0_is_left_out() {
         lists: 0,
         desks: 0,
         reports: 0,
+        version3: 0,
+        merges: 0,
+        watches: 0,
         seed: 1,
     };
     let families: Vec<&str> = steps(plan).map(|step| step.family).collect();

@@ -3,9 +3,12 @@
 use std::collections::BTreeSet;
 use std::path::{Path, PathBuf};
 
-use independent::console::verdict_line;
+use independent::console::{verdict_line, Console};
 use independent::folder::fold;
+use independent::hex::word_of;
+use independent::merging::{row_of_card, Edits};
 use independent::reader::judge;
+use independent::requests::{plan_line, room_line};
 
 fn samples() -> PathBuf {
     Path::new(env!("CARGO_MANIFEST_DIR")).join("../../samples")
@@ -13,7 +16,12 @@ fn samples() -> PathBuf {
 
 /// The names in EXPECTED, each with its verdict as the console answers it.
 fn expected() -> Vec<(String, String)> {
-    let table = std::fs::read_to_string(samples().join("EXPECTED")).expect("a table");
+    expected_in("")
+}
+
+/// The same of a folder.
+fn expected_in(folder: &str) -> Vec<(String, String)> {
+    let table = std::fs::read_to_string(samples().join(folder).join("EXPECTED")).expect("a table");
     let rows = table.lines().filter(|line| !line.starts_with('#'));
     rows.map(|row| row.split_once(' ').expect("a name and a verdict"))
         .map(|(name, verdict)| (name.to_string(), verdict.to_string()))
@@ -78,5 +86,35 @@ fn ordinary_books_have_1_to_15_kilobytes_several_cards_groups_folds_and_accents(
 fn ordinary_books_can_be_folded() {
     for (name, book) in ordinary() {
         assert!(fold(&book, &mut [0; 16_384]).is_ok(), "{name}");
+    }
+}
+
+#[test]
+fn each_version_3_card_is_taken_in_as_its_table_says() {
+    let mut taken = [0, 0];
+    for (name, answer) in expected_in("version3") {
+        let line = room_line("v3-in", 16_384, &octets_of(&format!("version3/{name}")));
+        let wanted = match answer.as_str() {
+            "ok" => {
+                let card = octets_of(&format!("version3/taken/{name}"));
+                format!("ok {} {}", card.len(), word_of(&card))
+            }
+            refusal => refusal.to_string(),
+        };
+        taken[usize::from(answer == "ok")] += 1;
+        assert_eq!(Console::default().answer(line.as_bytes()), wanted, "{name}");
+    }
+    assert_eq!(taken, [2, 2]);
+    assert_eq!((books_in("version3/").len(), books_in("version3/taken/").len()), (4, 2));
+}
+
+#[test]
+fn each_two_edits_have_the_plan_that_their_table_says() {
+    for (first, rest) in expected_in("merge") {
+        let (second, answer) = rest.split_once(' ').expect("a name and an answer");
+        let cards = [first.as_str(), second].map(|name| octets_of(&format!("merge/{name}")));
+        let rows = cards.each_ref().map(|card| row_of_card(card));
+        let line = plan_line(100, &Edits { cards, rows });
+        assert_eq!(Console::default().answer(line.as_bytes()), answer, "{first} {second}");
     }
 }

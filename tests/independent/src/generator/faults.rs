@@ -4,7 +4,7 @@ use crate::dice::Dice;
 use crate::generator::grammar::{book, folded, property_line};
 
 /// Lines that break the line rule.
-const BROKEN_LINES: [&str; 14] = [
+pub const BROKEN_LINES: [&str; 14] = [
     "", "NOTE", ":a", "a.:b", ".NOTE:a", "a.b.NOTE:c", "NO TE:a", "NOTE;:a", "NOTE;x:a", "NOTE;=x:a",
     "NOTE;x=\"a:b", "NOTE;x=\"a\"b:c", "NOTE;x=a\"b:c", " NOTE:a",
 ];
@@ -19,7 +19,7 @@ const UNFIT_LINES: [&str; 27] = [
 ];
 
 /// Lines whose octets check 5 refuses.
-const BAD_OCTETS: [&[u8]; 8] = [
+pub const BAD_OCTETS: [&[u8]; 8] = [
     b"NOTE:\x00", b"NOTE:a\x7Fb", b"NO\x1FTE:a", b"NOTE:\x80", b"NOTE:\xC3", b"NOTE:\xED\xA0\x80",
     b"NOTE:\xC0\x80x", b"NOTE;x=\xF4\x90\x80\x80:a",
 ];

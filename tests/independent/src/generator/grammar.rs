@@ -71,7 +71,7 @@ pub fn card(dice: &mut Dice) -> Vec<Vec<u8>> {
 }
 
 /// Puts the line before, between or after the others.
-fn insert_anywhere(dice: &mut Dice, lines: &mut Vec<Vec<u8>>, line: Vec<u8>) {
+pub fn insert_anywhere(dice: &mut Dice, lines: &mut Vec<Vec<u8>>, line: Vec<u8>) {
     lines.insert(dice.below(lines.len() + 1), line);
 }
 
@@ -106,7 +106,7 @@ pub fn property_line(dice: &mut Dice, name: &str) -> Vec<u8> {
 }
 
 /// The name, mostly as given, else with letters of either case.
-fn in_some_case(dice: &mut Dice, name: &str) -> Vec<u8> {
+pub fn in_some_case(dice: &mut Dice, name: &str) -> Vec<u8> {
     let mut octets = name.as_bytes().to_vec();
     if dice.once_in(3) {
         for octet in &mut octets {
@@ -119,13 +119,13 @@ fn in_some_case(dice: &mut Dice, name: &str) -> Vec<u8> {
 }
 
 /// One or more letters, digits or hyphens.
-fn token(dice: &mut Dice) -> Vec<u8> {
+pub fn token(dice: &mut Dice) -> Vec<u8> {
     let length = dice.between(1, 6);
     (0..length).map(|_| *dice.pick(b"abyzABYZ019-")).collect()
 }
 
 /// A parameter: VALUE, a known name or a made-up one, with one to three values.
-fn parameter(dice: &mut Dice) -> Vec<u8> {
+pub fn parameter(dice: &mut Dice) -> Vec<u8> {
     if dice.once_in(3) {
         return dice.pick(&VALUES).as_bytes().to_vec();
     }
@@ -236,7 +236,7 @@ fn joined(dice: &mut Dice, separator: u8, most: usize, part: fn(&mut Dice) -> Ve
 }
 
 /// So many components, each a list; most of them short or empty.
-fn components(dice: &mut Dice, count: usize) -> Vec<u8> {
+pub fn components(dice: &mut Dice, count: usize) -> Vec<u8> {
     let mut parts = Vec::new();
     for _ in 0..count {
         parts.push(match dice.once_in(3) {

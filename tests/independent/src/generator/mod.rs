@@ -11,6 +11,7 @@ pub mod hand;
 pub mod labels;
 pub mod line_faults;
 pub mod lists;
+pub mod merges;
 pub mod mutation;
 pub mod names;
 pub mod octets;
@@ -18,6 +19,8 @@ pub mod protocol;
 pub mod reports;
 pub mod rooms;
 pub mod texts;
+pub mod version3;
+pub mod watches;
 
 use crate::dice::Dice;
 use crate::examples::{reader_examples, source_examples, PaperExample};

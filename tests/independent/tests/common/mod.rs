@@ -6,6 +6,7 @@ use independent::folder::{fold, fold_as_read};
 use independent::labels::{decode, encode, Rule};
 use independent::reader::{judge, read};
 use independent::text::{escape, unescape};
+use independent::version3::{give_out, take_in};
 
 /// An answer: what was accepted, or refusal number and place.
 pub type Answer<T> = Result<T, (u32, usize)>;
@@ -88,4 +89,14 @@ pub fn encoded(rule: Rule, value: &[u8], room: usize) -> Answer<Vec<u8>> {
 
 pub fn decoded(rule: Rule, label: &[u8], room: usize) -> Answer<Vec<u8>> {
     written(|label, out| decode(rule, label, out), label, room)
+}
+
+/// A version 3 card taken in.
+pub fn taken(input: &[u8], room: usize) -> Answer<Vec<u8>> {
+    written(take_in, input, room)
+}
+
+/// A version 4 card given out.
+pub fn given(input: &[u8], room: usize) -> Answer<Vec<u8>> {
+    written(give_out, input, room)
 }
