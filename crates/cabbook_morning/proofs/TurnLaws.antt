@@ -17,8 +17,7 @@ use Rattle.reader.specs.declared.Verdict.the-variants.{Refused as NotAdded}
 use Rattle.program_files.specs.Inputs.{fetched}
 use Rattle.program_files.specs.declared.Input.{Input}
 use Rattle.program_files.specs.declared.Input.the-variants.{Octets, Unread}
-use Rattle.cabbook_morning.specs.Depot.{asTicket, atDesk, counted, waits, startedAt}
-use Rattle.cabbook_morning.specs.Options.{SetBy}
+use Rattle.cabbook_morning.specs.Depot.{asTicket, atDesk, counted, from, startedAt}
 use Rattle.cabbook_morning.specs.Turns.{Opened, Finished, Added, Taken, FedWith, Fed, unread, judged, added}
 use Rattle.cabbook_morning.specs.declared.depot.Morning.{Morning}
 
@@ -38,7 +37,7 @@ open-done k i m t s e n a fd r h = subst (λ (x : Turned). Opened k i m x (x .an
 
 -- it refused one for want of a slot
 pub open-waits : (k i : ℕ) (m : Morning) (t s : Turned) → t ≡ s → (n at : ℕ) → t .answer ≡ Refused n at → n ≡ 20 → (r : Morning)
-    → r ≡ waits i (atDesk (t .desk) m) → Opened k i m s (s .answer) r
+    → r ≡ from i (atDesk (t .desk) m) → Opened k i m s (s .answer) r
 open-waits k i m t s e n at a z r h = subst (λ (x : Turned). Opened k i m x (x .answer) r) e (rw (a, eq-eqb n 20 z) h)
 
 -- it refused one otherwise
@@ -63,16 +62,6 @@ part-length room n h =
 zero-or-more : (n : ℕ) → (n ≡ 0) ⊎ (0 < n)
 zero-or-more zero = inl refl
 zero-or-more (suc n) = inr (omega arith)
-
--- ---- options
-
-pub set-small : (usual from value next : ℕ) → usual ≤ 16384 → SetBy usual from value next → value ≤ 16384
-set-small usual from value next h (inl e) = omega (arith, e .0)
-set-small usual from value next h (inr e) = e .0
-
-pub set-next : (usual from value next : ℕ) → SetBy usual from value next → next ≤ from + 2
-set-next usual from value next (inl e) = omega (arith, e .1)
-set-next usual from value next (inr e) = omega (arith, e .1)
 
 -- what was read is fed
 pub fed : (g : Input) (k : ℕ) (room : List ℕ) (m : Morning) (p : List ℕ) (r : Morning) (q : List ℕ) → Taken g (m .chunk) room → FedWith k g room m p r q → Fed k m p r q

@@ -27,13 +27,14 @@ abbrev pub noUpload : Upload
 noUpload = record { file = 0; fd = pos 0; ticket = 0 }
 
 -- before the first upload: a new desk, and nothing counted
-abbrev pub begun : ℕ → ℕ → ℕ → ℕ → ℕ → ℕ → Morning
-begun slots step next count chunk width =
+abbrev pub begun : ℕ → ℕ → ℕ → ℕ → ℕ → ℕ → ℕ → Morning
+begun slots step next count dashes chunk width =
     record {
       desk = newStep slots .desk;
       uploads = replicate limit.slots noUpload;
       next = next;
       count = count;
+      dashes = dashes;
       running = 0;
       chunk = chunk;
       width = width;
@@ -54,6 +55,7 @@ releasedAt k d m =
       uploads = set (m .uploads) k noUpload;
       next = m .next;
       count = m .count;
+      dashes = m .dashes;
       running = m .running - 1;
       chunk = m .chunk;
       width = m .width;
@@ -78,6 +80,7 @@ atDesk d m =
       uploads = m .uploads;
       next = m .next;
       count = m .count;
+      dashes = m .dashes;
       running = m .running;
       chunk = m .chunk;
       width = m .width;
@@ -115,6 +118,7 @@ differed same m =
       uploads = m .uploads;
       next = m .next;
       count = m .count;
+      dashes = m .dashes;
       running = m .running;
       chunk = m .chunk;
       width = m .width;
@@ -135,6 +139,7 @@ counted v same m =
       uploads = m .uploads;
       next = m .next;
       count = m .count;
+      dashes = m .dashes;
       running = m .running;
       chunk = m .chunk;
       width = m .width;
@@ -155,32 +160,13 @@ unreadCounted m =
       uploads = m .uploads;
       next = m .next;
       count = m .count;
+      dashes = m .dashes;
       running = m .running;
       chunk = m .chunk;
       width = m .width;
       accepted = m .accepted;
       refused = m .refused;
       unread = oneMore (m .unread);
-      differing = m .differing;
-      reclaimed = m .reclaimed;
-      tick = m .tick;
-      step = m .step;
-    }
-
--- with the next file
-abbrev pub nextFile : Morning → Morning
-nextFile m =
-    record {
-      desk = m .desk;
-      uploads = m .uploads;
-      next = m .next + 1;
-      count = m .count;
-      running = m .running;
-      chunk = m .chunk;
-      width = m .width;
-      accepted = m .accepted;
-      refused = m .refused;
-      unread = m .unread;
       differing = m .differing;
       reclaimed = m .reclaimed;
       tick = m .tick;
@@ -195,6 +181,7 @@ startedAt k u m =
       uploads = set (m .uploads) k u;
       next = m .next;
       count = m .count;
+      dashes = m .dashes;
       running = oneMore (m .running);
       chunk = m .chunk;
       width = m .width;
@@ -207,14 +194,15 @@ startedAt k u m =
       step = m .step;
     }
 
--- with a file that is to be tried again
-abbrev pub waits : ℕ → Morning → Morning
-waits i m =
+-- with the argument from which on the next file is looked for
+abbrev pub from : ℕ → Morning → Morning
+from i m =
     record {
       desk = m .desk;
       uploads = m .uploads;
       next = i;
       count = m .count;
+      dashes = m .dashes;
       running = m .running;
       chunk = m .chunk;
       width = m .width;
@@ -235,6 +223,7 @@ nextRound m =
       uploads = m .uploads;
       next = m .next;
       count = m .count;
+      dashes = m .dashes;
       running = m .running;
       chunk = m .chunk;
       width = m .width;

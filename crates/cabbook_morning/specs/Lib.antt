@@ -1,5 +1,4 @@
 -- The definitions that the contracts of `cabbook_morning` cite. Assumes nothing.
-pub mod Ends
 pub mod Depot
 pub mod Options
 pub mod Turns

@@ -1,5 +1,5 @@
 -- A turn of an upload: what is added to it, and how it ends. A morning m with its pool p becomes r with q. Assumes nothing.
-use Prim.Native.Nat.{ℕ, _<_, _≤_}
+use Prim.Native.Nat.{ℕ, _+_, _<_, _≤_}
 use mathlib.Core.Path.{_≡_}
 use mathlib.Core.Bool.{Bool, true}
 use lib.Dec.{eqb}
@@ -16,7 +16,7 @@ use Rattle.desk.specs.declared.Answer.{Answer}
 use Rattle.desk.specs.declared.Answer.the-variants.{Done, Refused}
 use Rattle.program_files.specs.declared.Input.{Input}
 use Rattle.program_files.specs.declared.Input.the-variants.{Octets, Unread as NotRead}
-use Rattle.cabbook_morning.specs.Depot.{asTicket, noUpload, ticketAt, atDesk, counted, unreadCounted, releasedAt, nextFile, waits, startedAt}
+use Rattle.cabbook_morning.specs.Depot.{asTicket, noUpload, ticketAt, atDesk, counted, unreadCounted, releasedAt, from, startedAt}
 use Rattle.cabbook_morning.specs.declared.depot.Morning.{Morning}
 
 -- upload k is released
@@ -60,13 +60,14 @@ pub data Fed (k : ℕ) (m : Morning) (p : List ℕ) (r : Morning) (q : List ℕ)
 abbrev pub Opened : ℕ → ℕ → Morning → Turned → Answer → Morning → Type 0
 Opened k i m s (Done t) r = (fd : ℤ) × (r ≡ startedAt k (record { file = i; fd = fd; ticket = asTicket t }) (atDesk (s .desk) m))
 Opened k i m s (Refused number place) r =
-    r ≡ pick (eqb number refusal.noFreeSlot) (waits i (atDesk (s .desk) m)) (counted (Unread number place) true (atDesk (s .desk) m))
+    r ≡ pick (eqb number refusal.noFreeSlot) (from i (atDesk (s .desk) m)) (counted (Unread number place) true (atDesk (s .desk) m))
 
--- upload k gets the next file, if there is one: that can't be opened, or an upload is opened for it with identifier 0 at the tick of the round
+-- upload k gets the next file, if there is one, the one that argument i names: that can't be opened, or an upload is opened for it with identifier 0 at the tick
+-- of the round
 pub data Begun (k : ℕ) (m : Morning) (p : List ℕ) (r : Morning) (q : List ℕ) : Type 0 where
-  no-file : m .count ≤ m .next → r ≡ m → q ≡ p → Begun k m p r q
-  no-descriptor : m .next < m .count → r ≡ unreadCounted (nextFile m) → q ≡ p → Begun k m p r q
-  opened : m .next < m .count → Opened k (m .next) (nextFile m) (openStep (m .desk) p 0 (m .tick)) (openStep (m .desk) p 0 (m .tick) .answer) r
+  no-file : (i : ℕ) → m .count ≤ i → r ≡ from i m → q ≡ p → Begun k m p r q
+  no-descriptor : (i : ℕ) → m .next ≤ i → i < m .count → r ≡ unreadCounted (from (i + 1) m) → q ≡ p → Begun k m p r q
+  opened : (i : ℕ) → m .next ≤ i → i < m .count → Opened k i (from (i + 1) m) (openStep (m .desk) p 0 (m .tick)) (openStep (m .desk) p 0 (m .tick) .answer) r
       → q ≡ openStep (m .desk) p 0 (m .tick) .pool → Begun k m p r q
 
 -- a turn feeds an upload that runs, and begins one where none runs

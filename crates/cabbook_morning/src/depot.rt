@@ -17,12 +17,13 @@ pub struct Upload {
     pub ticket: u32,
 }
 
-// The desk and the uploads at it, the next argument and how many there are, how many uploads run, the chunks' size, the width of the column of names, what was counted, and the tick of this round with the ticks of a round.
+// The desk and the uploads at it, the argument from which on the next file is looked for, how many arguments there are, the one that ends the options, how many uploads run, the chunks' size, the width of the column of names, what was counted, and the tick of this round with the ticks of a round.
 pub struct Morning {
     pub desk: Desk,
     pub uploads: [Upload; limit::SLOTS],
     pub next: usize,
     pub count: usize,
+    pub dashes: usize,
     pub running: usize,
     pub chunk: usize,
     pub width: usize,
@@ -72,10 +73,11 @@ pub(crate) fn begin(
     step: u32,
     next: usize,
     count: usize,
+    dashes: usize,
     chunk: usize,
     width: usize,
 ) -> Morning
-    ensures { λ r. ⌜ r ≡ begun slots step next count chunk width ⌝ }
+    ensures { λ r. ⌜ r ≡ begun slots step next count dashes chunk width ⌝ }
 {
     let t = Desk::new(slots);
     let d = t.desk;
@@ -86,6 +88,7 @@ pub(crate) fn begin(
         uploads: uploads,
         next: next,
         count: count,
+        dashes: dashes,
         running: 0,
         chunk: chunk,
         width: width,

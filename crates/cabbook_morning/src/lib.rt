@@ -1,13 +1,13 @@
 // A morning: many files as uploads on one desk, as many at a time as it has slots, each opened with identifier 0, and a row for each.
 mod depot;
-pub mod options;
+mod options;
 mod printing;
 
 ghost use Prim.Native.Nat.{_<_, _≤_};
 ghost use Rattle.numbers.specs.Limits as limit;
 ghost use Rattle.cabbook_tables.specs.Statuses as status;
-ghost use Rattle.cabbook_morning.specs.Ends.{Ends};
 ghost use Rattle.cabbook_morning.specs.Turns.{Begun, Finished, AddedTo, Taken, FedWith, Fed, Turns};
+use cabbook_options::arguments;
 use depot::Morning;
 use depot::Upload;
 use desk::Answer;
@@ -54,8 +54,9 @@ fn take_file(mut m: Morning, k: usize, pool: &mut [u8]) -> Morning
     requires { ⌜ k < limit.slots ⌝ }
     ensures { λ r. ⌜ Begun k m (now (pool .entry)) r (now (pool .exit)) ⌝ }
 {
-    let i = m.next;
+    let i = arguments::next_file(m.next, m.dashes, m.count);
     if i >= m.count {
+        m.next = i;
         return m;
     }
     m.next = i + 1;
@@ -192,50 +193,28 @@ fn run_on(slots: usize, m: Morning, pool: &mut [u8]) -> Morning
     run_rounds(m, &mut pool[..n])
 }
 
-// Runs the morning on a desk of so many slots with the files that the arguments from `first` on name.
-fn run(slots: usize, step: u32, first: usize, count: usize, chunk: usize) -> u8
-    requires { ⌜ slots ≤ limit.slots ⌝ }
+// Plays a morning on a desk of so many slots with the files that the arguments from `first` on name, where options end at that argument; 0 for a number stands for
+// the usual one. Answers the exit status.
+pub fn play(
+    first: usize,
+    dashes: usize,
+    count: usize,
+    chunk: usize,
+    tick: usize,
+    slots: usize,
+) -> u8
     ensures { λ r. ⌜ r ≤ status.failed ⌝ }
 {
-    let width = options::widest(first, count);
+    let width = options::widest(first, dashes, count);
     printing::print_titles(width);
     let mut pool = [0u8; limit::POOL];
-    let m = run_on(
-        slots,
-        depot::begin(slots, step, first, count, chunk, width),
-        &mut pool,
+    let size = options::or_usual(chunk, options::USUAL_CHUNK);
+    let step = depot::ticket_of(options::or_usual(tick, options::USUAL_TICK));
+    let places = octets::slices::least(
+        options::or_usual(slots, options::USUAL_SLOTS),
+        limit::SLOTS,
     );
+    let begun = depot::begin(places, step, first, count, dashes, size, width);
+    let m = run_on(places, begun, &mut pool);
     printing::print_summary(m.accepted, m.refused, m.reclaimed, m.unread, m.differing)
-}
-
-// How a morning went: the options had no size of a chunk, no ticks of a round, no count of slots or no file; or it was played, with an exit status.
-pub enum Ending {
-    NoSize,
-    NoTicks,
-    NoSlots,
-    NoFile,
-    Played(u8),
-}
-
-// Plays the morning with the files that the arguments name.
-pub fn play(count: usize) -> Ending
-    ensures { λ r. ⌜ Ends r ⌝ }
-{
-    let o = options::read();
-    if o.chunk == 0 {
-        return Ending::NoSize;
-    }
-    if o.tick == 0 {
-        return Ending::NoTicks;
-    }
-    if o.slots == 0 {
-        return Ending::NoSlots;
-    }
-    if o.slots > limit::SLOTS {
-        return Ending::NoSlots;
-    }
-    if o.first >= count {
-        return Ending::NoFile;
-    }
-    Ending::Played(run(o.slots, o.tick as u32, o.first, count, o.chunk))
 }

@@ -1,2 +1,0 @@
--- The definitions that the contracts of `cabbook` cite. Assumes nothing.
-pub mod Numbers

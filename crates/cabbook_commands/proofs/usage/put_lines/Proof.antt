@@ -1,0 +1,48 @@
+-- `cabbook_commands::usage::put_lines` is safe and ends, and meets its contract. Assumes nothing.
+use borrow.Author.Needs.{needs}
+use mathlib.Core.Path.{_≡_}
+use Prim.Native.Nat.{_-_}
+use lib.ListN.{length}
+use Rattle.cabbook_commands.proofs.usage.put_lines.Statement.{statement}
+use Rattle.cabbook_commands.proofs.usage.put_lines.Tie as tie
+
+abbrev Inv-loop : tie.InvT-loop
+Inv-loop room₀ at next₀ command₀ room next command = length room ≡ length room₀
+
+abbrev μ-loop : tie.MeasureT-loop
+μ-loop room₀ at next₀ command₀ room next command = 31 - command
+
+loop-holds : tie.Need-loop-holds Inv-loop μ-loop
+loop-holds c = search needs
+
+put-line-requires : tie.Need-put-line-requires Inv-loop μ-loop
+put-line-requires c κs = search needs
+
+add-command : tie.Need-add-command Inv-loop μ-loop
+add-command c = search needs
+
+loop-less : tie.Need-loop-less Inv-loop μ-loop
+loop-less c = search needs
+
+loop-again : tie.Need-loop-again Inv-loop μ-loop
+loop-again c = search needs
+
+same-length : tie.Need-same-length Inv-loop μ-loop
+same-length c = search needs
+
+returns : tie.Need-returns Inv-loop μ-loop
+returns c = search needs
+
+pub put-lines-spec : {M : Type 1} → statement M
+put-lines-spec =
+    tie.close
+    (tie.spec
+    Inv-loop
+    μ-loop
+    loop-holds
+    put-line-requires
+    add-command
+    loop-less
+    loop-again
+    same-length
+    returns)

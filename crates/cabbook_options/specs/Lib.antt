@@ -1,0 +1,3 @@
+-- The definitions that the contracts of `cabbook_options` cite. Assumes nothing.
+pub mod Names
+pub mod Words
