@@ -1,0 +1,37 @@
+-- Laws of the search. Assumes nothing.
+use Prim.Native.Nat.{ℕ, zero, suc, _+_, _-_, _<_, _≤_}
+use mathlib.Core.Path.{_≡_, refl}
+use mathlib.Core.Bool.{Bool, true, false}
+use mathlib.Core.List.{List}
+use native.Mathlib.Omega.{arith}
+use lib.Dec.{eqb, ltb}
+use lib.ListN.{getD}
+use borrow.Author.Tests.{ltb-true, ltb-false}
+use Rattle.merge_sources.specs.Row.{none, least, firstIn}
+use Rattle.octets.specs.Pick.{pick}
+use Rattle.merge_sources.specs.declared.Source.{Source}
+use Rattle.merge_sources.specs.declared.Found.{Found}
+use Rattle.merge_sources.specs.declared.Found.the-variants.{At, Nothing}
+
+least-by : (n : ℕ) (b : Bool) → ltb n 16 ≡ b → pick b n 16 ≤ 16
+least-by n true e = let h : n < 16 = ltb-true n 16 e in omega arith
+least-by n false e = omega arith
+
+pub least-16 : (n : ℕ) → least n ≤ 16
+unfolding least
+least-16 n = least-by n (ltb n 16) refl
+
+rest : (n i : ℕ) → i < n → n - i ≡ suc (n - (i + 1))
+rest n i h = omega arith
+
+pub first-none : (es : List Source) (n i k : ℕ) → n ≤ i → firstIn es i (n - i) k ≡ Nothing
+unfolding firstIn
+first-none es n i k h = let e : n - i ≡ 0 = omega arith in rw e
+
+pub first-hit : (es : List Source) (n i k : ℕ) → i < n → eqb (getD es i none .number) k ≡ true → firstIn es i (n - i) k ≡ At i
+unfolding firstIn
+first-hit es n i k h e = rw (rest n i h, e)
+
+pub first-miss : (es : List Source) (n i k : ℕ) → i < n → eqb (getD es i none .number) k ≡ false → firstIn es i (n - i) k ≡ firstIn es (i + 1) (n - (i + 1)) k
+unfolding firstIn
+first-miss es n i k h e = rw (rest n i h, e)
