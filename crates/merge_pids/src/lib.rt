@@ -153,7 +153,7 @@ fn value_at(t: &ClassTable, s: &[u8], at: usize) -> Span
     requires { ⌜ Classes (now t) ⌝ }
     requires { ⌜ at < length (now s) ⌝ }
     ensures { λ r. ⌜ r ≡ spanAt at (drop at (now (s .entry))) ⌝ }
-    ensures { λ r. ⌜ (r .start ≤ r .end) × (r .end ≤ length (now (s .entry))) ⌝ }
+    ensures { λ r. ⌜ (r .start ≤ r .end) × (r .end ≤ length (now (s .entry))) × (r .next ≤ length (now (s .entry)) + 1) ⌝ }
 {
     if s[at] != b'"' {
         let end = classes::span(t, s, at, classes::BARE);

@@ -1,13 +1,13 @@
 // One side of a merge: what an accepted card's copy and records say of its lines, its own row of sources, and its marks.
 ghost use mathlib.Core.Path.{_≡_};
-ghost use Prim.Native.Nat.{_+_, _<_, _≤_, min};
-ghost use lib.ListN.{length};
+ghost use Prim.Native.Nat.{_+_, _<_, _≤_};
+ghost use lib.Dec.{eqb};
 ghost use Rattle.numbers.specs.Limits as limit;
+ghost use Rattle.numbers.specs.Fields as field;
 ghost use Rattle.octets.specs.Classes.{Classes};
-ghost use Rattle.merge_sources.specs.Row.{rowOf};
 ghost use Rattle.merge_pids.specs.Marks.{marked, putAll};
-ghost use Rattle.merge_sides.specs.Lines.{fieldAt, nameAt, lineAt, valueAt, sameProperty, firstLine, countLines, sameOctets};
-ghost use Rattle.merge_sides.specs.Sources.{narrowed, sourceAt, withSource, sourcesFrom, overEntries};
+ghost use Rattle.merge_sides.specs.Lines.{fieldAt, nameStartAt, valueAt, sameOctets, sameProperty, firstLine, one, countLines};
+ghost use Rattle.merge_sides.specs.Sources.{narrowed, sourceAt, withSource, withLine, ownRow, overEntries};
 ghost use Rattle.merge_sides.specs.Marks.{lineMarks, marksFrom, overMarks};
 use merge_sources::Row;
 use merge_sources::Source;
@@ -97,6 +97,17 @@ pub fn find_line(rs: &[u32], n: usize, row: usize) -> usize
     n
 }
 
+// 1 where line i has the property number, else 0.
+fn one_at(rs: &[u32], i: usize, row: usize) -> usize
+    ensures { λ r. ⌜ r ≡ one (eqb (fieldAt (now (rs .entry)) i field.property) row) ⌝ }
+    ensures { λ r. ⌜ r ≤ 1 ⌝ }
+{
+    if field_at(rs, i, field::PROPERTY) == row {
+        return 1;
+    }
+    0
+}
+
 // How many of n lines have the property number.
 pub fn count_lines(rs: &[u32], n: usize, row: usize) -> usize
     ensures { λ r. ⌜ r ≡ countLines (now (rs .entry)) row 0 n ⌝ }
@@ -104,9 +115,7 @@ pub fn count_lines(rs: &[u32], n: usize, row: usize) -> usize
     let mut count: usize = 0;
     let mut i: usize = 0;
     while i < n {
-        if field_at(rs, i, field::PROPERTY) == row {
-            count += 1;
-        }
+        count += one_at(rs, i, row);
         i += 1;
     }
     count
@@ -170,6 +179,18 @@ fn add_source(r: Row, e: Source) -> Row
     merge_sources::with_entry(next, count, e)
 }
 
+// The row with the source of line i, where that is a CLIENTPIDMAP line.
+fn add_line(r: Row, c: &[u8], rs: &[u32], i: usize) -> Row
+    requires { ⌜ r .count < limit.largest64 ⌝ }
+    ensures { λ q. ⌜ q ≡ withLine r (now (c .entry)) (now (rs .entry)) i ⌝ }
+    ensures { λ q. ⌜ q .count ≤ r .count + 1 ⌝ }
+{
+    if field_at(rs, i, field::PROPERTY) != property::CLIENTPIDMAP {
+        return r;
+    }
+    add_source(r, source_at(c, rs, i))
+}
+
 // The card's own row: its CLIENTPIDMAP lines among the first n lines, in order.
 pub fn own_row(c: &[u8], rs: &[u32], n: usize) -> Row
     ensures { λ r. ⌜ r ≡ ownRow (now (c .entry)) (now (rs .entry)) n ⌝ }
@@ -177,9 +198,7 @@ pub fn own_row(c: &[u8], rs: &[u32], n: usize) -> Row
     let mut r = merge_sources::empty(0);
     let mut i: usize = 0;
     while i < n {
-        if field_at(rs, i, field::PROPERTY) == property::CLIENTPIDMAP {
-            r = add_source(r, source_at(c, rs, i));
-        }
+        r = add_line(r, c, rs, i);
         i += 1;
     }
     r
@@ -228,15 +247,13 @@ pub fn put_marks(t: &ClassTable, c: &[u8], rs: &[u32], n: usize, out: &mut [u32]
     next
 }
 
-// Whether a number of the marks that end at n is over 65,535.
+// Whether a number of the marks that end at n is over 65,535; a line's own never is.
 pub fn over_marks(marks: &[u32], n: usize) -> bool
     ensures { λ r. ⌜ r ≡ overMarks (now (marks .entry)) n ⌝ }
 {
+    let end = octets::slices::least(n, marks.len());
     let mut i: usize = 0;
-    while i < marks.len() {
-        if n <= i {
-            return false;
-        }
+    while i < end {
         if limit::SOURCE_NUMBER < wide_number(marks[i]) {
             return true;
         }

@@ -1,4 +1,4 @@
--- Laws of the search. Assumes nothing.
+-- Laws of the search for a number and of the comparison of two rows. Assumes nothing.
 use Prim.Native.Nat.{ℕ, zero, suc, _+_, _-_, _<_, _≤_}
 use mathlib.Core.Path.{_≡_, refl}
 use mathlib.Core.Bool.{Bool, true, false}
@@ -7,7 +7,7 @@ use native.Mathlib.Omega.{arith}
 use lib.Dec.{eqb, ltb}
 use lib.ListN.{getD}
 use borrow.Author.Tests.{ltb-true, ltb-false}
-use Rattle.merge_sources.specs.Row.{none, least, firstIn}
+use Rattle.merge_sources.specs.Row.{none, least, firstIn, sameEntry, sameEntries}
 use Rattle.octets.specs.Pick.{pick}
 use Rattle.merge_sources.specs.declared.Source.{Source}
 use Rattle.merge_sources.specs.declared.Found.{Found}
@@ -35,3 +35,17 @@ first-hit es n i k h e = rw (rest n i h, e)
 pub first-miss : (es : List Source) (n i k : ℕ) → i < n → eqb (getD es i none .number) k ≡ false → firstIn es i (n - i) k ≡ firstIn es (i + 1) (n - (i + 1)) k
 unfolding firstIn
 first-miss es n i k h e = rw (rest n i h, e)
+
+-- ---- two rows, entry by entry
+module _ (xs ys : List Source) (i : ℕ) where
+  pub same-differ : i < 16 → sameEntry (getD xs i none) (getD ys i none) ≡ false → sameEntries xs ys i (16 - i) ≡ false
+  unfolding sameEntries
+  same-differ h e = rw (rest 16 i h, e)
+
+  pub same-next : i < 16 → sameEntry (getD xs i none) (getD ys i none) ≡ true → sameEntries xs ys i (16 - i) ≡ sameEntries xs ys (i + 1) (16 - (i + 1))
+  unfolding sameEntries
+  same-next h e = rw (rest 16 i h, e)
+
+  pub same-none : 16 ≤ i → sameEntries xs ys i (16 - i) ≡ true
+  unfolding sameEntries
+  same-none h = let e : 16 - i ≡ 0 = omega arith in rw e
