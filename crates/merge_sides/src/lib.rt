@@ -2,6 +2,7 @@
 ghost use mathlib.Core.Path.{_≡_};
 ghost use Prim.Native.Nat.{_+_, _<_, _≤_};
 ghost use lib.Dec.{eqb};
+ghost use lib.ListN.{length};
 ghost use Rattle.numbers.specs.Limits as limit;
 ghost use Rattle.numbers.specs.Fields as field;
 ghost use Rattle.octets.specs.Classes.{Classes};
@@ -124,6 +125,7 @@ pub fn count_lines(rs: &[u32], n: usize, row: usize) -> usize
 // The value of line i in the copy.
 pub fn value_of<'a>(c: &'a [u8], rs: &[u32], i: usize) -> &'a [u8]
     ensures { λ r. ⌜ now r ≡ valueAt (now (c .entry)) (now (rs .entry)) i ⌝ }
+    ensures { λ r. ⌜ length (now r) ≤ length (now (c .entry)) ⌝ }
 {
     let start = field_at(rs, i, field::START);
     let end = start + field_at(rs, i, field::LENGTH);
@@ -166,6 +168,7 @@ fn source_at(c: &[u8], rs: &[u32], i: usize) -> Source
 fn add_source(r: Row, e: Source) -> Row
     requires { ⌜ r .count < limit.largest64 ⌝ }
     ensures { λ q. ⌜ q ≡ withSource r e ⌝ }
+    ensures { λ q. ⌜ q .count ≡ r .count + 1 ⌝ }
 {
     let count = r.count;
     let entries = r.entries;
