@@ -1,5 +1,16 @@
 // Two edits of one card: the planner proposes pairs of lines, and the checker accepts exactly the plans that pass.
 ghost use mathlib.Core.Path.{_≡_};
+ghost use mathlib.Core.Bool.{true};
+ghost use Prim.Native.Nat.{_+_, _<_, _≤_, min};
+ghost use lib.ListN.{length, take, replicate};
+ghost use Rattle.numbers.specs.Limits as limit;
+ghost use Rattle.octets.specs.Room.{overlay};
+ghost use Rattle.merge_sources.specs.Row.{rowOf};
+ghost use Rattle.merge_pids.specs.Marks.{marked};
+ghost use Rattle.merge_partners.specs.Pairs.{joined, joinedFirst, firstOf, pairsFrom};
+ghost use Rattle.merge.specs.Sides.{side, refusalOf, overSide, settled, settleOf, ownRowOf};
+ghost use Rattle.merge.specs.Plans.{flatten, putPartner, putPartners, enterTo, enterStep, enterAll, isKept, coversFrom};
+ghost use Rattle.merge.specs.Outcome.{planned, planRows, checkRows, planOutcome, checkOutcome};
 use merge_partners::Partners;
 use merge_sources::Row;
 use merge_sources::Source;
@@ -18,11 +29,16 @@ pub enum Paired {
 // How many numbers the marks of a card may take.
 const MARKS: usize = limit::LINES * merge_pids::MARK;
 
+// How many numbers a pair has.
+const PAIR: usize = 2;
+
 // How many numbers the records of a card may take.
 const RECORDS: usize = limit::LINES * limit::RECORD_LENGTH;
 
 // What the reader refuses.
-fn refusal_of(v: Verdict) -> Paired {
+fn refusal_of(v: Verdict) -> Paired
+    ensures { λ r. ⌜ r ≡ refusalOf v ⌝ }
+{
     match v {
         Verdict::Accepted(cards, lines) => Paired::Refused(refusal::MERGE_LIMIT, 0),
         Verdict::Refused(n, p) => Paired::Refused(n, p),
@@ -30,7 +46,9 @@ fn refusal_of(v: Verdict) -> Paired {
 }
 
 // Whether a side is over a limit: cards, entries of its row, CLIENTPIDMAP lines, or a number over 65,535.
-fn is_over(cards: usize, lent: usize, own: Row, marks: &[u32], end: usize) -> bool {
+fn is_over(cards: usize, lent: usize, own: Row, marks: &[u32], end: usize) -> bool
+    ensures { λ r. ⌜ r ≡ overSide cards lent own (marked end (now (marks .entry))) ⌝ }
+{
     if cards != 1 {
         return true;
     }
@@ -59,7 +77,9 @@ fn settle(
     nb: usize,
     b: Row,
     p: &mut Partners,
-) -> Paired {
+) -> Paired
+    ensures { λ r. ⌜ settled r (now (p .exit)) ≡ settleOf (side (now (ca .entry)) (now (ra .entry)) ka na) (side (now (cb .entry)) (now (rb .entry)) kb nb) a b (now (p .entry)) ⌝ }
+{
     let t = octets::classes::table();
     let mut firsts = [0u32; MARKS];
     let mut seconds = [0u32; MARKS];
@@ -102,22 +122,42 @@ fn settle(
     Paired::Pairs(merge_partners::count_pairs(p))
 }
 
+// Writes the pair of line i, where it has a partner and there is room, and answers where the next one goes.
+fn put_partner(i: usize, partner: u32, out: &mut [u32], at: usize) -> usize
+    requires { ⌜ i < limit.lines ⌝ }
+    ensures { λ r. ⌜ marked r (now (out .exit)) ≡ putPartner (marked at (now (out .entry))) i partner ⌝ }
+{
+    if partner == 0 {
+        return at;
+    }
+    if out.len() < PAIR {
+        return at;
+    }
+    if out.len() - PAIR < at {
+        return at;
+    }
+    out[at] = i as u32;
+    out[at + 1] = partner - 1;
+    at + PAIR
+}
+
 // Writes the pairs in the order of the first card's lines.
-fn put_pairs(p: &Partners, out: &mut [u32]) {
+fn put_pairs(p: &Partners, out: &mut [u32])
+    requires { ⌜ length (flatten (pairsFrom (now p) 0 limit.lines)) ≤ length (now out) ⌝ }
+    ensures { λ _. ⌜ now (out .exit) ≡ overlay (flatten (pairsFrom (now (p .entry)) 0 limit.lines)) (now (out .entry)) ⌝ }
+{
     let mut at: usize = 0;
     let mut i: usize = 0;
     while i < limit::LINES {
-        if p[i] != 0 {
-            out[at] = i as u32;
-            out[at + 1] = p[i] - 1;
-            at += 2;
-        }
+        at = put_partner(i, p[i], out, at);
         i += 1;
     }
 }
 
 // The planner on rows by value.
-pub fn plan_rows(first: &[u8], second: &[u8], a: Row, b: Row, out: &mut [u32]) -> Paired {
+pub fn plan_rows(first: &[u8], second: &[u8], a: Row, b: Row, out: &mut [u32]) -> Paired
+    ensures { λ r. ⌜ planned r (now (out .exit)) ≡ planRows (now (first .entry)) (now (second .entry)) a b (now (out .entry)) ⌝ }
+{
     let mut ca = [0u8; limit::OCTETS];
     let mut ra = [0u32; RECORDS];
     let v = reader::read(Edition::First, first, &mut ca, &mut ra);
@@ -135,15 +175,17 @@ pub fn plan_rows(first: &[u8], second: &[u8], a: Row, b: Row, out: &mut [u32]) -
     let Paired::Pairs(n) = s else {
         return s;
     };
-    if out.len() / 2 < n {
-        return Paired::Refused(refusal::RECORD_ROOM, n * 2);
+    if out.len() < n * PAIR {
+        return Paired::Refused(refusal::RECORD_ROOM, n * PAIR);
     }
     put_pairs(&p, out);
     Paired::Pairs(n)
 }
 
 // Enters a pair of a plan; false where a line is none, or stands in the plan already.
-fn enter(p: &mut Partners, t: &mut Partners, na: usize, nb: usize, i: usize, j: usize) -> bool {
+fn enter(p: &mut Partners, t: &mut Partners, na: usize, nb: usize, i: usize, j: usize) -> bool
+    ensures { λ r. ⌜ joined r (now (p .exit)) (now (t .exit)) ≡ enterTo na nb (now (p .entry)) (now (t .entry)) i j ⌝ }
+{
     if na <= i {
         return false;
     }
@@ -167,6 +209,27 @@ fn enter(p: &mut Partners, t: &mut Partners, na: usize, nb: usize, i: usize, j: 
     true
 }
 
+// Enters a pair of a plan where its lines have one property.
+fn enter_step(
+    ca: &[u8],
+    ra: &[u32],
+    na: usize,
+    cb: &[u8],
+    rb: &[u32],
+    nb: usize,
+    i: usize,
+    j: usize,
+    p: &mut Partners,
+    t: &mut Partners,
+) -> bool
+    ensures { λ r. ⌜ joined r (now (p .exit)) (now (t .exit)) ≡ enterStep (now (ca .entry)) (now (ra .entry)) na (now (cb .entry)) (now (rb .entry)) nb (now (p .entry)) (now (t .entry)) i j ⌝ }
+{
+    if !merge_sides::same_property(ca, ra, i, cb, rb, j) {
+        return false;
+    }
+    enter(p, t, na, nb, i, j)
+}
+
 // Enters the pairs of a plan; false for an odd count, a number that is no line's, a line twice, or lines of two properties.
 fn enter_plan(
     ca: &[u8],
@@ -177,34 +240,43 @@ fn enter_plan(
     nb: usize,
     plan: &[u32],
     p: &mut Partners,
-) -> bool {
+) -> bool
+    ensures { λ r. ⌜ joinedFirst r (now (p .exit)) ≡ firstOf (enterAll (now (ca .entry)) (now (ra .entry)) na (now (cb .entry)) (now (rb .entry)) nb (joined true (now (p .entry)) (replicate limit.lines 0)) (now (plan .entry))) ⌝ }
+{
     let mut t = [0u32; limit::LINES];
     let mut at: usize = 0;
     while at < plan.len() {
-        if plan.len() - at < 2 {
+        if plan.len() - at < PAIR {
             return false;
         }
         let i = wide_number(plan[at]);
         let j = wide_number(plan[at + 1]);
-        if !enter(p, &mut t, na, nb, i, j) {
+        if !enter_step(ca, ra, na, cb, rb, nb, i, j, p, &mut t) {
             return false;
         }
-        if !merge_sides::same_property(ca, ra, i, cb, rb, j) {
-            return false;
-        }
-        at += 2;
+        at += PAIR;
     }
     true
 }
 
+// Whether a line's partner, where it has one, is this one.
+fn is_kept(partner: u32, other: u32) -> bool
+    ensures { λ r. ⌜ r ≡ isKept partner other ⌝ }
+{
+    if partner == 0 {
+        return true;
+    }
+    partner == other
+}
+
 // Whether each line with a partner in p has the same one in q.
-fn covers(p: &Partners, q: &Partners) -> bool {
+fn covers(p: &Partners, q: &Partners) -> bool
+    ensures { λ r. ⌜ r ≡ coversFrom (now (p .entry)) (now (q .entry)) 0 limit.lines ⌝ }
+{
     let mut i: usize = 0;
     while i < limit::LINES {
-        if p[i] != 0 {
-            if p[i] != q[i] {
-                return false;
-            }
+        if !is_kept(p[i], q[i]) {
+            return false;
         }
         i += 1;
     }
@@ -212,7 +284,9 @@ fn covers(p: &Partners, q: &Partners) -> bool {
 }
 
 // The checker on rows by value.
-pub fn check_rows(first: &[u8], second: &[u8], a: Row, b: Row, plan: &[u32]) -> Paired {
+pub fn check_rows(first: &[u8], second: &[u8], a: Row, b: Row, plan: &[u32]) -> Paired
+    ensures { λ r. ⌜ r ≡ checkRows (now (first .entry)) (now (second .entry)) a b (now (plan .entry)) ⌝ }
+{
     let mut ca = [0u8; limit::OCTETS];
     let mut ra = [0u32; RECORDS];
     let v = reader::read(Edition::First, first, &mut ca, &mut ra);
@@ -237,7 +311,7 @@ pub fn check_rows(first: &[u8], second: &[u8], a: Row, b: Row, plan: &[u32]) -> 
     if !covers(&p, &q) {
         return Paired::Refused(refusal::PLAN, 0);
     }
-    Paired::Pairs(plan.len() / 2)
+    Paired::Pairs(plan.len() / PAIR)
 }
 
 // The planner: proposes the demanded pairs of two edits of one card, each with the row of its sources that the host lends.
@@ -247,7 +321,9 @@ pub fn plan(
     m: &[Source],
     n: &[Source],
     out: &mut [u32],
-) -> Paired {
+) -> Paired
+    ensures { λ r. ⌜ planned r (now (out .exit)) ≡ planOutcome (now (first .entry)) (now (second .entry)) (now (m .entry)) (now (n .entry)) (now (out .entry)) ⌝ }
+{
     let a = merge_sources::row_of(m);
     let b = merge_sources::row_of(n);
     plan_rows(first, second, a, b, out)
@@ -260,7 +336,9 @@ pub fn check(
     m: &[Source],
     n: &[Source],
     plan: &[u32],
-) -> Paired {
+) -> Paired
+    ensures { λ r. ⌜ r ≡ checkOutcome (now (first .entry)) (now (second .entry)) (now (m .entry)) (now (n .entry)) (now (plan .entry)) ⌝ }
+{
     let a = merge_sources::row_of(m);
     let b = merge_sources::row_of(n);
     check_rows(first, second, a, b, plan)
@@ -281,7 +359,10 @@ fn lent_plan(
     b: Entries,
     l: usize,
     out: &mut [u32],
-) -> Paired {
+) -> Paired
+    requires { ⌜ (k ≤ limit.sources + 1) × (l ≤ limit.sources + 1) ⌝ }
+    ensures { λ r. ⌜ planned r (now (out .exit)) ≡ planOutcome (now (first .entry)) (now (second .entry)) (take k a) (take l b) (now (out .entry)) ⌝ }
+{
     plan(first, second, &a[..k], &b[..l], out)
 }
 
@@ -294,7 +375,10 @@ fn lent_check(
     b: Entries,
     l: usize,
     plan: &[u32],
-) -> Paired {
+) -> Paired
+    requires { ⌜ (k ≤ limit.sources + 1) × (l ≤ limit.sources + 1) ⌝ }
+    ensures { λ r. ⌜ r ≡ checkOutcome (now (first .entry)) (now (second .entry)) (take k a) (take l b) (now (plan .entry)) ⌝ }
+{
     check(first, second, &a[..k], &b[..l], plan)
 }
 
@@ -307,7 +391,9 @@ pub fn lend_plan(
     b: Entries,
     l: usize,
     out: &mut [u32],
-) -> Paired {
+) -> Paired
+    ensures { λ r. ⌜ planned r (now (out .exit)) ≡ planOutcome (now (first .entry)) (now (second .entry)) (take (min k (limit.sources + 1)) a) (take (min l (limit.sources + 1)) b) (now (out .entry)) ⌝ }
+{
     let i = octets::slices::least(k, LENT);
     let j = octets::slices::least(l, LENT);
     lent_plan(first, second, a, i, b, j, out)
@@ -322,14 +408,18 @@ pub fn lend_check(
     b: Entries,
     l: usize,
     plan: &[u32],
-) -> Paired {
+) -> Paired
+    ensures { λ r. ⌜ r ≡ checkOutcome (now (first .entry)) (now (second .entry)) (take (min k (limit.sources + 1)) a) (take (min l (limit.sources + 1)) b) (now (plan .entry)) ⌝ }
+{
     let i = octets::slices::least(k, LENT);
     let j = octets::slices::least(l, LENT);
     lent_check(first, second, a, i, b, j, plan)
 }
 
 // A card's own row; an empty one where the reader refuses the card.
-pub fn sources_of(card: &[u8]) -> Row {
+pub fn sources_of(card: &[u8]) -> Row
+    ensures { λ r. ⌜ r ≡ ownRowOf (now (card .entry)) ⌝ }
+{
     let mut c = [0u8; limit::OCTETS];
     let mut r = [0u32; RECORDS];
     let v = reader::read(Edition::First, card, &mut c, &mut r);
