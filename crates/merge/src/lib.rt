@@ -344,43 +344,8 @@ pub fn check(
     check_rows(first, second, a, b, plan)
 }
 
-// The entries of a row that a program holds: one more than may stand in a row, so that a longer one is seen.
-pub type Entries = [Source; LENT];
-
-// How many entries a program may lend.
-pub const LENT: usize = limit::SOURCES + 1;
-
-// The planner on the first entries of two arrays.
-fn lent_plan(
-    first: &[u8],
-    second: &[u8],
-    a: Entries,
-    k: usize,
-    b: Entries,
-    l: usize,
-    out: &mut [u32],
-) -> Paired
-    requires { ⌜ (k ≤ limit.sources + 1) × (l ≤ limit.sources + 1) ⌝ }
-    ensures { λ r. ⌜ planned r (now (out .exit)) ≡ planOutcome (now (first .entry)) (now (second .entry)) (take k a) (take l b) (now (out .entry)) ⌝ }
-{
-    plan(first, second, &a[..k], &b[..l], out)
-}
-
-// The checker on the first entries of two arrays.
-fn lent_check(
-    first: &[u8],
-    second: &[u8],
-    a: Entries,
-    k: usize,
-    b: Entries,
-    l: usize,
-    plan: &[u32],
-) -> Paired
-    requires { ⌜ (k ≤ limit.sources + 1) × (l ≤ limit.sources + 1) ⌝ }
-    ensures { λ r. ⌜ r ≡ checkOutcome (now (first .entry)) (now (second .entry)) (take k a) (take l b) (now (plan .entry)) ⌝ }
-{
-    check(first, second, &a[..k], &b[..l], plan)
-}
+// The entries of a row as a program holds them, at most seventeen.
+pub type Entries = merge_sources::Entries;
 
 // The planner on rows that a program has in arrays: it lends the first k and l entries, at most seventeen.
 pub fn lend_plan(
@@ -394,9 +359,9 @@ pub fn lend_plan(
 ) -> Paired
     ensures { λ r. ⌜ planned r (now (out .exit)) ≡ planOutcome (now (first .entry)) (now (second .entry)) (take (min k (limit.sources + 1)) a) (take (min l (limit.sources + 1)) b) (now (out .entry)) ⌝ }
 {
-    let i = octets::slices::least(k, LENT);
-    let j = octets::slices::least(l, LENT);
-    lent_plan(first, second, a, i, b, j, out)
+    let x = merge_sources::lend_row(a, k);
+    let y = merge_sources::lend_row(b, l);
+    plan_rows(first, second, x, y, out)
 }
 
 // The checker on such rows.
@@ -411,9 +376,9 @@ pub fn lend_check(
 ) -> Paired
     ensures { λ r. ⌜ r ≡ checkOutcome (now (first .entry)) (now (second .entry)) (take (min k (limit.sources + 1)) a) (take (min l (limit.sources + 1)) b) (now (plan .entry)) ⌝ }
 {
-    let i = octets::slices::least(k, LENT);
-    let j = octets::slices::least(l, LENT);
-    lent_check(first, second, a, i, b, j, plan)
+    let x = merge_sources::lend_row(a, k);
+    let y = merge_sources::lend_row(b, l);
+    check_rows(first, second, x, y, plan)
 }
 
 // A card's own row; an empty one where the reader refuses the card.

@@ -1,8 +1,8 @@
 // A card's source map: the host's row of entries as a slice of structs, and the same row as a value, which all other functions take.
 ghost use mathlib.Core.Path.{_≡_};
 ghost use mathlib.Core.List.{[]};
-ghost use Prim.Native.Nat.{_<_};
-ghost use lib.ListN.{getD};
+ghost use Prim.Native.Nat.{_+_, _<_, _≤_, min};
+ghost use lib.ListN.{getD, take};
 ghost use Rattle.numbers.specs.Limits as limit;
 ghost use Rattle.merge_sources.specs.Row.{none, filled, put, rowOf, least, firstIn, sameEntry, sameRow};
 use numbers::limit;
@@ -19,6 +19,12 @@ pub struct Row {
     pub count: usize,
     pub entries: [Source; limit::SOURCES],
 }
+
+// How many entries a program may lend: one more than a row may have, so that a longer one is seen.
+pub const LENT: usize = limit::SOURCES + 1;
+
+// The entries of a row as a program holds them.
+pub type Entries = [Source; LENT];
 
 // Where an entry stands in a row.
 pub enum Found {
@@ -75,6 +81,22 @@ pub fn row_of(m: &[Source]) -> Row
         i = i + 1;
     }
     r
+}
+
+// The first n entries of a local array as a row: they are lent for the call of `row_of`, as a host lends its own.
+fn lent_row(a: Entries, n: usize) -> Row
+    requires { ⌜ n ≤ limit.sources + 1 ⌝ }
+    ensures { λ r. ⌜ r ≡ rowOf (take n a) ⌝ }
+{
+    row_of(&a[..n])
+}
+
+// The row of the first n entries of an array, at most seventeen, for programs that hold the entries.
+pub fn lend_row(a: Entries, n: usize) -> Row
+    ensures { λ r. ⌜ r ≡ rowOf (take (min n (limit.sources + 1)) a) ⌝ }
+{
+    let k = octets::slices::least(n, LENT);
+    lent_row(a, k)
 }
 
 // How many entries of a row are looked at: at most sixteen.
