@@ -1,18 +1,14 @@
 -- The answers by what reading the two cards leaves. Assumes nothing.
-use mathlib.Core.Path.{_≡_, refl, sym, ap, _∙_}
-use mathlib.Core.Bool.{Bool, true, false}
+use mathlib.Core.Path.{_≡_, sym, ap, _∙_}
 use mathlib.Core.List.{List, []}
 use Prim.Native.Nat.{ℕ}
-use lib.ListN.{length}
 use Rattle.reader.specs.Outcome.{Taken, took}
 use Rattle.reader.specs.declared.Verdict.{Verdict}
 use Rattle.reader.specs.declared.Verdict.the-variants.{Accepted, Refused as Halted}
 use Rattle.merge_sources.specs.Row.{filled}
 use Rattle.merge_sources.specs.declared.Row.{Row}
 use Rattle.merge_sides.specs.Sources.{ownRow}
-use Rattle.merge.specs.declared.Paired.{Paired}
-use Rattle.merge.specs.declared.Paired.the-variants.{Pairs, Refused}
-use Rattle.merge.specs.Sides.{Side, side, readOf, refusalOf, settleOf, ownRowOf}
+use Rattle.merge.specs.Sides.{side, readOf, refusalOf, settleOf, ownRowOf}
 use Rattle.merge.specs.Outcome.{planned, writeOf, noPartners, planRows, judgeOf, checkRows}
 
 module _ (i j : List ℕ) (a b : Row) where

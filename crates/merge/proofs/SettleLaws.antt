@@ -1,17 +1,15 @@
 -- The refusals of two sides in their order, and the demanded pairs behind them. Assumes nothing.
-use mathlib.Core.Path.{_≡_, refl, sym, ap, _∙_}
+use mathlib.Core.Path.{_≡_, sym, ap, _∙_}
 use mathlib.Core.Bool.{Bool, true, false}
 use mathlib.Core.List.{List}
-use Prim.Native.Nat.{ℕ, _/_, _≤_}
-use native.Mathlib.Omega.{arith}
+use Prim.Native.Nat.{ℕ, _/_}
 use lib.ListN.{length, replicate}
 use Rattle.octets.specs.Pick.{pick}
 use Rattle.octets.proofs.Bools.{by, clash}
 use Rattle.merge_sources.specs.Row.{sameRow}
 use Rattle.merge_sources.specs.declared.Row.{Row}
 use Rattle.merge_pids.specs.Marks.{Marked}
-use Rattle.merge_partners.specs.Pairs.{First, joinedFirst, joined, joinAll, firstOf, demandedPairs, pairsFrom, sameUids}
-use Rattle.merge.specs.declared.Paired.{Paired}
+use Rattle.merge_partners.specs.Pairs.{First, joined, joinAll, firstOf, demandedPairs, pairsFrom, sameUids}
 use Rattle.merge.specs.declared.Paired.the-variants.{Pairs, Refused}
 use Rattle.merge.specs.Sides.{Side, marksOf, rowIn, overSide, isOver, Settled, settled, pairsOf, settledBy, settleOf}
 

@@ -1,14 +1,14 @@
 -- Pairs written one after the other. Assumes nothing.
 use mathlib.Core.Path.{_≡_, refl, sym, ap, _∙_}
-use mathlib.Core.Bool.{Bool, true, false}
-use mathlib.Core.List.{List, [], _∷_, _++_, append-assoc, append-nil}
+use mathlib.Core.Bool.{true, false}
+use mathlib.Core.List.{List, [], _∷_, _++_, append-assoc}
 use Prim.Native.Nat.{ℕ, zero, suc, _+_, _-_, _*_, _<_, _≤_}
 use native.Mathlib.Nat.{add-zero}
 use native.Mathlib.Numerals.{add-one}
 use native.Mathlib.Omega.{arith}
 use lib.Dec.{eqb}
-use lib.ListN.{length, getD, take, drop, set, length-append, length-set, length-take, take-append-drop}
-use lib.Seq.{sets-eq, take-at, drop-drop, drop-append-add, drop-at, length-take-le}
+use lib.ListN.{length, getD, take, drop, set, length-append, length-set, take-append-drop}
+use lib.Seq.{sets-eq, take-at, drop-drop, drop-append-add, length-take-le}
 use borrow.Author.Tests.{le-ltb}
 use Rattle.octets.proofs.Bools.{by}
 use Rattle.merge_pids.specs.Marks.{Marked, marked}

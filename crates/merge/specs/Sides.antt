@@ -1,6 +1,6 @@
 -- The two sides of a merge as the reader leaves them, and refusals 71, 72 and 70 of both. Assumes nothing.
 use Prim.Native.Nat.{ℕ, _/_}
-use mathlib.Core.Bool.{Bool, true, false}
+use mathlib.Core.Bool.{Bool, true}
 use mathlib.Core.List.{List, []}
 use lib.Dec.{eqb, ltb}
 use lib.ListN.{length, replicate}

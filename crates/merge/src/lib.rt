@@ -315,13 +315,7 @@ pub fn check_rows(first: &[u8], second: &[u8], a: Row, b: Row, plan: &[u32]) -> 
 }
 
 // The planner: proposes the demanded pairs of two edits of one card, each with the row of its sources that the host lends.
-pub fn plan(
-    first: &[u8],
-    second: &[u8],
-    m: &[Source],
-    n: &[Source],
-    out: &mut [u32],
-) -> Paired
+pub fn plan(first: &[u8], second: &[u8], m: &[Source], n: &[Source], out: &mut [u32]) -> Paired
     ensures { λ r. ⌜ planned r (now (out .exit)) ≡ planOutcome (now (first .entry)) (now (second .entry)) (now (m .entry)) (now (n .entry)) (now (out .entry)) ⌝ }
 {
     let a = merge_sources::row_of(m);
@@ -330,13 +324,7 @@ pub fn plan(
 }
 
 // The checker: accepts a plan that passes.
-pub fn check(
-    first: &[u8],
-    second: &[u8],
-    m: &[Source],
-    n: &[Source],
-    plan: &[u32],
-) -> Paired
+pub fn check(first: &[u8], second: &[u8], m: &[Source], n: &[Source], plan: &[u32]) -> Paired
     ensures { λ r. ⌜ r ≡ checkOutcome (now (first .entry)) (now (second .entry)) (now (m .entry)) (now (n .entry)) (now (plan .entry)) ⌝ }
 {
     let a = merge_sources::row_of(m);

@@ -1,7 +1,7 @@
 -- Walks over entries, keys, marks and lines: one more of those that are left, and none. Assumes nothing.
-use mathlib.Core.Path.{_≡_, refl, sym, ap, _∙_}
-use mathlib.Core.Bool.{Bool, true, false, not}
-use mathlib.Core.List.{List, [], _∷_, _++_}
+use mathlib.Core.Path.{_≡_, refl, ap}
+use mathlib.Core.Bool.{not}
+use mathlib.Core.List.{List, [], _++_}
 use Prim.Native.Nat.{ℕ, zero, suc, _+_, _-_, _<_, _≤_, min}
 use native.Mathlib.Omega.{arith}
 use lib.Dec.{eqb}
@@ -11,7 +11,7 @@ use Rattle.merge_sources.specs.declared.Row.{Row}
 use Rattle.merge_sides.specs.Lines.{one}
 use Rattle.merge_sides.proofs.Walks.{left, over}
 use Rattle.merge_partners.specs.Keys.{setsFrom, classesOf, countKeys, numberAt, line, keyAt}
-use Rattle.merge_partners.specs.Pairs.{Pair, hitPair, keyPair, hitPairs, markPairs, sharedPairs, rowPairs, singlePairs, keysOf, demandedPairs, pairsFrom}
+use Rattle.merge_partners.specs.Pairs.{keyPair, hitPairs, markPairs, sharedPairs, rowPairs, singlePairs, keysOf, demandedPairs, pairsFrom}
 
 module _ (f : ℕ → ℕ) (xs : List ℕ) (n i : ℕ) where
   pub sets-turn : i < n → setsFrom f xs i (n - i) ≡ setsFrom f (set xs i (f i)) (i + 1) (n - (i + 1))

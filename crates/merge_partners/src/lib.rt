@@ -31,7 +31,9 @@ const NO_KEY: u32 = 4294967295;
 
 // The numbers of a mark: its line, the PID's first number and its source number.
 const LINE: usize = 0;
+
 const FIRST: usize = 1;
+
 const SOURCE: usize = 2;
 
 // The URI of an entry in its card's copy.

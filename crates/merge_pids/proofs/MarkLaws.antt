@@ -1,5 +1,5 @@
 -- Marks written one after the other. Assumes nothing.
-use mathlib.Core.Path.{_≡_, refl, sym, ap, _∙_}
+use mathlib.Core.Path.{_≡_, refl}
 use mathlib.Core.List.{List, [], _∷_, _++_}
 use Rattle.merge_pids.specs.Marks.{Mark, Marked, putMark, putAll}
 

@@ -1,9 +1,9 @@
 -- The parameters of a line, one after the other. Assumes nothing.
-use mathlib.Core.Path.{_≡_, refl, sym, ap, _∙_}
-use mathlib.Core.List.{List, [], _∷_, _++_}
-use Prim.Native.Nat.{ℕ, zero, suc, _+_, _-_, _<_, _≤_}
+use mathlib.Core.Path.{_≡_, refl, ap, _∙_}
+use mathlib.Core.List.{List, [], _++_}
+use Prim.Native.Nat.{ℕ, zero, suc, _+_, _-_, _<_}
 use native.Mathlib.Omega.{arith}
-use lib.ListN.{length, getD, take, drop}
+use lib.ListN.{getD, take, drop}
 use lib.Seq.{drop-drop}
 use Rattle.octets.specs.Classes.{run, named, has}
 use Rattle.octets.proofs.Runs.{run-has}
@@ -12,7 +12,7 @@ use Rattle.line_parser.specs.Parse.{got, bad}
 use Rattle.line_parser.specs.Grammar.{Param}
 use Rattle.line_parser.specs.Rule.{param}
 use Rattle.line_parser.proofs.Steps.{is, isnt}
-use Rattle.merge_pids.specs.Marks.{Mark, Marked, putAll, namedMarks, paramMarks, paramsMarks}
+use Rattle.merge_pids.specs.Marks.{Marked, putAll, namedMarks, paramsMarks}
 use Rattle.merge_pids.proofs.MarkLaws.{put-append}
 
 module _ (i : ℕ) (s : List ℕ) (place : ℕ) where

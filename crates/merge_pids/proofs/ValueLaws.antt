@@ -1,11 +1,10 @@
 -- The values of a PID parameter, one after the other. Assumes nothing.
 use mathlib.Core.Path.{_≡_, refl, sym, ap, _∙_}
-use mathlib.Core.Bool.{Bool, true, false}
-use mathlib.Core.List.{List, [], _∷_, _++_}
+use mathlib.Core.List.{List, [], _++_}
 use Prim.Native.Nat.{ℕ, zero, suc, _+_, _-_, _<_, _≤_}
 use native.Mathlib.Omega.{arith}
 use lib.Dec.{eqb}
-use lib.ListN.{length, getD, take, drop, drop-of-length-le}
+use lib.ListN.{length, take, drop, drop-of-length-le}
 use lib.Seq.{drop-drop}
 use borrow.Author.Tests.{eq-eqb, ne-eqb}
 use Rattle.octets.specs.Pick.{pick}
@@ -13,7 +12,7 @@ use Rattle.octets.specs.Classes.{run, bare, quoted}
 use Rattle.octets.proofs.Bools.{by}
 use Rattle.line_parser.specs.Parse.{hd}
 use Rattle.merge_pids.specs.Numbers.{pidOf}
-use Rattle.merge_pids.specs.Marks.{Mark, Marked, putAll, valueMarks, spanAt, bodyAt, widthAt, valuesMarks}
+use Rattle.merge_pids.specs.Marks.{Marked, putAll, valueMarks, spanAt, bodyAt, widthAt, valuesMarks}
 use Rattle.merge_pids.specs.declared.Span.{Span}
 use Rattle.merge_pids.proofs.MarkLaws.{put-append}
 

@@ -172,14 +172,7 @@ fn value_at(t: &ClassTable, s: &[u8], at: usize) -> Span
 }
 
 // Writes the marks of the values of a PID parameter, the first of which starts at `from`.
-fn put_values(
-    t: &ClassTable,
-    s: &[u8],
-    from: usize,
-    line: u32,
-    out: &mut [u32],
-    at: usize,
-) -> usize
+fn put_values(t: &ClassTable, s: &[u8], from: usize, line: u32, out: &mut [u32], at: usize) -> usize
     requires { ⌜ Classes (now t) ⌝ }
     ensures { λ r. ⌜ marked r (now (out .exit)) ≡ putAll (marked at (now (out .entry))) (valuesMarks line (suc (length (drop from (now (s .entry))))) (drop from (now (s .entry)))) ⌝ }
 {

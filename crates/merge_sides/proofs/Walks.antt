@@ -1,8 +1,7 @@
 -- Walks over lines, entries and marks by number: one more of those that are left, and none; and the source of a value. Assumes nothing.
-use mathlib.Core.Path.{_≡_, refl, sym, ap, _∙_}
-use mathlib.Core.Bool.{Bool, true, false}
-use mathlib.Core.List.{List, [], _∷_, _++_}
-use Prim.Native.Nat.{ℕ, zero, suc, _+_, _-_, _<_, _≤_}
+use mathlib.Core.Path.{_≡_, ap, _∙_}
+use mathlib.Core.List.{List}
+use Prim.Native.Nat.{ℕ, suc, _+_, _-_, _<_, _≤_}
 use native.Mathlib.Omega.{arith}
 use lib.Dec.{eqb, ltb}
 use lib.ListN.{length, take, drop, length-take, length-drop}
@@ -11,7 +10,6 @@ use Rattle.numbers.specs.Fields as field
 use Rattle.octets.specs.Classes.{run, digit}
 use Rattle.octets.specs.Slices.{part}
 use Rattle.octets.proofs.Bools.{by}
-use Rattle.merge_sources.specs.declared.Source.{Source}
 use Rattle.merge_sources.specs.declared.Row.{Row}
 use Rattle.merge_pids.specs.Numbers.{digits}
 use Rattle.merge_pids.specs.Marks.{Marked, putAll}

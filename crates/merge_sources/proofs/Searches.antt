@@ -1,16 +1,15 @@
 -- Laws of the search for a number and of the comparison of two rows. Assumes nothing.
-use Prim.Native.Nat.{ℕ, zero, suc, _+_, _-_, _<_, _≤_}
+use Prim.Native.Nat.{ℕ, suc, _+_, _-_, _<_, _≤_}
 use mathlib.Core.Path.{_≡_, refl}
 use mathlib.Core.Bool.{Bool, true, false}
 use mathlib.Core.List.{List}
 use native.Mathlib.Omega.{arith}
 use lib.Dec.{eqb, ltb}
 use lib.ListN.{getD}
-use borrow.Author.Tests.{ltb-true, ltb-false}
+use borrow.Author.Tests.{ltb-true}
 use Rattle.merge_sources.specs.Row.{none, least, firstIn, sameEntry, sameEntries}
 use Rattle.octets.specs.Pick.{pick}
 use Rattle.merge_sources.specs.declared.Source.{Source}
-use Rattle.merge_sources.specs.declared.Found.{Found}
 use Rattle.merge_sources.specs.declared.Found.the-variants.{At, Nothing}
 
 least-by : (n : ℕ) (b : Bool) → ltb n 16 ≡ b → pick b n 16 ≤ 16

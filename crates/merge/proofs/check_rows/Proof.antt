@@ -1,121 +1,87 @@
-use borrow.Author.Tests.{lt-ltb, le-ltb, not-true, not-false}
-use mathlib.Core.Path.{_≡_, refl, sym, ap, _∙_}
-use mathlib.Core.Bool.{Bool, true, false, not}
-use mathlib.Core.List.{List, [], _∷_, _++_}
-use Prim.Native.Nat.{ℕ, suc, _-_, _+_, _*_, _/_, _≤_, _<_}
-use native.Mathlib.Omega.{arith}
-use lib.ListN.{length, take, replicate}
-use Rattle.merge_partners.specs.Pairs.{First, joinedFirst, pairsFrom}
+-- `merge::check_rows` meets its contract. Assumes nothing.
+use borrow.Author.Tests.{not-true, not-false}
+use mathlib.Core.Path.{sym, ap, _∙_}
+use mathlib.Core.Bool.{Bool}
+use mathlib.Core.List.{List}
+use Prim.Native.Nat.{ℕ}
+use Rattle.merge_partners.specs.Pairs.{First, joinedFirst}
 use Rattle.merge.specs.declared.Paired.{Paired}
-use Rattle.merge.specs.declared.Paired.the-variants.{Pairs, Refused}
-use Rattle.merge.specs.Sides.{Side, side, readOf, Settled, settled, settleOf}
-use Rattle.merge.specs.Plans.{flatten}
-use Rattle.merge.specs.Outcome.{Planned, planned, writeOf, judgeOf, entered, planIn}
-use Rattle.merge.proofs.SettleLaws.{pair-count}
-use Rattle.merge.proofs.WriteLaws.{flatten-length, pairs-few}
-use Rattle.merge.proofs.OutcomeLaws.{plan-first, plan-second, plan-both, check-first, check-second, check-both}
+use Rattle.merge.specs.Sides.{Side, side, readOf, Settled, settled}
+use Rattle.merge.specs.Outcome.{judgeOf, entered, planIn}
+use Rattle.merge.proofs.OutcomeLaws.{check-first, check-second, check-both}
 use borrow.Author.Needs.{needs}
 use Rattle.merge.proofs.check_rows.Statement.{statement}
 use Rattle.merge.proofs.check_rows.Tie as tie
-use Rattle.merge.proofs.check_rows.Reads as reads
-use Rattle.merge.proofs.check_rows.Lts as lts
-use Rattle.merge.proofs.covers.Reads as covers-reads
-use Rattle.merge.proofs.enter_plan.Reads as enter-plan-reads
-use Rattle.merge.proofs.refusal_of.Reads as refusal-of-reads
-use Rattle.merge.proofs.settle.Reads as settle-reads
-use Rattle.reader.proofs.read.Reads as read-reads
 
--- src/lib.rt:292:49
 slice-aggregate-read : tie.Need-slice-aggregate-read
 slice-aggregate-read c = search needs
 
--- src/lib.rt:292:58
 slice-aggregate-read-2 : tie.Need-slice-aggregate-read-2
 slice-aggregate-read-2 c = search needs
 
--- src/lib.rt:292:9
 read-requires : tie.Need-read-requires
 read-requires c κs = search needs
 
--- src/lib.rt:293:27
 enum-known-v : tie.Need-enum-known-v
 enum-known-v c = search needs
 
--- src/lib.rt:294:9
 enum-told : tie.Need-enum-told
 enum-told c = search needs
 
--- src/lib.rt:294:9
 refusal-of-requires : tie.Need-refusal-of-requires
 refusal-of-requires c κs = search needs
 
--- src/lib.rt:294:9
 returns : tie.Need-returns
 unfolding readOf
 returns c =
     let a = c .before .before .before .before .before .before .before .before .before .before .before .args in
     c .refusal-of .ensures ∙ sym (check-first (a .first .now) (a .second .now) (a .a) (a .b) (c .before .before .before .before .before .read .result) (c .before .before .before .before .before .read .last .1 .1 .0) (c .before .before .before .before .before .read .last .1 .1 .1 .0) (c .before .before .before .before .before .read .ensures) (a .plan .now) _ _ (c .before .enum-told .given .1))
 
--- src/lib.rt:298:50
 slice-aggregate-read-3 : tie.Need-slice-aggregate-read-3
 slice-aggregate-read-3 c = search needs
 
--- src/lib.rt:298:59
 slice-aggregate-read-4 : tie.Need-slice-aggregate-read-4
 slice-aggregate-read-4 c = search needs
 
--- src/lib.rt:298:9
 read-requires-2 : tie.Need-read-requires-2
 read-requires-2 c κs = search needs
 
--- src/lib.rt:299:27
 enum-known-w : tie.Need-enum-known-w
 enum-known-w c = search needs
 
--- src/lib.rt:300:9
 enum-told-2 : tie.Need-enum-told-2
 enum-told-2 c = search needs
 
--- src/lib.rt:300:9
 refusal-of-requires-2 : tie.Need-refusal-of-requires-2
 refusal-of-requires-2 c κs = search needs
 
--- src/lib.rt:300:9
 returns-2 : tie.Need-returns-2
 unfolding readOf
 returns-2 c =
     let a = c .before .before .before .before .before .before .before .before .before .before .before .before .before .before .before .before .before .before .before .args in
     c .refusal-of2 .ensures ∙ sym (check-second (a .first .now) (a .second .now) (a .a) (a .b) (c .before .before .before .before .before .before .before .before .before .before .before .before .before .read .result) (c .before .before .before .before .before .before .before .before .before .before .before .before .before .read .last .1 .1 .0) (c .before .before .before .before .before .before .before .before .before .before .before .before .before .read .last .1 .1 .1 .0) (c .before .before .before .before .before .before .before .before .before .before .before .before .before .read .ensures) _ _ (c .before .before .before .before .before .before .before .before .before .v .given .1) (c .before .before .before .before .before .read2 .result) (c .before .before .before .before .before .read2 .last .1 .1 .0) (c .before .before .before .before .before .read2 .last .1 .1 .1 .0) (c .before .before .before .before .before .read2 .ensures) (a .plan .now) _ _ (c .before .enum-told2 .given .1))
 
--- src/lib.rt:303:20
 slice-aggregate-settle : tie.Need-slice-aggregate-settle
 slice-aggregate-settle c = search needs
 
--- src/lib.rt:303:25
 slice-aggregate-settle-2 : tie.Need-slice-aggregate-settle-2
 slice-aggregate-settle-2 c = search needs
 
--- src/lib.rt:303:41
 slice-aggregate-settle-3 : tie.Need-slice-aggregate-settle-3
 slice-aggregate-settle-3 c = search needs
 
--- src/lib.rt:303:46
 slice-aggregate-settle-4 : tie.Need-slice-aggregate-settle-4
 slice-aggregate-settle-4 c = search needs
 
--- src/lib.rt:303:9
 settle-requires : tie.Need-settle-requires
 settle-requires c κs = search needs
 
--- src/lib.rt:304:23
 enum-known-s : tie.Need-enum-known-s
 enum-known-s c = search needs
 
--- src/lib.rt:305:9
 enum-told-3 : tie.Need-enum-told-3
 enum-told-3 c = search needs
 
--- src/lib.rt:305:9
 returns-3 : tie.Need-returns-3
 unfolding readOf
 returns-3 c =
@@ -125,27 +91,21 @@ returns-3 c =
     let p : List ℕ = c .before .before .settle .last .1 .1 .1 .1 .1 .1 .1 .1 .1 .1 .0 in
     c .enum-told3 .given .1 ∙ sym (check-both (a .first .now) (a .second .now) (a .a) (a .b) (c .before .before .before .before .before .before .before .before .before .before .before .before .before .before .before .before .before .before .before .before .before .read .result) (c .before .before .before .before .before .before .before .before .before .before .before .before .before .before .before .before .before .before .before .before .before .read .last .1 .1 .0) (c .before .before .before .before .before .before .before .before .before .before .before .before .before .before .before .before .before .before .before .before .before .read .last .1 .1 .1 .0) (c .before .before .before .before .before .before .before .before .before .before .before .before .before .before .before .before .before .before .before .before .before .read .ensures) _ _ (c .before .before .before .before .before .before .before .before .before .before .before .before .before .before .before .before .before .v .given .1) (c .before .before .before .before .before .before .before .before .before .before .before .before .before .read2 .result) (c .before .before .before .before .before .before .before .before .before .before .before .before .before .read2 .last .1 .1 .0) (c .before .before .before .before .before .before .before .before .before .before .before .before .before .read2 .last .1 .1 .1 .0) (c .before .before .before .before .before .before .before .before .before .before .before .before .before .read2 .ensures) _ _ (c .before .before .before .before .before .before .before .before .before .w .given .1) (a .plan .now) ∙ ap (λ (z : Settled). judgeOf z x y (a .plan .now)) (sym (c .before .before .settle .ensures)) ∙ ap (λ (r : Paired). judgeOf (settled r p) x y (a .plan .now)) (c .enum-told3 .given .1))
 
--- src/lib.rt:308:20
 slice-aggregate-enter-plan : tie.Need-slice-aggregate-enter-plan
 slice-aggregate-enter-plan c = search needs
 
--- src/lib.rt:308:25
 slice-aggregate-enter-plan-2 : tie.Need-slice-aggregate-enter-plan-2
 slice-aggregate-enter-plan-2 c = search needs
 
--- src/lib.rt:308:34
 slice-aggregate-enter-plan-3 : tie.Need-slice-aggregate-enter-plan-3
 slice-aggregate-enter-plan-3 c = search needs
 
--- src/lib.rt:308:39
 slice-aggregate-enter-plan-4 : tie.Need-slice-aggregate-enter-plan-4
 slice-aggregate-enter-plan-4 c = search needs
 
--- src/lib.rt:308:9
 enter-plan-requires : tie.Need-enter-plan-requires
 enter-plan-requires c κs = search needs
 
--- src/lib.rt:309:9
 returns-4 : tie.Need-returns-4
 unfolding readOf planIn
 returns-4 c =
@@ -156,11 +116,9 @@ returns-4 c =
     let q : List ℕ = c .before .enter-plan .last .1 .1 .1 .1 .1 .1 .1 .0 in
     sym (check-both (a .first .now) (a .second .now) (a .a) (a .b) (c .before .before .before .before .before .before .before .before .before .before .before .before .before .before .before .before .before .before .before .before .before .before .before .before .before .before .before .before .before .read .result) (c .before .before .before .before .before .before .before .before .before .before .before .before .before .before .before .before .before .before .before .before .before .before .before .before .before .before .before .before .before .read .last .1 .1 .0) (c .before .before .before .before .before .before .before .before .before .before .before .before .before .before .before .before .before .before .before .before .before .before .before .before .before .before .before .before .before .read .last .1 .1 .1 .0) (c .before .before .before .before .before .before .before .before .before .before .before .before .before .before .before .before .before .before .before .before .before .before .before .before .before .before .before .before .before .read .ensures) _ _ (c .before .before .before .before .before .before .before .before .before .before .before .before .before .before .before .before .before .before .before .before .before .before .before .before .before .v .given .1) (c .before .before .before .before .before .before .before .before .before .before .before .before .before .before .before .before .before .before .before .before .before .read2 .result) (c .before .before .before .before .before .before .before .before .before .before .before .before .before .before .before .before .before .before .before .before .before .read2 .last .1 .1 .0) (c .before .before .before .before .before .before .before .before .before .before .before .before .before .before .before .before .before .before .before .before .before .read2 .last .1 .1 .1 .0) (c .before .before .before .before .before .before .before .before .before .before .before .before .before .before .before .before .before .before .before .before .before .read2 .ensures) _ _ (c .before .before .before .before .before .before .before .before .before .before .before .before .before .before .before .before .before .w .given .1) (a .plan .now) ∙ ap (λ (z : Settled). judgeOf z x y (a .plan .now)) (sym (c .before .before .before .before .before .before .before .before .before .before .settle .ensures)) ∙ ap (λ (r : Paired). judgeOf (settled r p) x y (a .plan .now)) (c .before .before .before .before .before .before .before .before .s .given .1) ∙ ap (λ (f : First). entered f p (a .plan .now)) (sym (c .before .enter-plan .ensures)) ∙ ap (λ (t : Bool). entered (joinedFirst t q) p (a .plan .now)) (not-true (c .before .enter-plan .result) (c .if1 .taken)))
 
--- src/lib.rt:311:9
 covers-requires : tie.Need-covers-requires
 covers-requires c κs = search needs
 
--- src/lib.rt:312:9
 returns-5 : tie.Need-returns-5
 unfolding readOf planIn
 returns-5 c =
@@ -171,7 +129,6 @@ returns-5 c =
     let q : List ℕ = c .before .before .before .before .before .enter-plan .last .1 .1 .1 .1 .1 .1 .1 .0 in
     sym (check-both (a .first .now) (a .second .now) (a .a) (a .b) (c .before .before .before .before .before .before .before .before .before .before .before .before .before .before .before .before .before .before .before .before .before .before .before .before .before .before .before .before .before .before .before .before .before .read .result) (c .before .before .before .before .before .before .before .before .before .before .before .before .before .before .before .before .before .before .before .before .before .before .before .before .before .before .before .before .before .before .before .before .before .read .last .1 .1 .0) (c .before .before .before .before .before .before .before .before .before .before .before .before .before .before .before .before .before .before .before .before .before .before .before .before .before .before .before .before .before .before .before .before .before .read .last .1 .1 .1 .0) (c .before .before .before .before .before .before .before .before .before .before .before .before .before .before .before .before .before .before .before .before .before .before .before .before .before .before .before .before .before .before .before .before .before .read .ensures) _ _ (c .before .before .before .before .before .before .before .before .before .before .before .before .before .before .before .before .before .before .before .before .before .before .before .before .before .before .before .before .before .v .given .1) (c .before .before .before .before .before .before .before .before .before .before .before .before .before .before .before .before .before .before .before .before .before .before .before .before .before .read2 .result) (c .before .before .before .before .before .before .before .before .before .before .before .before .before .before .before .before .before .before .before .before .before .before .before .before .before .read2 .last .1 .1 .0) (c .before .before .before .before .before .before .before .before .before .before .before .before .before .before .before .before .before .before .before .before .before .before .before .before .before .read2 .last .1 .1 .1 .0) (c .before .before .before .before .before .before .before .before .before .before .before .before .before .before .before .before .before .before .before .before .before .before .before .before .before .read2 .ensures) _ _ (c .before .before .before .before .before .before .before .before .before .before .before .before .before .before .before .before .before .before .before .before .before .w .given .1) (a .plan .now) ∙ ap (λ (z : Settled). judgeOf z x y (a .plan .now)) (sym (c .before .before .before .before .before .before .before .before .before .before .before .before .before .before .settle .ensures)) ∙ ap (λ (r : Paired). judgeOf (settled r p) x y (a .plan .now)) (c .before .before .before .before .before .before .before .before .before .before .before .before .s .given .1) ∙ ap (λ (f : First). entered f p (a .plan .now)) (sym (c .before .before .before .before .before .enter-plan .ensures)) ∙ ap (λ (t : Bool). entered (joinedFirst t q) p (a .plan .now)) (not-false (c .before .before .before .before .before .enter-plan .result) (c .before .before .before .before .if1 .left)) ∙ rw (sym (c .before .covers .ensures) ∙ not-true (c .before .covers .result) (c .if2 .taken)))
 
--- src/lib.rt:287:1
 returns-6 : tie.Need-returns-6
 unfolding readOf planIn
 returns-6 c =

@@ -1,21 +1,17 @@
+-- `merge::put_pairs` meets its contract. Assumes nothing.
 use borrow.Author.Needs.{needs}
-use borrow.Author.Tests.{eq-eqb, ne-eqb, lt-ltb, le-ltb, not-true, not-false}
 use mathlib.Core.Path.{_≡_, refl, sym, ap, _∙_}
-use mathlib.Core.Bool.{Bool, true, false, not}
-use mathlib.Core.List.{List, [], _∷_, _++_}
-use Prim.Native.Nat.{ℕ, suc, _-_, _+_, _*_, _/_, _≤_, _<_}
-use native.Mathlib.Nat.{sub-zero, zero-add}
+use mathlib.Core.List.{_++_}
+use Prim.Native.Nat.{ℕ, _-_, _+_, _≤_}
+use native.Mathlib.Nat.{zero-add}
 use native.Mathlib.Omega.{arith}
-use lib.ListN.{length, getD, take, drop, replicate, length-take, length-set, length-replicate}
+use lib.ListN.{length, drop}
 use Rattle.merge_pids.specs.Marks.{Marked, marked}
 use Rattle.merge_partners.specs.Pairs.{pairsFrom}
 use Rattle.merge.specs.Plans.{flatten, putPartners}
 use Rattle.merge.proofs.WriteLaws.{partners-turn, partners-over, partners-put}
 use Rattle.merge.proofs.put_pairs.Statement.{statement}
 use Rattle.merge.proofs.put_pairs.Tie as tie
-use Rattle.merge.proofs.put_pairs.Reads as reads
-use Rattle.merge.proofs.put_pairs.Lts as lts
-use Rattle.merge.proofs.put_partner.Reads as put-partner-reads
 
 abbrev Inv-loop : tie.InvT-loop
 Inv-loop p out₀ at₀ i₀ out at i =
@@ -25,39 +21,34 @@ abbrev μ-loop : tie.MeasureT-loop
 μ-loop p out₀ at₀ i₀ out at i =
     4096 - i
 
--- src/lib.rt:151:5
 loop-holds : tie.Need-loop-holds Inv-loop μ-loop
 loop-holds c =
     (omega arith, refl, refl)
 
--- src/lib.rt:152:29
 mul-put-partner : tie.Need-mul-put-partner Inv-loop μ-loop
 mul-put-partner c = search needs
--- src/lib.rt:152:29
+
 element-copy-out-put-partner : tie.Need-element-copy-out-put-partner Inv-loop μ-loop
 element-copy-out-put-partner c = search needs
--- src/lib.rt:152:9
+
 put-partner-requires : tie.Need-put-partner-requires Inv-loop μ-loop
 put-partner-requires c κs =
     c .before .before .loop-test .taken
 
--- src/lib.rt:153:9
 add-i : tie.Need-add-i Inv-loop μ-loop
 add-i c = search needs
--- src/lib.rt:151:5
+
 loop-less : tie.Need-loop-less Inv-loop μ-loop
 loop-less c = search needs
--- src/lib.rt:151:5
+
 loop-again : tie.Need-loop-again Inv-loop μ-loop
 loop-again c =
     (omega arith, c .before .before .put-partner .kept .1 .1 .0 ∙ c .before .before .before .before .before .before .loop .inv .1, c .before .before .before .before .before .before .loop .inv .2 ∙ partners-turn (marked (c .before .before .before .before .before .before .loop .at) (c .before .before .before .before .before .before .loop .out)) (c .before .before .before .before .before .before .before .before .args .p .now) 4096 (c .before .before .before .before .before .before .loop .i) (c .before .before .before .before .before .loop-test .taken) ∙ ap (λ (s : Marked). putPartners s (c .before .before .before .before .before .before .before .before .args .p .now) (c .before .before .before .before .before .before .loop .i + 1) (4096 - (c .before .before .before .before .before .before .loop .i + 1))) (sym (c .before .before .put-partner .ensures)))
 
--- src/lib.rt:145:1
 same-length : tie.Need-same-length Inv-loop μ-loop
 same-length c =
     c .before .loop .inv .1
 
--- src/lib.rt:145:1
 returns : tie.Need-returns Inv-loop μ-loop
 returns c =
     let fits : 0 + length (flatten (pairsFrom (c .before .before .before .args .p .now) 0 4096)) ≤ length (c .before .before .before .args .out .now) = omega (arith, c .before .before .before .pre) in

@@ -1,69 +1,47 @@
-use borrow.Author.Tests.{eq-eqb, ne-eqb, lt-ltb, le-ltb, not-true, not-false}
-use mathlib.Core.Path.{_≡_, refl, sym, ap, _∙_}
-use mathlib.Core.Bool.{Bool, true, false, not}
-use mathlib.Core.List.{List, [], _∷_, _++_}
-use Prim.Native.Nat.{ℕ, suc, _-_, _+_, _*_, _/_, _≤_, _<_}
-use native.Mathlib.Nat.{sub-zero, zero-add}
-use native.Mathlib.Omega.{arith}
-use lib.ListN.{length, getD, take, drop, replicate, length-take, length-set, length-replicate}
+-- `merge::settle` meets its contract. Assumes nothing.
+use borrow.Author.Tests.{not-true, not-false}
+use mathlib.Core.Path.{_≡_, sym, ap, _∙_}
+use mathlib.Core.Bool.{Bool}
+use Prim.Native.Nat.{ℕ}
+use lib.ListN.{length-replicate}
 use Rattle.merge_sources.specs.Row.{sameRow}
 use Rattle.merge_sources.specs.declared.Row.{Row}
 use Rattle.merge_pids.specs.Marks.{Marked, marked}
-use Rattle.merge_partners.specs.Pairs.{First, joinedFirst, pairsFrom}
-use Rattle.merge.specs.declared.Paired.the-variants.{Pairs, Refused}
+use Rattle.merge_partners.specs.Pairs.{joinedFirst}
+use Rattle.merge.specs.declared.Paired.the-variants.{Pairs}
 use Rattle.merge.specs.Sides.{Side, side, marksOf, rowIn, isOver, settled, settledBy, pairsOf}
 use Rattle.merge.proofs.SettleLaws.{over-by, pairs-by, first-over, second-over, first-row, second-row, no-uids, settle-pairs}
 use borrow.Author.Needs.{needs}
 use Rattle.merge.proofs.settle.Statement.{statement}
 use Rattle.merge.proofs.settle.Tie as tie
-use Rattle.merge.proofs.settle.Reads as reads
-use Rattle.merge.proofs.settle.Lts as lts
-use Rattle.merge.proofs.is_over.Reads as is-over-reads
-use Rattle.merge_partners.proofs.count_pairs.Reads as count-pairs-reads
-use Rattle.merge_partners.proofs.join_all.Reads as join-all-reads
-use Rattle.merge_partners.proofs.same_uids.Reads as same-uids-reads
-use Rattle.merge_sides.proofs.own_row.Reads as own-row-reads
-use Rattle.merge_sides.proofs.put_marks.Reads as put-marks-reads
-use Rattle.merge_sources.proofs.same_row.Reads as same-row-reads
-use Rattle.octets.proofs.classes.table.Reads as table-reads
 
--- src/lib.rt:83:13
 table-requires : tie.Need-table-requires
 table-requires c κs = search needs
 
--- src/lib.rt:86:53
 slice-aggregate-put-marks : tie.Need-slice-aggregate-put-marks
 slice-aggregate-put-marks c = search needs
 
--- src/lib.rt:86:9
 put-marks-requires : tie.Need-put-marks-requires
 put-marks-requires c κs = search needs
 
--- src/lib.rt:87:53
 slice-aggregate-put-marks-2 : tie.Need-slice-aggregate-put-marks-2
 slice-aggregate-put-marks-2 c = search needs
 
--- src/lib.rt:87:9
 put-marks-requires-2 : tie.Need-put-marks-requires-2
 put-marks-requires-2 c κs = search needs
 
--- src/lib.rt:88:9
 own-row-requires : tie.Need-own-row-requires
 own-row-requires c κs = search needs
 
--- src/lib.rt:89:9
 own-row-requires-2 : tie.Need-own-row-requires-2
 own-row-requires-2 c κs = search needs
 
--- src/lib.rt:90:36
 slice-aggregate-is-over : tie.Need-slice-aggregate-is-over
 slice-aggregate-is-over c = search needs
 
--- src/lib.rt:90:8
 is-over-requires : tie.Need-is-over-requires
 is-over-requires c κs = search needs
 
--- src/lib.rt:91:9
 returns : tie.Need-returns
 unfolding marksOf rowIn
 returns c =
@@ -73,15 +51,13 @@ returns c =
     let ma : Marked = marked (c .before .before .before .before .before .before .before .before .before .before .put-marks .result) (c .before .before .before .before .before .before .before .before .before .before .put-marks .last .1 .1 .1 .1 .0) in
     let oa : c .before .is-over .result ≡ isOver x (a .a) = c .before .is-over .ensures ∙ over-by x (a .a) (c .before .before .before .before .own-row .result) ma (c .before .before .before .before .own-row .ensures) (c .before .before .before .before .before .before .before .before .before .before .put-marks .ensures) in
     sym (first-over x y (a .a) (a .b) (a .p .now) (sym oa ∙ c .if1 .taken))
--- src/lib.rt:93:36
+
 slice-aggregate-is-over-2 : tie.Need-slice-aggregate-is-over-2
 slice-aggregate-is-over-2 c = search needs
 
--- src/lib.rt:93:8
 is-over-requires-2 : tie.Need-is-over-requires-2
 is-over-requires-2 c κs = search needs
 
--- src/lib.rt:94:9
 returns-2 : tie.Need-returns-2
 unfolding marksOf rowIn
 returns-2 c =
@@ -93,11 +69,10 @@ returns-2 c =
     let mb : Marked = marked (c .before .before .before .before .before .before .before .before .before .put-marks2 .result) (c .before .before .before .before .before .before .before .before .before .put-marks2 .last .1 .1 .1 .1 .0) in
     let ob : c .before .is-over2 .result ≡ isOver y (a .b) = c .before .is-over2 .ensures ∙ over-by y (a .b) (c .before .before .before .before .before .before .own-row2 .result) mb (c .before .before .before .before .before .before .own-row2 .ensures) (c .before .before .before .before .before .before .before .before .before .put-marks2 .ensures) in
     sym (second-over x y (a .a) (a .b) (a .p .now) (sym oa ∙ c .before .before .before .if1 .left) (sym ob ∙ c .if2 .taken))
--- src/lib.rt:96:9
+
 same-row-requires : tie.Need-same-row-requires
 same-row-requires c κs = search needs
 
--- src/lib.rt:97:9
 returns-3 : tie.Need-returns-3
 unfolding marksOf rowIn
 returns-3 c =
@@ -110,11 +85,10 @@ returns-3 c =
     let ob : c .before .before .before .is-over2 .result ≡ isOver y (a .b) = c .before .before .before .is-over2 .ensures ∙ over-by y (a .b) (c .before .before .before .before .before .before .before .before .own-row2 .result) mb (c .before .before .before .before .before .before .before .before .own-row2 .ensures) (c .before .before .before .before .before .before .before .before .before .before .before .put-marks2 .ensures) in
     let sa : c .before .same-row .result ≡ sameRow (rowIn x) (a .a) = c .before .same-row .ensures ∙ ap (λ (r : Row). sameRow r (a .a)) (c .before .before .before .before .before .before .before .before .before .own-row .ensures) in
     sym (first-row x y (a .a) (a .b) (a .p .now) (sym oa ∙ c .before .before .before .before .before .if1 .left) (sym ob ∙ c .before .before .if2 .left) (sym sa ∙ not-true _ (c .if3 .taken)))
--- src/lib.rt:99:9
+
 same-row-requires-2 : tie.Need-same-row-requires-2
 same-row-requires-2 c κs = search needs
 
--- src/lib.rt:100:9
 returns-4 : tie.Need-returns-4
 unfolding marksOf rowIn
 returns-4 c =
@@ -128,11 +102,10 @@ returns-4 c =
     let sa : c .before .before .before .same-row .result ≡ sameRow (rowIn x) (a .a) = c .before .before .before .same-row .ensures ∙ ap (λ (r : Row). sameRow r (a .a)) (c .before .before .before .before .before .before .before .before .before .before .before .own-row .ensures) in
     let sb : c .before .same-row2 .result ≡ sameRow (rowIn y) (a .b) = c .before .same-row2 .ensures ∙ ap (λ (r : Row). sameRow r (a .b)) (c .before .before .before .before .before .before .before .before .before .before .own-row2 .ensures) in
     sym (second-row x y (a .a) (a .b) (a .p .now) (sym oa ∙ c .before .before .before .before .before .before .before .if1 .left) (sym ob ∙ c .before .before .before .before .if2 .left) (sym sa ∙ not-false _ (c .before .before .if3 .left)) (sym sb ∙ not-true _ (c .if4 .taken)))
--- src/lib.rt:102:9
+
 same-uids-requires : tie.Need-same-uids-requires
 same-uids-requires c κs = search needs
 
--- src/lib.rt:103:9
 returns-5 : tie.Need-returns-5
 unfolding marksOf rowIn
 returns-5 c =
@@ -146,20 +119,18 @@ returns-5 c =
     let sa : c .before .before .before .before .before .same-row .result ≡ sameRow (rowIn x) (a .a) = c .before .before .before .before .before .same-row .ensures ∙ ap (λ (r : Row). sameRow r (a .a)) (c .before .before .before .before .before .before .before .before .before .before .before .before .before .own-row .ensures) in
     let sb : c .before .before .before .same-row2 .result ≡ sameRow (rowIn y) (a .b) = c .before .before .before .same-row2 .ensures ∙ ap (λ (r : Row). sameRow r (a .b)) (c .before .before .before .before .before .before .before .before .before .before .before .before .own-row2 .ensures) in
     sym (no-uids x y (a .a) (a .b) (a .p .now) (sym oa ∙ c .before .before .before .before .before .before .before .before .before .if1 .left) (sym ob ∙ c .before .before .before .before .before .before .if2 .left) (sym sa ∙ not-false _ (c .before .before .before .before .if3 .left)) (sym sb ∙ not-false _ (c .before .before .if4 .left)) (sym (c .before .same-uids .ensures) ∙ not-true _ (c .if5 .taken)))
--- src/lib.rt:109:9
+
 slice-aggregate-join-all : tie.Need-slice-aggregate-join-all
 slice-aggregate-join-all c =
     sym (c .before .before .before .before .before .before .before .before .before .before .before .before .before .before .before .before .before .before .before .before .put-marks .kept .1 .1 .1 .1 .0 ∙ length-replicate {A = ℕ} 12288 0)
--- src/lib.rt:115:9
+
 slice-aggregate-join-all-2 : tie.Need-slice-aggregate-join-all-2
 slice-aggregate-join-all-2 c =
     sym (c .before .before .before .before .before .before .before .before .before .before .before .before .before .before .before .before .before .put-marks2 .kept .1 .1 .1 .1 .0 ∙ length-replicate {A = ℕ} 12288 0)
 
--- src/lib.rt:105:9
 join-all-requires : tie.Need-join-all-requires
 join-all-requires c κs = search needs
 
--- src/lib.rt:120:9
 returns-6 : tie.Need-returns-6
 unfolding marksOf rowIn
 returns-6 c =
@@ -175,11 +146,10 @@ returns-6 c =
     let joining : joinedFirst (c .before .join-all .result) (c .before .join-all .last .1 .1 .1 .1 .1 .1 .1 .1 .1 .1 .1 .1 .0) ≡ pairsOf x y (a .a) (a .b) (a .p .now) = c .before .join-all .ensures ∙ pairs-by x y (a .a) (a .b) (a .p .now) ma mb (c .before .before .before .before .before .before .before .before .before .before .before .before .before .before .before .before .before .before .before .before .before .before .before .before .put-marks .ensures) (c .before .before .before .before .before .before .before .before .before .before .before .before .before .before .before .before .before .before .before .before .put-marks2 .ensures) in
     let p = c .before .join-all .last .1 .1 .1 .1 .1 .1 .1 .1 .1 .1 .1 .1 .0 in
     sym (settle-pairs x y (a .a) (a .b) (a .p .now) (sym oa ∙ c .before .before .before .before .before .before .before .before .before .before .before .before .before .before .if1 .left) (sym ob ∙ c .before .before .before .before .before .before .before .before .before .before .before .if2 .left) (sym sa ∙ not-false _ (c .before .before .before .before .before .before .before .before .before .if3 .left)) (sym sb ∙ not-false _ (c .before .before .before .before .before .before .before .if4 .left)) (sym (c .before .before .before .before .before .before .same-uids .ensures) ∙ not-false _ (c .before .before .before .before .before .if5 .left)) ∙ ap settledBy (sym joining) ∙ ap (λ (t : Bool). settledBy (joinedFirst t p)) (not-true (c .before .join-all .result) (c .if6 .taken)))
--- src/lib.rt:122:19
+
 count-pairs-requires : tie.Need-count-pairs-requires
 count-pairs-requires c κs = search needs
 
--- src/lib.rt:68:1
 returns-7 : tie.Need-returns-7
 unfolding marksOf rowIn
 returns-7 c =
@@ -195,6 +165,7 @@ returns-7 c =
     let joining : joinedFirst (c .before .before .before .join-all .result) (c .before .before .before .join-all .last .1 .1 .1 .1 .1 .1 .1 .1 .1 .1 .1 .1 .0) ≡ pairsOf x y (a .a) (a .b) (a .p .now) = c .before .before .before .join-all .ensures ∙ pairs-by x y (a .a) (a .b) (a .p .now) ma mb (c .before .before .before .before .before .before .before .before .before .before .before .before .before .before .before .before .before .before .before .before .before .before .before .before .before .before .put-marks .ensures) (c .before .before .before .before .before .before .before .before .before .before .before .before .before .before .before .before .before .before .before .before .before .before .put-marks2 .ensures) in
     let p = c .before .before .before .join-all .last .1 .1 .1 .1 .1 .1 .1 .1 .1 .1 .1 .1 .0 in
     ap (λ (n : ℕ). settled (Pairs n) p) (c .count-pairs .ensures .0) ∙ sym (settle-pairs x y (a .a) (a .b) (a .p .now) (sym oa ∙ c .before .before .before .before .before .before .before .before .before .before .before .before .before .before .before .before .if1 .left) (sym ob ∙ c .before .before .before .before .before .before .before .before .before .before .before .before .before .if2 .left) (sym sa ∙ not-false _ (c .before .before .before .before .before .before .before .before .before .before .before .if3 .left)) (sym sb ∙ not-false _ (c .before .before .before .before .before .before .before .before .before .if4 .left)) (sym (c .before .before .before .before .before .before .before .before .same-uids .ensures) ∙ not-false _ (c .before .before .before .before .before .before .before .if5 .left)) ∙ ap settledBy (sym joining) ∙ ap (λ (t : Bool). settledBy (joinedFirst t p)) (not-false (c .before .before .before .join-all .result) (c .before .before .if6 .left)))
+
 pub settle-spec : {M : Type 1} → statement M
 settle-spec =
     tie.close

@@ -1,22 +1,18 @@
+-- `merge_partners::class_of` meets its contract. Assumes nothing.
 use borrow.Author.Needs.{needs}
-use borrow.Author.Tests.{eq-eqb, ne-eqb, lt-ltb, le-ltb, not-true, not-false}
+use borrow.Author.Tests.{lt-ltb, le-ltb}
 use mathlib.Core.Path.{_≡_, refl, sym, ap, _∙_}
-use mathlib.Core.Bool.{Bool, true, false, not}
-use mathlib.Core.List.{List, [], _∷_, _++_}
-use Prim.Native.Nat.{ℕ, suc, _-_, _+_, _*_, _≤_, _<_}
-use native.Mathlib.Nat.{sub-zero, zero-add}
+use mathlib.Core.Bool.{true, false}
+use mathlib.Core.List.{List}
+use Prim.Native.Nat.{ℕ, _-_, _≤_}
 use native.Mathlib.Omega.{arith}
-use lib.ListN.{length, getD, take, drop, length-take, List·getD-eq-default}
+use lib.ListN.{getD}
 use Rattle.merge_sources.specs.Row.{none}
 use Rattle.merge_sides.specs.Lines.{sameOctets}
 use Rattle.merge_sides.proofs.Walks.{left, over}
 use Rattle.merge_partners.specs.Keys.{uriOf, classFrom, classOf}
 use Rattle.merge_partners.proofs.class_of.Statement.{statement}
 use Rattle.merge_partners.proofs.class_of.Tie as tie
-use Rattle.merge_partners.proofs.class_of.Reads as reads
-use Rattle.merge_partners.proofs.class_of.Lts as lts
-use Rattle.merge_partners.proofs.uri_of.Reads as uri-of-reads
-use Rattle.merge_sides.proofs.same_octets.Reads as same-octets-reads
 
 abbrev Inv-loop : tie.InvT-loop
 Inv-loop ca uri a i₀ i =
@@ -26,50 +22,45 @@ abbrev μ-loop : tie.MeasureT-loop
 μ-loop ca uri a i₀ i =
     16 - i
 
--- src/lib.rt:52:5
 loop-holds : tie.Need-loop-holds Inv-loop μ-loop
 loop-holds c =
     (omega arith, refl)
 
--- src/lib.rt:54:13
 returns : tie.Need-returns Inv-loop μ-loop
 unfolding classOf classFrom
 returns c =
     (sym (c .before .before .loop .inv .1 ∙ rw (left 16 (c .before .before .loop .i) (c .before .loop-test .taken), le-ltb (c .before .before .loop .i) (c .before .before .before .before .before .args .t2 .count) (c .if1 .taken))), omega arith)
 
--- src/lib.rt:56:17
 mul-e : tie.Need-mul-e Inv-loop μ-loop
 mul-e c = search needs
--- src/lib.rt:56:17
+
 element-copy-out-e : tie.Need-element-copy-out-e Inv-loop μ-loop
 element-copy-out-e c = search needs
--- src/lib.rt:57:37
+
 uri-of-requires : tie.Need-uri-of-requires Inv-loop μ-loop
 uri-of-requires c κs = search needs
--- src/lib.rt:57:12
+
 same-octets-requires : tie.Need-same-octets-requires Inv-loop μ-loop
 same-octets-requires c κs = search needs
--- src/lib.rt:58:13
+
 returns-2 : tie.Need-returns-2 Inv-loop μ-loop
 unfolding classOf classFrom
 returns-2 c =
     let e : sameOctets (uriOf (c .before .before .before .before .before .before .before .before .before .args .ca .now) (getD (c .before .before .before .before .before .before .before .before .before .args .t2 .entries) (c .before .before .before .before .before .before .loop .i) none)) (c .before .before .before .before .before .before .before .before .before .args .uri .now) ≡ true = ap (λ (u : List ℕ). sameOctets u (c .before .before .before .before .before .before .before .before .before .args .uri .now)) (sym (c .before .before .uri-of .ensures)) ∙ sym (c .before .same-octets .ensures) ∙ c .if2 .taken in
     (sym (c .before .before .before .before .before .before .loop .inv .1 ∙ rw (left 16 (c .before .before .before .before .before .before .loop .i) (c .before .before .before .before .before .loop-test .taken), lt-ltb (c .before .before .before .before .before .before .loop .i) (c .before .before .before .before .before .before .before .before .before .args .t2 .count) (c .before .before .before .before .if1 .left), e)), c .before .before .before .before .before .before .loop .inv .0)
 
--- src/lib.rt:60:9
 add-i : tie.Need-add-i Inv-loop μ-loop
 add-i c = search needs
--- src/lib.rt:52:5
+
 loop-less : tie.Need-loop-less Inv-loop μ-loop
 loop-less c = search needs
--- src/lib.rt:52:5
+
 loop-again : tie.Need-loop-again Inv-loop μ-loop
 unfolding classFrom
 loop-again c =
     let e : sameOctets (uriOf (c .before .before .before .before .before .before .before .before .before .args .ca .now) (getD (c .before .before .before .before .before .before .before .before .before .args .t2 .entries) (c .before .before .before .before .before .before .loop .i) none)) (c .before .before .before .before .before .before .before .before .before .args .uri .now) ≡ false = ap (λ (u : List ℕ). sameOctets u (c .before .before .before .before .before .before .before .before .before .args .uri .now)) (sym (c .before .before .uri-of .ensures)) ∙ sym (c .before .same-octets .ensures) ∙ c .if2 .left in
     (omega arith, c .before .before .before .before .before .before .loop .inv .1 ∙ rw (left 16 (c .before .before .before .before .before .before .loop .i) (c .before .before .before .before .before .loop-test .taken), lt-ltb (c .before .before .before .before .before .before .loop .i) (c .before .before .before .before .before .before .before .before .before .args .t2 .count) (c .before .before .before .before .if1 .left), e))
 
--- src/lib.rt:47:1
 returns-3 : tie.Need-returns-3 Inv-loop μ-loop
 unfolding classOf classFrom
 returns-3 c =

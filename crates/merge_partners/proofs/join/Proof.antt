@@ -1,114 +1,86 @@
-use borrow.Author.Tests.{eq-eqb, ne-eqb, lt-ltb, le-ltb, not-true, not-false}
-use mathlib.Core.Path.{_≡_, refl, sym, ap, _∙_}
-use mathlib.Core.Bool.{Bool, true, false, not}
-use mathlib.Core.List.{List, [], _∷_, _++_}
-use Prim.Native.Nat.{ℕ, suc, _-_, _+_, _*_, _≤_, _<_}
-use native.Mathlib.Nat.{sub-zero, zero-add}
-use native.Mathlib.Omega.{arith}
-use lib.ListN.{length, getD, take, drop, length-take, List·getD-eq-default}
+-- `merge_partners::join` meets its contract. Assumes nothing.
+use borrow.Author.Tests.{eq-eqb, ne-eqb, lt-ltb, le-ltb}
+use mathlib.Core.Path.{sym, _∙_}
+use Prim.Native.Nat.{_+_}
+use lib.ListN.{getD}
 use Rattle.merge_partners.specs.Pairs.{joinTo}
 use borrow.Author.Needs.{needs}
 use Rattle.merge_partners.proofs.join.Statement.{statement}
 use Rattle.merge_partners.proofs.join.Tie as tie
-use Rattle.merge_partners.proofs.join.Reads as reads
-use Rattle.merge_partners.proofs.join.Lts as lts
-use Rattle.octets.proofs.indices.wide_number.Reads as wide-number-reads
 
--- src/lib.rt:180:9
 returns : tie.Need-returns
 unfolding joinTo
 returns c =
     rw (le-ltb (c .before .args .i) 4096 (c .if1 .taken))
 
--- src/lib.rt:183:9
 returns-2 : tie.Need-returns-2
 unfolding joinTo
 returns-2 c =
     rw (lt-ltb (c .before .before .args .i) 4096 (c .before .if1 .left), le-ltb (c .before .before .args .j) 4096 (c .if2 .taken))
 
--- src/lib.rt:185:20
 mul-wide-number : tie.Need-mul-wide-number
 mul-wide-number c = search needs
 
--- src/lib.rt:185:20
 element-copy-out-wide-number : tie.Need-element-copy-out-wide-number
 element-copy-out-wide-number c = search needs
 
--- src/lib.rt:185:8
 wide-number-requires : tie.Need-wide-number-requires
 wide-number-requires c κs = search needs
 
--- src/lib.rt:185:29
 add-if3 : tie.Need-add-if3
 add-if3 c = search needs
 
--- src/lib.rt:186:9
 returns-3 : tie.Need-returns-3
 unfolding joinTo
 returns-3 c =
     rw (lt-ltb (c .before .before .before .before .before .args .i) 4096 (c .before .before .before .before .if1 .left), lt-ltb (c .before .before .before .before .before .args .j) 4096 (c .before .before .before .if2 .left), eq-eqb (getD (c .before .before .before .before .before .args .p .now) (c .before .before .before .before .before .args .i) 0) (c .before .before .before .before .before .args .j + 1) (sym (c .before .wide-number .ensures .0) ∙ c .if3 .taken))
 
--- src/lib.rt:188:8
 mul-if4 : tie.Need-mul-if4
 mul-if4 c = search needs
 
--- src/lib.rt:188:8
 element-copy-out-if4 : tie.Need-element-copy-out-if4
 element-copy-out-if4 c = search needs
 
--- src/lib.rt:189:9
 returns-4 : tie.Need-returns-4
 unfolding joinTo
 returns-4 c =
     rw (lt-ltb (c .before .before .before .before .before .before .before .args .i) 4096 (c .before .before .before .before .before .before .if1 .left), lt-ltb (c .before .before .before .before .before .before .before .args .j) 4096 (c .before .before .before .before .before .if2 .left), ne-eqb (getD (c .before .before .before .before .before .before .before .args .p .now) (c .before .before .before .before .before .before .before .args .i) 0) (c .before .before .before .before .before .before .before .args .j + 1) (λ e. c .before .before .if3 .left (c .before .before .before .wide-number .ensures .0 ∙ e)), ne-eqb (getD (c .before .before .before .before .before .before .before .args .p .now) (c .before .before .before .before .before .before .before .args .i) 0) 0 (c .if4 .taken))
 
--- src/lib.rt:191:8
 mul-if5 : tie.Need-mul-if5
 mul-if5 c = search needs
 
--- src/lib.rt:191:8
 element-copy-out-if5 : tie.Need-element-copy-out-if5
 element-copy-out-if5 c = search needs
 
--- src/lib.rt:192:9
 returns-5 : tie.Need-returns-5
 unfolding joinTo
 returns-5 c =
     rw (lt-ltb (c .before .before .before .before .before .before .before .before .before .args .i) 4096 (c .before .before .before .before .before .before .before .before .if1 .left), lt-ltb (c .before .before .before .before .before .before .before .before .before .args .j) 4096 (c .before .before .before .before .before .before .before .if2 .left), ne-eqb (getD (c .before .before .before .before .before .before .before .before .before .args .p .now) (c .before .before .before .before .before .before .before .before .before .args .i) 0) (c .before .before .before .before .before .before .before .before .before .args .j + 1) (λ e. c .before .before .before .before .if3 .left (c .before .before .before .before .before .wide-number .ensures .0 ∙ e)), eq-eqb (getD (c .before .before .before .before .before .before .before .before .before .args .p .now) (c .before .before .before .before .before .before .before .before .before .args .i) 0) 0 (c .before .before .if4 .left), ne-eqb (getD (c .before .before .before .before .before .before .before .before .before .args .t .now) (c .before .before .before .before .before .before .before .before .before .args .j) 0) 0 (c .if5 .taken))
 
--- src/lib.rt:194:13
 add-p : tie.Need-add-p
 add-p c = search needs
 
--- src/lib.rt:194:12
 cast-p : tie.Need-cast-p
 cast-p c = search needs
 
--- src/lib.rt:194:5
 mul-p : tie.Need-mul-p
 mul-p c = search needs
 
--- src/lib.rt:194:5
 element-write-p : tie.Need-element-write-p
 element-write-p c = search needs
 
--- src/lib.rt:195:13
 add-t : tie.Need-add-t
 add-t c = search needs
 
--- src/lib.rt:195:12
 cast-t : tie.Need-cast-t
 cast-t c = search needs
 
--- src/lib.rt:195:5
 mul-t : tie.Need-mul-t
 mul-t c = search needs
 
--- src/lib.rt:195:5
 element-write-t : tie.Need-element-write-t
 element-write-t c = search needs
 
--- src/lib.rt:176:1
 returns-6 : tie.Need-returns-6
 unfolding joinTo
 returns-6 c =

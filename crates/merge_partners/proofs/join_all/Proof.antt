@@ -1,7 +1,7 @@
+-- `merge_partners::join_all` meets its contract. Assumes nothing.
 use borrow.Author.Tests.{not-true, not-false}
-use mathlib.Core.Path.{_≡_, refl, sym, ap, _∙_}
-use mathlib.Core.Bool.{Bool, true, false, not}
-use mathlib.Core.List.{List, [], _∷_, _++_}
+use mathlib.Core.Path.{_≡_, sym, ap, _∙_}
+use mathlib.Core.Bool.{true}
 use Prim.Native.Nat.{ℕ}
 use native.Mathlib.Omega.{arith}
 use lib.ListN.{length, replicate, length-take, length-replicate}
@@ -11,49 +11,33 @@ use Rattle.merge_partners.proofs.WalkLaws.{demanded-by}
 use borrow.Author.Needs.{needs}
 use Rattle.merge_partners.proofs.join_all.Statement.{statement}
 use Rattle.merge_partners.proofs.join_all.Tie as tie
-use Rattle.merge_partners.proofs.join_all.Reads as reads
-use Rattle.merge_partners.proofs.join_all.Lts as lts
-use Rattle.merge_partners.proofs.classes_of.Reads as classes-of-reads
-use Rattle.merge_partners.proofs.join_marks.Reads as join-marks-reads
-use Rattle.merge_partners.proofs.join_singles.Reads as join-singles-reads
-use Rattle.merge_partners.proofs.put_keys.Reads as put-keys-reads
-use Rattle.octets.proofs.slices.least.Reads as least-reads
 
--- src/lib.rt:391:16
 classes-of-requires : tie.Need-classes-of-requires
 classes-of-requires c κs = search needs
 
--- src/lib.rt:392:16
 classes-of-requires-2 : tie.Need-classes-of-requires-2
 classes-of-requires-2 c κs = search needs
 
--- src/lib.rt:393:37
 slice-aggregate-put-keys : tie.Need-slice-aggregate-put-keys
 slice-aggregate-put-keys c = search needs
 
--- src/lib.rt:393:5
 put-keys-requires : tie.Need-put-keys-requires
 put-keys-requires c κs = search needs
 
--- src/lib.rt:394:9
 least-requires : tie.Need-least-requires
 least-requires c κs = search needs
 
--- src/lib.rt:405:9
 array-share-prefix-keys : tie.Need-array-share-prefix-keys
 array-share-prefix-keys c = search needs
 
--- src/lib.rt:405:9
 slice-aggregate-join-marks : tie.Need-slice-aggregate-join-marks
 slice-aggregate-join-marks c =
     let k : length (c .before .before .before .before .put-keys .last .1 .1 .1 .1 .0) ≡ 4096 = c .before .before .before .before .put-keys .kept .1 .1 .1 .1 .0 ∙ length-replicate {A = ℕ} 4096 0 in
     simp length-take (omega (arith, k, c .before .before .least .ensures .0 .1))
 
--- src/lib.rt:395:9
 join-marks-requires : tie.Need-join-marks-requires
 join-marks-requires c κs = search needs
 
--- src/lib.rt:409:9
 returns : tie.Need-returns
 returns c =
     let a = c .before .before .before .before .before .before .before .before .before .before .before .before .before .before .before .before .before .before .before .args in
@@ -61,11 +45,9 @@ returns c =
     let d = demanded-by (a .ca .now) (a .ra .now) (a .na) (a .firsts .now) (a .ka) (a .a) (a .cb .now) (a .rb .now) (a .nb) (a .seconds .now) (a .kb) (a .b) (c .before .before .before .before .before .before .before .before .before .before .before .before .classes-of .result) (c .before .before .before .before .before .before .before .before .before .before .before .classes-of2 .result) (c .before .before .before .before .before .before .before .before .put-keys .last .1 .1 .1 .1 .0) (c .before .before .before .before .before .before .least .result) (c .before .before .before .before .before .before .before .before .before .before .before .before .classes-of .ensures) (c .before .before .before .before .before .before .before .before .before .before .before .classes-of2 .ensures) (c .before .before .before .before .before .before .before .before .put-keys .ensures) (c .before .before .before .before .before .before .least .ensures .1) in
     sym (ap firstOf (ap (joinAll s) d ∙ join-off s _ _ _ _ (c .before .join-marks .ensures) _ (not-true _ (c .if1 .taken))))
 
--- src/lib.rt:411:5
 join-singles-requires : tie.Need-join-singles-requires
 join-singles-requires c κs = search needs
 
--- src/lib.rt:372:1
 returns-2 : tie.Need-returns-2
 returns-2 c =
     let a = c .before .before .before .before .before .before .before .before .before .before .before .before .before .before .before .before .before .before .before .before .before .before .args in

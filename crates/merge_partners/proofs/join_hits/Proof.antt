@@ -1,20 +1,17 @@
+-- `merge_partners::join_hits` meets its contract. Assumes nothing.
 use borrow.Author.Needs.{needs}
-use borrow.Author.Tests.{eq-eqb, ne-eqb, lt-ltb, le-ltb, not-true, not-false}
-use mathlib.Core.Path.{_≡_, refl, sym, ap, _∙_}
-use mathlib.Core.Bool.{Bool, true, false, not}
-use mathlib.Core.List.{List, [], _∷_, _++_}
-use Prim.Native.Nat.{ℕ, suc, _-_, _+_, _*_, _≤_, _<_}
-use native.Mathlib.Nat.{sub-zero, zero-add}
+use borrow.Author.Tests.{not-true, not-false}
+use mathlib.Core.Path.{_≡_, sym, ap, _∙_}
+use mathlib.Core.Bool.{true}
+use Prim.Native.Nat.{ℕ, _-_, _≤_}
+use native.Mathlib.Nat.{sub-zero}
 use native.Mathlib.Omega.{arith}
-use lib.ListN.{length, getD, take, drop, length-take, List·getD-eq-default}
+use lib.ListN.{length}
 use Rattle.merge_partners.specs.Pairs.{joined, joinAll, hitPairs}
 use Rattle.merge_partners.proofs.JoinLaws.{join-on, join-off}
 use Rattle.merge_partners.proofs.WalkLaws.{hits-turn, hits-over}
 use Rattle.merge_partners.proofs.join_hits.Statement.{statement}
 use Rattle.merge_partners.proofs.join_hits.Tie as tie
-use Rattle.merge_partners.proofs.join_hits.Reads as reads
-use Rattle.merge_partners.proofs.join_hits.Lts as lts
-use Rattle.merge_partners.proofs.join_at.Reads as join-at-reads
 
 abbrev Inv-loop : tie.InvT-loop
 Inv-loop ca ra i key cb rb marks keys p₀ t₀ k₀ p t k =
@@ -24,38 +21,33 @@ abbrev μ-loop : tie.MeasureT-loop
 μ-loop ca ra i key cb rb marks keys p₀ t₀ k₀ p t k =
     length keys - k
 
--- src/lib.rt:258:5
 loop-holds : tie.Need-loop-holds Inv-loop μ-loop
 loop-holds c =
     let a = c .before .before .before .before .before .before .args in
     (omega arith, ap (λ (n : ℕ). joinAll (joined true (a .p .now) (a .t .now)) (hitPairs (a .ca .now) (a .ra .now) (a .i) (a .key) (a .cb .now) (a .rb .now) (a .marks .now) (a .keys .now) 0 n)) (sym (sub-zero (length (a .keys .now)))))
 
--- src/lib.rt:259:13
 join-at-requires : tie.Need-join-at-requires Inv-loop μ-loop
 join-at-requires c κs =
     c .before .before .loop-test .taken
 
--- src/lib.rt:260:13
 returns : tie.Need-returns Inv-loop μ-loop
 returns c =
     let a = c .before .before .before .before .before .before .before .before .before .before .before .before .args in
     let l = c .before .before .before .before .before .loop in
     sym (l .inv .1 ∙ ap (joinAll (joined true (l .p) (l .t))) (hits-turn (a .ca .now) (a .ra .now) (a .i) (a .key) (a .cb .now) (a .rb .now) (a .marks .now) (a .keys .now) (length (a .keys .now)) (l .k) (c .before .before .before .before .loop-test .taken)) ∙ join-off (joined true (l .p) (l .t)) _ _ _ _ (c .before .join-at .ensures) _ (not-true _ (c .if1 .taken)))
 
--- src/lib.rt:262:9
 add-k : tie.Need-add-k Inv-loop μ-loop
 add-k c = search needs
--- src/lib.rt:258:5
+
 loop-less : tie.Need-loop-less Inv-loop μ-loop
 loop-less c = search needs
--- src/lib.rt:258:5
+
 loop-again : tie.Need-loop-again Inv-loop μ-loop
 loop-again c =
     let a = c .before .before .before .before .before .before .before .before .before .before .before .before .args in
     let l = c .before .before .before .before .before .loop in
     (omega arith, l .inv .1 ∙ ap (joinAll (joined true (l .p) (l .t))) (hits-turn (a .ca .now) (a .ra .now) (a .i) (a .key) (a .cb .now) (a .rb .now) (a .marks .now) (a .keys .now) (length (a .keys .now)) (l .k) (c .before .before .before .before .loop-test .taken)) ∙ join-on (joined true (l .p) (l .t)) _ _ _ _ (c .before .join-at .ensures) _ (not-false _ (c .if1 .left)))
 
--- src/lib.rt:243:1
 returns-2 : tie.Need-returns-2 Inv-loop μ-loop
 unfolding joinAll
 returns-2 c =

@@ -1,42 +1,29 @@
-use borrow.Author.Tests.{eq-eqb, ne-eqb, lt-ltb, le-ltb, not-true, not-false}
-use mathlib.Core.Path.{_≡_, refl, sym, ap, _∙_}
-use mathlib.Core.Bool.{Bool, true, false, not}
-use mathlib.Core.List.{List, [], _∷_, _++_}
-use Prim.Native.Nat.{ℕ, suc, _-_, _+_, _*_, _≤_, _<_}
-use native.Mathlib.Nat.{sub-zero, zero-add}
-use native.Mathlib.Omega.{arith}
-use lib.ListN.{length, getD, take, drop, length-take, List·getD-eq-default}
+-- `merge_partners::join_mark` meets its contract. Assumes nothing.
+use borrow.Author.Tests.{eq-eqb, ne-eqb}
+use mathlib.Core.Path.{sym, _∙_}
+use lib.ListN.{length}
 use Rattle.merge_partners.specs.Pairs.{joinAll, markPairs}
 use Rattle.merge_partners.proofs.WalkLaws.{hits-none}
 use borrow.Author.Needs.{needs}
 use Rattle.merge_partners.proofs.join_mark.Statement.{statement}
 use Rattle.merge_partners.proofs.join_mark.Tie as tie
-use Rattle.merge_partners.proofs.join_mark.Reads as reads
-use Rattle.merge_partners.proofs.join_mark.Lts as lts
-use Rattle.merge_partners.proofs.count_hits.Reads as count-hits-reads
-use Rattle.merge_partners.proofs.join_hits.Reads as join-hits-reads
 
--- src/lib.rt:283:9
 returns : tie.Need-returns
 unfolding joinAll markPairs
 returns c =
     rw (eq-eqb (c .before .before .before .before .before .before .before .args .key) 4294967295 (c .if1 .taken))
 
--- src/lib.rt:285:8
 count-hits-requires : tie.Need-count-hits-requires
 count-hits-requires c κs = search needs
 
--- src/lib.rt:286:9
 returns-2 : tie.Need-returns-2
 unfolding joinAll markPairs
 returns-2 c =
     rw (ne-eqb (c .before .before .before .before .before .before .before .before .before .args .key) 4294967295 (c .before .before .if1 .left), hits-none (c .before .before .before .before .before .before .before .before .before .args .ca .now) (c .before .before .before .before .before .before .before .before .before .args .ra .now) (c .before .before .before .before .before .before .before .before .before .args .i) (c .before .before .before .before .before .before .before .before .before .args .key) (c .before .before .before .before .before .before .before .before .before .args .cb .now) (c .before .before .before .before .before .before .before .before .before .args .rb .now) (c .before .before .before .before .before .before .before .before .before .args .marks .now) (c .before .before .before .before .before .before .before .before .before .args .keys .now) (length (c .before .before .before .before .before .before .before .before .before .args .keys .now)) 0 (sym (c .before .count-hits .ensures) ∙ c .if2 .taken))
 
--- src/lib.rt:288:5
 join-hits-requires : tie.Need-join-hits-requires
 join-hits-requires c κs = search needs
 
--- src/lib.rt:268:1
 returns-3 : tie.Need-returns-3
 unfolding markPairs
 returns-3 c =

@@ -1,24 +1,17 @@
+-- `merge_partners::join_marks` meets its contract. Assumes nothing.
 use borrow.Author.Needs.{needs}
-use borrow.Author.Tests.{eq-eqb, ne-eqb, lt-ltb, le-ltb, not-true, not-false}
-use mathlib.Core.Path.{_≡_, refl, sym, ap, _∙_}
-use mathlib.Core.Bool.{Bool, true, false, not}
-use mathlib.Core.List.{List, [], _∷_, _++_}
-use Prim.Native.Nat.{ℕ, suc, _-_, _+_, _*_, _≤_, _<_}
-use native.Mathlib.Nat.{sub-zero, zero-add}
+use borrow.Author.Tests.{not-true, not-false}
+use mathlib.Core.Path.{_≡_, sym, ap, _∙_}
+use mathlib.Core.Bool.{true}
+use Prim.Native.Nat.{ℕ, _-_, _≤_}
+use native.Mathlib.Nat.{sub-zero}
 use native.Mathlib.Omega.{arith}
-use lib.ListN.{length, getD, take, drop, length-take, List·getD-eq-default}
-use Rattle.merge_partners.specs.Keys.{numberAt, keyAt}
+use Rattle.merge_partners.specs.Keys.{numberAt}
 use Rattle.merge_partners.specs.Pairs.{joined, joinAll, markPairs, sharedPairs}
 use Rattle.merge_partners.proofs.JoinLaws.{join-on, join-off}
 use Rattle.merge_partners.proofs.WalkLaws.{shared-turn, shared-over}
 use Rattle.merge_partners.proofs.join_marks.Statement.{statement}
 use Rattle.merge_partners.proofs.join_marks.Tie as tie
-use Rattle.merge_partners.proofs.join_marks.Reads as reads
-use Rattle.merge_partners.proofs.join_marks.Lts as lts
-use Rattle.merge_partners.proofs.join_mark.Reads as join-mark-reads
-use Rattle.merge_partners.proofs.key_at.Reads as key-at-reads
-use Rattle.merge_partners.proofs.number_of.Reads as number-of-reads
-use Rattle.octets.proofs.indices.wide_number.Reads as wide-number-reads
 
 abbrev Inv-loop : tie.InvT-loop
 Inv-loop ca ra firsts n own classes cb rb marks keys p₀ t₀ k₀ p t k =
@@ -28,25 +21,23 @@ abbrev μ-loop : tie.MeasureT-loop
 μ-loop ca ra firsts n own classes cb rb marks keys p₀ t₀ k₀ p t k =
     n - k
 
--- src/lib.rt:309:5
 loop-holds : tie.Need-loop-holds Inv-loop μ-loop
 loop-holds c =
     let a = c .before .before .before .before .before .before .before .args in
     (omega arith, ap (λ (n : ℕ). joinAll (joined true (a .p .now) (a .t .now)) (sharedPairs (a .ca .now) (a .ra .now) (a .firsts .now) (a .own) (a .classes .now) (a .cb .now) (a .rb .now) (a .marks .now) (a .keys .now) 0 n)) (sym (sub-zero (a .n))))
 
--- src/lib.rt:310:29
 number-of-requires : tie.Need-number-of-requires Inv-loop μ-loop
 number-of-requires c κs = search needs
--- src/lib.rt:310:13
+
 wide-number-requires : tie.Need-wide-number-requires Inv-loop μ-loop
 wide-number-requires c κs = search needs
--- src/lib.rt:311:13
+
 key-at-requires : tie.Need-key-at-requires Inv-loop μ-loop
 key-at-requires c κs = search needs
--- src/lib.rt:312:13
+
 join-mark-requires : tie.Need-join-mark-requires Inv-loop μ-loop
 join-mark-requires c κs = search needs
--- src/lib.rt:313:13
+
 returns : tie.Need-returns Inv-loop μ-loop
 returns c =
     let a = c .before .before .before .before .before .before .before .before .before .before .before .before .before .before .before .before .args in
@@ -54,13 +45,12 @@ returns c =
     let e = c .before .join-mark .ensures ∙ ap (λ (i : ℕ). joinAll (joined true (l .p) (l .t)) (markPairs (a .ca .now) (a .ra .now) i (c .before .before .before .before .key-at .result) (a .cb .now) (a .rb .now) (a .marks .now) (a .keys .now))) (c .before .before .before .before .before .wide-number .ensures .0 ∙ c .before .before .before .before .before .before .number-of .ensures) ∙ ap (λ (key : ℕ). joinAll (joined true (l .p) (l .t)) (markPairs (a .ca .now) (a .ra .now) (numberAt (a .firsts .now) (l .k) 0) key (a .cb .now) (a .rb .now) (a .marks .now) (a .keys .now))) (c .before .before .before .before .key-at .ensures) in
     sym (l .inv .1 ∙ ap (joinAll (joined true (l .p) (l .t))) (shared-turn (a .ca .now) (a .ra .now) (a .firsts .now) (a .own) (a .classes .now) (a .cb .now) (a .rb .now) (a .marks .now) (a .keys .now) (a .n) (l .k) (c .before .before .before .before .before .before .before .loop-test .taken)) ∙ join-off (joined true (l .p) (l .t)) _ _ _ _ e _ (not-true _ (c .if1 .taken)))
 
--- src/lib.rt:315:9
 add-k : tie.Need-add-k Inv-loop μ-loop
 add-k c = search needs
--- src/lib.rt:309:5
+
 loop-less : tie.Need-loop-less Inv-loop μ-loop
 loop-less c = search needs
--- src/lib.rt:309:5
+
 loop-again : tie.Need-loop-again Inv-loop μ-loop
 loop-again c =
     let a = c .before .before .before .before .before .before .before .before .before .before .before .before .before .before .before .before .args in
@@ -68,7 +58,6 @@ loop-again c =
     let e = c .before .join-mark .ensures ∙ ap (λ (i : ℕ). joinAll (joined true (l .p) (l .t)) (markPairs (a .ca .now) (a .ra .now) i (c .before .before .before .before .key-at .result) (a .cb .now) (a .rb .now) (a .marks .now) (a .keys .now))) (c .before .before .before .before .before .wide-number .ensures .0 ∙ c .before .before .before .before .before .before .number-of .ensures) ∙ ap (λ (key : ℕ). joinAll (joined true (l .p) (l .t)) (markPairs (a .ca .now) (a .ra .now) (numberAt (a .firsts .now) (l .k) 0) key (a .cb .now) (a .rb .now) (a .marks .now) (a .keys .now))) (c .before .before .before .before .key-at .ensures) in
     (omega arith, l .inv .1 ∙ ap (joinAll (joined true (l .p) (l .t))) (shared-turn (a .ca .now) (a .ra .now) (a .firsts .now) (a .own) (a .classes .now) (a .cb .now) (a .rb .now) (a .marks .now) (a .keys .now) (a .n) (l .k) (c .before .before .before .before .before .before .before .loop-test .taken)) ∙ join-on (joined true (l .p) (l .t)) _ _ _ _ e _ (not-false _ (c .if1 .left)))
 
--- src/lib.rt:292:1
 returns-2 : tie.Need-returns-2 Inv-loop μ-loop
 unfolding joinAll
 returns-2 c =

@@ -1,33 +1,20 @@
-use borrow.Author.Tests.{eq-eqb, ne-eqb, lt-ltb, le-ltb, not-true, not-false}
-use mathlib.Core.Path.{_≡_, refl, sym, ap, _∙_}
-use mathlib.Core.Bool.{Bool, true, false, not}
-use mathlib.Core.List.{List, [], _∷_, _++_}
-use Prim.Native.Nat.{ℕ, suc, _-_, _+_, _*_, _≤_, _<_}
-use native.Mathlib.Nat.{sub-zero, zero-add}
-use native.Mathlib.Omega.{arith}
-use lib.ListN.{length, getD, take, drop, length-take, List·getD-eq-default}
+-- `merge_partners::key_at` meets its contract. Assumes nothing.
+use mathlib.Core.Path.{ap, _∙_}
+use Prim.Native.Nat.{ℕ}
 use Rattle.merge_partners.specs.Keys.{numberAt, keyOf, keyAt}
 use borrow.Author.Needs.{needs}
 use Rattle.merge_partners.proofs.key_at.Statement.{statement}
 use Rattle.merge_partners.proofs.key_at.Tie as tie
-use Rattle.merge_partners.proofs.key_at.Reads as reads
-use Rattle.merge_partners.proofs.key_at.Lts as lts
-use Rattle.merge_partners.proofs.key_of.Reads as key-of-reads
-use Rattle.merge_partners.proofs.number_of.Reads as number-of-reads
 
--- src/lib.rt:126:9
 number-of-requires : tie.Need-number-of-requires
 number-of-requires c κs = search needs
 
--- src/lib.rt:127:9
 number-of-requires-2 : tie.Need-number-of-requires-2
 number-of-requires-2 c κs = search needs
 
--- src/lib.rt:128:5
 key-of-requires : tie.Need-key-of-requires
 key-of-requires c κs = search needs
 
--- src/lib.rt:123:1
 returns : tie.Need-returns
 unfolding keyAt
 returns c =

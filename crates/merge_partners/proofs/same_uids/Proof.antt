@@ -1,55 +1,40 @@
-use borrow.Author.Tests.{eq-eqb, ne-eqb, lt-ltb, le-ltb, not-true, not-false}
-use mathlib.Core.Path.{_≡_, refl, sym, ap, _∙_}
-use mathlib.Core.Bool.{Bool, true, false, not}
-use mathlib.Core.List.{List, [], _∷_, _++_}
-use Prim.Native.Nat.{ℕ, suc, _-_, _+_, _*_, _≤_, _<_}
-use native.Mathlib.Nat.{sub-zero, zero-add}
+-- `merge_partners::same_uids` meets its contract. Assumes nothing.
+use borrow.Author.Tests.{lt-ltb, le-ltb}
+use mathlib.Core.Path.{_≡_, ap, _∙_}
+use mathlib.Core.List.{List}
+use Prim.Native.Nat.{ℕ}
 use native.Mathlib.Omega.{arith}
-use lib.ListN.{length, getD, take, drop, length-take, List·getD-eq-default}
 use Rattle.merge_sides.specs.Lines.{firstLine, valueAt, sameOctets}
 use Rattle.merge_partners.specs.Pairs.{sameUids}
 use borrow.Author.Needs.{needs}
 use Rattle.merge_partners.proofs.same_uids.Statement.{statement}
 use Rattle.merge_partners.proofs.same_uids.Tie as tie
-use Rattle.merge_partners.proofs.same_uids.Reads as reads
-use Rattle.merge_partners.proofs.same_uids.Lts as lts
-use Rattle.merge_sides.proofs.find_line.Reads as find-line-reads
-use Rattle.merge_sides.proofs.same_octets.Reads as same-octets-reads
-use Rattle.merge_sides.proofs.value_of.Reads as value-of-reads
 
--- src/lib.rt:443:9
 find-line-requires : tie.Need-find-line-requires
 find-line-requires c κs = search needs
 
--- src/lib.rt:444:9
 find-line-requires-2 : tie.Need-find-line-requires-2
 find-line-requires-2 c κs = search needs
 
--- src/lib.rt:446:9
 returns : tie.Need-returns
 unfolding sameUids
 returns c =
     rw (le-ltb (firstLine (c .before .before .before .before .before .before .before .args .ra .now) 31 0 (c .before .before .before .before .before .before .before .args .na)) (c .before .before .before .before .before .before .before .args .na) (omega (arith, c .if1 .taken, c .before .before .find-line .ensures .0)))
 
--- src/lib.rt:449:9
 returns-2 : tie.Need-returns-2
 unfolding sameUids
 returns-2 c =
     rw (lt-ltb (firstLine (c .before .before .before .before .before .before .before .before .args .ra .now) 31 0 (c .before .before .before .before .before .before .before .before .args .na)) (c .before .before .before .before .before .before .before .before .args .na) (omega (arith, c .before .if1 .left, c .before .before .before .find-line .ensures .0)), le-ltb (firstLine (c .before .before .before .before .before .before .before .before .args .rb .now) 31 0 (c .before .before .before .before .before .before .before .before .args .nb)) (c .before .before .before .before .before .before .before .before .args .nb) (omega (arith, c .if2 .taken, c .before .before .find-line2 .ensures .0)))
 
--- src/lib.rt:452:9
 value-of-requires : tie.Need-value-of-requires
 value-of-requires c κs = search needs
 
--- src/lib.rt:453:9
 value-of-requires-2 : tie.Need-value-of-requires-2
 value-of-requires-2 c κs = search needs
 
--- src/lib.rt:451:5
 same-octets-requires : tie.Need-same-octets-requires
 same-octets-requires c κs = search needs
 
--- src/lib.rt:440:1
 returns-3 : tie.Need-returns-3
 unfolding sameUids
 returns-3 c =

@@ -1,6 +1,5 @@
-use mathlib.Core.Path.{_≡_, refl, sym, ap, _∙_}
-use mathlib.Core.Bool.{true, false}
-use Prim.Native.Nat.{ℕ, _-_, _+_, _≤_}
+-- `merge_pids::put_mark` meets its contract. Assumes nothing.
+use Prim.Native.Nat.{_-_}
 use native.Mathlib.Omega.{arith}
 use lib.ListN.{length, length-set}
 use borrow.Author.Tests.{lt-ltb, le-ltb}
@@ -8,68 +7,52 @@ use Rattle.merge_pids.specs.Marks.{putMark}
 use borrow.Author.Needs.{needs}
 use Rattle.merge_pids.proofs.put_mark.Statement.{statement}
 use Rattle.merge_pids.proofs.put_mark.Tie as tie
-use Rattle.merge_pids.proofs.put_mark.Reads as reads
-use Rattle.merge_pids.proofs.put_mark.Lts as lts
 
--- src/lib.rt:119:9
 returns : tie.Need-returns
 unfolding putMark
 returns c =
     rw (lt-ltb (length (c .before .args .out .now)) 3 (c .if1 .taken))
 
--- src/lib.rt:121:8
 sub-if2 : tie.Need-sub-if2
 sub-if2 c = search needs
 
--- src/lib.rt:122:9
 returns-2 : tie.Need-returns-2
 unfolding putMark
 returns-2 c =
     rw (le-ltb (length (c .before .before .args .out .now)) 3 (c .before .if1 .left), lt-ltb (length (c .before .before .args .out .now) - 3) (c .before .before .args .at) (c .if2 .taken))
 
--- src/lib.rt:124:5
 mul-out : tie.Need-mul-out
 mul-out c = search needs
 
--- src/lib.rt:124:5
 slice-write-out : tie.Need-slice-write-out
 slice-write-out c = search needs
 
--- src/lib.rt:125:9
 add-out : tie.Need-add-out
 add-out c = search needs
 
--- src/lib.rt:125:5
 mul-out-2 : tie.Need-mul-out-2
 mul-out-2 c = search needs
 
--- src/lib.rt:125:5
 slice-write-out-2 : tie.Need-slice-write-out-2
 slice-write-out-2 c =
     simp length-set (omega (arith, c .before .if1 .left, c .if2 .left))
 
--- src/lib.rt:126:9
 add-out-2 : tie.Need-add-out-2
 add-out-2 c = search needs
 
--- src/lib.rt:126:5
 mul-out-3 : tie.Need-mul-out-3
 mul-out-3 c = search needs
 
--- src/lib.rt:126:5
 slice-write-out-3 : tie.Need-slice-write-out-3
 slice-write-out-3 c =
     simp length-set (omega (arith, c .before .if1 .left, c .if2 .left))
 
--- src/lib.rt:127:5
 add-result : tie.Need-add-result
 add-result c = search needs
 
--- src/lib.rt:115:1
 same-length : tie.Need-same-length
 same-length c = search needs
 
--- src/lib.rt:115:1
 returns-3 : tie.Need-returns-3
 unfolding putMark
 returns-3 c =

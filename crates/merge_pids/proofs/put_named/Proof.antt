@@ -1,42 +1,34 @@
+-- `merge_pids::put_named` meets its contract. Assumes nothing.
 use borrow.Author.Needs.{needs}
 use borrow.Author.Tests.{not-true, not-false}
-use mathlib.Core.Path.{_≡_, refl, sym, ap, _∙_}
+use mathlib.Core.Path.{_≡_, sym, _∙_}
 use mathlib.Core.Bool.{true, false}
-use Prim.Native.Nat.{ℕ, _-_}
-use native.Mathlib.Omega.{arith}
+use Prim.Native.Nat.{_-_}
 use lib.ListN.{take, drop}
 use Rattle.octets.specs.Ascii.{octets}
 use Rattle.octets.specs.Cases.{same}
 use Rattle.merge_pids.specs.Marks.{putAll, namedMarks, pidName}
 use Rattle.merge_pids.proofs.put_named.Statement.{statement}
 use Rattle.merge_pids.proofs.put_named.Tie as tie
-use Rattle.merge_pids.proofs.put_named.Reads as reads
-use Rattle.merge_pids.proofs.put_named.Lts as lts
-use Rattle.merge_pids.proofs.put_values.Reads as put-values-reads
-use Rattle.octets.proofs.cases.same_name.Reads as same-name-reads
 
--- src/lib.rt:215:34
 sub-same-name : tie.Need-sub-same-name
 sub-same-name c =
     c .before .before .pre .1 .0
 
--- src/lib.rt:215:34
 part-same-name-start : tie.Need-part-same-name-start
 part-same-name-start c =
     c .before .before .pre .1 .0
 
--- src/lib.rt:215:34
 part-same-name-end : tie.Need-part-same-name-end
 part-same-name-end c =
     c .before .before .pre .1 .1
 
--- src/lib.rt:215:55
 slice-aggregate-same-name : tie.Need-slice-aggregate-same-name
 slice-aggregate-same-name c = search needs
--- src/lib.rt:215:9
+
 same-name-requires : tie.Need-same-name-requires
 same-name-requires c κs = search needs
--- src/lib.rt:216:9
+
 returns : tie.Need-returns
 unfolding octets putAll namedMarks
 returns c =
@@ -44,18 +36,16 @@ returns c =
     let e : same (take (a .name-end - a .start) (drop (a .start) (a .s .now))) pidName ≡ false = sym (c .before .same-name .ensures) ∙ not-true _ (c .if1 .taken) in
     rw e
 
--- src/lib.rt:218:22
 add-put-values : tie.Need-add-put-values
 add-put-values c = search needs
--- src/lib.rt:218:5
+
 put-values-requires : tie.Need-put-values-requires
 put-values-requires c κs =
     c .before .before .before .before .before .before .before .pre .0
 
--- src/lib.rt:202:1
 same-length : tie.Need-same-length
 same-length c = search needs
--- src/lib.rt:202:1
+
 returns-2 : tie.Need-returns-2
 unfolding octets namedMarks
 returns-2 c =

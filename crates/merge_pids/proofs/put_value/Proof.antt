@@ -1,40 +1,30 @@
-use mathlib.Core.Path.{_≡_, refl, sym, ap, _∙_}
+-- `merge_pids::put_value` meets its contract. Assumes nothing.
+use mathlib.Core.Path.{sym, _∙_}
 use Rattle.merge_pids.specs.Marks.{putAll}
 use borrow.Author.Needs.{needs}
 use Rattle.merge_pids.proofs.put_value.Statement.{statement}
 use Rattle.merge_pids.proofs.put_value.Tie as tie
-use Rattle.merge_pids.proofs.put_value.Reads as reads
-use Rattle.merge_pids.proofs.put_value.Lts as lts
-use Rattle.merge_pids.proofs.put_mark.Reads as put-mark-reads
-use Rattle.merge_pids.proofs.read_pid.Reads as read-pid-reads
 
--- src/lib.rt:134:9
 read-pid-requires : tie.Need-read-pid-requires
 read-pid-requires c κs = search needs
 
--- src/lib.rt:135:22
 enum-known-p : tie.Need-enum-known-p
 enum-known-p c = search needs
 
--- src/lib.rt:136:9
 enum-told : tie.Need-enum-told
 enum-told c = search needs
 
--- src/lib.rt:136:9
 returns : tie.Need-returns
 unfolding putAll
 returns c =
     rw (sym (c .before .before .read-pid .ensures) ∙ c .enum-told .given .1)
 
--- src/lib.rt:138:5
 put-mark-requires : tie.Need-put-mark-requires
 put-mark-requires c κs = search needs
 
--- src/lib.rt:131:1
 same-length : tie.Need-same-length
 same-length c = search needs
 
--- src/lib.rt:131:1
 returns-2 : tie.Need-returns-2
 unfolding putAll
 returns-2 c =

@@ -1,8 +1,8 @@
-use mathlib.Core.Path.{_≡_, refl, sym, ap, _∙_}
-use mathlib.Core.List.{List}
+-- `merge_pids::read_pid` meets its contract. Assumes nothing.
+use mathlib.Core.Path.{_≡_, sym, ap, _∙_}
 use Prim.Native.Nat.{ℕ, _-_, _+_, _≤_, _<_}
 use native.Mathlib.Omega.{arith}
-use lib.ListN.{length, getD, take, drop, length-take, length-drop, List·getD-eq-default}
+use lib.ListN.{length, take, drop, length-take, length-drop, List·getD-eq-default}
 use lib.Seq.{take-all}
 use Rattle.octets.specs.Classes.{run, digit}
 use Rattle.merge_pids.specs.Numbers.{digits}
@@ -11,51 +11,38 @@ use Rattle.merge_pids.proofs.NumberLaws.{pid-none, pid-no-dot, pid-dot,
 use borrow.Author.Needs.{needs}
 use Rattle.merge_pids.proofs.read_pid.Statement.{statement}
 use Rattle.merge_pids.proofs.read_pid.Tie as tie
-use Rattle.merge_pids.proofs.read_pid.Reads as reads
-use Rattle.merge_pids.proofs.read_pid.Lts as lts
-use Rattle.merge_pids.proofs.digits_end.Reads as digits-end-reads
-use Rattle.merge_pids.proofs.read_number.Reads as read-number-reads
 
--- src/lib.rt:91:9
 digits-end-requires : tie.Need-digits-end-requires
 digits-end-requires c κs = search needs
 
--- src/lib.rt:93:9
 returns : tie.Need-returns
 returns c =
     let d : c .before .digits-end .result ≡ run digit (c .before .before .before .args .s .now) = omega (arith, c .before .digits-end .ensures) in
     sym (pid-none (c .before .before .before .args .s .now) (c .before .digits-end .result) d (c .if1 .taken))
 
--- src/lib.rt:96:9
 returns-2 : tie.Need-returns-2
 returns-2 c =
     let d : c .before .before .digits-end .result ≡ run digit (c .before .before .before .before .args .s .now) = omega (arith, c .before .before .digits-end .ensures) in
     let z = List·getD-eq-default (c .before .before .before .before .args .s .now) 0 (c .if2 .taken) in
     sym (pid-no-dot (c .before .before .before .before .args .s .now) (c .before .before .digits-end .result) d (c .before .if1 .left) (λ e. omega (arith, z, e)))
 
--- src/lib.rt:98:8
 shared-slice-read-if3 : tie.Need-shared-slice-read-if3
 shared-slice-read-if3 c = search needs
 
--- src/lib.rt:99:9
 returns-3 : tie.Need-returns-3
 returns-3 c =
     let d : c .before .before .before .before .digits-end .result ≡ run digit (c .before .before .before .before .before .before .args .s .now) = omega (arith, c .before .before .before .before .digits-end .ensures) in
     sym (pid-no-dot (c .before .before .before .before .before .before .args .s .now) (c .before .before .before .before .digits-end .result) d (c .before .before .before .if1 .left) (c .if3 .taken))
 
--- src/lib.rt:101:29
 add-digits-end : tie.Need-add-digits-end
 add-digits-end c = search needs
 
--- src/lib.rt:101:9
 digits-end-requires-2 : tie.Need-digits-end-requires-2
 digits-end-requires-2 c κs = search needs
 
--- src/lib.rt:102:15
 add-if4 : tie.Need-add-if4
 add-if4 c = search needs
 
--- src/lib.rt:103:9
 returns-4 : tie.Need-returns-4
 returns-4 c =
     let s = c .before .before .before .before .before .before .before .before .args .s .now in
@@ -64,7 +51,6 @@ returns-4 c =
     let r : run digit (drop (k + 1) s) ≡ 0 = omega (arith, c .before .digits-end2 .ensures, c .if4 .taken) in
     sym (pid-dot s k d (c .before .before .before .before .before .if1 .left) (c .before .before .if3 .left) ∙ after-none (take k s) (drop (k + 1) s) r)
 
--- src/lib.rt:106:9
 returns-5 : tie.Need-returns-5
 returns-5 c =
     let s = c .before .before .before .before .before .before .before .before .before .args .s .now in
@@ -75,36 +61,28 @@ returns-5 c =
     let m : length (drop (k + 1) s) ≡ length s - (k + 1) = length-drop (k + 1) s in
     sym (pid-dot s k d (c .before .before .before .before .before .before .if1 .left) (c .before .before .before .if3 .left) ∙ after-more (take k s) (drop (k + 1) s) (λ z. c .before .if4 .left (omega (arith, e, z))) (omega (arith, e, less, m)))
 
--- src/lib.rt:109:28
 slice-aggregate-read-number : tie.Need-slice-aggregate-read-number
 slice-aggregate-read-number c =
     simp length-take (omega (arith, c .before .before .before .before .before .before .if2 .left))
 
--- src/lib.rt:109:16
 read-number-requires : tie.Need-read-number-requires
 read-number-requires c κs = search needs
 
--- src/lib.rt:110:32
 add-read-number : tie.Need-add-read-number
 add-read-number c = search needs
 
--- src/lib.rt:110:29
 sub-read-number : tie.Need-sub-read-number
 sub-read-number c = search needs
 
--- src/lib.rt:110:29
 part-read-number-start : tie.Need-part-read-number-start
 part-read-number-start c = search needs
 
--- src/lib.rt:110:29
 part-read-number-end : tie.Need-part-read-number-end
 part-read-number-end c = search needs
 
--- src/lib.rt:110:17
 read-number-requires-2 : tie.Need-read-number-requires-2
 read-number-requires-2 c κs = search needs
 
--- src/lib.rt:88:1
 returns-6 : tie.Need-returns-6
 returns-6 c =
     let s = c .before .before .before .before .before .before .before .before .before .before .before .before .before .args .s .now in

@@ -1,55 +1,42 @@
-use mathlib.Core.Path.{_≡_, refl, sym, ap, _∙_}
-use mathlib.Core.Bool.{true, false}
-use Prim.Native.Nat.{ℕ, _-_, _+_, _≤_}
+-- `merge_pids::value_at` meets its contract. Assumes nothing.
+use mathlib.Core.Path.{ap, _∙_}
+use Prim.Native.Nat.{ℕ, _+_}
 use native.Mathlib.Omega.{arith}
-use lib.Dec.{eqb}
-use lib.ListN.{length, drop, getD}
+use lib.ListN.{drop}
 use lib.Seq.{drop-drop}
-use Rattle.octets.specs.Classes.{run, bare, quoted}
+use Rattle.octets.specs.Classes.{bare, quoted}
 use Rattle.octets.proofs.Runs.{run-has}
 use Rattle.octets.proofs.Masks.{has-bare, has-quoted}
 use Rattle.line_parser.proofs.Steps.{is, isnt}
 use Rattle.merge_pids.specs.Marks.{spanAt}
-use Rattle.merge_pids.specs.declared.Span.{Span}
 use borrow.Author.Needs.{needs}
 use Rattle.merge_pids.proofs.value_at.Statement.{statement}
 use Rattle.merge_pids.proofs.value_at.Tie as tie
-use Rattle.merge_pids.proofs.value_at.Reads as reads
-use Rattle.merge_pids.proofs.value_at.Lts as lts
-use Rattle.octets.proofs.classes.span.Reads as span-reads
 
--- src/lib.rt:158:8
 shared-slice-read-if1 : tie.Need-shared-slice-read-if1
 shared-slice-read-if1 c = search needs
 
--- src/lib.rt:159:13
 span-requires : tie.Need-span-requires
 span-requires c κs = search needs
 
--- src/lib.rt:160:9
 returns : tie.Need-returns
 unfolding spanAt
 returns c =
     let e = c .span .ensures .0 ∙ ap (λ (k : ℕ). c .before .before .before .before .args .at + k) (run-has 8 bare has-bare (drop (c .before .before .before .before .args .at) (c .before .before .before .before .args .s .now))) in
     (rw (isnt (c .before .before .before .before .args .s .now) (c .before .before .before .before .args .at) 34 (c .before .if1 .taken)) (ap (λ (k : ℕ). record { start = c .before .before .before .before .args .at; end = k; next = k }) e), (omega (arith, c .span .ensures .0), c .span .ensures .1, omega (arith, c .span .ensures .1)))
 
--- src/lib.rt:166:35
 add-span : tie.Need-add-span
 add-span c = search needs
 
--- src/lib.rt:166:9
 span-requires-2 : tie.Need-span-requires-2
 span-requires-2 c κs = search needs
 
--- src/lib.rt:168:16
 add-t9 : tie.Need-add-t9
 add-t9 c = search needs
 
--- src/lib.rt:170:15
 add-t10 : tie.Need-add-t10
 add-t10 c = search needs
 
--- src/lib.rt:152:1
 returns-2 : tie.Need-returns-2
 unfolding spanAt
 returns-2 c =

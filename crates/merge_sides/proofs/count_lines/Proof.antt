@@ -1,20 +1,13 @@
+-- `merge_sides::count_lines` meets its contract. Assumes nothing.
 use borrow.Author.Needs.{needs}
-use borrow.Author.Tests.{eq-eqb, ne-eqb, lt-ltb, le-ltb, not-true, not-false}
-use mathlib.Core.Path.{_≡_, refl, sym, ap, _∙_}
-use mathlib.Core.Bool.{Bool, true, false}
-use mathlib.Core.List.{List, [], _∷_}
-use Prim.Native.Nat.{ℕ, suc, _-_, _+_, _*_, _≤_, _<_}
-use native.Mathlib.Nat.{sub-zero}
+use mathlib.Core.Path.{_≡_, sym, ap, _∙_}
+use Prim.Native.Nat.{_-_, _+_, _≤_}
+use native.Mathlib.Nat.{sub-zero, zero-add}
 use native.Mathlib.Omega.{arith}
-use lib.ListN.{length, getD, take, drop, length-take, List·getD-eq-default}
 use Rattle.merge_sides.specs.Lines.{countLines}
 use Rattle.merge_sides.proofs.Walks.{count-turn, count-over}
-use native.Mathlib.Nat.{zero-add}
 use Rattle.merge_sides.proofs.count_lines.Statement.{statement}
 use Rattle.merge_sides.proofs.count_lines.Tie as tie
-use Rattle.merge_sides.proofs.count_lines.Reads as reads
-use Rattle.merge_sides.proofs.count_lines.Lts as lts
-use Rattle.merge_sides.proofs.one_at.Reads as one-at-reads
 
 abbrev Inv-loop : tie.InvT-loop
 Inv-loop rs n row count₀ i₀ count i =
@@ -24,31 +17,27 @@ abbrev μ-loop : tie.MeasureT-loop
 μ-loop rs n row count₀ i₀ count i =
     n - i
 
--- src/lib.rt:117:5
 loop-holds : tie.Need-loop-holds Inv-loop μ-loop
 loop-holds c =
     (omega arith, omega arith, ap (countLines (c .before .args .rs .now) (c .before .args .row) 0) (sym (sub-zero (c .before .args .n))) ∙ sym (zero-add (countLines (c .before .args .rs .now) (c .before .args .row) 0 (c .before .args .n - 0))))
 
--- src/lib.rt:118:18
 one-at-requires : tie.Need-one-at-requires Inv-loop μ-loop
 one-at-requires c κs = search needs
--- src/lib.rt:118:9
+
 add-count : tie.Need-add-count Inv-loop μ-loop
 add-count c =
     omega (arith, c .before .before .loop .inv .1, c .one-at .ensures .1, c .before .loop-test .taken)
 
--- src/lib.rt:119:9
 add-i : tie.Need-add-i Inv-loop μ-loop
 add-i c = search needs
--- src/lib.rt:117:5
+
 loop-less : tie.Need-loop-less Inv-loop μ-loop
 loop-less c = search needs
--- src/lib.rt:117:5
+
 loop-again : tie.Need-loop-again Inv-loop μ-loop
 loop-again c =
     (omega arith, omega (arith, c .before .before .loop .inv .1, c .one-at .ensures .1), omega (arith, c .before .before .loop .inv .2, c .one-at .ensures .0, count-turn (c .before .before .before .before .args .rs .now) (c .before .before .before .before .args .row) (c .before .before .before .before .args .n) (c .before .before .loop .i) (c .before .loop-test .taken)))
 
--- src/lib.rt:112:1
 returns : tie.Need-returns Inv-loop μ-loop
 returns c =
     omega (arith, c .before .loop .inv .2, count-over (c .before .before .before .args .rs .now) (c .before .before .before .args .row) (c .before .before .before .args .n) (c .before .loop .i) (c .loop-test .left))

@@ -1,52 +1,38 @@
-use borrow.Author.Tests.{eq-eqb, ne-eqb, lt-ltb, le-ltb, not-true, not-false}
-use mathlib.Core.Path.{_≡_, refl, sym, ap, _∙_}
-use mathlib.Core.Bool.{Bool, true, false}
-use mathlib.Core.List.{List, [], _∷_}
-use Prim.Native.Nat.{ℕ, suc, _-_, _+_, _*_, _≤_, _<_}
-use native.Mathlib.Nat.{sub-zero}
+-- `merge_sides::field_at` meets its contract. Assumes nothing.
+use borrow.Author.Tests.{lt-ltb, le-ltb}
+use mathlib.Core.Path.{sym}
 use native.Mathlib.Omega.{arith}
-use lib.ListN.{length, getD, take, drop, length-take, List·getD-eq-default}
+use lib.ListN.{List·getD-eq-default}
 use Rattle.merge_sides.specs.Lines.{fieldAt}
 use borrow.Author.Needs.{needs}
 use Rattle.merge_sides.proofs.field_at.Statement.{statement}
 use Rattle.merge_sides.proofs.field_at.Tie as tie
-use Rattle.merge_sides.proofs.field_at.Reads as reads
-use Rattle.merge_sides.proofs.field_at.Lts as lts
-use Rattle.octets.proofs.indices.wide_number.Reads as wide-number-reads
 
--- src/lib.rt:28:9
 returns : tie.Need-returns
 unfolding fieldAt
 returns c =
     (rw (lt-ltb 4096 (c .before .before .args .i) (c .if1 .taken)), omega arith)
 
--- src/lib.rt:30:14
 mul-at : tie.Need-mul-at
 mul-at c = search needs
 
--- src/lib.rt:30:14
 add-at : tie.Need-add-at
 add-at c = search needs
 
--- src/lib.rt:32:9
 returns-2 : tie.Need-returns-2
 unfolding fieldAt
 returns-2 c =
     (rw (le-ltb 4096 (c .before .before .before .args .i) (c .before .if1 .left)) (sym (List·getD-eq-default (c .before .before .before .args .rs .now) 0 (c .if2 .taken))), omega arith)
 
--- src/lib.rt:34:17
 mul-wide-number : tie.Need-mul-wide-number
 mul-wide-number c = search needs
 
--- src/lib.rt:34:17
 shared-slice-read-wide-number : tie.Need-shared-slice-read-wide-number
 shared-slice-read-wide-number c = search needs
 
--- src/lib.rt:34:5
 wide-number-requires : tie.Need-wide-number-requires
 wide-number-requires c κs = search needs
 
--- src/lib.rt:22:1
 returns-3 : tie.Need-returns-3
 unfolding fieldAt
 returns-3 c =

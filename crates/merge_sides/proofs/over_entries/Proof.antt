@@ -1,20 +1,15 @@
+-- `merge_sides::over_entries` meets its contract. Assumes nothing.
 use borrow.Author.Needs.{needs}
-use borrow.Author.Tests.{eq-eqb, ne-eqb, lt-ltb, le-ltb, not-true, not-false}
-use mathlib.Core.Path.{_≡_, refl, sym, ap, _∙_}
-use mathlib.Core.Bool.{Bool, true, false}
-use mathlib.Core.List.{List, [], _∷_}
-use Prim.Native.Nat.{ℕ, suc, _-_, _+_, _*_, _≤_, _<_}
-use native.Mathlib.Nat.{sub-zero}
+use borrow.Author.Tests.{lt-ltb, le-ltb}
+use mathlib.Core.Path.{_≡_, refl, sym, _∙_}
+use Prim.Native.Nat.{_-_, _≤_}
 use native.Mathlib.Omega.{arith}
-use lib.ListN.{length, getD, take, drop, length-take, List·getD-eq-default}
+use lib.ListN.{getD}
 use Rattle.merge_sources.specs.Row.{none}
 use Rattle.merge_sides.specs.Sources.{overEntries}
 use Rattle.merge_sides.proofs.Walks.{left, over}
 use Rattle.merge_sides.proofs.over_entries.Statement.{statement}
 use Rattle.merge_sides.proofs.over_entries.Tie as tie
-use Rattle.merge_sides.proofs.over_entries.Reads as reads
-use Rattle.merge_sides.proofs.over_entries.Lts as lts
-use Rattle.octets.proofs.indices.wide_number.Reads as wide-number-reads
 
 abbrev Inv-loop : tie.InvT-loop
 Inv-loop r i₀ i =
@@ -24,39 +19,35 @@ abbrev μ-loop : tie.MeasureT-loop
 μ-loop r i₀ i =
     16 - i
 
--- src/lib.rt:212:5
 loop-holds : tie.Need-loop-holds Inv-loop μ-loop
 loop-holds c =
     (omega arith, refl)
 
--- src/lib.rt:213:17
 mul-e : tie.Need-mul-e Inv-loop μ-loop
 mul-e c = search needs
--- src/lib.rt:213:17
+
 element-copy-out-e : tie.Need-element-copy-out-e Inv-loop μ-loop
 element-copy-out-e c = search needs
--- src/lib.rt:214:35
+
 wide-number-requires : tie.Need-wide-number-requires Inv-loop μ-loop
 wide-number-requires c κs = search needs
--- src/lib.rt:215:13
+
 returns : tie.Need-returns Inv-loop μ-loop
 unfolding overEntries
 returns c =
     sym (c .before .before .before .before .loop .inv .1 ∙ rw (left 16 (c .before .before .before .before .loop .i) (c .before .before .before .loop-test .taken), lt-ltb 65535 (getD (c .before .before .before .before .before .args .t1 .entries) (c .before .before .before .before .loop .i) none .number) (omega (arith, c .if1 .taken, c .before .wide-number .ensures .0))))
 
--- src/lib.rt:217:9
 add-i : tie.Need-add-i Inv-loop μ-loop
 add-i c = search needs
--- src/lib.rt:212:5
+
 loop-less : tie.Need-loop-less Inv-loop μ-loop
 loop-less c = search needs
--- src/lib.rt:212:5
+
 loop-again : tie.Need-loop-again Inv-loop μ-loop
 unfolding overEntries
 loop-again c =
     (omega arith, c .before .before .before .before .loop .inv .1 ∙ rw (left 16 (c .before .before .before .before .loop .i) (c .before .before .before .loop-test .taken), le-ltb 65535 (getD (c .before .before .before .before .before .args .t1 .entries) (c .before .before .before .before .loop .i) none .number) (omega (arith, c .if1 .left, c .before .wide-number .ensures .0))))
 
--- src/lib.rt:208:1
 returns-2 : tie.Need-returns-2 Inv-loop μ-loop
 unfolding overEntries
 returns-2 c =

@@ -1,22 +1,16 @@
+-- `merge_sides::own_row` meets its contract. Assumes nothing.
 use borrow.Author.Needs.{needs}
-use borrow.Author.Tests.{eq-eqb, ne-eqb, lt-ltb, le-ltb, not-true, not-false}
-use mathlib.Core.Path.{_≡_, refl, sym, ap, _∙_}
-use mathlib.Core.Bool.{Bool, true, false}
-use mathlib.Core.List.{List, [], _∷_}
-use Prim.Native.Nat.{ℕ, suc, _-_, _+_, _*_, _≤_, _<_}
+use mathlib.Core.Path.{_≡_, sym, ap, _∙_}
+use mathlib.Core.List.{[]}
+use Prim.Native.Nat.{_-_, _+_, _≤_}
 use native.Mathlib.Nat.{sub-zero}
 use native.Mathlib.Omega.{arith}
-use lib.ListN.{length, getD, take, drop, length-take, List·getD-eq-default}
 use Rattle.merge_sources.specs.Row.{filled}
 use Rattle.merge_sources.specs.declared.Row.{Row}
 use Rattle.merge_sides.specs.Sources.{withLines, ownRow}
 use Rattle.merge_sides.proofs.Walks.{lines-turn, lines-over}
 use Rattle.merge_sides.proofs.own_row.Statement.{statement}
 use Rattle.merge_sides.proofs.own_row.Tie as tie
-use Rattle.merge_sides.proofs.own_row.Reads as reads
-use Rattle.merge_sides.proofs.own_row.Lts as lts
-use Rattle.merge_sides.proofs.add_line.Reads as add-line-reads
-use Rattle.merge_sources.proofs.empty.Reads as empty-reads
 
 abbrev Inv-loop : tie.InvT-loop
 Inv-loop c rs n r₀ i₀ r i =
@@ -26,32 +20,28 @@ abbrev μ-loop : tie.MeasureT-loop
 μ-loop c rs n r₀ i₀ r i =
     n - i
 
--- src/lib.rt:198:9
 empty-requires : tie.Need-empty-requires Inv-loop μ-loop
 empty-requires c κs = search needs
--- src/lib.rt:200:5
+
 loop-holds : tie.Need-loop-holds Inv-loop μ-loop
 unfolding ownRow filled
 loop-holds c =
     (omega arith, omega (arith, ap (λ (q : Row). q .count) (c .empty .ensures)), ap (withLines (filled 0 [] 0) (c .before .before .before .args .c .now) (c .before .before .before .args .rs .now) 0) (sym (sub-zero (c .before .before .before .args .n))) ∙ ap (λ (q : Row). withLines q (c .before .before .before .args .c .now) (c .before .before .before .args .rs .now) 0 (c .before .before .before .args .n - 0)) (sym (c .empty .ensures)))
 
--- src/lib.rt:201:9
 add-line-requires : tie.Need-add-line-requires Inv-loop μ-loop
 add-line-requires c κs =
     omega (arith, c .before .loop .inv .1, c .loop-test .taken)
 
--- src/lib.rt:202:9
 add-i : tie.Need-add-i Inv-loop μ-loop
 add-i c = search needs
--- src/lib.rt:200:5
+
 loop-less : tie.Need-loop-less Inv-loop μ-loop
 loop-less c = search needs
--- src/lib.rt:200:5
+
 loop-again : tie.Need-loop-again Inv-loop μ-loop
 loop-again c =
     (omega arith, omega (arith, c .before .before .loop .inv .1, c .add-line .ensures .1), c .before .before .loop .inv .2 ∙ lines-turn (c .before .before .loop .r) (c .before .before .before .before .before .before .args .c .now) (c .before .before .before .before .before .before .args .rs .now) (c .before .before .before .before .before .before .args .n) (c .before .before .loop .i) (c .before .loop-test .taken) ∙ ap (λ (q : Row). withLines q (c .before .before .before .before .before .before .args .c .now) (c .before .before .before .before .before .before .args .rs .now) (c .before .before .loop .i + 1) (c .before .before .before .before .before .before .args .n - (c .before .before .loop .i + 1))) (sym (c .add-line .ensures .0)))
 
--- src/lib.rt:195:1
 returns : tie.Need-returns Inv-loop μ-loop
 returns c =
     sym (c .before .loop .inv .2 ∙ lines-over (c .before .loop .r) (c .before .before .before .before .before .args .c .now) (c .before .before .before .before .before .args .rs .now) (c .before .before .before .before .before .args .n) (c .before .loop .i) (c .loop-test .left))

@@ -1,11 +1,10 @@
-use borrow.Author.Tests.{eq-eqb, ne-eqb, lt-ltb, le-ltb, not-true, not-false}
-use mathlib.Core.Path.{_≡_, refl, sym, ap, _∙_}
-use mathlib.Core.Bool.{Bool, true, false}
-use mathlib.Core.List.{List, [], _∷_}
-use Prim.Native.Nat.{ℕ, suc, _-_, _+_, _*_, _≤_, _<_}
-use native.Mathlib.Nat.{sub-zero}
+-- `merge_sides::put_line` meets its contract. Assumes nothing.
+use borrow.Author.Tests.{eq-eqb, ne-eqb}
+use mathlib.Core.Path.{_≡_, sym, ap, _∙_}
+use mathlib.Core.List.{List}
+use Prim.Native.Nat.{ℕ, suc}
 use native.Mathlib.Omega.{arith}
-use lib.ListN.{length, getD, take, drop, length-take, List·getD-eq-default}
+use lib.ListN.{length}
 use Rattle.merge_pids.specs.Marks.{marked, putAll, paramsMarks}
 use Rattle.merge_sides.specs.Lines.{fieldAt}
 use Rattle.merge_sides.specs.Sources.{narrowed}
@@ -14,68 +13,48 @@ use Rattle.merge_sides.proofs.Walks.{part-at, sum-at}
 use borrow.Author.Needs.{needs}
 use Rattle.merge_sides.proofs.put_line.Statement.{statement}
 use Rattle.merge_sides.proofs.put_line.Tie as tie
-use Rattle.merge_sides.proofs.put_line.Reads as reads
-use Rattle.merge_sides.proofs.put_line.Lts as lts
-use Rattle.merge_pids.proofs.put_params.Reads as put-params-reads
-use Rattle.merge_sides.proofs.field_at.Reads as field-at-reads
-use Rattle.merge_sides.proofs.name_start.Reads as name-start-reads
-use Rattle.merge_sides.proofs.narrow.Reads as narrow-reads
-use Rattle.octets.proofs.slices.part.Reads as part-reads
 
--- src/lib.rt:227:8
 field-at-requires : tie.Need-field-at-requires
 field-at-requires c κs = search needs
 
--- src/lib.rt:228:9
 returns : tie.Need-returns
 unfolding putAll lineMarks
 returns c =
     rw (eq-eqb (fieldAt (c .before .before .before .before .before .args .rs .now) (c .before .before .before .before .before .args .i) 5) 0 (sym (c .before .field-at .ensures .0) ∙ c .if1 .taken))
 
--- src/lib.rt:230:20
 name-start-requires : tie.Need-name-start-requires
 name-start-requires c κs = search needs
 
--- src/lib.rt:230:40
 field-at-requires-2 : tie.Need-field-at-requires-2
 field-at-requires-2 c κs = search needs
 
--- src/lib.rt:230:20
 add-name-end : tie.Need-add-name-end
 add-name-end c =
     omega (arith, c .before .name-start .ensures .1, c .field-at2 .ensures .1)
 
--- src/lib.rt:231:9
 field-at-requires-3 : tie.Need-field-at-requires-3
 field-at-requires-3 c κs = search needs
 
--- src/lib.rt:232:39
 field-at-requires-4 : tie.Need-field-at-requires-4
 field-at-requires-4 c κs = search needs
 
--- src/lib.rt:232:31
 add-part : tie.Need-add-part
 add-part c =
     omega (arith, c .before .field-at3 .ensures .1, c .field-at4 .ensures .1)
 
--- src/lib.rt:232:9
 part-requires : tie.Need-part-requires
 part-requires c κs = search needs
 
--- src/lib.rt:233:37
 narrow-requires : tie.Need-narrow-requires
 narrow-requires c κs = search needs
 
--- src/lib.rt:233:5
 put-params-requires : tie.Need-put-params-requires
 put-params-requires c κs =
     c .before .before .before .before .before .before .before .before .before .before .before .before .pre
 
--- src/lib.rt:223:1
 same-length : tie.Need-same-length
 same-length c = search needs
 
--- src/lib.rt:223:1
 returns-2 : tie.Need-returns-2
 unfolding lineMarks behindName
 returns-2 c =

@@ -1,83 +1,61 @@
-use borrow.Author.Tests.{eq-eqb, ne-eqb, lt-ltb, le-ltb, not-true, not-false}
-use mathlib.Core.Path.{_≡_, refl, sym, ap, _∙_}
-use mathlib.Core.Bool.{Bool, true, false}
-use mathlib.Core.List.{List, [], _∷_}
-use Prim.Native.Nat.{ℕ, suc, _-_, _+_, _*_, _≤_, _<_}
-use native.Mathlib.Nat.{sub-zero}
+-- `merge_sides::same_property` meets its contract. Assumes nothing.
+use borrow.Author.Tests.{eq-eqb, ne-eqb}
+use mathlib.Core.Path.{_≡_, sym, ap, _∙_}
+use mathlib.Core.List.{List}
+use Prim.Native.Nat.{ℕ}
 use native.Mathlib.Omega.{arith}
-use lib.ListN.{length, getD, take, drop, length-take, List·getD-eq-default}
 use Rattle.octets.specs.Cases.{same}
 use Rattle.merge_sides.specs.Lines.{fieldAt, nameAt, sameProperty}
 use Rattle.merge_sides.proofs.Walks.{part-at, sum-at}
 use borrow.Author.Needs.{needs}
 use Rattle.merge_sides.proofs.same_property.Statement.{statement}
 use Rattle.merge_sides.proofs.same_property.Tie as tie
-use Rattle.merge_sides.proofs.same_property.Reads as reads
-use Rattle.merge_sides.proofs.same_property.Lts as lts
-use Rattle.merge_sides.proofs.field_at.Reads as field-at-reads
-use Rattle.merge_sides.proofs.name_start.Reads as name-start-reads
-use Rattle.octets.proofs.cases.same_name.Reads as same-name-reads
-use Rattle.octets.proofs.slices.part.Reads as part-reads
 
--- src/lib.rt:71:9
 field-at-requires : tie.Need-field-at-requires
 field-at-requires c κs = search needs
 
--- src/lib.rt:72:15
 field-at-requires-2 : tie.Need-field-at-requires-2
 field-at-requires-2 c κs = search needs
 
--- src/lib.rt:73:9
 returns : tie.Need-returns
 unfolding sameProperty
 returns c =
     rw (ne-eqb (fieldAt (c .before .before .before .before .before .before .before .args .ra .now) (c .before .before .before .before .before .before .before .args .i) 0) (fieldAt (c .before .before .before .before .before .before .before .args .rb .now) (c .before .before .before .before .before .before .before .args .j) 0) (λ e. c .if1 .taken (c .before .before .field-at .ensures .0 ∙ e ∙ sym (c .before .field-at2 .ensures .0))))
 
--- src/lib.rt:76:9
 returns-2 : tie.Need-returns-2
 unfolding sameProperty
 returns-2 c =
     rw (eq-eqb (fieldAt (c .before .before .before .before .before .before .before .before .args .ra .now) (c .before .before .before .before .before .before .before .before .args .i) 0) (fieldAt (c .before .before .before .before .before .before .before .before .args .rb .now) (c .before .before .before .before .before .before .before .before .args .j) 0) (sym (c .before .before .before .field-at .ensures .0) ∙ c .before .if1 .left ∙ c .before .before .field-at2 .ensures .0), ne-eqb (fieldAt (c .before .before .before .before .before .before .before .before .args .ra .now) (c .before .before .before .before .before .before .before .before .args .i) 0) 0 (λ e. c .if2 .taken (c .before .before .before .field-at .ensures .0 ∙ e)))
 
--- src/lib.rt:78:9
 name-start-requires : tie.Need-name-start-requires
 name-start-requires c κs = search needs
 
--- src/lib.rt:79:9
 name-start-requires-2 : tie.Need-name-start-requires-2
 name-start-requires-2 c κs = search needs
 
--- src/lib.rt:80:29
 field-at-requires-3 : tie.Need-field-at-requires-3
 field-at-requires-3 c κs = search needs
 
--- src/lib.rt:80:25
 add-part : tie.Need-add-part
 add-part c =
     omega (arith, c .before .before .name-start .ensures .1, c .field-at3 .ensures .1)
 
--- src/lib.rt:80:9
 part-requires : tie.Need-part-requires
 part-requires c κs = search needs
 
--- src/lib.rt:81:29
 field-at-requires-4 : tie.Need-field-at-requires-4
 field-at-requires-4 c κs = search needs
 
--- src/lib.rt:81:25
 add-part-2 : tie.Need-add-part-2
 add-part-2 c =
     omega (arith, c .before .before .before .name-start2 .ensures .1, c .field-at4 .ensures .1)
 
--- src/lib.rt:81:9
 part-requires-2 : tie.Need-part-requires-2
 part-requires-2 c κs = search needs
 
--- src/lib.rt:82:5
 same-name-requires : tie.Need-same-name-requires
 same-name-requires c κs = search needs
 
--- src/lib.rt:68:1
 returns-3 : tie.Need-returns-3
 unfolding sameProperty nameAt
 returns-3 c =

@@ -3,10 +3,7 @@ use mathlib.Core.Path.{refl}
 use Rattle.merge_sources.specs.Row.{filled}
 use Rattle.merge_sources.proofs.empty.Statement.{statement}
 use Rattle.merge_sources.proofs.empty.Tie as tie
-use Rattle.merge_sources.proofs.empty.Reads as reads
-use Rattle.merge_sources.proofs.empty.Lts as lts
 
--- src/lib.rt:53:1
 returns : tie.Need-returns
 unfolding filled
 returns c = refl

