@@ -1,0 +1,3 @@
+-- The laws that the proofs of `merge_partners` cite. Assumes nothing.
+pub mod JoinLaws
+pub mod WalkLaws

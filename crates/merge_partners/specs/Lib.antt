@@ -1,0 +1,3 @@
+-- The definitions that the contracts of `merge_partners` cite. Assumes nothing.
+pub mod Keys
+pub mod Pairs

@@ -1,0 +1,3 @@
+-- The definitions that the contracts of `merge_pids` cite. Assumes nothing.
+pub mod Numbers
+pub mod Marks
