@@ -86,7 +86,7 @@ fn keep_part(s: &[u8], folded: bool, scratch: &mut [u8], used: usize, from: usiz
 }
 
 // Judges the logical line s, which starts at `at` in the input: as it is where it has no fold, else unfolded; and keeps what is to be kept of it.
-fn judge_span(
+pub fn judge_span(
     t: &ClassTable,
     rows: &PropertyTable,
     steps: &Transitions,
@@ -115,7 +115,7 @@ fn judge_span(
 }
 
 // The judgement of the line s, which starts at `at` in the input, with the place in the input of an octet that it names.
-fn settle(step: Step, s: &[u8], at: usize) -> Step
+pub fn settle(step: Step, s: &[u8], at: usize) -> Step
     requires { ⌜ at + length (now s) ≤ limit.octets ⌝ }
     ensures { λ r. ⌜ ((store : List ℕ) → stepOf store r ≡ settled at (now (s .entry)) (stepOf store step)) ⌝ }
 {

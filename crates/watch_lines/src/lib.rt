@@ -1,0 +1,150 @@
+// The lines that end with a chunk, each judged once: the one that was open, and those that lie in the chunk. Their ALTID values stay in the buffer.
+use card_state::Card;
+use card_state::Step;
+use numbers::limit;
+use octets::classes::ClassTable;
+use property_table::Edition;
+use property_table::rows::PropertyTable;
+use value_automaton::states::Transitions;
+
+// What the ended lines of a chunk make of the card, and where the line after them starts in the chunk.
+pub struct Walked {
+    pub step: Step,
+    pub at: usize,
+}
+
+// Judges the line s, which starts at `at` in the input, and keeps its ALTID value in the buffer; the octets behind it are cleared up to `to`, all of
+// them where the line is refused.
+fn take_line(
+    t: &ClassTable,
+    rows: &PropertyTable,
+    steps: &Transitions,
+    s: &[u8],
+    folded: bool,
+    buffer: &mut [u8],
+    to: usize,
+    at: usize,
+    c: Card,
+) -> Step {
+    let j = reader_walk::judge_span(t, rows, steps, Edition::First, s, folded, buffer, at, c);
+    let Step::Next(next) = j else {
+        watch_buffer::clear(buffer, 0, to);
+        return reader_walk::settle(j, s, at);
+    };
+    watch_buffer::clear(buffer, next.used, to);
+    Step::Next(next)
+}
+
+// Judges the lines of a chunk that have ended, from `from` on; the chunk starts at `base` in the input.
+pub fn judge_lines(
+    t: &ClassTable,
+    rows: &PropertyTable,
+    steps: &Transitions,
+    chunk: &[u8],
+    from: usize,
+    buffer: &mut [u8],
+    base: usize,
+    first: Card,
+) -> Walked {
+    let mut c = first;
+    let mut at = from;
+    while at < chunk.len() {
+        let span = line_folds::spans::line_at(chunk, at);
+        let end = span.end;
+        if chunk.len() - end <= 2 {
+            return Walked {
+                step: Step::Next(c),
+                at,
+            };
+        }
+        let folded = span.cr != end;
+        let to = c.used + (end - at);
+        let j = take_line(
+            t,
+            rows,
+            steps,
+            &chunk[at..end],
+            folded,
+            buffer,
+            to,
+            base + at,
+            c,
+        );
+        let Step::Next(next) = j else {
+            return Walked { step: j, at };
+        };
+        c = next;
+        at = end + 2;
+    }
+    Walked {
+        step: Step::Next(c),
+        at,
+    }
+}
+
+// A line of at most so many octets with its CR LF is joined in as many, since the room is made at each call.
+const SHORT: usize = 1024;
+
+// Joins the open line, as it stands in the buffer behind the first `used` octets, with the octets that end it.
+fn join(line: &mut [u8], buffer: &[u8], used: usize, open: usize, rest: &[u8]) {
+    octets::copying::copy_in(line, &buffer[used..used + open]);
+    octets::copying::copy_in(&mut line[open..], rest);
+}
+
+// Judges the open line with the octets of a chunk that end it, joined in room for it.
+fn judge_joined(
+    t: &ClassTable,
+    rows: &PropertyTable,
+    steps: &Transitions,
+    line: &mut [u8],
+    buffer: &mut [u8],
+    open: usize,
+    rest: &[u8],
+    at: usize,
+    c: Card,
+) -> Step {
+    let used = c.used;
+    let n = open + rest.len();
+    join(line, buffer, used, open, rest);
+    let end = n - 2;
+    take_line(t, rows, steps, &line[..end], true, buffer, used + n, at, c)
+}
+
+// Judges the open line, which starts at `at` in the input, with the octets of a chunk that end it.
+pub fn judge_open(
+    t: &ClassTable,
+    rows: &PropertyTable,
+    steps: &Transitions,
+    buffer: &mut [u8],
+    open: usize,
+    rest: &[u8],
+    at: usize,
+    c: Card,
+) -> Step {
+    let n = open + rest.len();
+    if n <= SHORT {
+        let mut line = [0u8; SHORT];
+        return judge_joined(t, rows, steps, &mut line, buffer, open, rest, at, c);
+    }
+    let mut line = [0u8; limit::OCTETS];
+    judge_joined(t, rows, steps, &mut line, buffer, open, rest, at, c)
+}
+
+// Judges the open line at the end of the input, without its CR LF; the buffer is only read.
+pub fn judge_last(
+    t: &ClassTable,
+    rows: &PropertyTable,
+    steps: &Transitions,
+    buffer: &[u8],
+    open: usize,
+    at: usize,
+    c: Card,
+) -> Step {
+    let used = c.used;
+    let mut scratch = [0u8; limit::OCTETS];
+    octets::copying::copy_in(&mut scratch, &buffer[..used]);
+    let end = used + open - 2;
+    let s = &buffer[used..end];
+    let j = reader_walk::judge_span(t, rows, steps, Edition::First, s, true, &mut scratch, at, c);
+    reader_walk::settle(j, s, at)
+}
