@@ -11,7 +11,7 @@ use lib.Seq.{take-suc, take-length, take-all, getD-take, getD-drop, length-take-
 use borrow.Author.Tests.{eqb-true, eqb-false, ne-eqb, eq-eqb, ltb-true, ltb-false, lt-ltb, le-ltb}
 use Rattle.octets.specs.Pick.{pick}
 use Rattle.octets.specs.Scan.{scan, after}
-use Rattle.octets.proofs.Bools.{by}
+use Rattle.octets.proofs.Bools.{by, and-both}
 use Rattle.octets.proofs.Scans.{scan-le}
 use Rattle.line_breaks.specs.Lone.{loneStep, firstLone}
 use Rattle.line_folds.specs.Folds.{foldAt, lineStep, lineLength}
@@ -479,3 +479,32 @@ line-next s from e h f q =
     (by (ltb (k + 2) (length s - from))
     (λ p. rw (p, lt-ltb (e + 2) (length s) (omega (arith, q, ltb-true (k + 2) (length s - from) p))) (omega (arith, q)))
     (λ p. rw (p, le-ltb (e + 2) (length s) (omega (arith, q, ltb-false (k + 2) (length s - from) p))) (omega (arith, h))))
+
+-- one octet passed
+lone-rest : (t x : ℕ) (xs : List ℕ) → loneFrom t (x ∷ xs) ≡ length (x ∷ xs) + 1 → loneFrom (tailStep t x) xs ≡ length xs + 1
+unfolding loneFrom
+lone-rest t x xs e =
+    by (eqb t 1)
+    (λ p. by (eqb x 10)
+    (λ q.
+      let w : tailStep t x ≡ 2 = rw (eqb-true t 1 p, eqb-true x 10 q) tail-lf in
+      let f : suc (loneFrom 2 xs) ≡ suc (length xs) + 1 = rw (p, q) at e in
+      rw w (omega arith))
+    (λ q. let f : 0 ≡ suc (length xs) + 1 = rw (p, q) at e in absurd (omega arith)))
+    (λ p. by (eqb x 10)
+    (λ q. let f : 1 ≡ suc (length xs) + 1 = rw (p, q) at e in absurd (omega arith))
+    (λ q. let f : suc (loneFrom (tailStep t x) xs) ≡ suc (length xs) + 1 = rw (p, q) at e in omega arith))
+
+-- no lone CR or LF is known from the next line on either
+pub fine-next : (t : ℕ) (l : List ℕ) → loneFrom t l ≡ length l + 1 → nextFrom t l < length l
+    → loneFrom 0 (drop (nextFrom t l) l) ≡ length (drop (nextFrom t l) l) + 1
+unfolding nextFrom
+fine-next t [] e h = absurd (omega arith)
+fine-next t (x ∷ xs) e h =
+    by (eqb t 2 && not (blank x))
+    (λ p.
+      let two : t ≡ 2 = eqb-true t 2 (and-both (eqb t 2) (not (blank x)) p .0) in
+      rw p (sym (lone-other t (x ∷ xs) (λ z. omega arith)) ∙ e))
+    (λ p.
+      let f : suc (nextFrom (tailStep t x) xs) < suc (length xs) = rw p at h in
+      rw p (fine-next (tailStep t x) xs (lone-rest t x xs e) (omega arith)))

@@ -1,4 +1,17 @@
 // The lines that end with a chunk, each judged once: the one that was open, and those that lie in the chunk. Their ALTID values stay in the buffer.
+ghost use mathlib.Core.Path.{_≡_};
+ghost use mathlib.Core.Bool.{false};
+ghost use mathlib.Core.List.{List, _++_};
+ghost use Prim.Native.Nat.{ℕ, _+_, _-_, _<_, _≤_};
+ghost use lib.ListN.{length, take, drop};
+ghost use Rattle.numbers.specs.Limits as limit;
+ghost use Rattle.line_folds.specs.Folds.{unfolded};
+ghost use Rattle.card_state.specs.State.{Counted};
+ghost use Rattle.card_state.specs.Kept.{Lies, cardOf, stepOf};
+ghost use Rattle.card_judge.specs.Judge.{Tables};
+ghost use Rattle.reader_walk.specs.Walk.{settled, Roomy};
+ghost use Rattle.watch_arrivals.specs.Arrivals.{afterOther, loneFrom};
+ghost use Rattle.watch_lines.specs.Taking.{judgement, Took, Within, Went};
 use card_state::Card;
 use card_state::Step;
 use numbers::limit;
@@ -25,7 +38,14 @@ fn take_line(
     to: usize,
     at: usize,
     c: Card,
-) -> Step {
+) -> Step
+    requires { ⌜ Tables (now t) (now rows) (now steps) ⌝ }
+    requires { ⌜ Counted (c .cards) (c .lines) ⌝ }
+    requires { ⌜ Roomy c (now s) (now buffer) × (length (now buffer) ≡ limit.octets) ⌝ }
+    requires { ⌜ (folded ≡ false → unfolded (now s) ≡ now s) ⌝ }
+    requires { ⌜ (c .used + length (now s) ≤ to) × (to ≤ limit.octets) × (at + length (now s) ≤ limit.octets) ⌝ }
+    ensures { λ r. ⌜ Took c (now (s .entry)) (now (buffer .entry)) (now (buffer .exit)) at to r ⌝ }
+{
     let j = reader_walk::judge_span(t, rows, steps, Edition::First, s, folded, buffer, at, c);
     let Step::Next(next) = j else {
         watch_buffer::clear(buffer, 0, to);
@@ -45,7 +65,14 @@ pub fn judge_lines(
     buffer: &mut [u8],
     base: usize,
     first: Card,
-) -> Walked {
+) -> Walked
+    requires { ⌜ Tables (now t) (now rows) (now steps) ⌝ }
+    requires { ⌜ (from ≤ length (now chunk)) × (base + length (now chunk) ≤ limit.octets) × (length (now buffer) ≡ limit.octets) ⌝ }
+    requires { ⌜ Within first (base + from) ⌝ }
+    requires { ⌜ loneFrom afterOther (drop from (now chunk)) ≡ length (drop from (now chunk)) + 1 ⌝ }
+    ensures { λ r. ⌜ Went first (drop from (now (chunk .entry))) (now (buffer .entry)) (now (buffer .exit)) (base + from) (r .step) (drop (r .at) (now (chunk .entry))) ⌝ }
+    ensures { λ r. ⌜ (from ≤ r .at) × (r .at ≤ length (now (chunk .entry))) ⌝ }
+{
     let mut c = first;
     let mut at = from;
     while at < chunk.len() {
@@ -86,7 +113,10 @@ pub fn judge_lines(
 const SHORT: usize = 1024;
 
 // Joins the open line, as it stands in the buffer behind the first `used` octets, with the octets that end it.
-fn join(line: &mut [u8], buffer: &[u8], used: usize, open: usize, rest: &[u8]) {
+fn join(line: &mut [u8], buffer: &[u8], used: usize, open: usize, rest: &[u8])
+    requires { ⌜ (used + «open» ≤ length (now buffer)) × («open» + length (now rest) ≤ length (now line)) × (length (now buffer) ≤ limit.octets) ⌝ }
+    ensures { λ _. ⌜ take («open» + length (now (rest .entry))) (now (line .exit)) ≡ take «open» (drop used (now (buffer .entry))) ++ now (rest .entry) ⌝ }
+{
     octets::copying::copy_in(line, &buffer[used..used + open]);
     octets::copying::copy_in(&mut line[open..], rest);
 }
@@ -102,7 +132,14 @@ fn judge_joined(
     rest: &[u8],
     at: usize,
     c: Card,
-) -> Step {
+) -> Step
+    requires { ⌜ Tables (now t) (now rows) (now steps) ⌝ }
+    requires { ⌜ Counted (c .cards) (c .lines) × Lies c ⌝ }
+    requires { ⌜ (c .used + («open» + length (now rest)) ≤ limit.octets) × (length (now buffer) ≡ limit.octets) × (2 ≤ «open» + length (now rest)) ⌝ }
+    requires { ⌜ at + («open» + length (now rest)) ≤ limit.octets ⌝ }
+    requires { ⌜ («open» + length (now rest) ≤ length (now line)) ⌝ }
+    ensures { λ r. ⌜ Took c (take («open» + length (now (rest .entry)) - 2) (take «open» (drop (c .used) (now (buffer .entry))) ++ now (rest .entry))) (now (buffer .entry)) (now (buffer .exit)) at (c .used + («open» + length (now (rest .entry)))) r ⌝ }
+{
     let used = c.used;
     let n = open + rest.len();
     join(line, buffer, used, open, rest);
@@ -120,7 +157,13 @@ pub fn judge_open(
     rest: &[u8],
     at: usize,
     c: Card,
-) -> Step {
+) -> Step
+    requires { ⌜ Tables (now t) (now rows) (now steps) ⌝ }
+    requires { ⌜ Counted (c .cards) (c .lines) × Lies c ⌝ }
+    requires { ⌜ (c .used + («open» + length (now rest)) ≤ limit.octets) × (length (now buffer) ≡ limit.octets) × (2 ≤ «open» + length (now rest)) ⌝ }
+    requires { ⌜ at + («open» + length (now rest)) ≤ limit.octets ⌝ }
+    ensures { λ r. ⌜ Took c (take («open» + length (now (rest .entry)) - 2) (take «open» (drop (c .used) (now (buffer .entry))) ++ now (rest .entry))) (now (buffer .entry)) (now (buffer .exit)) at (c .used + («open» + length (now (rest .entry)))) r ⌝ }
+{
     let n = open + rest.len();
     if n <= SHORT {
         let mut line = [0u8; SHORT];
@@ -139,7 +182,12 @@ pub fn judge_last(
     open: usize,
     at: usize,
     c: Card,
-) -> Step {
+) -> Step
+    requires { ⌜ Tables (now t) (now rows) (now steps) ⌝ }
+    requires { ⌜ Counted (c .cards) (c .lines) × Lies c ⌝ }
+    requires { ⌜ (c .used + «open» ≤ limit.octets) × (length (now buffer) ≡ limit.octets) × (2 ≤ «open») × (at + «open» ≤ limit.octets) ⌝ }
+    ensures { λ r. ⌜ ((store : List ℕ) × (stepOf store r ≡ settled at (take («open» - 2) (drop (c .used) (now (buffer .entry)))) (judgement c (now (buffer .entry)) (take («open» - 2) (drop (c .used) (now (buffer .entry)))) at))) ⌝ }
+{
     let used = c.used;
     let mut scratch = [0u8; limit::OCTETS];
     octets::copying::copy_in(&mut scratch, &buffer[..used]);
