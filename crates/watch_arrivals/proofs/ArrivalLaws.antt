@@ -13,7 +13,7 @@ use Rattle.octets.specs.Pick.{pick}
 use Rattle.octets.specs.Scan.{scan, after}
 use Rattle.octets.proofs.Bools.{by, and-both}
 use Rattle.octets.proofs.Scans.{scan-le}
-use Rattle.line_breaks.specs.Lone.{loneStep, firstLone}
+use Rattle.line_breaks.specs.Lone.{loneStep, firstLone, endsCrLf}
 use Rattle.line_folds.specs.Folds.{foldAt, lineStep, lineLength}
 use Rattle.watch_arrivals.specs.Arrivals.{tailStep, tailFrom, loneFrom, blank, nextFrom}
 
@@ -508,3 +508,167 @@ fine-next t (x ∷ xs) e h =
     (λ p.
       let f : suc (nextFrom (tailStep t x) xs) < suc (length xs) = rw p at h in
       rw p (fine-next (tailStep t x) xs (lone-rest t x xs e) (omega arith)))
+
+-- where a line has ended, CR LF stands before the next
+pub next-tail : (t : ℕ) (l : List ℕ) → nextFrom t l < length l → tailFrom t (take (nextFrom t l) l) ≡ 2
+unfolding nextFrom tailFrom
+next-tail t [] h = absurd (omega arith)
+next-tail t (x ∷ xs) h =
+    by (eqb t 2 && not (blank x))
+    (λ p. rw p (eqb-true t 2 (and-both (eqb t 2) (not (blank x)) p .0)))
+    (λ p. let f : suc (nextFrom (tailStep t x) xs) < suc (length xs) = rw p at h in rw p (next-tail (tailStep t x) xs (omega arith)))
+
+-- an octet alone is no CR LF
+one-tail : (x : ℕ) → tailStep 0 x ≡ 2 → ⊥
+unfolding tailStep
+one-tail x e = by (eqb x 13) (λ p. let f : 1 ≡ 2 = rw p at e in absurd (omega arith)) (λ p. let f : 0 ≡ 2 = rw p at e in absurd (omega arith))
+
+-- a list that ends with CR LF has two octets
+pub tail-two : (l : List ℕ) → tailFrom 0 l ≡ 2 → 2 ≤ length l
+unfolding tailFrom
+tail-two [] e = absurd (omega arith)
+tail-two (x ∷ []) e = absurd (one-tail x e)
+tail-two (x ∷ y ∷ ys) e = omega arith
+
+pub next-least : (l : List ℕ) → nextFrom 0 l < length l → 2 ≤ nextFrom 0 l
+next-least l h =
+    let m = tail-two (take (nextFrom 0 l) l) (next-tail 0 l h) in
+    omega (arith, m, length-take-le (nextFrom 0 l) l (omega arith))
+
+-- the reader's logical line that has not ended, by how its octets end
+abbrev Left : List ℕ → Type 0
+Left l = Fine l → nextFrom 0 l ≡ length l → lineLength l + tailFrom 0 l ≡ length l
+
+left-plain : (x : ℕ) (xs : List ℕ) → eqb x 13 ≡ false → Left xs → Left (x ∷ xs)
+unfolding lineLength tailFrom
+left-plain x xs p m e h =
+    let k = not-lf x xs e in
+    let t : tailStep 0 x ≡ 0 = tail-plain 0 x p (k .0) in
+    let f : loneFrom 0 xs ≡ length xs + 1 = rw t at (k .1) in
+    let n : suc (nextFrom 0 xs) ≡ suc (length xs) = ap (λ (u : ℕ). suc (nextFrom u xs)) (sym t) ∙ sym (next-plain x xs) ∙ h in
+    rw (line-step x xs 1 (line-plain x xs p), t) (omega (arith, m f (omega arith)))
+
+left-cr : (x : ℕ) → eqb x 13 ≡ true → Left (x ∷ [])
+unfolding lineLength tailFrom
+left-cr x p e h = rw (line-step x [] 0 (line-cr x [] p refl), eqb-true x 13 p) (omega (arith, tail-cr 0))
+
+left-pair : (x y : ℕ) → eqb x 13 ≡ true → Left (x ∷ y ∷ [])
+unfolding lineLength tailFrom blank
+left-pair x y p e h =
+    let k = pair x y [] p e in
+    rw (k .0, line-step x (10 ∷ []) 0 (line-cr x (10 ∷ []) p refl), eqb-true x 13 p, tail-cr 0) (omega (arith, tail-lf))
+
+left-fold : (x y z : ℕ) (zs : List ℕ) → eqb x 13 ≡ true → blank z ≡ true → Left zs → Left (x ∷ y ∷ z ∷ zs)
+unfolding lineLength tailFrom
+left-fold x y z zs p b m e h =
+    let k = pair x y (z ∷ zs) p e in
+    let n : suc (suc (suc (nextFrom 0 zs))) ≡ suc (suc (suc (length zs))) = ap (λ (u : ℕ). suc (suc u)) (sym (next-blank z zs b)) ∙ sym (k .2) ∙ h in
+    let t : tailFrom 0 (x ∷ y ∷ z ∷ zs) ≡ tailFrom 0 zs = rw (k .0, eqb-true x 13 p, tail-cr 0, tail-lf, tail-plain 2 z (blank-plain z b .0) (blank-plain z b .1)) in
+    rw (t, k .0, line-step x (10 ∷ z ∷ zs) 3 (line-fold x 10 z zs p refl b), skip-two 10 z zs)
+    (omega (arith, m (lone-blank z zs b (k .1)) (omega arith)))
+
+left-end : (x y z : ℕ) (zs : List ℕ) → eqb x 13 ≡ true → blank z ≡ false → Left (x ∷ y ∷ z ∷ zs)
+left-end x y z zs p b e h =
+    let k = pair x y (z ∷ zs) p e in
+    let n : suc (suc (nextFrom 2 (z ∷ zs))) ≡ suc (suc (suc (length zs))) = sym (k .2) ∙ h in
+    absurd (omega (arith, n, next-here z zs b))
+
+pub line-left : (l : List ℕ) → loneFrom 0 l ≡ length l + 1 → nextFrom 0 l ≡ length l → lineLength l + tailFrom 0 l ≡ length l
+unfolding lineLength tailFrom scan
+line-left [] = λ e h. refl
+line-left (x ∷ []) = by (eqb x 13) (left-cr x) (λ p. left-plain x [] p (line-left []))
+line-left (x ∷ y ∷ []) = by (eqb x 13) (left-pair x y) (λ p. left-plain x (y ∷ []) p (line-left (y ∷ [])))
+line-left (x ∷ y ∷ z ∷ zs) =
+    by (eqb x 13)
+    (λ p. by (blank z) (λ b. left-fold x y z zs p b (line-left zs)) (left-end x y z zs p))
+    (λ p. left-plain x (y ∷ z ∷ zs) p (line-left (y ∷ z ∷ zs)))
+
+-- the reader's last two octets
+pub ends-law : (l : List ℕ) → endsCrLf l ≡ eqb (tailFrom 0 l) 2
+unfolding endsCrLf
+ends-law l =
+    by (ltb (length l) 2)
+    (λ p. rw p (sym (ne-eqb (tailFrom 0 l) 2 (λ e. let m = tail-two l e in let q = ltb-true (length l) 2 p in omega arith))))
+    (λ p.
+      let n = ltb-false (length l) 2 p in
+      rw p
+      (by (eqb (getD l (length l - 2) 0) 13)
+      (λ q. by (eqb (getD l (length l - 1) 0) 10)
+      (λ r. rw (q, r, ends-pair 0 l n (eqb-true (getD l (length l - 1) 0) 10 r) (eqb-true (getD l (length l - 2) 0) 13 q)))
+      (λ r. rw (q, r) (sym (ne-eqb (tailFrom 0 l) 2 (λ e. not-two l n r e)))))
+      (λ q. rw q (sym (ne-eqb (tailFrom 0 l) 2 (λ e. by (eqb (getD l (length l - 1) 0) 10)
+      (λ r. omega (arith, e, ends-lf 0 l n (eqb-true (getD l (length l - 1) 0) 10 r) (eqb-false (getD l (length l - 2) 0) 13 q)))
+      (λ r. not-two l n r e)))))))
+  where
+    not-two : (l : List ℕ) → 2 ≤ length l → eqb (getD l (length l - 1) 0) 10 ≡ false → tailFrom 0 l ≡ 2 → ⊥
+    not-two l n r e =
+        by (eqb (getD l (length l - 1) 0) 13)
+        (λ s. omega (arith, e, ends-cr 0 l (omega arith) (eqb-true (getD l (length l - 1) 0) 13 s)))
+        (λ s. omega (arith, e, ends-other 0 l (omega arith) (eqb-false (getD l (length l - 1) 0) 13 s) (eqb-false (getD l (length l - 1) 0) 10 r)))
+
+-- no lone CR or LF is known: there is none, or the last octet is a CR
+pub first-fine : (l : List ℕ) → loneFrom 0 l ≡ length l + 1 → (tailFrom 0 l ≡ 1 → ⊥) → firstLone l ≡ length l
+unfolding firstLone
+first-fine l e h =
+    let f : knownBy (firstLone l) l ≡ length l + 1 = sym (lone-first l) ∙ e in
+    by (eqb (firstLone l + 1) (length l) && eqb (getD l (firstLone l) 0) 13)
+    (λ p.
+      let b = and-both (eqb (firstLone l + 1) (length l)) (eqb (getD l (firstLone l) 0) 13) p in
+      let n = eqb-true (firstLone l + 1) (length l) (b .0) in
+      let k : firstLone l ≡ length l - 1 = omega (arith, n) in
+      absurd (h (ends-cr 0 l (omega (arith, n)) (ap (λ (i : ℕ). getD l i 0) (sym k) ∙ eqb-true (getD l (firstLone l) 0) 13 (b .1)))))
+    (λ p. let g : firstLone l + 1 ≡ length l + 1 = rw p at f in omega arith)
+
+-- where there is none, the last octet is no CR
+abbrev Whole : List ℕ → Type 0
+Whole l = scan loneStep l 0 ≡ length l → tailFrom 0 l ≡ 1 → ⊥
+
+whole-lf : (x : ℕ) (xs : List ℕ) → eqb x 10 ≡ true → Whole (x ∷ xs)
+whole-lf x xs p e t = let f : 0 ≡ suc (length xs) = sym (lone-step x xs 0 (step-lf x xs p)) ∙ e in absurd (omega arith)
+
+whole-plain : (x : ℕ) (xs : List ℕ) → eqb x 10 ≡ false → eqb x 13 ≡ false → Whole xs → Whole (x ∷ xs)
+unfolding tailFrom
+whole-plain x xs p q w e t =
+    let f : suc (scan loneStep xs 0) ≡ suc (length xs) = sym (lone-step x xs 1 (step-plain x xs p q)) ∙ e in
+    w (omega arith) (rw (tail-plain 0 x q p) at t)
+
+whole-cr : (x : ℕ) (xs : List ℕ) → eqb x 10 ≡ false → eqb x 13 ≡ true → eqb (getD xs 0 0) 10 ≡ false → Whole (x ∷ xs)
+whole-cr x xs p q r e t = let f : 0 ≡ suc (length xs) = sym (lone-step x xs 0 (step-cr x xs p q r)) ∙ e in absurd (omega arith)
+
+whole-pair : (x y : ℕ) (ys : List ℕ) → eqb x 10 ≡ false → eqb x 13 ≡ true → eqb y 10 ≡ true → Whole ys → Whole (x ∷ y ∷ ys)
+unfolding tailFrom
+whole-pair x y ys p q r w e t =
+    let f : suc (suc (scan loneStep ys 0)) ≡ suc (suc (length ys)) = ap suc (sym (skip-one y ys)) ∙ sym (lone-step x (y ∷ ys) 2 (step-pair x y ys p q r)) ∙ e in
+    let u : tailFrom 2 ys ≡ 1 = rw (eqb-true x 13 q, eqb-true y 10 r, tail-cr 0, tail-lf) at t in
+    by-rest ys (w (omega arith)) u
+  where
+    by-rest : (ys : List ℕ) → (tailFrom 0 ys ≡ 1 → ⊥) → tailFrom 2 ys ≡ 1 → ⊥
+    by-rest [] w u = absurd (omega arith)
+    by-rest (z ∷ zs) w u = w (sym (tails-other 2 z zs (λ q. omega arith)) ∙ u)
+
+no-last : (l : List ℕ) → scan loneStep l 0 ≡ length l → tailFrom 0 l ≡ 1 → ⊥
+unfolding tailFrom
+no-last [] = λ e t. absurd (omega arith)
+no-last (x ∷ []) = by (eqb x 10) (whole-lf x []) (λ p. by (eqb x 13) (λ q. whole-cr x [] p q refl) (λ q. whole-plain x [] p q (no-last [])))
+no-last (x ∷ y ∷ ys) =
+    by (eqb x 10) (whole-lf x (y ∷ ys))
+    (λ p. by (eqb x 13)
+    (λ q. by (eqb y 10) (λ r. whole-pair x y ys p q r (no-last ys)) (λ r. whole-cr x (y ∷ ys) p q r))
+    (λ q. whole-plain x (y ∷ ys) p q (no-last (y ∷ ys))))
+
+pub first-waits : (l : List ℕ) → loneFrom 0 l ≡ length l + 1 → tailFrom 0 l ≡ 1 → firstLone l + 1 ≡ length l
+unfolding firstLone tailFrom
+first-waits [] e t = absurd (omega arith)
+first-waits (x ∷ xs) e t =
+    let l = x ∷ xs in
+    let f : knownBy (firstLone l) l ≡ length l + 1 = sym (lone-first l) ∙ e in
+    by (eqb (firstLone l + 1) (length l) && eqb (getD l (firstLone l) 0) 13)
+    (λ p. eqb-true (firstLone l + 1) (length l) (and-both (eqb (firstLone l + 1) (length l)) (eqb (getD l (firstLone l) 0) 13) p .0))
+    (λ p. let g : firstLone l + 1 ≡ length l + 1 = rw p at f in absurd (no-last l (omega (arith, g)) t))
+
+-- one that is known is the reader's
+pub first-known : (l : List ℕ) → loneFrom 0 l ≤ length l → firstLone l + 1 ≡ loneFrom 0 l
+first-known l h =
+    by (eqb (firstLone l + 1) (length l) && eqb (getD l (firstLone l) 0) 13)
+    (λ p. let g : loneFrom 0 l ≡ length l + 1 = lone-first l ∙ rw p in absurd (omega arith))
+    (λ p. sym (lone-first l ∙ rw p))
