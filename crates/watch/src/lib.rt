@@ -1,4 +1,19 @@
 // The reader that takes an input in chunks, cut anywhere: its state, and one lent buffer of 16,384 octets.
+ghost use mathlib.Core.Path.{_≡_};
+ghost use mathlib.Core.Bool.{true};
+ghost use mathlib.Core.List.{List, _++_};
+ghost use Prim.Native.Nat.{ℕ, _+_, _<_, _≤_};
+ghost use lib.Dec.{ltb};
+ghost use lib.ListN.{length};
+ghost use Rattle.numbers.specs.Limits as limit;
+ghost use Rattle.numbers.specs.Refusals as refusal;
+ghost use Rattle.card_state.specs.Kept.{placesOf, endOf, Inside};
+ghost use Rattle.desk_pool.specs.Pools.{patch};
+ghost use Rattle.reader.specs.Outcome.{judgeOf};
+ghost use Rattle.watch_arrivals.specs.Arrivals.{afterOther, tailFrom, loneFrom, nextFrom};
+ghost use Rattle.watch_lines.specs.Taking.{Within};
+ghost use Rattle.watch.specs.Octets.{bufferAfter};
+ghost use Rattle.watch.specs.State.{isOver, quietState, openState, stoppedState, freshWatch, claims, Counts, Sound, Live, Stands, After, Reached, ChunkOf, EndOf};
 use card_state::Card;
 use card_state::Step;
 use card_state::tags::Tags;
@@ -40,7 +55,9 @@ pub enum Arrived {
 }
 
 // The state once a fault is known, after n octets.
-fn faulty(known: u32, fault: u32, place: usize, n: usize, tail: u32) -> Watch {
+fn faulty(known: u32, fault: u32, place: usize, n: usize, tail: u32) -> Watch
+    ensures { λ r. ⌜ r ≡ quietState known fault place n tail ⌝ }
+{
     let card = card_state::fresh();
     Watch {
         known,
@@ -54,18 +71,16 @@ fn faulty(known: u32, fault: u32, place: usize, n: usize, tail: u32) -> Watch {
 }
 
 // The state once the input is too long.
-fn too_long() -> Watch {
-    faulty(
-        TOO_LONG,
-        refusal::TOO_LONG,
-        limit::OCTETS,
-        limit::OCTETS,
-        AFTER_OTHER,
-    )
+fn too_long() -> Watch
+    ensures { λ r. ⌜ r ≡ quietState isOver refusal.tooLong limit.octets limit.octets afterOther ⌝ }
+{
+    faulty(TOO_LONG, refusal::TOO_LONG, limit::OCTETS, limit::OCTETS, AFTER_OTHER)
 }
 
 // The state after a line that was refused, after n octets.
-fn stopped(step: Step, n: usize, tail: u32) -> Watch {
+fn stopped(step: Step, n: usize, tail: u32) -> Watch
+    ensures { λ r. ⌜ r ≡ stoppedState step n tail ⌝ }
+{
     match step {
         Step::Next(c) => faulty(NO_FAULT, 0, 0, n, tail),
         Step::Refused(k, p) => faulty(LINE_FAULT, k, p, n, tail),
@@ -76,123 +91,138 @@ fn stopped(step: Step, n: usize, tail: u32) -> Watch {
 // More than the octets of any input: a place of the card is one more than a value's start times SPAN and its length.
 const SPAN: usize = 32768;
 
-// Whether the value of a place ends within n octets.
-fn ends_within(place: u32, n: usize) -> bool {
+// Where the value of a place ends; 0 for no value.
+fn end_of(place: u32) -> usize
+    ensures { λ r. ⌜ r ≡ endOf place ⌝ }
+{
     let p = place as usize;
     if p == 0 {
-        return true;
+        return 0;
     }
-    (p - 1) / SPAN + (p - 1) % SPAN <= n
+    (p - 1) / SPAN + (p - 1) % SPAN
 }
 
-// Whether the values of the first five places end within n octets.
-fn early_within(t: Tags, n: usize) -> bool {
-    let a = ends_within(t.kind, n);
-    let b = ends_within(t.n, n);
-    let c = ends_within(t.bday, n);
-    let d = ends_within(t.anniversary, n);
-    let e = ends_within(t.gender, n);
-    a & b & c & d & e
+// The farther of a place in the buffer and the end of a value.
+fn farther(a: usize, place: u32) -> usize
+    ensures { λ r. ⌜ (a ≤ r) × (endOf place ≤ r) × ((n : ℕ) → a ≤ n → endOf place ≤ n → r ≤ n) ⌝ }
+{
+    let e = end_of(place);
+    if a < e {
+        return e;
+    }
+    a
 }
 
-// Whether the values of the other places end within n octets.
-fn late_within(t: Tags, n: usize) -> bool {
-    let a = ends_within(t.prodid, n);
-    let b = ends_within(t.rev, n);
-    let c = ends_within(t.uid, n);
-    let d = ends_within(t.created, n);
-    let e = ends_within(t.language, n);
-    a & b & c & d & e
+// Where the last of a card's values ends.
+fn far_end(t: Tags) -> usize
+    ensures { λ r. ⌜ ((n : ℕ) → r ≤ n → Inside n (placesOf t)) × ((n : ℕ) → Inside n (placesOf t) → r ≤ n) ⌝ }
+{
+    let a = farther(0, t.kind);
+    let b = farther(a, t.n);
+    let c = farther(b, t.bday);
+    let d = farther(c, t.anniversary);
+    let e = farther(d, t.gender);
+    let f = farther(e, t.prodid);
+    let g = farther(f, t.rev);
+    let h = farther(g, t.uid);
+    let i = farther(h, t.created);
+    farther(i, t.language)
 }
 
-// Whether the card of a state can be worked with: its values lie in its part of the buffer, and its counts within the lines before `start`.
-fn is_card_sound(c: Card, start: usize) -> bool {
+// Whether the card of a state can be worked with: its values lie in its part of the buffer, and its counts within the octets before `start`.
+fn is_card_sound(c: Card, start: usize) -> bool
+    ensures { λ r. ⌜ (r ≡ true → Within c start) × (Within c start → r ≡ true) ⌝ }
+{
+    let tags = c.tags;
+    if c.used < far_end(tags) {
+        return false;
+    }
     if start < c.used {
         return false;
     }
     if c.lines < c.cards {
         return false;
     }
-    if start < c.lines {
-        return false;
-    }
-    let used = c.used;
-    let tags = c.tags;
-    if !early_within(tags, used) {
-        return false;
-    }
-    late_within(tags, used)
+    c.lines <= start
 }
 
-impl Watch {
-    // A fresh state, before the first chunk.
-    pub fn new() -> Watch {
-        faulty(NO_FAULT, 0, 0, 0, AFTER_OTHER)
+// Whether the octets that a state has, its count and its tail can be worked with.
+fn is_count_sound(w: Watch) -> bool
+    ensures { λ r. ⌜ (r ≡ true → Counts w) × (Counts w → r ≡ true) ⌝ }
+{
+    if limit::OCTETS < w.open {
+        return false;
     }
-
-    // Whether the state claims over 16,384 octets of the buffer: those of ALTID values and of the open line.
-    fn is_over(self) -> bool {
-        let used = self.card.used;
-        if limit::OCTETS < used {
-            return true;
-        }
-        limit::OCTETS - used < self.open
+    if limit::OCTETS - w.open < w.start {
+        return false;
     }
-
-    // Whether the state can be worked with. Each state that was handed on can.
-    fn is_sound(self) -> bool {
-        if limit::OCTETS < self.open {
-            return false;
-        }
-        if limit::OCTETS - self.open < self.start {
-            return false;
-        }
-        if self.start + self.open < self.tail as usize {
-            return false;
-        }
-        if self.known != LINE_FAULT {
-            if self.open < self.tail as usize {
-                return false;
-            }
-        }
-        let c = self.card;
-        is_card_sound(c, self.start)
+    if w.start + w.open < w.tail as usize {
+        return false;
     }
+    if w.known == LINE_FAULT {
+        return true;
+    }
+    w.tail as usize <= w.open
 }
 
-// The octets of a chunk in which no fault of 1 or 3 is known, with no fault before: the lines that have ended are judged, and the rest is kept.
-fn take_octets(w: Watch, buffer: &mut [u8], chunk: &[u8]) -> Watch {
-    let tail = watch_arrivals::tail_after(w.tail, chunk);
-    let next = watch_arrivals::next_line(w.tail, chunk);
+// Whether the state can be worked with. Each state that was handed on can.
+fn is_sound(w: Watch) -> bool
+    ensures { λ r. ⌜ (r ≡ true → Sound w) × (Sound w → r ≡ true) ⌝ }
+{
+    let counts = is_count_sound(w);
+    if !counts {
+        return false;
+    }
     let c = w.card;
-    let used = c.used;
+    is_card_sound(c, w.start)
+}
+
+// Whether the state claims over 16,384 octets of the buffer: those of ALTID values and of the open line.
+fn is_over(w: Watch) -> bool
+    ensures { λ r. ⌜ r ≡ ltb limit.octets (claims w) ⌝ }
+{
+    let used = w.card.used;
+    if limit::OCTETS < used {
+        return true;
+    }
+    limit::OCTETS - used < w.open
+}
+
+// A chunk with which no line ends: it is kept behind the open line.
+fn go_on(w: Watch, buffer: &mut [u8], chunk: &[u8], tail: u32) -> Watch
+    requires { ⌜ (claims w + length (now chunk) ≤ limit.octets) × (length (now buffer) ≡ limit.octets) ⌝ }
+    ensures { λ r. ⌜ r ≡ openState (w .start) (w .«open» + length (now (chunk .entry))) tail (w .card) ⌝ }
+    ensures { λ _. ⌜ now (buffer .exit) ≡ patch (now (buffer .entry)) (claims w) (now (chunk .entry)) ⌝ }
+{
+    let card = w.card;
+    let used = card.used;
+    watch_buffer::append(buffer, used + w.open, chunk);
+    Watch {
+        known: NO_FAULT,
+        fault: 0,
+        place: 0,
+        start: w.start,
+        open: w.open + chunk.len(),
+        tail,
+        card,
+    }
+}
+
+// A chunk with which lines end, the first before octet `next`: they are judged, and the rest is kept.
+fn take_lines(w: Watch, buffer: &mut [u8], chunk: &[u8], next: usize, tail: u32) -> Watch
+    requires { ⌜ Sound w × (length (now buffer) ≡ limit.octets) ⌝ }
+    requires { ⌜ (w .tail ≤ w .«open») × (w .start + w .«open» + length (now chunk) ≤ limit.octets) ⌝ }
+    requires { ⌜ (next ≡ nextFrom (w .tail) (now chunk)) × (next < length (now chunk)) ⌝ }
+    requires { ⌜ loneFrom (w .tail) (now chunk) ≡ length (now chunk) + 1 ⌝ }
+    ensures { λ r. ⌜ ((i : List ℕ) → Live w (now (buffer .entry)) i → now (buffer .entry) ≡ bufferAfter i → tail ≡ tailFrom (w .tail) (now (chunk .entry)) → After r (now (buffer .exit)) (i ++ now (chunk .entry))) ⌝ }
+{
+    let c = w.card;
     let base = w.start + w.open;
     let n = base + chunk.len();
-    if next == chunk.len() {
-        watch_buffer::append(buffer, used + w.open, chunk);
-        return Watch {
-            known: NO_FAULT,
-            fault: 0,
-            place: 0,
-            start: w.start,
-            open: w.open + chunk.len(),
-            tail,
-            card: c,
-        };
-    }
     let t = octets::classes::table();
     let rows = property_table::table();
     let steps = value_automaton::scanner::table();
-    let j = watch_lines::judge_open(
-        &t,
-        &rows,
-        &steps,
-        buffer,
-        w.open,
-        &chunk[..next],
-        w.start,
-        c,
-    );
+    let j = watch_lines::judge_open(&t, &rows, &steps, buffer, w.open, &chunk[..next], w.start, c);
     let Step::Next(first) = j else {
         return stopped(j, n, tail);
     };
@@ -214,8 +244,26 @@ fn take_octets(w: Watch, buffer: &mut [u8], chunk: &[u8]) -> Watch {
     }
 }
 
+// The octets of a chunk with which no fault of 1 or 3 is known, with no fault before.
+fn take_octets(w: Watch, buffer: &mut [u8], chunk: &[u8]) -> Watch
+    requires { ⌜ Sound w × (length (now buffer) ≡ limit.octets) ⌝ }
+    requires { ⌜ (w .tail ≤ w .«open») × (w .start + w .«open» + length (now chunk) ≤ limit.octets) ⌝ }
+    requires { ⌜ loneFrom (w .tail) (now chunk) ≡ length (now chunk) + 1 ⌝ }
+    ensures { λ r. ⌜ ((i : List ℕ) → Live w (now (buffer .entry)) i → now (buffer .entry) ≡ bufferAfter i → After r (now (buffer .exit)) (i ++ now (chunk .entry))) ⌝ }
+{
+    let tail = watch_arrivals::tail_after(w.tail, chunk);
+    let next = watch_arrivals::next_line(w.tail, chunk);
+    if next < chunk.len() {
+        return take_lines(w, buffer, chunk, next, tail);
+    }
+    go_on(w, buffer, chunk, tail)
+}
+
 // The next state after a chunk, and the buffer with it.
-fn arrive(w: Watch, buffer: &mut [u8], chunk: &[u8]) -> Watch {
+fn arrive(w: Watch, buffer: &mut [u8], chunk: &[u8]) -> Watch
+    requires { ⌜ Sound w × (length (now buffer) ≡ limit.octets) ⌝ }
+    ensures { λ r. ⌜ ((i : List ℕ) → Stands w (now (buffer .entry)) i → now (buffer .entry) ≡ bufferAfter i → After r (now (buffer .exit)) (i ++ now (chunk .entry))) ⌝ }
+{
     if w.known == TOO_LONG {
         return w;
     }
@@ -248,7 +296,10 @@ fn arrive(w: Watch, buffer: &mut [u8], chunk: &[u8]) -> Watch {
 }
 
 // The verdict on the octets so far, of a state that can be worked with.
-fn conclude(w: Watch, buffer: &[u8]) -> Verdict {
+fn conclude(w: Watch, buffer: &[u8]) -> Verdict
+    requires { ⌜ Sound w × (length (now buffer) ≡ limit.octets) ⌝ }
+    ensures { λ r. ⌜ ((i : List ℕ) → Reached w (now (buffer .entry)) i → r ≡ judgeOf i) ⌝ }
+{
     let n = w.start + w.open;
     if w.known == TOO_LONG {
         return Verdict::Refused(refusal::TOO_LONG, limit::OCTETS);
@@ -277,35 +328,47 @@ fn conclude(w: Watch, buffer: &[u8]) -> Verdict {
 }
 
 impl Watch {
+    // A fresh state, before the first chunk.
+    pub fn new() -> Watch
+        ensures { λ r. ⌜ r ≡ freshWatch ⌝ }
+    {
+        faulty(NO_FAULT, 0, 0, 0, AFTER_OTHER)
+    }
+
     // Takes a chunk: the next state, or 45, then 46.
-    pub fn chunk(self, buffer: &mut [u8], chunk: &[u8]) -> Arrived {
+    pub fn chunk(self, buffer: &mut [u8], chunk: &[u8]) -> Arrived
+        ensures { λ r. ⌜ ChunkOf self (now (buffer .entry)) (now (chunk .entry)) r (now (buffer .exit)) ⌝ }
+    {
         if buffer.len() != limit::OCTETS {
             return Arrived::Refused(refusal::BUFFER_LENGTH, 0);
         }
-        let over = self.is_over();
+        let over = is_over(self);
         if over {
             return Arrived::Refused(refusal::CLAIM, 0);
         }
-        let sound = self.is_sound();
+        let sound = is_sound(self);
         if !sound {
             return Arrived::Next(self);
         }
         if self.start + self.open == 0 {
             watch_buffer::clear(buffer, 0, limit::OCTETS);
+            return Arrived::Next(arrive(self, buffer, chunk));
         }
         Arrived::Next(arrive(self, buffer, chunk))
     }
 
     // The verdict on the octets so far, as `judge` has it for them; 45, then 46, before all else. The buffer is only read.
-    pub fn end(self, buffer: &[u8]) -> Verdict {
+    pub fn end(self, buffer: &[u8]) -> Verdict
+        ensures { λ r. ⌜ EndOf self (now (buffer .entry)) r ⌝ }
+    {
         if buffer.len() != limit::OCTETS {
             return Verdict::Refused(refusal::BUFFER_LENGTH, 0);
         }
-        let over = self.is_over();
+        let over = is_over(self);
         if over {
             return Verdict::Refused(refusal::CLAIM, 0);
         }
-        let sound = self.is_sound();
+        let sound = is_sound(self);
         if !sound {
             return Verdict::Refused(refusal::ORDER, 0);
         }

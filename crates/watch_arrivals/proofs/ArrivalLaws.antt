@@ -672,3 +672,29 @@ first-known l h =
     by (eqb (firstLone l + 1) (length l) && eqb (getD l (firstLone l) 0) 13)
     (λ p. let g : loneFrom 0 l ≡ length l + 1 = lone-first l ∙ rw p in absurd (omega arith))
     (λ p. sym (lone-first l ∙ rw p))
+
+tail-low : (t x : ℕ) → tailStep t x ≤ t + 1
+unfolding tailStep
+tail-low t x =
+    by (eqb x 13)
+    (λ p. rw p (omega arith))
+    (λ p. by (eqb t 1)
+    (λ q. by (eqb x 10) (λ r. rw (p, q, r) (omega (arith, eqb-true t 1 q))) (λ r. rw (p, q, r) (omega arith)))
+    (λ q. rw (p, q) (omega arith)))
+
+-- a line has its CR LF at least, of which t octets may stand before
+pub next-two-least : (t : ℕ) (l : List ℕ) → nextFrom t l < length l → 2 ≤ t + nextFrom t l
+unfolding nextFrom
+next-two-least t [] h = absurd (omega arith)
+next-two-least t (x ∷ xs) h =
+    by (eqb t 2 && not (blank x))
+    (λ p. rw p (omega (arith, eqb-true t 2 (and-both (eqb t 2) (not (blank x)) p .0))))
+    (λ p.
+      let f : suc (nextFrom (tailStep t x) xs) < suc (length xs) = rw p at h in
+      rw p (omega (arith, next-two-least (tailStep t x) xs (omega arith), tail-low t x)))
+
+-- how an input ends is told in its last octets
+pub tail-short : (t : ℕ) (l : List ℕ) → tailFrom t l ≤ t + length l
+unfolding tailFrom
+tail-short t [] = omega arith
+tail-short t (x ∷ xs) = omega (arith, tail-short (tailStep t x) xs, tail-low t x)

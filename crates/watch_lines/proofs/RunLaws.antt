@@ -21,7 +21,7 @@ use Rattle.reader_walk.specs.Walk.{onward, settled, judgeLines}
 use Rattle.watch_arrivals.specs.Arrivals.{tailFrom, loneFrom, nextFrom}
 use Rattle.watch_arrivals.proofs.ArrivalLaws.{next-append, next-known, next-le, next-tail, next-least, next-line, tail-append, tails-other, fine-next, line-left}
 use Rattle.watch_lines.specs.Parting.{Parting, withLine, opened, parted, endedLines, openLine}
-use Rattle.watch_lines.specs.Values.{valuesOn, valuesNext, valuesFrom}
+use Rattle.watch_lines.specs.Values.{halted, valuesOn, valuesNext, valuesFrom}
 use Rattle.watch_lines.proofs.PartingLaws.{parted-step, parted-open, parted-append, joined}
 
 -- the octets of lines with their ends
@@ -64,11 +64,6 @@ values-append (x ∷ xs) ys p c a =
     (λ v d. valuesFrom ys (p + length x + 2 + sizes xs) d v) next
     (λ d. values-append xs ys (p + length x + 2) d (valuesNext a c x d))
     ∙ ap (λ (q : ℕ). valuesOn (onward (settled p x j) (judgeLines First xs (p + length x + 2))) (λ d. valuesFrom ys q d (valuesOn j next))) z
-
-abbrev pub halted : Step → Bool
-halted (Next c) = false
-halted (Refused n p) = true
-halted (Flawed n o) = true
 
 halt-step : (j : Step) (p : ℕ) (x : List ℕ) (g : Card → Step) (f : Card → List ℕ) → ((d : Card) → halted (g d) ≡ true → f d ≡ [])
     → halted (onward (settled p x j) g) ≡ true → valuesOn j f ≡ []

@@ -1,5 +1,6 @@
 -- The ALTID values that the buffer holds after some lines have ended, by the card's state after each. Assumes nothing.
 use Prim.Native.Nat.{ℕ, _+_}
+use mathlib.Core.Bool.{Bool, true, false}
 use mathlib.Core.List.{List, [], _∷_, _++_}
 use lib.Dec.{eqb}
 use lib.ListN.{length}
@@ -8,6 +9,12 @@ use Rattle.line_folds.specs.Folds.{unfolded}
 use Rattle.property_table.specs.declared.Edition.the-variants.{First}
 use Rattle.card_state.specs.State.{Card, Step, Next, Refused, Flawed, beforeBegin}
 use Rattle.card_judge.specs.Judge.{judgeLine, addedBy}
+
+-- a refusal
+abbrev pub halted : Step → Bool
+halted (Next d) = false
+halted (Refused n p) = true
+halted (Flawed n o) = true
 
 -- no values after a refusal
 abbrev pub valuesOn : Step → (Card → List ℕ) → List ℕ

@@ -1,0 +1,42 @@
+use borrow.Author.Needs.{needs}
+use Rattle.watch.proofs.is_count_sound.Statement.{statement}
+use Rattle.watch.proofs.is_count_sound.Tie as tie
+use Rattle.watch.proofs.is_count_sound.Reads as reads
+use Rattle.watch.proofs.is_count_sound.Lts as lts
+
+-- src/lib.rt:154:9
+returns : tie.Need-returns
+returns c = ?
+
+-- src/lib.rt:157:9
+returns-2 : tie.Need-returns-2
+returns-2 c = ?
+
+-- src/lib.rt:159:8
+add-if3 : tie.Need-add-if3
+add-if3 c = search needs
+
+-- src/lib.rt:159:27
+cast-if3 : tie.Need-cast-if3
+cast-if3 c = search needs
+
+-- src/lib.rt:160:9
+returns-3 : tie.Need-returns-3
+returns-3 c = ?
+
+-- src/lib.rt:163:9
+returns-4 : tie.Need-returns-4
+returns-4 c = search needs
+
+-- src/lib.rt:165:5
+cast-result : tie.Need-cast-result
+cast-result c = search needs
+
+-- src/lib.rt:150:1
+returns-5 : tie.Need-returns-5
+returns-5 c = ?
+
+pub is-count-sound-spec : {M : Type 1} → statement M
+is-count-sound-spec =
+    tie.close
+    (tie.spec returns returns-2 add-if3 cast-if3 returns-3 returns-4 cast-result returns-5)

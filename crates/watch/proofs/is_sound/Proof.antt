@@ -1,0 +1,27 @@
+use borrow.Author.Needs.{needs}
+use Rattle.watch.proofs.is_sound.Statement.{statement}
+use Rattle.watch.proofs.is_sound.Tie as tie
+use Rattle.watch.proofs.is_sound.Reads as reads
+use Rattle.watch.proofs.is_sound.Lts as lts
+use Rattle.watch.proofs.is_card_sound.Reads as is-card-sound-reads
+use Rattle.watch.proofs.is_count_sound.Reads as is-count-sound-reads
+
+-- src/lib.rt:172:9
+is-count-sound-requires : tie.Need-is-count-sound-requires
+is-count-sound-requires c κs = search needs
+
+-- src/lib.rt:174:9
+returns : tie.Need-returns
+returns c = ?
+
+-- src/lib.rt:177:5
+is-card-sound-requires : tie.Need-is-card-sound-requires
+is-card-sound-requires c κs = search needs
+
+-- src/lib.rt:169:1
+returns-2 : tie.Need-returns-2
+returns-2 c = ?
+
+pub is-sound-spec : {M : Type 1} → statement M
+is-sound-spec =
+    tie.close (tie.spec is-count-sound-requires returns is-card-sound-requires returns-2)

@@ -1,0 +1,56 @@
+use borrow.Author.Needs.{needs}
+use Rattle.watch.proofs.stopped.Statement.{statement}
+use Rattle.watch.proofs.stopped.Tie as tie
+use Rattle.watch.proofs.stopped.Reads as reads
+use Rattle.watch.proofs.stopped.Lts as lts
+use Rattle.watch.proofs.faulty.Reads as faulty-reads
+
+-- src/lib.rt:85:20
+enum-known-step : tie.Need-enum-known-step
+enum-known-step c = search needs
+
+-- src/lib.rt:85:26
+faulty-requires : tie.Need-faulty-requires
+faulty-requires c κs = search needs
+
+-- src/lib.rt:86:23
+enum-known-step-2 : tie.Need-enum-known-step-2
+enum-known-step-2 c = search needs
+
+-- src/lib.rt:86:32
+faulty-requires-2 : tie.Need-faulty-requires-2
+faulty-requires-2 c κs = search needs
+
+-- src/lib.rt:87:22
+enum-known-step-3 : tie.Need-enum-known-step-3
+enum-known-step-3 c = search needs
+
+-- src/lib.rt:87:31
+faulty-requires-3 : tie.Need-faulty-requires-3
+faulty-requires-3 c κs = search needs
+
+-- src/lib.rt:81:1
+returns : tie.Need-returns
+returns c = ?
+
+-- src/lib.rt:81:1
+returns-2 : tie.Need-returns-2
+returns-2 c = ?
+
+-- src/lib.rt:81:1
+returns-3 : tie.Need-returns-3
+returns-3 c = ?
+
+pub stopped-spec : {M : Type 1} → statement M
+stopped-spec =
+    tie.close
+    (tie.spec
+    enum-known-step
+    faulty-requires
+    enum-known-step-2
+    faulty-requires-2
+    enum-known-step-3
+    faulty-requires-3
+    returns
+    returns-2
+    returns-3)
