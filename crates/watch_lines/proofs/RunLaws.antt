@@ -183,23 +183,34 @@ module _ (i c : List ℕ) where
   both : length (o ++ c) ≡ length o + length c
   both = length-append o c
 
+  -- the lines that have ended with them, and the open line
+  pub ended-all : endedLines (i ++ c) ≡ endedLines i ++ endedLines (o ++ c)
+  ended-all = ap (λ (q : Parting). q .ended) (parted-append i c)
+
+  pub open-all : openLine (i ++ c) ≡ openLine (o ++ c)
+  open-all = ap (λ (q : Parting). q .left) (parted-append i c)
+
   -- no line ends with them
-  pub none-ends : length c ≤ e → parted (i ++ c) ≡ record { ended = endedLines i ++ []; left = o ++ c }
-  none-ends h = parted-append i c ∙ ap (joined (endedLines i)) (parted-open (o ++ c) (omega (arith, next-is, both)))
+  pub none-ends : length c ≤ e → parted (o ++ c) ≡ opened (o ++ c)
+  none-ends h = parted-open (o ++ c) (omega (arith, next-is, both))
 
   -- the open line ends before octet e of them
-  pub some-ends : e < length c → parted (i ++ c) ≡ joined (endedLines i) (withLine (take (length o + e - 2) (o ++ c)) (parted (drop e c)))
+  pub some-ends : e < length c → parted (o ++ c) ≡ withLine (take (length o + e - 2) (o ++ c)) (parted (drop e c))
   some-ends h =
       let lt : nextFrom 0 (o ++ c) < length (o ++ c) = omega (arith, next-is, both) in
       let n : nextFrom 0 (o ++ c) - 2 ≡ length o + e - 2 = omega (arith, next-is) in
-      parted-append i c
-      ∙ ap (joined (endedLines i))
-      (parted-step (o ++ c) lt
+      parted-step (o ++ c) lt
       ∙ ap (λ (k : ℕ). withLine (take k (o ++ c)) (parted (drop (nextFrom 0 (o ++ c)) (o ++ c)))) n
-      ∙ ap (λ (x : List ℕ). withLine (take (length o + e - 2) (o ++ c)) (parted x)) (ap (λ (k : ℕ). drop k (o ++ c)) next-is ∙ drop-append-add o c e))
+      ∙ ap (λ (x : List ℕ). withLine (take (length o + e - 2) (o ++ c)) (parted x)) (ap (λ (k : ℕ). drop k (o ++ c)) next-is ∙ drop-append-add o c e)
 
   pub two-there : e < length c → 2 ≤ length o + e
   two-there h = omega (arith, next-least (o ++ c) (omega (arith, next-is, both)), next-is)
+
+  -- the line that ends, its CR LF and the rest
+  pub ends-size : e < length c → length (take (length o + e - 2) (o ++ c)) + 2 + length (drop e c) ≡ length (o ++ c)
+  ends-size h =
+      let n : length (take (length o + e - 2) (o ++ c)) ≡ length o + e - 2 = length-take-le (length o + e - 2) (o ++ c) (omega (arith, both)) in
+      omega (arith, n, length-drop e c, both, two-there h)
 
   -- the line that ends, by the octets that end it
   pub line-ends : e < length c → take (length o + e - 2) (o ++ take e c) ≡ take (length o + e - 2) (o ++ c)

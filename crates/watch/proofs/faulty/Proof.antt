@@ -1,3 +1,4 @@
+use mathlib.Core.Path.{refl}
 use borrow.Author.Needs.{needs}
 use Rattle.watch.proofs.faulty.Statement.{statement}
 use Rattle.watch.proofs.faulty.Tie as tie
@@ -11,7 +12,8 @@ fresh-requires c κs = search needs
 
 -- src/lib.rt:58:1
 returns : tie.Need-returns
-returns c = ?
+returns c =
+    rw (c .fresh .ensures)
 
 pub faulty-spec : {M : Type 1} → statement M
 faulty-spec = tie.close (tie.spec fresh-requires returns)

@@ -1,3 +1,6 @@
+use native.Mathlib.Omega.{arith}
+use borrow.Author.Tests.{leb-true, le-leb}
+use Rattle.watch.proofs.SoundLaws.{no-way}
 use borrow.Author.Needs.{needs}
 use Rattle.watch.proofs.is_card_sound.Statement.{statement}
 use Rattle.watch.proofs.is_card_sound.Tie as tie
@@ -11,19 +14,24 @@ far-end-requires c κs = search needs
 
 -- src/lib.rt:138:9
 returns : tie.Need-returns
-returns c = ?
+returns c =
+    (λ e. no-way e, λ w. absurd (omega (arith, c .if1 .taken, c .before .before .far-end .ensures .1 (c .before .before .before .before .args .c .used) (w .lies))))
 
 -- src/lib.rt:141:9
 returns-2 : tie.Need-returns-2
-returns-2 c = ?
+returns-2 c =
+    (λ e. no-way e, λ w. absurd (omega (arith, c .if2 .taken, w .used)))
 
 -- src/lib.rt:144:9
 returns-3 : tie.Need-returns-3
-returns-3 c = ?
+returns-3 c =
+    (λ e. no-way e, λ w. absurd (omega (arith, c .if3 .taken, w .cards)))
 
 -- src/lib.rt:133:1
 returns-4 : tie.Need-returns-4
-returns-4 c = ?
+returns-4 c =
+    (λ e. record { lies = c .before .before .before .before .before .before .before .far-end .ensures .0 (c .before .before .before .before .before .before .before .before .before .args .c .used) (omega (arith, c .before .before .before .before .before .if1 .left)); used = omega (arith, c .before .before .before .if2 .left); cards = omega (arith, c .before .if3 .left); lines = leb-true (c .before .before .before .before .before .before .before .before .before .args .c .lines) (c .before .before .before .before .before .before .before .before .before .args .start) e },
+    λ w. le-leb (c .before .before .before .before .before .before .before .before .before .args .c .lines) (c .before .before .before .before .before .before .before .before .before .args .start) (w .lines))
 
 pub is-card-sound-spec : {M : Type 1} → statement M
 is-card-sound-spec = tie.close (tie.spec far-end-requires returns returns-2 returns-3 returns-4)

@@ -1,3 +1,6 @@
+use borrow.Author.Tests.{not-true, not-false}
+use mathlib.Core.Path.{sym, _∙_}
+use Rattle.watch.proofs.SoundLaws.{no-way}
 use borrow.Author.Needs.{needs}
 use Rattle.watch.proofs.is_sound.Statement.{statement}
 use Rattle.watch.proofs.is_sound.Tie as tie
@@ -12,7 +15,8 @@ is-count-sound-requires c κs = search needs
 
 -- src/lib.rt:174:9
 returns : tie.Need-returns
-returns c = ?
+returns c =
+    (λ e. no-way e, λ w. sym (not-true (c .before .is-count-sound .result) (c .if1 .taken)) ∙ c .before .is-count-sound .ensures .1 (w .counts))
 
 -- src/lib.rt:177:5
 is-card-sound-requires : tie.Need-is-card-sound-requires
@@ -20,7 +24,8 @@ is-card-sound-requires c κs = search needs
 
 -- src/lib.rt:169:1
 returns-2 : tie.Need-returns-2
-returns-2 c = ?
+returns-2 c =
+    (λ e. record { counts = c .before .before .before .is-count-sound .ensures .0 (not-false (c .before .before .before .is-count-sound .result) (c .before .before .if1 .left)); card = c .is-card-sound .ensures .0 e }, λ w. c .is-card-sound .ensures .1 (w .card))
 
 pub is-sound-spec : {M : Type 1} → statement M
 is-sound-spec =

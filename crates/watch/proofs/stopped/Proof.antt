@@ -1,3 +1,6 @@
+use mathlib.Core.Path.{sym, ap, _∙_}
+use Rattle.card_state.specs.declared.Step.{Step as KeptStep}
+use Rattle.watch.specs.State.{stoppedState}
 use borrow.Author.Needs.{needs}
 use Rattle.watch.proofs.stopped.Statement.{statement}
 use Rattle.watch.proofs.stopped.Tie as tie
@@ -31,15 +34,18 @@ faulty-requires-3 c κs = search needs
 
 -- src/lib.rt:81:1
 returns : tie.Need-returns
-returns c = ?
+returns c =
+    c .faulty .ensures ∙ ap (λ (s : KeptStep). stoppedState s (c .before .before .before .before .args .n) (c .before .before .before .before .args .tail)) (sym (c .before .before .step .given .1))
 
 -- src/lib.rt:81:1
 returns-2 : tie.Need-returns-2
-returns-2 c = ?
+returns-2 c =
+    c .faulty2 .ensures ∙ ap (λ (s : KeptStep). stoppedState s (c .before .before .before .before .args .n) (c .before .before .before .before .args .tail)) (sym (c .before .before .step2 .given .1))
 
 -- src/lib.rt:81:1
 returns-3 : tie.Need-returns-3
-returns-3 c = ?
+returns-3 c =
+    c .faulty3 .ensures ∙ ap (λ (s : KeptStep). stoppedState s (c .before .before .before .before .args .n) (c .before .before .before .before .args .tail)) (sym (c .before .before .step3 .given .1))
 
 pub stopped-spec : {M : Type 1} → statement M
 stopped-spec =

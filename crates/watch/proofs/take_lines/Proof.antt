@@ -1,3 +1,17 @@
+use native.Mathlib.Omega.{arith}
+use mathlib.Core.Path.{_≡_, refl, sym, ap, subst, _∙_}
+use mathlib.Core.List.{List, _++_}
+use Prim.Native.Nat.{ℕ, _+_, _-_, _<_, _≤_}
+use lib.ListN.{length, take, drop, length-drop}
+use lib.Seq.{length-take-le}
+use Rattle.card_state.specs.declared.Step.{Step as KeptStep}
+use Rattle.desk_pool.specs.Pools.{patch}
+use Rattle.watch_arrivals.specs.Arrivals.{loneFrom, nextFrom}
+use Rattle.watch_arrivals.proofs.ArrivalLaws.{fine-next, next-two-least, rest}
+use Rattle.watch_lines.specs.Taking.{Took, Within, Went}
+use Rattle.watch.specs.declared.Watch.{Watch}
+use Rattle.watch.specs.State.{After}
+use Rattle.watch.proofs.ArriveLaws.{joined-within, after-refused, after-later, after-kept}
 use borrow.Author.Needs.{needs}
 use Rattle.watch.proofs.take_lines.Statement.{statement}
 use Rattle.watch.proofs.take_lines.Tie as tie
@@ -33,11 +47,21 @@ table-requires-3 c κs = search needs
 
 -- src/lib.rt:225:72
 slice-aggregate-judge-open : tie.Need-slice-aggregate-judge-open
-slice-aggregate-judge-open c = ?
+slice-aggregate-judge-open c =
+    sym (length-take-le (c .before .before .before .before .before .before .before .before .before .before .before .before .args .next) (c .before .before .before .before .before .before .before .before .before .before .before .before .args .chunk .now) (omega (arith, c .before .before .before .before .before .before .before .before .before .before .before .before .pre .1 .1 .0 .1)))
 
 -- src/lib.rt:225:9
 judge-open-requires : tie.Need-judge-open-requires
-judge-open-requires c κs = ?
+judge-open-requires c κs =
+    let a = c .before .before .before .before .before .before .before .before .before .before .before .before .args in
+    let p = c .before .before .before .before .before .before .before .before .before .before .before .before .pre in
+    let w = p .0 .0 .card in
+    let n : length (take (a .next) (a .chunk .now)) ≡ a .next = length-take-le (a .next) (a .chunk .now) (omega (arith, p .1 .1 .0 .1)) in
+    let two = next-two-least (a .w .tail) (a .chunk .now) (subst (λ (k : ℕ). k < length (a .chunk .now)) (p .1 .1 .0 .0) (p .1 .1 .0 .1)) in
+    ((c .before .before .before .before .before .before .before .table .ensures, c .before .before .before .before .before .before .table2 .ensures, c .before .before .before .before .before .table3 .ensures),
+    (((w .cards, omega (arith, w .lines, p .1 .0 .1, p .1 .1 .0 .1)), w .lies),
+    ((omega (arith, n, w .used, p .1 .0 .1, p .1 .1 .0 .1), p .0 .1, omega (arith, n, two, p .1 .0 .0, p .1 .1 .0 .0)),
+    omega (arith, n, p .1 .0 .1, p .1 .1 .0 .1))))
 
 -- src/lib.rt:226:20
 enum-known-j : tie.Need-enum-known-j
@@ -53,11 +77,27 @@ same-length c = search needs
 
 -- src/lib.rt:227:9
 returns : tie.Need-returns
-returns c = ?
+returns c =
+    let a = c .before .before .before .before .before .before .before .before .before .before .before .before .before .before .before .before .before .args in
+    let p = c .before .before .before .before .before .before .before .before .before .before .before .before .before .before .before .before .before .pre in
+    let j = c .before .before .before .before .judge-open in
+    λ i l h e. subst (λ (x : Watch). After x (j .last .1 .1 .1 .0) (i ++ a .chunk .now)) (sym (c .stopped .ensures))
+    (after-refused (a .w) (a .buffer .now) i (a .chunk .now) l h (p .1 .0 .1) (p .1 .1 .1) (a .next) (p .1 .1 .0 .0) (p .1 .1 .0 .1) (p .0 .1)
+    (j .result) (c .before .match .keys2) (j .last .1 .1 .1 .0) (j .ensures) _ (a .tail) refl e)
 
 -- src/lib.rt:229:9
 judge-lines-requires : tie.Need-judge-lines-requires
-judge-lines-requires c κs = ?
+judge-lines-requires c κs =
+    let a = c .before .before .before .before .before .before .before .before .before .before .before .before .before .before .before .before .before .before .before .before .before .before .args in
+    let p = c .before .before .before .before .before .before .before .before .before .before .before .before .before .before .before .before .before .before .before .before .before .before .pre in
+    let w = p .0 .0 .card in
+    let j = c .before .before .before .before .before .before .before .before .before .judge-open in
+    let two = next-two-least (a .w .tail) (a .chunk .now) (subst (λ (k : ℕ). k < length (a .chunk .now)) (p .1 .1 .0 .0) (p .1 .1 .0 .1)) in
+    ((c .before .before .before .before .before .before .before .before .before .before .before .before .before .before .before .before .before .table .ensures, c .before .before .before .before .before .before .before .before .before .before .before .before .before .before .before .before .table2 .ensures, c .before .before .before .before .before .before .before .before .before .before .before .before .before .before .before .table3 .ensures),
+    ((omega (arith, p .1 .1 .0 .1), p .1 .0 .1, omega (arith, j, p .0 .1)),
+    (joined-within (a .w) (a .buffer .now) (a .chunk .now) (j .last .1 .1 .1 .0) (a .next) _ (c .before .before .before .before .before .j .given .0 .0) w (omega (arith, p .1 .1 .0 .1)) (omega (arith, two, p .1 .0 .0, p .1 .1 .0 .0)) (omega (arith, w .used, p .1 .0 .1, p .0 .1))
+    (subst (λ (x : KeptStep). Took (a .w .card) (take (a .w .«open» + length (take (a .next) (a .chunk .now)) - 2) (take (a .w .«open») (drop (a .w .card .used) (a .buffer .now)) ++ take (a .next) (a .chunk .now))) (a .buffer .now) (j .last .1 .1 .1 .0) (a .w .start) (a .w .card .used + (a .w .«open» + length (take (a .next) (a .chunk .now)))) x) (c .before .before .before .before .before .j .given .1) (j .ensures)),
+    subst (λ (k : ℕ). loneFrom 0 (drop k (a .chunk .now)) ≡ length (drop k (a .chunk .now)) + 1) (sym (p .1 .1 .0 .0)) (fine-next (a .w .tail) (a .chunk .now) (p .1 .1 .1) (subst (λ (k : ℕ). k < length (a .chunk .now)) (p .1 .1 .0 .0) (p .1 .1 .0 .1))))))
 
 -- src/lib.rt:232:20
 enum-known-last : tie.Need-enum-known-last
@@ -73,7 +113,19 @@ same-length-2 c = search needs
 
 -- src/lib.rt:233:9
 returns-2 : tie.Need-returns-2
-returns-2 c = ?
+returns-2 c =
+    let a = c .before .before .before .before .before .before .before .before .before .before .before .before .before .before .before .before .before .before .before .before .before .before .before .before .before .before .before .args in
+    let p = c .before .before .before .before .before .before .before .before .before .before .before .before .before .before .before .before .before .before .before .before .before .before .before .before .before .before .before .pre in
+    let j = c .before .before .before .before .before .before .before .before .before .before .before .before .before .before .judge-open in
+    let g = c .before .before .before .before .judge-lines in
+    let b = j .last .1 .1 .1 .0 in
+    let d = c .before .before .before .before .before .before .before .before .before .before .j .given .0 .0 in
+    let t = subst (λ (x : KeptStep). Took (a .w .card) (take (a .w .«open» + length (take (a .next) (a .chunk .now)) - 2) (take (a .w .«open») (drop (a .w .card .used) (a .buffer .now)) ++ take (a .next) (a .chunk .now))) (a .buffer .now) b (a .w .start) (a .w .card .used + (a .w .«open» + length (take (a .next) (a .chunk .now)))) x) (c .before .before .before .before .before .before .before .before .before .before .j .given .1) (j .ensures) in
+    let two = next-two-least (a .w .tail) (a .chunk .now) (subst (λ (k : ℕ). k < length (a .chunk .now)) (p .1 .1 .0 .0) (p .1 .1 .0 .1)) in
+    let win = joined-within (a .w) (a .buffer .now) (a .chunk .now) b (a .next) _ d (p .0 .0 .card) (omega (arith, p .1 .1 .0 .1)) (omega (arith, two, p .1 .0 .0, p .1 .1 .0 .0)) (omega (arith, p .0 .0 .card .used, p .1 .0 .1, p .0 .1)) t in
+    λ i l h e. subst (λ (x : Watch). After x (g .last .1 .1 .1 .1 .1 .0) (i ++ a .chunk .now)) (sym (c .stopped2 .ensures))
+    (after-later (a .w) (a .buffer .now) i (a .chunk .now) l h (p .1 .0 .1) (p .1 .1 .1) (a .next) (p .1 .1 .0 .0) (p .1 .1 .0 .1) (p .0 .1) d b t (omega (arith, win .used, p .1 .0 .1, p .1 .1 .0 .1, j, p .0 .1))
+    (g .result .step) (g .last .1 .1 .1 .1 .1 .0) (g .result .at) (g .ensures .0) (g .ensures .1 .0) (g .ensures .1 .1) (c .before .match2 .keys2) _ (a .tail) refl e)
 
 -- src/lib.rt:235:45
 sub-append : tie.Need-sub-append
@@ -89,11 +141,18 @@ part-append-end c = search needs
 
 -- src/lib.rt:235:5
 append-requires : tie.Need-append-requires
-append-requires c κs = ?
+append-requires c κs =
+    let a = c .before .before .before .before .before .before .before .before .before .before .before .before .before .before .before .before .before .before .before .before .before .before .before .before .before .before .before .before .before .before .args in
+    let p = c .before .before .before .before .before .before .before .before .before .before .before .before .before .before .before .before .before .before .before .before .before .before .before .before .before .before .before .before .before .before .pre in
+    let g = c .before .before .before .before .before .before .before .judge-lines in
+    let win = g .ensures .0 .rest (c .before .before .before .last .given .0 .0) (c .before .before .before .last .given .1) .1 in
+    rw (rest (g .result .at) (a .chunk .now), length-drop (g .result .at) (a .chunk .now))
+    (omega (arith, win .used, g .ensures .1, p .1 .0 .1, p .0 .1, c .before .before .before .before .before .before .before .before .before .before .before .before .before .before .before .before .before .judge-open, g, length-drop (g .result .at) (a .chunk .now), length-drop (a .next) (a .chunk .now)))
 
 -- src/lib.rt:240:16
 add-t18 : tie.Need-add-t18
-add-t18 c = ?
+add-t18 c =
+    omega (arith, c .before .before .before .before .before .before .before .before .before .before .judge-lines .ensures .1, c .before .before .before .before .before .before .before .before .before .before .before .before .before .before .before .before .before .before .before .before .before .before .before .before .before .before .before .before .before .before .before .before .before .pre .1 .0 .1)
 
 -- src/lib.rt:241:15
 sub-t41 : tie.Need-sub-t41
@@ -101,11 +160,25 @@ sub-t41 c = search needs
 
 -- src/lib.rt:212:1
 same-length-3 : tie.Need-same-length-3
-same-length-3 c = ?
+same-length-3 c =
+    omega (arith, c .before .before .append, c .before .before .before .before .before .before .before .before .before .before .judge-lines, c .before .before .before .before .before .before .before .before .before .before .before .before .before .before .before .before .before .before .before .before .judge-open)
 
 -- src/lib.rt:212:1
 returns-3 : tie.Need-returns-3
-returns-3 c = ?
+returns-3 c =
+    let a = c .before .before .before .before .before .before .before .before .before .before .before .before .before .before .before .before .before .before .before .before .before .before .before .before .before .before .before .before .before .before .before .before .before .args in
+    let p = c .before .before .before .before .before .before .before .before .before .before .before .before .before .before .before .before .before .before .before .before .before .before .before .before .before .before .before .before .before .before .before .before .before .pre in
+    let j = c .before .before .before .before .before .before .before .before .before .before .before .before .before .before .before .before .before .before .before .before .judge-open in
+    let g = c .before .before .before .before .before .before .before .before .before .before .judge-lines in
+    let b = j .last .1 .1 .1 .0 in
+    let d = c .before .before .before .before .before .before .before .before .before .before .before .before .before .before .before .before .j .given .0 .0 in
+    let t = subst (λ (x : KeptStep). Took (a .w .card) (take (a .w .«open» + length (take (a .next) (a .chunk .now)) - 2) (take (a .w .«open») (drop (a .w .card .used) (a .buffer .now)) ++ take (a .next) (a .chunk .now))) (a .buffer .now) b (a .w .start) (a .w .card .used + (a .w .«open» + length (take (a .next) (a .chunk .now)))) x) (c .before .before .before .before .before .before .before .before .before .before .before .before .before .before .before .before .j .given .1) (j .ensures) in
+    let two = next-two-least (a .w .tail) (a .chunk .now) (subst (λ (k : ℕ). k < length (a .chunk .now)) (p .1 .1 .0 .0) (p .1 .1 .0 .1)) in
+    let win = joined-within (a .w) (a .buffer .now) (a .chunk .now) b (a .next) _ d (p .0 .0 .card) (omega (arith, p .1 .1 .0 .1)) (omega (arith, two, p .1 .0 .0, p .1 .1 .0 .0)) (omega (arith, p .0 .0 .card .used, p .1 .0 .1, p .0 .1)) t in
+    λ i l h e.
+    after-kept (a .w) (a .buffer .now) i (a .chunk .now) l h (p .1 .0 .1) (p .1 .1 .1) (a .next) (p .1 .1 .0 .0) (p .1 .1 .0 .1) (p .0 .1) d b t (omega (arith, win .used, p .1 .0 .1, p .1 .1 .0 .1, j, p .0 .1))
+    (g .result .step) (g .last .1 .1 .1 .1 .1 .0) (g .result .at) (g .ensures .0) (g .ensures .1 .0) (g .ensures .1 .1) (c .before .before .before .before .before .before .last .given .0 .0) (c .before .before .before .before .before .before .last .given .1) (a .tail) e (c .before .before .append .last .0)
+    (subst (λ (x : List ℕ). c .before .before .append .last .0 ≡ patch (g .last .1 .1 .1 .1 .1 .0) (c .before .before .before .before .before .before .last .given .0 .0 .used) x) (rest (g .result .at) (a .chunk .now)) (c .before .before .append .ensures))
 
 pub take-lines-spec : {M : Type 1} → statement M
 take-lines-spec =
