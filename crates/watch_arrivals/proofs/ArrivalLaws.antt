@@ -698,3 +698,12 @@ pub tail-short : (t : ℕ) (l : List ℕ) → tailFrom t l ≤ t + length l
 unfolding tailFrom
 tail-short t [] = omega arith
 tail-short t (x ∷ xs) = omega (arith, tail-short (tailStep t x) xs, tail-low t x)
+
+-- only a CR before them can be lone by the first of some octets
+pub lone-least : (t : ℕ) (l : List ℕ) → 1 ≤ t + loneFrom t l
+unfolding loneFrom
+lone-least t [] = omega arith
+lone-least t (x ∷ xs) =
+    by (eqb t 1)
+    (λ p. omega (arith, eqb-true t 1 p))
+    (λ p. by (eqb x 10) (λ q. rw (p, q) (omega arith)) (λ q. rw (p, q) (omega arith)))

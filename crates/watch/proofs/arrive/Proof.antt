@@ -1,3 +1,13 @@
+use native.Mathlib.Omega.{arith}
+use mathlib.Core.Path.{_≡_, refl, sym, ap, subst, _∙_}
+use mathlib.Core.List.{List, _++_}
+use Prim.Native.Nat.{ℕ, _+_, _-_, _≤_}
+use lib.ListN.{length}
+use Rattle.watch_arrivals.specs.Arrivals.{loneFrom}
+use Rattle.watch_arrivals.proofs.ArrivalLaws.{lone-le, lone-least}
+use Rattle.watch.specs.declared.Watch.{Watch}
+use Rattle.watch.specs.State.{After}
+use Rattle.watch.proofs.FaultLaws.{stays-over, gets-over, stays-broken, gets-broken, stays-faulty, lives, cleared}
 use borrow.Author.Needs.{needs}
 use Rattle.watch.proofs.arrive.Statement.{statement}
 use Rattle.watch.proofs.arrive.Tie as tie
@@ -12,7 +22,8 @@ use Rattle.watch_buffer.proofs.clear.Reads as clear-reads
 
 -- src/lib.rt:268:9
 returns : tie.Need-returns
-returns c = ?
+returns c =
+    λ i s e. stays-over (c .before .before .before .before .args .w) (c .before .before .before .before .args .buffer .now) i (c .before .before .before .before .args .chunk .now) (c .if1 .taken) s e
 
 -- src/lib.rt:270:18
 add-before : tie.Need-add-before
@@ -40,7 +51,12 @@ same-length c = search needs
 
 -- src/lib.rt:274:9
 returns-2 : tie.Need-returns-2
-returns-2 c = ?
+returns-2 c =
+    let a = c .before .before .before .before .before .before .before .before .before .before .before .before .args in
+    let p = c .before .before .before .before .before .before .before .before .before .before .before .before .pre in
+    λ i s e. subst (λ (x : Watch). After x (c .before .before .before .clear .last .0) (i ++ a .chunk .now)) (sym (c .too-long .ensures))
+    (gets-over (a .w) (a .buffer .now) i (a .chunk .now) (c .before .before .before .before .before .before .before .before .if1 .left) s (omega (arith, c .before .before .before .before .before .if2 .taken, p .0 .counts .short)) (c .before .before .before .clear .last .0)
+    (cleared (a .w) (a .buffer .now) i (c .before .before .before .clear .last .0) e s (omega (arith, p .0 .card .used, p .0 .counts .short)) (c .before .before .before .clear .ensures)))
 
 -- src/lib.rt:276:13
 add-n : tie.Need-add-n
@@ -52,7 +68,11 @@ faulty-requires c κs = search needs
 
 -- src/lib.rt:278:9
 returns-3 : tie.Need-returns-3
-returns-3 c = ?
+returns-3 c =
+    let a = c .before .before .before .before .before .before .before .before .before .before .args in
+    let p = c .before .before .before .before .before .before .before .before .before .before .pre in
+    λ i s e. subst (λ (x : Watch). After x (a .buffer .now) (i ++ a .chunk .now)) (sym (c .faulty .ensures))
+    (stays-broken (a .w) (a .buffer .now) i (a .chunk .now) (c .before .if3 .taken) s e _ refl (omega (arith, c .before .before .before .if2 .left, p .0 .counts .short)))
 
 -- src/lib.rt:280:9
 first-break-requires : tie.Need-first-break-requires
@@ -68,7 +88,8 @@ add-faulty c = search needs
 
 -- src/lib.rt:286:13
 sub-faulty : tie.Need-sub-faulty
-sub-faulty c = ?
+sub-faulty c =
+    omega (arith, c .before .before .before .before .before .first-break .ensures, lone-least (c .before .before .before .before .before .before .before .before .before .before .before .before .before .before .before .args .w .tail) (c .before .before .before .before .before .before .before .before .before .before .before .before .before .before .before .args .chunk .now), c .before .before .before .before .before .before .before .before .before .before .before .before .before .before .before .pre .0 .counts .tail)
 
 -- src/lib.rt:283:9
 faulty-requires-2 : tie.Need-faulty-requires-2
@@ -80,7 +101,14 @@ same-length-2 c = search needs
 
 -- src/lib.rt:283:9
 returns-4 : tie.Need-returns-4
-returns-4 c = ?
+returns-4 c =
+    let a = c .before .before .before .before .before .before .before .before .before .before .before .before .before .before .before .before .args in
+    let p = c .before .before .before .before .before .before .before .before .before .before .before .before .before .before .before .before .pre in
+    let f = c .before .before .before .before .before .before .first-break .ensures in
+    λ i s e. subst (λ (x : Watch). After x (c .before .before .before .clear2 .last .0) (i ++ a .chunk .now)) (sym (c .faulty2 .ensures))
+    (gets-broken (a .w) (a .buffer .now) i (a .chunk .now) (c .before .before .before .before .before .before .before .before .before .before .before .before .if1 .left) (c .before .before .before .before .before .before .before .if3 .left) s _ _ refl (omega (arith, c .before .before .before .before .before .before .before .before .before .if2 .left, p .0 .counts .short)) (omega (arith, f, c .before .before .before .before .before .if4 .taken))
+    (omega (arith, f, lone-least (a .w .tail) (a .chunk .now), p .0 .counts .tail)) (c .before .before .before .clear2 .last .0)
+    (cleared (a .w) (a .buffer .now) i (c .before .before .before .clear2 .last .0) e s (omega (arith, p .0 .card .used, p .0 .counts .short)) (c .before .before .before .clear2 .ensures)))
 
 -- src/lib.rt:292:13
 tail-after-requires : tie.Need-tail-after-requires
@@ -92,11 +120,18 @@ faulty-requires-3 c κs = search needs
 
 -- src/lib.rt:293:9
 returns-5 : tie.Need-returns-5
-returns-5 c = ?
+returns-5 c =
+    let a = c .before .before .before .before .before .before .before .before .before .before .before .before .before .before .before .args in
+    let p = c .before .before .before .before .before .before .before .before .before .before .before .before .before .before .before .pre in
+    λ i s e. subst (λ (x : Watch). After x (a .buffer .now) (i ++ a .chunk .now)) (sym (c .faulty3 .ensures))
+    (stays-faulty (a .w) (a .buffer .now) i (a .chunk .now) (c .before .before .if5 .taken) s e _ (c .before .tail-after .result) refl (omega (arith, c .before .before .before .before .before .before .before .before .if2 .left, p .0 .counts .short)) (omega (arith, c .before .before .before .before .before .first-break .ensures, c .before .before .before .before .if4 .left)) (c .before .tail-after .ensures))
 
 -- src/lib.rt:295:5
 take-octets-requires : tie.Need-take-octets-requires
-take-octets-requires c κs = ?
+take-octets-requires c κs =
+    let a = c .before .before .before .before .before .before .before .before .before .before .before .before .before .before .args in
+    let p = c .before .before .before .before .before .before .before .before .before .before .before .before .before .before .pre in
+    (p, ((p .0 .counts .line (c .before .if5 .left), omega (arith, c .before .before .before .before .before .before .before .if2 .left, p .0 .counts .short)), omega (arith, c .before .before .before .before .first-break .ensures, c .before .before .before .if4 .left, lone-le (a .w .tail) (a .chunk .now))))
 
 -- src/lib.rt:263:1
 same-length-3 : tie.Need-same-length-3
@@ -104,7 +139,9 @@ same-length-3 c = search needs
 
 -- src/lib.rt:263:1
 returns-6 : tie.Need-returns-6
-returns-6 c = ?
+returns-6 c =
+    let a = c .before .before .before .before .before .before .before .before .before .before .before .before .before .before .before .before .before .args in
+    λ i s e. c .before .before .take-octets .ensures i (lives (a .w) (a .buffer .now) i (a .chunk .now) (c .before .before .before .before .before .before .before .before .before .before .before .before .before .if1 .left) (c .before .before .before .before .before .before .before .before .if3 .left) (c .before .before .before .before .if5 .left) s) e
 
 pub arrive-spec : {M : Type 1} → statement M
 arrive-spec =
