@@ -1,6 +1,6 @@
 -- What a chunk makes of a state by the faults of 1 and 3, and of one that knows a fault. Assumes nothing.
 use mathlib.Core.Path.{_≡_, refl, sym, ap, subst, _∙_}
-use mathlib.Core.Bool.{Bool, true, false, _||_}
+use mathlib.Core.Bool.{true, false, _||_, false≢true}
 use mathlib.Core.List.{List, [], _∷_, _++_}
 use Prim.Native.Nat.{ℕ, zero, suc, _+_, _-_, _<_, _≤_}
 use native.Mathlib.Omega.{arith}
@@ -38,11 +38,8 @@ known-lone i h =
     (or-left (leb (loneFrom 0 i) (length i)) (halted (judged i)) (le-leb (loneFrom 0 i) (length i) h))
 
 -- after a refusal the lines that end later are not judged
-stays : (x : Step) (f : Card → Step) → halted x ≡ true → onward x f ≡ x
-stays (Next c) f h = let z : _≡_ {A = Bool} false true = h in absurd (clash z)
-  where
-    clash : false ≡ true → ⊥
-    clash e = let y : _≡_ {A = ℕ} 0 1 = cc in absurd (omega arith)
+pub stays : (x : Step) (f : Card → Step) → halted x ≡ true → onward x f ≡ x
+stays (Next c) f h = absurd (false≢true h)
 stays (Refused n p) f h = refl
 stays (Flawed n o) f h = refl
 
@@ -122,7 +119,7 @@ module _ (w : Watch) (b i c : List ℕ) where
   abbrev Whole : Type 0
   Whole = (loneFrom 0 i ≡ length i + 1) × (w .tail ≡ tailFrom 0 i)
 
-  whole : (w .known ≡ 3 → ⊥) → (w .known ≡ 2 → ⊥) → Stands w b i → Whole
+  pub whole : (w .known ≡ 3 → ⊥) → (w .known ≡ 2 → ⊥) → Stands w b i → Whole
   whole h g (live l) = (l .fine, l .tail)
   whole h g (faulty f) = (f .fine, f .tail)
   whole h g (broken f) = absurd (g (f .known))

@@ -2,3 +2,5 @@
 pub mod SoundLaws
 pub mod ArriveLaws
 pub mod FaultLaws
+pub mod EndLaws
+pub mod ReachLaws

@@ -1,3 +1,11 @@
+use native.Mathlib.Omega.{arith}
+use mathlib.Core.Path.{_≡_, refl, sym, ap, subst, _∙_}
+use Prim.Native.Nat.{ℕ, _+_, _<_}
+use lib.ListN.{length}
+use mathlib.Core.List.{[]}
+use Rattle.card_state.specs.Kept.{stepOf}
+use Rattle.watch.proofs.FaultLaws.{lives, counted}
+use Rattle.watch.proofs.EndLaws.{end-over, end-none, end-broken, end-waits, end-open, end-faulty, end-live}
 use borrow.Author.Needs.{needs}
 use Rattle.watch.proofs.conclude.Statement.{statement}
 use Rattle.watch.proofs.conclude.Tie as tie
@@ -15,15 +23,18 @@ add-n c = search needs
 
 -- src/lib.rt:305:9
 returns : tie.Need-returns
-returns c = ?
+returns c =
+    λ i r. end-over (c .before .before .before .before .args .w) (c .before .before .before .before .args .buffer .now) i (c .if1 .taken) (r .stands)
 
 -- src/lib.rt:308:9
 returns-2 : tie.Need-returns-2
-returns-2 c = ?
+returns-2 c =
+    λ i r. end-none (c .before .before .before .before .before .args .w) (c .before .before .before .before .before .args .buffer .now) i (c .before .if1 .left) (r .stands) (c .if2 .taken)
 
 -- src/lib.rt:311:9
 returns-3 : tie.Need-returns-3
-returns-3 c = ?
+returns-3 c =
+    λ i r. end-broken (c .before .before .before .before .before .before .before .args .w) (c .before .before .before .before .before .before .before .args .buffer .now) i (c .if3 .taken) (r .stands)
 
 -- src/lib.rt:314:57
 sub-t10 : tie.Need-sub-t10
@@ -31,15 +42,18 @@ sub-t10 c = search needs
 
 -- src/lib.rt:314:9
 returns-4 : tie.Need-returns-4
-returns-4 c = ?
+returns-4 c =
+    λ i r. end-waits (c .before .before .before .before .before .before .before .before .before .args .w) (c .before .before .before .before .before .before .before .before .before .args .buffer .now) i (c .before .before .before .before .before .if1 .left) (c .before .before .if3 .left) (r .stands) (c .before .before .before .before .before .before .before .before .before .pre .0 .counts .short) (c .before .before .before .before .if2 .left) (c .if4 .taken)
 
 -- src/lib.rt:317:9
 returns-5 : tie.Need-returns-5
-returns-5 c = ?
+returns-5 c =
+    λ i r. end-open (c .before .before .before .before .before .before .before .before .before .before .before .args .w) (c .before .before .before .before .before .before .before .before .before .before .before .args .buffer .now) i (c .before .before .before .before .before .before .before .if1 .left) (c .before .before .before .before .if3 .left) (r .stands) (c .before .before .before .before .before .before .before .before .before .before .before .pre .0 .counts .short) (c .before .before .before .before .before .before .if2 .left) (c .before .before .if4 .left) (c .if5 .taken)
 
 -- src/lib.rt:320:9
 returns-6 : tie.Need-returns-6
-returns-6 c = ?
+returns-6 c =
+    λ i r. end-faulty (c .before .before .before .before .before .before .before .before .before .before .before .before .before .args .w) (c .before .before .before .before .before .before .before .before .before .before .before .before .before .args .buffer .now) i (c .before .before .before .before .before .before .before .before .before .if1 .left) (c .before .before .before .before .before .before .if3 .left) (r .stands) (c .before .before .before .before .before .before .before .before .before .before .before .before .before .pre .0 .counts .short) (c .before .before .before .before .before .before .before .before .if2 .left) (c .before .before .if5 .left) (c .if6 .taken)
 
 -- src/lib.rt:322:13
 table-requires : tie.Need-table-requires
@@ -55,7 +69,12 @@ table-requires-3 c κs = search needs
 
 -- src/lib.rt:326:9
 judge-last-requires : tie.Need-judge-last-requires
-judge-last-requires c κs = ?
+judge-last-requires c κs =
+    let p = c .before .before .before .before .before .before .before .before .before .before .before .before .before .before .before .before .before .before .before .before .pre in
+    let q = p .0 .counts in
+    let w = p .0 .card in
+    let two = q .line (c .before .before .before .before .before .before .before .if6 .left) in
+    ((c .before .before .before .before .before .before .table .ensures, c .before .before .before .before .before .table2 .ensures, c .before .before .before .before .table3 .ensures), (((w .cards, omega (arith, w .lines, q .short, two, c .before .before .before .before .before .before .before .before .before .if5 .left)), w .lies), (omega (arith, w .used, q .short), p .1, omega (arith, two, c .before .before .before .before .before .before .before .before .before .if5 .left), q .short)))
 
 -- src/lib.rt:327:5
 conclude-requires : tie.Need-conclude-requires
@@ -63,7 +82,15 @@ conclude-requires c κs = search needs
 
 -- src/lib.rt:299:1
 returns-7 : tie.Need-returns-7
-returns-7 c = ?
+returns-7 c =
+    let a = c .before .before .before .before .before .before .before .before .before .before .before .before .before .before .before .before .before .before .before .before .before .before .args in
+    let p = c .before .before .before .before .before .before .before .before .before .before .before .before .before .before .before .before .before .before .before .before .before .before .pre in
+    let j = c .before .judge-last .ensures in
+    λ i r.
+    let l = lives (a .w) (a .buffer .now) i [] (c .before .before .before .before .before .before .before .before .before .before .before .before .before .before .before .before .before .before .if1 .left) (c .before .before .before .before .before .before .before .before .before .before .before .before .before .before .before .if3 .left) (c .before .before .before .before .before .before .before .before .before .if6 .left) (r .stands) in
+    let pos : 0 < length i = omega (arith, counted (a .w) (a .buffer .now) i (c .before .before .before .before .before .before .before .before .before .before .before .before .before .before .before .before .before .before .if1 .left) (r .stands), c .before .before .before .before .before .before .before .before .before .before .before .before .before .before .before .before .before .if2 .left) in
+    c .conclude .ensures (j .0)
+    ∙ end-live (a .w) (a .buffer .now) i (c .before .before .before .before .before .before .before .before .before .before .before .before .before .before .before .before .before .before .if1 .left) (c .before .before .before .before .before .before .before .before .before .before .before .before .before .before .before .if3 .left) (r .stands) (p .0 .counts .short) (c .before .before .before .before .before .before .before .before .before .before .before .before .before .before .before .before .before .if2 .left) (c .before .before .before .before .before .before .before .before .before .before .before .if5 .left) l (r .holds pos) (stepOf (j .0) (c .before .judge-last .result)) (j .1)
 
 pub conclude-spec : {M : Type 1} → statement M
 conclude-spec =

@@ -1,3 +1,10 @@
+use native.Mathlib.Omega.{arith}
+use mathlib.Core.Path.{_≡_, refl, sym, ap, subst, _∙_}
+use mathlib.Core.Bool.{false≢true}
+use borrow.Author.Tests.{ltb-true, ltb-false, lt-ltb, le-ltb, not-true, not-false}
+use Rattle.watch.specs.State.{claims}
+use Rattle.watch.proofs.SoundLaws.{no-way}
+use Rattle.watch.proofs.ReachLaws.{reached-sound, sound-claims, first-buffer, first-stands, later-buffer}
 use borrow.Author.Needs.{needs}
 use Rattle.watch.proofs.Watch.chunk.Statement.{statement}
 use Rattle.watch.proofs.Watch.chunk.Tie as tie
@@ -10,7 +17,15 @@ use Rattle.watch_buffer.proofs.clear.Reads as clear-reads
 
 -- src/lib.rt:343:13
 returns : tie.Need-returns
-returns c = ?
+returns c =
+    record {
+    another = λ h. (refl, refl);
+    over = λ e k. absurd (c .if1 .taken e);
+    goes = λ e k. absurd (c .if1 .taken e);
+    false = λ e k s. absurd (c .if1 .taken e);
+    led = λ i r e. absurd (c .if1 .taken e);
+    size = refl;
+    }
 
 -- src/lib.rt:345:13
 is-over-requires : tie.Need-is-over-requires
@@ -18,7 +33,16 @@ is-over-requires c κs = search needs
 
 -- src/lib.rt:347:13
 returns-2 : tie.Need-returns-2
-returns-2 c = ?
+returns-2 c =
+    let much = ltb-true 16384 (claims (c .before .before .before .before .before .args .self)) (sym (c .before .is-over .ensures) ∙ c .if2 .taken) in
+    record {
+    another = λ h. absurd (h (c .before .before .if1 .left));
+    over = λ e k. (refl, refl);
+    goes = λ e k. absurd (omega (arith, much, k));
+    false = λ e k s. absurd (omega (arith, much, k));
+    led = λ i r e. absurd (omega (arith, much, sound-claims (c .before .before .before .before .before .args .self) (reached-sound (c .before .before .before .before .before .args .self) (c .before .before .before .before .before .args .buffer .now) i (r .stands))));
+    size = refl;
+    }
 
 -- src/lib.rt:349:13
 is-sound-requires : tie.Need-is-sound-requires
@@ -26,11 +50,22 @@ is-sound-requires c κs = search needs
 
 -- src/lib.rt:351:13
 returns-3 : tie.Need-returns-3
-returns-3 c = ?
+returns-3 c =
+    let low = ltb-false 16384 (claims (c .before .before .before .before .before .before .before .args .self)) (sym (c .before .before .before .is-over .ensures) ∙ c .before .before .if2 .left) in
+    let unsound = not-true (c .before .is-sound .result) (c .if3 .taken) in
+    record {
+    another = λ h. absurd (h (c .before .before .before .before .if1 .left));
+    over = λ e k. absurd (omega (arith, low, k));
+    goes = λ e k. (c .before .before .before .before .before .before .before .args .self, refl);
+    false = λ e k s. (refl, refl);
+    led = λ i r e. no-way (sym unsound ∙ c .before .is-sound .ensures .1 (reached-sound (c .before .before .before .before .before .before .before .args .self) (c .before .before .before .before .before .before .before .args .buffer .now) i (r .stands)));
+    size = refl;
+    }
 
 -- src/lib.rt:353:12
 add-if4 : tie.Need-add-if4
-add-if4 c = ?
+add-if4 c =
+    omega (arith, c .before .before .is-sound .ensures .0 (not-false (c .before .before .is-sound .result) (c .before .if3 .left)) .counts .short)
 
 -- src/lib.rt:354:13
 clear-requires : tie.Need-clear-requires
@@ -38,7 +73,8 @@ clear-requires c κs = search needs
 
 -- src/lib.rt:355:34
 arrive-requires : tie.Need-arrive-requires
-arrive-requires c κs = ?
+arrive-requires c κs =
+    (c .before .before .before .before .before .before .before .before .is-sound .ensures .0 (not-false (c .before .before .before .before .before .before .before .before .is-sound .result) (c .before .before .before .before .before .before .before .if3 .left)), omega (arith, c .before .before .before .clear, c .before .before .before .before .before .before .before .before .before .before .before .if1 .left))
 
 -- src/lib.rt:355:13
 same-length : tie.Need-same-length
@@ -46,11 +82,24 @@ same-length c = search needs
 
 -- src/lib.rt:355:13
 returns-4 : tie.Need-returns-4
-returns-4 c = ?
+returns-4 c =
+    let low = ltb-false 16384 (claims (c .before .before .before .before .before .before .before .before .before .before .before .before .before .before .before .before .before .args .self)) (sym (c .before .before .before .before .before .before .before .before .before .before .before .before .before .is-over .ensures) ∙ c .before .before .before .before .before .before .before .before .before .before .before .before .if2 .left) in
+    let sound = c .before .before .before .before .before .before .before .before .before .before .before .is-sound .ensures .0 (not-false (c .before .before .before .before .before .before .before .before .before .before .before .is-sound .result) (c .before .before .before .before .before .before .before .before .before .before .if3 .left)) in
+    let a = c .before .before .before .before .before .before .before .before .before .before .before .before .before .before .before .before .before .args in
+    let b = c .before .before .before .before .before .before .clear .last .0 in
+    record {
+    another = λ h. absurd (h (c .before .before .before .before .before .before .before .before .before .before .before .before .before .before .if1 .left));
+    over = λ e k. absurd (omega (arith, low, k));
+    goes = λ e k. (c .before .before .arrive .result, refl);
+    false = λ e k s. absurd (s sound);
+    led = λ i r e. (c .before .before .arrive .result, (refl, c .before .before .arrive .ensures i (first-stands (a .self) (a .buffer .now) i b (r .stands) (c .before .before .before .before .before .before .before .before .if4 .taken) (c .before .before .before .before .before .before .before .before .before .before .before .before .before .before .if1 .left) (c .before .before .before .before .before .before .clear .ensures)) (first-buffer (a .self) (a .buffer .now) i b (r .stands) (c .before .before .before .before .before .before .before .before .if4 .taken) (c .before .before .before .before .before .before .before .before .before .before .before .before .before .before .if1 .left) (c .before .before .before .before .before .before .clear .ensures))));
+    size = omega (arith, c .before .before .arrive, c .before .before .before .before .before .before .clear);
+    }
 
 -- src/lib.rt:357:23
 arrive-requires-2 : tie.Need-arrive-requires-2
-arrive-requires-2 c κs = ?
+arrive-requires-2 c κs =
+    (c .before .before .before .before .is-sound .ensures .0 (not-false (c .before .before .before .before .is-sound .result) (c .before .before .before .if3 .left)), c .before .before .before .before .before .before .before .if1 .left)
 
 -- src/lib.rt:339:5
 same-length-2 : tie.Need-same-length-2
@@ -58,7 +107,18 @@ same-length-2 c = search needs
 
 -- src/lib.rt:339:5
 returns-5 : tie.Need-returns-5
-returns-5 c = ?
+returns-5 c =
+    let low = ltb-false 16384 (claims (c .before .before .before .before .before .before .before .before .before .before .before .before .before .args .self)) (sym (c .before .before .before .before .before .before .before .before .before .is-over .ensures) ∙ c .before .before .before .before .before .before .before .before .if2 .left) in
+    let sound = c .before .before .before .before .before .before .before .is-sound .ensures .0 (not-false (c .before .before .before .before .before .before .before .is-sound .result) (c .before .before .before .before .before .before .if3 .left)) in
+    let a = c .before .before .before .before .before .before .before .before .before .before .before .before .before .args in
+    record {
+    another = λ h. absurd (h (c .before .before .before .before .before .before .before .before .before .before .if1 .left));
+    over = λ e k. absurd (omega (arith, low, k));
+    goes = λ e k. (c .before .before .arrive2 .result, refl);
+    false = λ e k s. absurd (s sound);
+    led = λ i r e. (c .before .before .arrive2 .result, (refl, c .before .before .arrive2 .ensures i (r .stands) (later-buffer (a .self) (a .buffer .now) i r (c .before .before .before .before .if4 .left))));
+    size = omega (arith, c .before .before .arrive2);
+    }
 
 pub chunk-spec : {M : Type 1} → statement M
 chunk-spec =
