@@ -74,7 +74,13 @@ fn faulty(known: u32, fault: u32, place: usize, n: usize, tail: u32) -> Watch
 fn too_long() -> Watch
     ensures { λ r. ⌜ r ≡ quietState isOver refusal.tooLong limit.octets limit.octets afterOther ⌝ }
 {
-    faulty(TOO_LONG, refusal::TOO_LONG, limit::OCTETS, limit::OCTETS, AFTER_OTHER)
+    faulty(
+        TOO_LONG,
+        refusal::TOO_LONG,
+        limit::OCTETS,
+        limit::OCTETS,
+        AFTER_OTHER,
+    )
 }
 
 // The state after a line that was refused, after n octets.
@@ -222,7 +228,16 @@ fn take_lines(w: Watch, buffer: &mut [u8], chunk: &[u8], next: usize, tail: u32)
     let t = octets::classes::table();
     let rows = property_table::table();
     let steps = value_automaton::scanner::table();
-    let j = watch_lines::judge_open(&t, &rows, &steps, buffer, w.open, &chunk[..next], w.start, c);
+    let j = watch_lines::judge_open(
+        &t,
+        &rows,
+        &steps,
+        buffer,
+        w.open,
+        &chunk[..next],
+        w.start,
+        c,
+    );
     let Step::Next(first) = j else {
         return stopped(j, n, tail);
     };

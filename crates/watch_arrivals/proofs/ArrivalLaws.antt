@@ -48,17 +48,17 @@ lone-append t (x ∷ xs) ys e =
     by (eqb t 1)
     (λ p. by (eqb x 10)
     (λ q.
-      let w : tailStep t x ≡ 2 = rw (eqb-true t 1 p, eqb-true x 10 q) tail-lf in
-      let f : suc (loneFrom 2 xs) ≡ suc (length xs) + 1 = rw (p, q) at e in
-      let g : loneFrom 2 (xs ++ ys) ≡ length xs + loneFrom (tailFrom 2 xs) ys = lone-append 2 xs ys (omega arith) in
-      rw (p, q, w, g) (omega arith))
+    let w : tailStep t x ≡ 2 = rw (eqb-true t 1 p, eqb-true x 10 q) tail-lf in
+    let f : suc (loneFrom 2 xs) ≡ suc (length xs) + 1 = rw (p, q) at e in
+    let g : loneFrom 2 (xs ++ ys) ≡ length xs + loneFrom (tailFrom 2 xs) ys = lone-append 2 xs ys (omega arith) in
+    rw (p, q, w, g) (omega arith))
     (λ q. let f : 0 ≡ suc (length xs) + 1 = rw (p, q) at e in absurd (omega arith)))
     (λ p. by (eqb x 10)
     (λ q. let f : 1 ≡ suc (length xs) + 1 = rw (p, q) at e in absurd (omega arith))
     (λ q.
-      let f : suc (loneFrom (tailStep t x) xs) ≡ suc (length xs) + 1 = rw (p, q) at e in
-      let g : loneFrom (tailStep t x) (xs ++ ys) ≡ length xs + loneFrom (tailFrom (tailStep t x) xs) ys = lone-append (tailStep t x) xs ys (omega arith) in
-      rw (p, q, g) (omega arith)))
+    let f : suc (loneFrom (tailStep t x) xs) ≡ suc (length xs) + 1 = rw (p, q) at e in
+    let g : loneFrom (tailStep t x) (xs ++ ys) ≡ length xs + loneFrom (tailFrom (tailStep t x) xs) ys = lone-append (tailStep t x) xs ys (omega arith) in
+    rw (p, q, g) (omega arith)))
 
 -- one that is known stays
 pub lone-known : (t : ℕ) (xs ys : List ℕ) → loneFrom t xs ≤ length xs → loneFrom t (xs ++ ys) ≡ loneFrom t xs
@@ -68,14 +68,14 @@ lone-known t (x ∷ xs) ys h =
     by (eqb t 1)
     (λ p. by (eqb x 10)
     (λ q.
-      let f : suc (loneFrom 2 xs) ≤ suc (length xs) = rw (p, q) at h in
-      rw (p, q) (ap suc (lone-known 2 xs ys (omega arith))))
+    let f : suc (loneFrom 2 xs) ≤ suc (length xs) = rw (p, q) at h in
+    rw (p, q) (ap suc (lone-known 2 xs ys (omega arith))))
     (λ q. rw (p, q)))
     (λ p. by (eqb x 10)
     (λ q. rw (p, q))
     (λ q.
-      let f : suc (loneFrom (tailStep t x) xs) ≤ suc (length xs) = rw (p, q) at h in
-      rw (p, q) (ap suc (lone-known (tailStep t x) xs ys (omega arith)))))
+    let f : suc (loneFrom (tailStep t x) xs) ≤ suc (length xs) = rw (p, q) at h in
+    rw (p, q) (ap suc (lone-known (tailStep t x) xs ys (omega arith)))))
 
 pub lone-le : (t : ℕ) (l : List ℕ) → loneFrom t l ≤ length l + 1
 unfolding loneFrom
@@ -93,9 +93,9 @@ next-append t (x ∷ xs) ys e =
     by (eqb t 2 && not (blank x))
     (λ p. let f : 0 ≡ suc (length xs) = rw p at e in absurd (omega arith))
     (λ p.
-      let f : suc (nextFrom (tailStep t x) xs) ≡ suc (length xs) = rw p at e in
-      let g : nextFrom (tailStep t x) (xs ++ ys) ≡ length xs + nextFrom (tailFrom (tailStep t x) xs) ys = next-append (tailStep t x) xs ys (omega arith) in
-      rw (p, g) (omega arith))
+    let f : suc (nextFrom (tailStep t x) xs) ≡ suc (length xs) = rw p at e in
+    let g : nextFrom (tailStep t x) (xs ++ ys) ≡ length xs + nextFrom (tailFrom (tailStep t x) xs) ys = next-append (tailStep t x) xs ys (omega arith) in
+    rw (p, g) (omega arith))
 
 pub next-known : (t : ℕ) (xs ys : List ℕ) → nextFrom t xs < length xs → nextFrom t (xs ++ ys) ≡ nextFrom t xs
 unfolding nextFrom
@@ -104,8 +104,8 @@ next-known t (x ∷ xs) ys h =
     by (eqb t 2 && not (blank x))
     (λ p. rw p)
     (λ p.
-      let f : suc (nextFrom (tailStep t x) xs) < suc (length xs) = rw p at h in
-      rw p (ap suc (next-known (tailStep t x) xs ys (omega arith))))
+    let f : suc (nextFrom (tailStep t x) xs) < suc (length xs) = rw p at h in
+    rw p (ap suc (next-known (tailStep t x) xs ys (omega arith))))
 
 pub next-le : (t : ℕ) (l : List ℕ) → nextFrom t l ≤ length l
 unfolding nextFrom
@@ -117,7 +117,7 @@ abbrev knownBy : ℕ → List ℕ → ℕ
 knownBy k l = pick (eqb (k + 1) (length l) && eqb (getD l k 0) 13) (length l + 1) (k + 1)
 
 known-suc : (k x : ℕ) (l : List ℕ) → suc (knownBy k l) ≡ knownBy (suc k) (x ∷ l)
-known-suc k x l = 
+known-suc k x l =
     let e : eqb (suc k + 1) (suc (length l)) ≡ eqb (k + 1) (length l) = by (eqb (k + 1) (length l)) (λ p. rw p (eq-eqb (suc k + 1) (suc (length l)) (omega (arith, eqb-true (k + 1) (length l) p)))) (λ p. rw p (ne-eqb (suc k + 1) (suc (length l)) (λ q. eqb-false (k + 1) (length l) p (omega (arith, q))))) in
     rw e (by (eqb (k + 1) (length l) && eqb (getD l k 0) 13) (λ p. rw p (omega arith)) (λ p. rw p (omega arith)))
 
@@ -487,9 +487,9 @@ lone-rest t x xs e =
     by (eqb t 1)
     (λ p. by (eqb x 10)
     (λ q.
-      let w : tailStep t x ≡ 2 = rw (eqb-true t 1 p, eqb-true x 10 q) tail-lf in
-      let f : suc (loneFrom 2 xs) ≡ suc (length xs) + 1 = rw (p, q) at e in
-      rw w (omega arith))
+    let w : tailStep t x ≡ 2 = rw (eqb-true t 1 p, eqb-true x 10 q) tail-lf in
+    let f : suc (loneFrom 2 xs) ≡ suc (length xs) + 1 = rw (p, q) at e in
+    rw w (omega arith))
     (λ q. let f : 0 ≡ suc (length xs) + 1 = rw (p, q) at e in absurd (omega arith)))
     (λ p. by (eqb x 10)
     (λ q. let f : 1 ≡ suc (length xs) + 1 = rw (p, q) at e in absurd (omega arith))
@@ -503,11 +503,11 @@ fine-next t [] e h = absurd (omega arith)
 fine-next t (x ∷ xs) e h =
     by (eqb t 2 && not (blank x))
     (λ p.
-      let two : t ≡ 2 = eqb-true t 2 (and-both (eqb t 2) (not (blank x)) p .0) in
-      rw p (sym (lone-other t (x ∷ xs) (λ z. omega arith)) ∙ e))
+    let two : t ≡ 2 = eqb-true t 2 (and-both (eqb t 2) (not (blank x)) p .0) in
+    rw p (sym (lone-other t (x ∷ xs) (λ z. omega arith)) ∙ e))
     (λ p.
-      let f : suc (nextFrom (tailStep t x) xs) < suc (length xs) = rw p at h in
-      rw p (fine-next (tailStep t x) xs (lone-rest t x xs e) (omega arith)))
+    let f : suc (nextFrom (tailStep t x) xs) < suc (length xs) = rw p at h in
+    rw p (fine-next (tailStep t x) xs (lone-rest t x xs e) (omega arith)))
 
 -- where a line has ended, CR LF stands before the next
 pub next-tail : (t : ℕ) (l : List ℕ) → nextFrom t l < length l → tailFrom t (take (nextFrom t l) l) ≡ 2
@@ -590,15 +590,15 @@ ends-law l =
     by (ltb (length l) 2)
     (λ p. rw p (sym (ne-eqb (tailFrom 0 l) 2 (λ e. let m = tail-two l e in let q = ltb-true (length l) 2 p in omega arith))))
     (λ p.
-      let n = ltb-false (length l) 2 p in
-      rw p
-      (by (eqb (getD l (length l - 2) 0) 13)
-      (λ q. by (eqb (getD l (length l - 1) 0) 10)
-      (λ r. rw (q, r, ends-pair 0 l n (eqb-true (getD l (length l - 1) 0) 10 r) (eqb-true (getD l (length l - 2) 0) 13 q)))
-      (λ r. rw (q, r) (sym (ne-eqb (tailFrom 0 l) 2 (λ e. not-two l n r e)))))
-      (λ q. rw q (sym (ne-eqb (tailFrom 0 l) 2 (λ e. by (eqb (getD l (length l - 1) 0) 10)
-      (λ r. omega (arith, e, ends-lf 0 l n (eqb-true (getD l (length l - 1) 0) 10 r) (eqb-false (getD l (length l - 2) 0) 13 q)))
-      (λ r. not-two l n r e)))))))
+    let n = ltb-false (length l) 2 p in
+    rw p
+    (by (eqb (getD l (length l - 2) 0) 13)
+    (λ q. by (eqb (getD l (length l - 1) 0) 10)
+    (λ r. rw (q, r, ends-pair 0 l n (eqb-true (getD l (length l - 1) 0) 10 r) (eqb-true (getD l (length l - 2) 0) 13 q)))
+    (λ r. rw (q, r) (sym (ne-eqb (tailFrom 0 l) 2 (λ e. not-two l n r e)))))
+    (λ q. rw q (sym (ne-eqb (tailFrom 0 l) 2 (λ e. by (eqb (getD l (length l - 1) 0) 10)
+    (λ r. omega (arith, e, ends-lf 0 l n (eqb-true (getD l (length l - 1) 0) 10 r) (eqb-false (getD l (length l - 2) 0) 13 q)))
+    (λ r. not-two l n r e)))))))
   where
     not-two : (l : List ℕ) → 2 ≤ length l → eqb (getD l (length l - 1) 0) 10 ≡ false → tailFrom 0 l ≡ 2 → ⊥
     not-two l n r e =
@@ -613,10 +613,10 @@ first-fine l e h =
     let f : knownBy (firstLone l) l ≡ length l + 1 = sym (lone-first l) ∙ e in
     by (eqb (firstLone l + 1) (length l) && eqb (getD l (firstLone l) 0) 13)
     (λ p.
-      let b = and-both (eqb (firstLone l + 1) (length l)) (eqb (getD l (firstLone l) 0) 13) p in
-      let n = eqb-true (firstLone l + 1) (length l) (b .0) in
-      let k : firstLone l ≡ length l - 1 = omega (arith, n) in
-      absurd (h (ends-cr 0 l (omega (arith, n)) (ap (λ (i : ℕ). getD l i 0) (sym k) ∙ eqb-true (getD l (firstLone l) 0) 13 (b .1)))))
+    let b = and-both (eqb (firstLone l + 1) (length l)) (eqb (getD l (firstLone l) 0) 13) p in
+    let n = eqb-true (firstLone l + 1) (length l) (b .0) in
+    let k : firstLone l ≡ length l - 1 = omega (arith, n) in
+    absurd (h (ends-cr 0 l (omega (arith, n)) (ap (λ (i : ℕ). getD l i 0) (sym k) ∙ eqb-true (getD l (firstLone l) 0) 13 (b .1)))))
     (λ p. let g : firstLone l + 1 ≡ length l + 1 = rw p at f in omega arith)
 
 -- where there is none, the last octet is no CR
@@ -690,8 +690,8 @@ next-two-least t (x ∷ xs) h =
     by (eqb t 2 && not (blank x))
     (λ p. rw p (omega (arith, eqb-true t 2 (and-both (eqb t 2) (not (blank x)) p .0))))
     (λ p.
-      let f : suc (nextFrom (tailStep t x) xs) < suc (length xs) = rw p at h in
-      rw p (omega (arith, next-two-least (tailStep t x) xs (omega arith), tail-low t x)))
+    let f : suc (nextFrom (tailStep t x) xs) < suc (length xs) = rw p at h in
+    rw p (omega (arith, next-two-least (tailStep t x) xs (omega arith), tail-low t x)))
 
 -- how an input ends is told in its last octets
 pub tail-short : (t : ℕ) (l : List ℕ) → tailFrom t l ≤ t + length l

@@ -33,8 +33,8 @@ more (suc n) zero l h g = none-parted (suc n) l (omega arith)
 more (suc n) (suc m) l h g =
     by (ltb (nextFrom 0 l) (length l))
     (λ p.
-      let k = next-pos l (omega (arith, ltb-true (nextFrom 0 l) (length l) p)) in
-      rw p (ap (withLine (take (nextFrom 0 l - 2) l)) (more n m (drop (nextFrom 0 l) l) (rw length-drop (omega (arith, k))) (rw length-drop (omega (arith, k))))))
+    let k = next-pos l (omega (arith, ltb-true (nextFrom 0 l) (length l) p)) in
+    rw p (ap (withLine (take (nextFrom 0 l - 2) l)) (more n m (drop (nextFrom 0 l) l) (rw length-drop (omega (arith, k))) (rw length-drop (omega (arith, k))))))
     (λ p. rw p)
 
 one-line : (n : ℕ) (l : List ℕ) → nextFrom 0 l < length l → partBy (suc n) l ≡ withLine (take (nextFrom 0 l - 2) l) (partBy n (drop (nextFrom 0 l) l))
@@ -61,22 +61,22 @@ abbrev pub joined : List (List ℕ) → Parting → Parting
 joined ds p = record { ended = ds ++ p .ended; left = p .left }
 
 append-by : (n : ℕ) (i c : List ℕ) → length i ≤ n → parted (i ++ c) ≡ joined (parted i .ended) (parted (parted i .left ++ c))
-append-by zero i c h = 
+append-by zero i c h =
     let e = parted-open i (omega arith) in
     rw e
 append-by (suc n) i c h =
     by (ltb (nextFrom 0 i) (length i))
     (λ p.
-      let lt = ltb-true (nextFrom 0 i) (length i) p in
-      let k = next-pos i (omega (arith, lt)) in
-      let m : length (drop (nextFrom 0 i) i) ≡ length i - nextFrom 0 i = length-drop (nextFrom 0 i) i in
-      let e = parted-step i lt in
-      let x : nextFrom 0 (i ++ c) ≡ nextFrom 0 i = next-known 0 i c lt in
-      let f = parted-step (i ++ c) (rw (x, length-append i c) (omega (arith, lt))) in
-      let rest = append-by n (drop (nextFrom 0 i) i) c (omega (arith, m, k, h)) in
-      let d : drop (nextFrom 0 i) (i ++ c) ≡ drop (nextFrom 0 i) i ++ c = drop-append-le (nextFrom 0 i) i c (omega (arith, lt)) in
-      let t : take (nextFrom 0 i - 2) (i ++ c) ≡ take (nextFrom 0 i - 2) i = take-append-le (nextFrom 0 i - 2) i c (omega (arith, lt)) in
-      f ∙ rw (x, d, t, e) (ap (withLine (take (nextFrom 0 i - 2) i)) rest))
+    let lt = ltb-true (nextFrom 0 i) (length i) p in
+    let k = next-pos i (omega (arith, lt)) in
+    let m : length (drop (nextFrom 0 i) i) ≡ length i - nextFrom 0 i = length-drop (nextFrom 0 i) i in
+    let e = parted-step i lt in
+    let x : nextFrom 0 (i ++ c) ≡ nextFrom 0 i = next-known 0 i c lt in
+    let f = parted-step (i ++ c) (rw (x, length-append i c) (omega (arith, lt))) in
+    let rest = append-by n (drop (nextFrom 0 i) i) c (omega (arith, m, k, h)) in
+    let d : drop (nextFrom 0 i) (i ++ c) ≡ drop (nextFrom 0 i) i ++ c = drop-append-le (nextFrom 0 i) i c (omega (arith, lt)) in
+    let t : take (nextFrom 0 i - 2) (i ++ c) ≡ take (nextFrom 0 i - 2) i = take-append-le (nextFrom 0 i - 2) i c (omega (arith, lt)) in
+    f ∙ rw (x, d, t, e) (ap (withLine (take (nextFrom 0 i - 2) i)) rest))
     (λ p. let e = parted-open i (ltb-false (nextFrom 0 i) (length i) p) in rw e)
 
 -- octets that come later: the lines that have ended stay, and the open line goes on

@@ -162,8 +162,8 @@ open-by zero i h = open-none i (omega arith)
 open-by (suc n) i h =
     by (ltb (nextFrom 0 i) (length i))
     (λ p.
-      let lt = ltb-true (nextFrom 0 i) (length i) p in
-      open-some i lt (open-by n (drop (nextFrom 0 i) i) (omega (arith, next-least i lt, lt, length-drop (nextFrom 0 i) i))))
+    let lt = ltb-true (nextFrom 0 i) (length i) p in
+    open-some i lt (open-by n (drop (nextFrom 0 i) i) (omega (arith, next-least i lt, lt, length-drop (nextFrom 0 i) i))))
     (λ p. open-none i (ltb-false (nextFrom 0 i) (length i) p))
 
 pub open-law : (i : List ℕ) → Open i

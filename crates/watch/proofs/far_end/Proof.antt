@@ -60,9 +60,10 @@ returns c =
     let h = c .before .before .before .farther7 .ensures in
     let i = c .before .before .farther8 .ensures in
     let j = c .before .farther9 .ensures in
-    let k = c .farther10 .ensures in
-    (λ n l. (omega (arith, a .1, b .0, d .0, e .0, f .0, g .0, h .0, i .0, j .0, k .0), (omega (arith, b .1, d .0, e .0, f .0, g .0, h .0, i .0, j .0, k .0), (omega (arith, d .1, e .0, f .0, g .0, h .0, i .0, j .0, k .0), (omega (arith, e .1, f .0, g .0, h .0, i .0, j .0, k .0), (omega (arith, f .1, g .0, h .0, i .0, j .0, k .0), (omega (arith, g .1, h .0, i .0, j .0, k .0), (omega (arith, h .1, i .0, j .0, k .0), (omega (arith, i .1, j .0, k .0), (omega (arith, j .1, k .0), (omega (arith, k .1), tt)))))))))),
-    λ n l. k .2 n (j .2 n (i .2 n (h .2 n (g .2 n (f .2 n (e .2 n (d .2 n (b .2 n (a .2 n (omega arith) (l .0)) (l .1 .0)) (l .1 .1 .0)) (l .1 .1 .1 .0)) (l .1 .1 .1 .1 .0)) (l .1 .1 .1 .1 .1 .0)) (l .1 .1 .1 .1 .1 .1 .0)) (l .1 .1 .1 .1 .1 .1 .1 .0)) (l .1 .1 .1 .1 .1 .1 .1 .1 .0)) (l .1 .1 .1 .1 .1 .1 .1 .1 .1 .0))
+    let k = c .farther10 .ensures in (
+      λ n l. (omega (arith, a .1, b .0, d .0, e .0, f .0, g .0, h .0, i .0, j .0, k .0), (omega (arith, b .1, d .0, e .0, f .0, g .0, h .0, i .0, j .0, k .0), (omega (arith, d .1, e .0, f .0, g .0, h .0, i .0, j .0, k .0), (omega (arith, e .1, f .0, g .0, h .0, i .0, j .0, k .0), (omega (arith, f .1, g .0, h .0, i .0, j .0, k .0), (omega (arith, g .1, h .0, i .0, j .0, k .0), (omega (arith, h .1, i .0, j .0, k .0), (omega (arith, i .1, j .0, k .0), (omega (arith, j .1, k .0), (omega (arith, k .1), tt)))))))))),
+      λ n l. k .2 n (j .2 n (i .2 n (h .2 n (g .2 n (f .2 n (e .2 n (d .2 n (b .2 n (a .2 n (omega arith) (l .0)) (l .1 .0)) (l .1 .1 .0)) (l .1 .1 .1 .0)) (l .1 .1 .1 .1 .0)) (l .1 .1 .1 .1 .1 .0)) (l .1 .1 .1 .1 .1 .1 .0)) (l .1 .1 .1 .1 .1 .1 .1 .0)) (l .1 .1 .1 .1 .1 .1 .1 .1 .0)) (l .1 .1 .1 .1 .1 .1 .1 .1 .1 .0),
+    )
 
 pub far-end-spec : {M : Type 1} → statement M
 far-end-spec =

@@ -29,9 +29,10 @@ returns-3 c =
 
 -- src/lib.rt:133:1
 returns-4 : tie.Need-returns-4
-returns-4 c =
-    (λ e. record { lies = c .before .before .before .before .before .before .before .far-end .ensures .0 (c .before .before .before .before .before .before .before .before .before .args .c .used) (omega (arith, c .before .before .before .before .before .if1 .left)); used = omega (arith, c .before .before .before .if2 .left); cards = omega (arith, c .before .if3 .left); lines = leb-true (c .before .before .before .before .before .before .before .before .before .args .c .lines) (c .before .before .before .before .before .before .before .before .before .args .start) e },
-    λ w. le-leb (c .before .before .before .before .before .before .before .before .before .args .c .lines) (c .before .before .before .before .before .before .before .before .before .args .start) (w .lines))
+returns-4 c = (
+  λ e. record { lies = c .before .before .before .before .before .before .before .far-end .ensures .0 (c .before .before .before .before .before .before .before .before .before .args .c .used) (omega (arith, c .before .before .before .before .before .if1 .left)); used = omega (arith, c .before .before .before .if2 .left); cards = omega (arith, c .before .if3 .left); lines = leb-true (c .before .before .before .before .before .before .before .before .before .args .c .lines) (c .before .before .before .before .before .before .before .before .before .args .start) e },
+  λ w. le-leb (c .before .before .before .before .before .before .before .before .before .args .c .lines) (c .before .before .before .before .before .before .before .before .before .args .start) (w .lines),
+)
 
 pub is-card-sound-spec : {M : Type 1} → statement M
 is-card-sound-spec = tie.close (tie.spec far-end-requires returns returns-2 returns-3 returns-4)

@@ -42,9 +42,10 @@ cast-result c = search needs
 
 -- src/lib.rt:150:1
 returns-5 : tie.Need-returns-5
-returns-5 c =
-    (λ e. record { short = omega (arith, c .before .before .before .before .before .before .before .before .before .before .if1 .left, c .before .before .before .before .before .before .before .if2 .left); tail = omega (arith, c .before .before .before .before .if3 .left); line = λ n. leb-true (c .before .before .before .before .before .before .before .before .before .before .before .before .args .w .tail) (c .before .before .before .before .before .before .before .before .before .before .before .before .args .w .«open») e },
-    λ w. le-leb (c .before .before .before .before .before .before .before .before .before .before .before .before .args .w .tail) (c .before .before .before .before .before .before .before .before .before .before .before .before .args .w .«open») (w .line (c .before .before .if4 .left)))
+returns-5 c = (
+  λ e. record { short = omega (arith, c .before .before .before .before .before .before .before .before .before .before .if1 .left, c .before .before .before .before .before .before .before .if2 .left); tail = omega (arith, c .before .before .before .before .if3 .left); line = λ n. leb-true (c .before .before .before .before .before .before .before .before .before .before .before .before .args .w .tail) (c .before .before .before .before .before .before .before .before .before .before .before .before .args .w .«open») e },
+  λ w. le-leb (c .before .before .before .before .before .before .before .before .before .before .before .before .args .w .tail) (c .before .before .before .before .before .before .before .before .before .before .before .before .args .w .«open») (w .line (c .before .before .if4 .left)),
+)
 
 pub is-count-sound-spec : {M : Type 1} → statement M
 is-count-sound-spec =

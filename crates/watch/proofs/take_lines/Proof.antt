@@ -57,11 +57,16 @@ judge-open-requires c κs =
     let p = c .before .before .before .before .before .before .before .before .before .before .before .before .pre in
     let w = p .0 .0 .card in
     let n : length (take (a .next) (a .chunk .now)) ≡ a .next = length-take-le (a .next) (a .chunk .now) (omega (arith, p .1 .1 .0 .1)) in
-    let two = next-two-least (a .w .tail) (a .chunk .now) (subst (λ (k : ℕ). k < length (a .chunk .now)) (p .1 .1 .0 .0) (p .1 .1 .0 .1)) in
-    ((c .before .before .before .before .before .before .before .table .ensures, c .before .before .before .before .before .before .table2 .ensures, c .before .before .before .before .before .table3 .ensures),
-    (((w .cards, omega (arith, w .lines, p .1 .0 .1, p .1 .1 .0 .1)), w .lies),
-    ((omega (arith, n, w .used, p .1 .0 .1, p .1 .1 .0 .1), p .0 .1, omega (arith, n, two, p .1 .0 .0, p .1 .1 .0 .0)),
-    omega (arith, n, p .1 .0 .1, p .1 .1 .0 .1))))
+    let two = next-two-least (a .w .tail) (a .chunk .now) (subst (λ (k : ℕ). k < length (a .chunk .now)) (p .1 .1 .0 .0) (p .1 .1 .0 .1)) in (
+      (c .before .before .before .before .before .before .before .table .ensures, c .before .before .before .before .before .before .table2 .ensures, c .before .before .before .before .before .table3 .ensures),
+      (
+        ((w .cards, omega (arith, w .lines, p .1 .0 .1, p .1 .1 .0 .1)), w .lies),
+        (
+          (omega (arith, n, w .used, p .1 .0 .1, p .1 .1 .0 .1), p .0 .1, omega (arith, n, two, p .1 .0 .0, p .1 .1 .0 .0)),
+          omega (arith, n, p .1 .0 .1, p .1 .1 .0 .1),
+        ),
+      ),
+    )
 
 -- src/lib.rt:226:20
 enum-known-j : tie.Need-enum-known-j
@@ -92,12 +97,17 @@ judge-lines-requires c κs =
     let p = c .before .before .before .before .before .before .before .before .before .before .before .before .before .before .before .before .before .before .before .before .before .before .pre in
     let w = p .0 .0 .card in
     let j = c .before .before .before .before .before .before .before .before .before .judge-open in
-    let two = next-two-least (a .w .tail) (a .chunk .now) (subst (λ (k : ℕ). k < length (a .chunk .now)) (p .1 .1 .0 .0) (p .1 .1 .0 .1)) in
-    ((c .before .before .before .before .before .before .before .before .before .before .before .before .before .before .before .before .before .table .ensures, c .before .before .before .before .before .before .before .before .before .before .before .before .before .before .before .before .table2 .ensures, c .before .before .before .before .before .before .before .before .before .before .before .before .before .before .before .table3 .ensures),
-    ((omega (arith, p .1 .1 .0 .1), p .1 .0 .1, omega (arith, j, p .0 .1)),
-    (joined-within (a .w) (a .buffer .now) (a .chunk .now) (j .last .1 .1 .1 .0) (a .next) _ (c .before .before .before .before .before .j .given .0 .0) w (omega (arith, p .1 .1 .0 .1)) (omega (arith, two, p .1 .0 .0, p .1 .1 .0 .0)) (omega (arith, w .used, p .1 .0 .1, p .0 .1))
-    (subst (λ (x : KeptStep). Took (a .w .card) (take (a .w .«open» + length (take (a .next) (a .chunk .now)) - 2) (take (a .w .«open») (drop (a .w .card .used) (a .buffer .now)) ++ take (a .next) (a .chunk .now))) (a .buffer .now) (j .last .1 .1 .1 .0) (a .w .start) (a .w .card .used + (a .w .«open» + length (take (a .next) (a .chunk .now)))) x) (c .before .before .before .before .before .j .given .1) (j .ensures)),
-    subst (λ (k : ℕ). loneFrom 0 (drop k (a .chunk .now)) ≡ length (drop k (a .chunk .now)) + 1) (sym (p .1 .1 .0 .0)) (fine-next (a .w .tail) (a .chunk .now) (p .1 .1 .1) (subst (λ (k : ℕ). k < length (a .chunk .now)) (p .1 .1 .0 .0) (p .1 .1 .0 .1))))))
+    let two = next-two-least (a .w .tail) (a .chunk .now) (subst (λ (k : ℕ). k < length (a .chunk .now)) (p .1 .1 .0 .0) (p .1 .1 .0 .1)) in (
+      (c .before .before .before .before .before .before .before .before .before .before .before .before .before .before .before .before .before .table .ensures, c .before .before .before .before .before .before .before .before .before .before .before .before .before .before .before .before .table2 .ensures, c .before .before .before .before .before .before .before .before .before .before .before .before .before .before .before .table3 .ensures),
+      (
+        (omega (arith, p .1 .1 .0 .1), p .1 .0 .1, omega (arith, j, p .0 .1)),
+        (
+          joined-within (a .w) (a .buffer .now) (a .chunk .now) (j .last .1 .1 .1 .0) (a .next) _ (c .before .before .before .before .before .j .given .0 .0) w (omega (arith, p .1 .1 .0 .1)) (omega (arith, two, p .1 .0 .0, p .1 .1 .0 .0)) (omega (arith, w .used, p .1 .0 .1, p .0 .1))
+              (subst (λ (x : KeptStep). Took (a .w .card) (take (a .w .«open» + length (take (a .next) (a .chunk .now)) - 2) (take (a .w .«open») (drop (a .w .card .used) (a .buffer .now)) ++ take (a .next) (a .chunk .now))) (a .buffer .now) (j .last .1 .1 .1 .0) (a .w .start) (a .w .card .used + (a .w .«open» + length (take (a .next) (a .chunk .now)))) x) (c .before .before .before .before .before .j .given .1) (j .ensures)),
+          subst (λ (k : ℕ). loneFrom 0 (drop k (a .chunk .now)) ≡ length (drop k (a .chunk .now)) + 1) (sym (p .1 .1 .0 .0)) (fine-next (a .w .tail) (a .chunk .now) (p .1 .1 .1) (subst (λ (k : ℕ). k < length (a .chunk .now)) (p .1 .1 .0 .0) (p .1 .1 .0 .1))),
+        ),
+      ),
+    )
 
 -- src/lib.rt:232:20
 enum-known-last : tie.Need-enum-known-last

@@ -47,9 +47,16 @@ take-line-requires c κs =
     let a = c .before .before .before .before .before .before .before .before .before .before .args in
     let z = c .before .before .before .before .before .before .before .before .before .before .pre in
     let n : length (take (a .«open» + length (a .rest .now) - 2) (c .before .before .before .before .join .last .0)) ≡ a .«open» + length (a .rest .now) - 2 =
-    length-take-le (a .«open» + length (a .rest .now) - 2) (c .before .before .before .before .join .last .0) (omega (arith, c .before .before .before .before .join, z .1 .1 .1 .1)) in
-    (z .0, (z .1 .0 .0, ((record { lies = z .1 .0 .1; room = omega (arith, n, z .1 .1 .0 .0, z .1 .1 .0 .1); short = omega (arith, z .1 .1 .0 .1) }, z .1 .1 .0 .1),
-    (λ e. absurd (false≢true (sym e)), (omega (arith, n), z .1 .1 .0 .0, omega (arith, n, z .1 .1 .1 .0))))))
+    length-take-le (a .«open» + length (a .rest .now) - 2) (c .before .before .before .before .join .last .0) (omega (arith, c .before .before .before .before .join, z .1 .1 .1 .1)) in (
+      z .0,
+      (
+        z .1 .0 .0,
+        (
+          (record { lies = z .1 .0 .1; room = omega (arith, n, z .1 .1 .0 .0, z .1 .1 .0 .1); short = omega (arith, z .1 .1 .0 .1) }, z .1 .1 .0 .1),
+          (λ e. absurd (false≢true (sym e)), (omega (arith, n), z .1 .1 .0 .0, omega (arith, n, z .1 .1 .1 .0))),
+        ),
+      ),
+    )
 
 -- src/lib.rt:125:1
 same-length : tie.Need-same-length

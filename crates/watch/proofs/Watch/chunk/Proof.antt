@@ -19,12 +19,12 @@ use Rattle.watch_buffer.proofs.clear.Reads as clear-reads
 returns : tie.Need-returns
 returns c =
     record {
-    another = λ h. (refl, refl);
-    over = λ e k. absurd (c .if1 .taken e);
-    goes = λ e k. absurd (c .if1 .taken e);
-    false = λ e k s. absurd (c .if1 .taken e);
-    led = λ i r e. absurd (c .if1 .taken e);
-    size = refl;
+      another = λ h. (refl, refl);
+      over = λ e k. absurd (c .if1 .taken e);
+      goes = λ e k. absurd (c .if1 .taken e);
+      false = λ e k s. absurd (c .if1 .taken e);
+      led = λ i r e. absurd (c .if1 .taken e);
+      size = refl;
     }
 
 -- src/lib.rt:345:13
@@ -36,12 +36,12 @@ returns-2 : tie.Need-returns-2
 returns-2 c =
     let much = ltb-true 16384 (claims (c .before .before .before .before .before .args .self)) (sym (c .before .is-over .ensures) ∙ c .if2 .taken) in
     record {
-    another = λ h. absurd (h (c .before .before .if1 .left));
-    over = λ e k. (refl, refl);
-    goes = λ e k. absurd (omega (arith, much, k));
-    false = λ e k s. absurd (omega (arith, much, k));
-    led = λ i r e. absurd (omega (arith, much, sound-claims (c .before .before .before .before .before .args .self) (reached-sound (c .before .before .before .before .before .args .self) (c .before .before .before .before .before .args .buffer .now) i (r .stands))));
-    size = refl;
+      another = λ h. absurd (h (c .before .before .if1 .left));
+      over = λ e k. (refl, refl);
+      goes = λ e k. absurd (omega (arith, much, k));
+      false = λ e k s. absurd (omega (arith, much, k));
+      led = λ i r e. absurd (omega (arith, much, sound-claims (c .before .before .before .before .before .args .self) (reached-sound (c .before .before .before .before .before .args .self) (c .before .before .before .before .before .args .buffer .now) i (r .stands))));
+      size = refl;
     }
 
 -- src/lib.rt:349:13
@@ -54,12 +54,12 @@ returns-3 c =
     let low = ltb-false 16384 (claims (c .before .before .before .before .before .before .before .args .self)) (sym (c .before .before .before .is-over .ensures) ∙ c .before .before .if2 .left) in
     let unsound = not-true (c .before .is-sound .result) (c .if3 .taken) in
     record {
-    another = λ h. absurd (h (c .before .before .before .before .if1 .left));
-    over = λ e k. absurd (omega (arith, low, k));
-    goes = λ e k. (c .before .before .before .before .before .before .before .args .self, refl);
-    false = λ e k s. (refl, refl);
-    led = λ i r e. no-way (sym unsound ∙ c .before .is-sound .ensures .1 (reached-sound (c .before .before .before .before .before .before .before .args .self) (c .before .before .before .before .before .before .before .args .buffer .now) i (r .stands)));
-    size = refl;
+      another = λ h. absurd (h (c .before .before .before .before .if1 .left));
+      over = λ e k. absurd (omega (arith, low, k));
+      goes = λ e k. (c .before .before .before .before .before .before .before .args .self, refl);
+      false = λ e k s. (refl, refl);
+      led = λ i r e. no-way (sym unsound ∙ c .before .is-sound .ensures .1 (reached-sound (c .before .before .before .before .before .before .before .args .self) (c .before .before .before .before .before .before .before .args .buffer .now) i (r .stands)));
+      size = refl;
     }
 
 -- src/lib.rt:353:12
@@ -88,12 +88,12 @@ returns-4 c =
     let a = c .before .before .before .before .before .before .before .before .before .before .before .before .before .before .before .before .before .args in
     let b = c .before .before .before .before .before .before .clear .last .0 in
     record {
-    another = λ h. absurd (h (c .before .before .before .before .before .before .before .before .before .before .before .before .before .before .if1 .left));
-    over = λ e k. absurd (omega (arith, low, k));
-    goes = λ e k. (c .before .before .arrive .result, refl);
-    false = λ e k s. absurd (s sound);
-    led = λ i r e. (c .before .before .arrive .result, (refl, c .before .before .arrive .ensures i (first-stands (a .self) (a .buffer .now) i b (r .stands) (c .before .before .before .before .before .before .before .before .if4 .taken) (c .before .before .before .before .before .before .before .before .before .before .before .before .before .before .if1 .left) (c .before .before .before .before .before .before .clear .ensures)) (first-buffer (a .self) (a .buffer .now) i b (r .stands) (c .before .before .before .before .before .before .before .before .if4 .taken) (c .before .before .before .before .before .before .before .before .before .before .before .before .before .before .if1 .left) (c .before .before .before .before .before .before .clear .ensures))));
-    size = omega (arith, c .before .before .arrive, c .before .before .before .before .before .before .clear);
+      another = λ h. absurd (h (c .before .before .before .before .before .before .before .before .before .before .before .before .before .before .if1 .left));
+      over = λ e k. absurd (omega (arith, low, k));
+      goes = λ e k. (c .before .before .arrive .result, refl);
+      false = λ e k s. absurd (s sound);
+      led = λ i r e. (c .before .before .arrive .result, (refl, c .before .before .arrive .ensures i (first-stands (a .self) (a .buffer .now) i b (r .stands) (c .before .before .before .before .before .before .before .before .if4 .taken) (c .before .before .before .before .before .before .before .before .before .before .before .before .before .before .if1 .left) (c .before .before .before .before .before .before .clear .ensures)) (first-buffer (a .self) (a .buffer .now) i b (r .stands) (c .before .before .before .before .before .before .before .before .if4 .taken) (c .before .before .before .before .before .before .before .before .before .before .before .before .before .before .if1 .left) (c .before .before .before .before .before .before .clear .ensures))));
+      size = omega (arith, c .before .before .arrive, c .before .before .before .before .before .before .clear);
     }
 
 -- src/lib.rt:357:23
@@ -112,12 +112,12 @@ returns-5 c =
     let sound = c .before .before .before .before .before .before .before .is-sound .ensures .0 (not-false (c .before .before .before .before .before .before .before .is-sound .result) (c .before .before .before .before .before .before .if3 .left)) in
     let a = c .before .before .before .before .before .before .before .before .before .before .before .before .before .args in
     record {
-    another = λ h. absurd (h (c .before .before .before .before .before .before .before .before .before .before .if1 .left));
-    over = λ e k. absurd (omega (arith, low, k));
-    goes = λ e k. (c .before .before .arrive2 .result, refl);
-    false = λ e k s. absurd (s sound);
-    led = λ i r e. (c .before .before .arrive2 .result, (refl, c .before .before .arrive2 .ensures i (r .stands) (later-buffer (a .self) (a .buffer .now) i r (c .before .before .before .before .if4 .left))));
-    size = omega (arith, c .before .before .arrive2);
+      another = λ h. absurd (h (c .before .before .before .before .before .before .before .before .before .before .if1 .left));
+      over = λ e k. absurd (omega (arith, low, k));
+      goes = λ e k. (c .before .before .arrive2 .result, refl);
+      false = λ e k s. absurd (s sound);
+      led = λ i r e. (c .before .before .arrive2 .result, (refl, c .before .before .arrive2 .ensures i (r .stands) (later-buffer (a .self) (a .buffer .now) i r (c .before .before .before .before .if4 .left))));
+      size = omega (arith, c .before .before .arrive2);
     }
 
 pub chunk-spec : {M : Type 1} → statement M

@@ -17,10 +17,10 @@ use Rattle.watch.proofs.is_sound.Reads as is-sound-reads
 returns : tie.Need-returns
 returns c =
     record {
-    another = λ h. refl;
-    over = λ e k. absurd (c .if1 .taken e);
-    false = λ e k s. absurd (c .if1 .taken e);
-    led = λ i r e. absurd (c .if1 .taken e);
+      another = λ h. refl;
+      over = λ e k. absurd (c .if1 .taken e);
+      false = λ e k s. absurd (c .if1 .taken e);
+      led = λ i r e. absurd (c .if1 .taken e);
     }
 
 -- src/lib.rt:367:13
@@ -32,10 +32,10 @@ returns-2 : tie.Need-returns-2
 returns-2 c =
     let much = ltb-true 16384 (claims (c .before .before .before .before .args .self)) (sym (c .before .is-over .ensures) ∙ c .if2 .taken) in
     record {
-    another = λ h. absurd (h (c .before .before .if1 .left));
-    over = λ e k. refl;
-    false = λ e k s. absurd (omega (arith, much, k));
-    led = λ i r e. absurd (omega (arith, much, sound-claims (c .before .before .before .before .args .self) (reached-sound (c .before .before .before .before .args .self) (c .before .before .before .before .args .buffer .now) i (r .stands))));
+      another = λ h. absurd (h (c .before .before .if1 .left));
+      over = λ e k. refl;
+      false = λ e k s. absurd (omega (arith, much, k));
+      led = λ i r e. absurd (omega (arith, much, sound-claims (c .before .before .before .before .args .self) (reached-sound (c .before .before .before .before .args .self) (c .before .before .before .before .args .buffer .now) i (r .stands))));
     }
 
 -- src/lib.rt:371:13
@@ -48,10 +48,10 @@ returns-3 c =
     let low = ltb-false 16384 (claims (c .before .before .before .before .before .before .args .self)) (sym (c .before .before .before .is-over .ensures) ∙ c .before .before .if2 .left) in
     let unsound = not-true (c .before .is-sound .result) (c .if3 .taken) in
     record {
-    another = λ h. absurd (h (c .before .before .before .before .if1 .left));
-    over = λ e k. absurd (omega (arith, low, k));
-    false = λ e k s. refl;
-    led = λ i r e. no-way (sym unsound ∙ c .before .is-sound .ensures .1 (reached-sound (c .before .before .before .before .before .before .args .self) (c .before .before .before .before .before .before .args .buffer .now) i (r .stands)));
+      another = λ h. absurd (h (c .before .before .before .before .if1 .left));
+      over = λ e k. absurd (omega (arith, low, k));
+      false = λ e k s. refl;
+      led = λ i r e. no-way (sym unsound ∙ c .before .is-sound .ensures .1 (reached-sound (c .before .before .before .before .before .before .args .self) (c .before .before .before .before .before .before .args .buffer .now) i (r .stands)));
     }
 
 -- src/lib.rt:375:9
@@ -65,10 +65,10 @@ returns-4 c =
     let low = ltb-false 16384 (claims (c .before .before .before .before .before .before .before .args .self)) (sym (c .before .before .before .before .is-over .ensures) ∙ c .before .before .before .if2 .left) in
     let sound = c .before .before .is-sound .ensures .0 (not-false (c .before .before .is-sound .result) (c .before .if3 .left)) in
     record {
-    another = λ h. absurd (h (c .before .before .before .before .before .if1 .left));
-    over = λ e k. absurd (omega (arith, low, k));
-    false = λ e k s. absurd (s sound);
-    led = λ i r e. c .conclude .ensures i r;
+      another = λ h. absurd (h (c .before .before .before .before .before .if1 .left));
+      over = λ e k. absurd (omega (arith, low, k));
+      false = λ e k s. absurd (s sound);
+      led = λ i r e. c .conclude .ensures i r;
     }
 
 pub end-spec : {M : Type 1} → statement M
