@@ -1,4 +1,4 @@
-// The lines that end with a chunk, each judged once: the one that was open, and those that lie in the chunk. Their ALTID values stay in the buffer.
+// The lines that end with a chunk, each judged once: the open one, and those that lie in the chunk; their ALTID values are kept.
 ghost use mathlib.Core.Path.{_≡_};
 ghost use mathlib.Core.Bool.{false};
 ghost use mathlib.Core.List.{List, _++_};

@@ -1,9 +1,8 @@
+-- `watch::arrive` meets its contract. Assumes nothing.
 use native.Mathlib.Omega.{arith}
-use mathlib.Core.Path.{_≡_, refl, sym, ap, subst, _∙_}
-use mathlib.Core.List.{List, _++_}
-use Prim.Native.Nat.{ℕ, _+_, _-_, _≤_}
-use lib.ListN.{length}
-use Rattle.watch_arrivals.specs.Arrivals.{loneFrom}
+use mathlib.Core.Path.{refl, sym, subst}
+use mathlib.Core.List.{_++_}
+use Prim.Native.Nat.{_+_, _-_}
 use Rattle.watch_arrivals.proofs.ArrivalLaws.{lone-le, lone-least}
 use Rattle.watch.specs.declared.Watch.{Watch}
 use Rattle.watch.specs.State.{After}
@@ -11,45 +10,29 @@ use Rattle.watch.proofs.FaultLaws.{stays-over, gets-over, stays-broken,
 use borrow.Author.Needs.{needs}
 use Rattle.watch.proofs.arrive.Statement.{statement}
 use Rattle.watch.proofs.arrive.Tie as tie
-use Rattle.watch.proofs.arrive.Reads as reads
-use Rattle.watch.proofs.arrive.Lts as lts
-use Rattle.watch.proofs.faulty.Reads as faulty-reads
-use Rattle.watch.proofs.take_octets.Reads as take-octets-reads
-use Rattle.watch.proofs.too_long.Reads as too-long-reads
-use Rattle.watch_arrivals.proofs.first_break.Reads as first-break-reads
-use Rattle.watch_arrivals.proofs.tail_after.Reads as tail-after-reads
-use Rattle.watch_buffer.proofs.clear.Reads as clear-reads
 
--- src/lib.rt:268:9
 returns : tie.Need-returns
 returns c =
     λ i s e. stays-over (c .before .before .before .before .args .w) (c .before .before .before .before .args .buffer .now) i (c .before .before .before .before .args .chunk .now) (c .if1 .taken) s e
 
--- src/lib.rt:270:18
 add-before : tie.Need-add-before
 add-before c = search needs
 
--- src/lib.rt:271:19
 add-claimed : tie.Need-add-claimed
 add-claimed c = search needs
 
--- src/lib.rt:272:8
 sub-if2 : tie.Need-sub-if2
 sub-if2 c = search needs
 
--- src/lib.rt:273:9
 clear-requires : tie.Need-clear-requires
 clear-requires c κs = search needs
 
--- src/lib.rt:274:9
 too-long-requires : tie.Need-too-long-requires
 too-long-requires c κs = search needs
 
--- src/lib.rt:274:9
 same-length : tie.Need-same-length
 same-length c = search needs
 
--- src/lib.rt:274:9
 returns-2 : tie.Need-returns-2
 returns-2 c =
     let a = c .before .before .before .before .before .before .before .before .before .before .before .before .args in
@@ -58,15 +41,12 @@ returns-2 c =
     (gets-over (a .w) (a .buffer .now) i (a .chunk .now) (c .before .before .before .before .before .before .before .before .if1 .left) s (omega (arith, c .before .before .before .before .before .if2 .taken, p .0 .counts .short)) (c .before .before .before .clear .last .0)
     (cleared (a .w) (a .buffer .now) i (c .before .before .before .clear .last .0) e s (omega (arith, p .0 .card .used, p .0 .counts .short)) (c .before .before .before .clear .ensures)))
 
--- src/lib.rt:276:13
 add-n : tie.Need-add-n
 add-n c = search needs
 
--- src/lib.rt:278:9
 faulty-requires : tie.Need-faulty-requires
 faulty-requires c κs = search needs
 
--- src/lib.rt:278:9
 returns-3 : tie.Need-returns-3
 returns-3 c =
     let a = c .before .before .before .before .before .before .before .before .before .before .args in
@@ -74,32 +54,25 @@ returns-3 c =
     λ i s e. subst (λ (x : Watch). After x (a .buffer .now) (i ++ a .chunk .now)) (sym (c .faulty .ensures))
     (stays-broken (a .w) (a .buffer .now) i (a .chunk .now) (c .before .if3 .taken) s e _ refl (omega (arith, c .before .before .before .if2 .left, p .0 .counts .short)))
 
--- src/lib.rt:280:9
 first-break-requires : tie.Need-first-break-requires
 first-break-requires c κs = search needs
 
--- src/lib.rt:282:9
 clear-requires-2 : tie.Need-clear-requires-2
 clear-requires-2 c κs = search needs
 
--- src/lib.rt:286:13
 add-faulty : tie.Need-add-faulty
 add-faulty c = search needs
 
--- src/lib.rt:286:13
 sub-faulty : tie.Need-sub-faulty
 sub-faulty c =
     omega (arith, c .before .before .before .before .before .first-break .ensures, lone-least (c .before .before .before .before .before .before .before .before .before .before .before .before .before .before .before .args .w .tail) (c .before .before .before .before .before .before .before .before .before .before .before .before .before .before .before .args .chunk .now), c .before .before .before .before .before .before .before .before .before .before .before .before .before .before .before .pre .0 .counts .tail)
 
--- src/lib.rt:283:9
 faulty-requires-2 : tie.Need-faulty-requires-2
 faulty-requires-2 c κs = search needs
 
--- src/lib.rt:283:9
 same-length-2 : tie.Need-same-length-2
 same-length-2 c = search needs
 
--- src/lib.rt:283:9
 returns-4 : tie.Need-returns-4
 returns-4 c =
     let a = c .before .before .before .before .before .before .before .before .before .before .before .before .before .before .before .before .args in
@@ -110,15 +83,12 @@ returns-4 c =
     (omega (arith, f, lone-least (a .w .tail) (a .chunk .now), p .0 .counts .tail)) (c .before .before .before .clear2 .last .0)
     (cleared (a .w) (a .buffer .now) i (c .before .before .before .clear2 .last .0) e s (omega (arith, p .0 .card .used, p .0 .counts .short)) (c .before .before .before .clear2 .ensures)))
 
--- src/lib.rt:292:13
 tail-after-requires : tie.Need-tail-after-requires
 tail-after-requires c κs = search needs
 
--- src/lib.rt:293:9
 faulty-requires-3 : tie.Need-faulty-requires-3
 faulty-requires-3 c κs = search needs
 
--- src/lib.rt:293:9
 returns-5 : tie.Need-returns-5
 returns-5 c =
     let a = c .before .before .before .before .before .before .before .before .before .before .before .before .before .before .before .args in
@@ -126,18 +96,15 @@ returns-5 c =
     λ i s e. subst (λ (x : Watch). After x (a .buffer .now) (i ++ a .chunk .now)) (sym (c .faulty3 .ensures))
     (stays-faulty (a .w) (a .buffer .now) i (a .chunk .now) (c .before .before .if5 .taken) s e _ (c .before .tail-after .result) refl (omega (arith, c .before .before .before .before .before .before .before .before .if2 .left, p .0 .counts .short)) (omega (arith, c .before .before .before .before .before .first-break .ensures, c .before .before .before .before .if4 .left)) (c .before .tail-after .ensures))
 
--- src/lib.rt:295:5
 take-octets-requires : tie.Need-take-octets-requires
 take-octets-requires c κs =
     let a = c .before .before .before .before .before .before .before .before .before .before .before .before .before .before .args in
     let p = c .before .before .before .before .before .before .before .before .before .before .before .before .before .before .pre in
     (p, ((p .0 .counts .line (c .before .if5 .left), omega (arith, c .before .before .before .before .before .before .before .if2 .left, p .0 .counts .short)), omega (arith, c .before .before .before .before .first-break .ensures, c .before .before .before .if4 .left, lone-le (a .w .tail) (a .chunk .now))))
 
--- src/lib.rt:263:1
 same-length-3 : tie.Need-same-length-3
 same-length-3 c = search needs
 
--- src/lib.rt:263:1
 returns-6 : tie.Need-returns-6
 returns-6 c =
     let a = c .before .before .before .before .before .before .before .before .before .before .before .before .before .before .before .before .before .args in

@@ -1,6 +1,7 @@
+-- `watch::conclude` meets its contract. Assumes nothing.
 use native.Mathlib.Omega.{arith}
-use mathlib.Core.Path.{_≡_, refl, sym, ap, subst, _∙_}
-use Prim.Native.Nat.{ℕ, _+_, _<_}
+use mathlib.Core.Path.{_∙_}
+use Prim.Native.Nat.{_<_}
 use lib.ListN.{length}
 use mathlib.Core.List.{[]}
 use Rattle.card_state.specs.Kept.{stepOf}
@@ -9,65 +10,46 @@ use Rattle.watch.proofs.EndLaws.{end-over, end-none, end-broken, end-wa
 use borrow.Author.Needs.{needs}
 use Rattle.watch.proofs.conclude.Statement.{statement}
 use Rattle.watch.proofs.conclude.Tie as tie
-use Rattle.watch.proofs.conclude.Reads as reads
-use Rattle.watch.proofs.conclude.Lts as lts
-use Rattle.octets.proofs.classes.table.Reads as classes-table-reads
-use Rattle.property_table.proofs.table.Reads as table-reads
-use Rattle.reader.proofs.conclude.Reads as conclude-reads
-use Rattle.value_automaton.proofs.scanner.table.Reads as scanner-table-reads
-use Rattle.watch_lines.proofs.judge_last.Reads as judge-last-reads
 
--- src/lib.rt:303:13
 add-n : tie.Need-add-n
 add-n c = search needs
 
--- src/lib.rt:305:9
 returns : tie.Need-returns
 returns c =
     λ i r. end-over (c .before .before .before .before .args .w) (c .before .before .before .before .args .buffer .now) i (c .if1 .taken) (r .stands)
 
--- src/lib.rt:308:9
 returns-2 : tie.Need-returns-2
 returns-2 c =
     λ i r. end-none (c .before .before .before .before .before .args .w) (c .before .before .before .before .before .args .buffer .now) i (c .before .if1 .left) (r .stands) (c .if2 .taken)
 
--- src/lib.rt:311:9
 returns-3 : tie.Need-returns-3
 returns-3 c =
     λ i r. end-broken (c .before .before .before .before .before .before .before .args .w) (c .before .before .before .before .before .before .before .args .buffer .now) i (c .if3 .taken) (r .stands)
 
--- src/lib.rt:314:57
 sub-t10 : tie.Need-sub-t10
 sub-t10 c = search needs
 
--- src/lib.rt:314:9
 returns-4 : tie.Need-returns-4
 returns-4 c =
     λ i r. end-waits (c .before .before .before .before .before .before .before .before .before .args .w) (c .before .before .before .before .before .before .before .before .before .args .buffer .now) i (c .before .before .before .before .before .if1 .left) (c .before .before .if3 .left) (r .stands) (c .before .before .before .before .before .before .before .before .before .pre .0 .counts .short) (c .before .before .before .before .if2 .left) (c .if4 .taken)
 
--- src/lib.rt:317:9
 returns-5 : tie.Need-returns-5
 returns-5 c =
     λ i r. end-open (c .before .before .before .before .before .before .before .before .before .before .before .args .w) (c .before .before .before .before .before .before .before .before .before .before .before .args .buffer .now) i (c .before .before .before .before .before .before .before .if1 .left) (c .before .before .before .before .if3 .left) (r .stands) (c .before .before .before .before .before .before .before .before .before .before .before .pre .0 .counts .short) (c .before .before .before .before .before .before .if2 .left) (c .before .before .if4 .left) (c .if5 .taken)
 
--- src/lib.rt:320:9
 returns-6 : tie.Need-returns-6
 returns-6 c =
     λ i r. end-faulty (c .before .before .before .before .before .before .before .before .before .before .before .before .before .args .w) (c .before .before .before .before .before .before .before .before .before .before .before .before .before .args .buffer .now) i (c .before .before .before .before .before .before .before .before .before .if1 .left) (c .before .before .before .before .before .before .if3 .left) (r .stands) (c .before .before .before .before .before .before .before .before .before .before .before .before .before .pre .0 .counts .short) (c .before .before .before .before .before .before .before .before .if2 .left) (c .before .before .if5 .left) (c .if6 .taken)
 
--- src/lib.rt:322:13
 table-requires : tie.Need-table-requires
 table-requires c κs = search needs
 
--- src/lib.rt:323:16
 table-requires-2 : tie.Need-table-requires-2
 table-requires-2 c κs = search needs
 
--- src/lib.rt:324:17
 table-requires-3 : tie.Need-table-requires-3
 table-requires-3 c κs = search needs
 
--- src/lib.rt:326:9
 judge-last-requires : tie.Need-judge-last-requires
 judge-last-requires c κs =
     let p = c .before .before .before .before .before .before .before .before .before .before .before .before .before .before .before .before .before .before .before .before .pre in
@@ -76,11 +58,9 @@ judge-last-requires c κs =
     let two = q .line (c .before .before .before .before .before .before .before .if6 .left) in
     ((c .before .before .before .before .before .before .table .ensures, c .before .before .before .before .before .table2 .ensures, c .before .before .before .before .table3 .ensures), (((w .cards, omega (arith, w .lines, q .short, two, c .before .before .before .before .before .before .before .before .before .if5 .left)), w .lies), (omega (arith, w .used, q .short), p .1, omega (arith, two, c .before .before .before .before .before .before .before .before .before .if5 .left), q .short)))
 
--- src/lib.rt:327:5
 conclude-requires : tie.Need-conclude-requires
 conclude-requires c κs = search needs
 
--- src/lib.rt:299:1
 returns-7 : tie.Need-returns-7
 returns-7 c =
     let a = c .before .before .before .before .before .before .before .before .before .before .before .before .before .before .before .before .before .before .before .before .before .before .args in

@@ -1,3 +1,4 @@
+-- `watch::is_count_sound` meets its contract. Assumes nothing.
 use native.Mathlib.Omega.{arith}
 use mathlib.Core.Path.{refl}
 use borrow.Author.Tests.{leb-true, le-leb}
@@ -5,42 +6,32 @@ use Rattle.watch.proofs.SoundLaws.{no-way}
 use borrow.Author.Needs.{needs}
 use Rattle.watch.proofs.is_count_sound.Statement.{statement}
 use Rattle.watch.proofs.is_count_sound.Tie as tie
-use Rattle.watch.proofs.is_count_sound.Reads as reads
-use Rattle.watch.proofs.is_count_sound.Lts as lts
 
--- src/lib.rt:154:9
 returns : tie.Need-returns
 returns c =
     (λ e. no-way e, λ w. absurd (omega (arith, c .if1 .taken, w .short)))
 
--- src/lib.rt:157:9
 returns-2 : tie.Need-returns-2
 returns-2 c =
     (λ e. no-way e, λ w. absurd (omega (arith, c .before .before .before .if1 .left, c .if2 .taken, w .short)))
 
--- src/lib.rt:159:8
 add-if3 : tie.Need-add-if3
 add-if3 c = search needs
 
--- src/lib.rt:159:27
 cast-if3 : tie.Need-cast-if3
 cast-if3 c = search needs
 
--- src/lib.rt:160:9
 returns-3 : tie.Need-returns-3
 returns-3 c =
     (λ e. no-way e, λ w. absurd (omega (arith, c .if3 .taken, w .tail)))
 
--- src/lib.rt:163:9
 returns-4 : tie.Need-returns-4
 returns-4 c =
     (λ e. record { short = omega (arith, c .before .before .before .before .before .before .before .before .if1 .left, c .before .before .before .before .before .if2 .left); tail = omega (arith, c .before .before .if3 .left); line = λ n. absurd (n (c .if4 .taken)) }, λ w. refl)
 
--- src/lib.rt:165:5
 cast-result : tie.Need-cast-result
 cast-result c = search needs
 
--- src/lib.rt:150:1
 returns-5 : tie.Need-returns-5
 returns-5 c = (
   λ e. record { short = omega (arith, c .before .before .before .before .before .before .before .before .before .before .if1 .left, c .before .before .before .before .before .before .before .if2 .left); tail = omega (arith, c .before .before .before .before .if3 .left); line = λ n. leb-true (c .before .before .before .before .before .before .before .before .before .before .before .before .args .w .tail) (c .before .before .before .before .before .before .before .before .before .before .before .before .args .w .«open») e },

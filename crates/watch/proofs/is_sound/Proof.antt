@@ -1,28 +1,21 @@
+-- `watch::is_sound` meets its contract. Assumes nothing.
 use borrow.Author.Tests.{not-true, not-false}
 use mathlib.Core.Path.{sym, _∙_}
 use Rattle.watch.proofs.SoundLaws.{no-way}
 use borrow.Author.Needs.{needs}
 use Rattle.watch.proofs.is_sound.Statement.{statement}
 use Rattle.watch.proofs.is_sound.Tie as tie
-use Rattle.watch.proofs.is_sound.Reads as reads
-use Rattle.watch.proofs.is_sound.Lts as lts
-use Rattle.watch.proofs.is_card_sound.Reads as is-card-sound-reads
-use Rattle.watch.proofs.is_count_sound.Reads as is-count-sound-reads
 
--- src/lib.rt:172:9
 is-count-sound-requires : tie.Need-is-count-sound-requires
 is-count-sound-requires c κs = search needs
 
--- src/lib.rt:174:9
 returns : tie.Need-returns
 returns c =
     (λ e. no-way e, λ w. sym (not-true (c .before .is-count-sound .result) (c .if1 .taken)) ∙ c .before .is-count-sound .ensures .1 (w .counts))
 
--- src/lib.rt:177:5
 is-card-sound-requires : tie.Need-is-card-sound-requires
 is-card-sound-requires c κs = search needs
 
--- src/lib.rt:169:1
 returns-2 : tie.Need-returns-2
 returns-2 c =
     (λ e. record { counts = c .before .before .before .is-count-sound .ensures .0 (not-false (c .before .before .before .is-count-sound .result) (c .before .before .if1 .left)); card = c .is-card-sound .ensures .0 e }, λ w. c .is-card-sound .ensures .1 (w .card))

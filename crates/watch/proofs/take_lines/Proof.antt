@@ -1,56 +1,40 @@
+-- `watch::take_lines` meets its contract. Assumes nothing.
 use native.Mathlib.Omega.{arith}
-use mathlib.Core.Path.{_≡_, refl, sym, ap, subst, _∙_}
+use mathlib.Core.Path.{_≡_, refl, sym, subst}
 use mathlib.Core.List.{List, _++_}
-use Prim.Native.Nat.{ℕ, _+_, _-_, _<_, _≤_}
+use Prim.Native.Nat.{ℕ, _+_, _-_, _<_}
 use lib.ListN.{length, take, drop, length-drop}
 use lib.Seq.{length-take-le}
-use Rattle.card_state.specs.declared.Step.{Step as KeptStep}
 use Rattle.desk_pool.specs.Pools.{patch}
-use Rattle.watch_arrivals.specs.Arrivals.{loneFrom, nextFrom}
+use Rattle.watch_arrivals.specs.Arrivals.{loneFrom}
 use Rattle.watch_arrivals.proofs.ArrivalLaws.{fine-next, next-two-least, rest}
-use Rattle.watch_lines.specs.Taking.{Took, Within, Went}
+use Rattle.watch_lines.specs.Taking.{Took}
 use Rattle.watch.specs.declared.Watch.{Watch}
 use Rattle.watch.specs.State.{After}
 use Rattle.watch.proofs.ArriveLaws.{joined-within, after-refused, after-later, after-kept}
 use borrow.Author.Needs.{needs}
 use Rattle.watch.proofs.take_lines.Statement.{statement}
 use Rattle.watch.proofs.take_lines.Tie as tie
-use Rattle.watch.proofs.take_lines.Reads as reads
-use Rattle.watch.proofs.take_lines.Lts as lts
-use Rattle.octets.proofs.classes.table.Reads as classes-table-reads
-use Rattle.property_table.proofs.table.Reads as table-reads
-use Rattle.value_automaton.proofs.scanner.table.Reads as scanner-table-reads
-use Rattle.watch.proofs.stopped.Reads as stopped-reads
-use Rattle.watch_buffer.proofs.append.Reads as append-reads
-use Rattle.watch_lines.proofs.judge_lines.Reads as judge-lines-reads
-use Rattle.watch_lines.proofs.judge_open.Reads as judge-open-reads
 
--- src/lib.rt:220:16
 add-base : tie.Need-add-base
 add-base c = search needs
 
--- src/lib.rt:221:13
 add-n : tie.Need-add-n
 add-n c = search needs
 
--- src/lib.rt:222:13
 table-requires : tie.Need-table-requires
 table-requires c κs = search needs
 
--- src/lib.rt:223:16
 table-requires-2 : tie.Need-table-requires-2
 table-requires-2 c κs = search needs
 
--- src/lib.rt:224:17
 table-requires-3 : tie.Need-table-requires-3
 table-requires-3 c κs = search needs
 
--- src/lib.rt:225:72
 slice-aggregate-judge-open : tie.Need-slice-aggregate-judge-open
 slice-aggregate-judge-open c =
     sym (length-take-le (c .before .before .before .before .before .before .before .before .before .before .before .before .args .next) (c .before .before .before .before .before .before .before .before .before .before .before .before .args .chunk .now) (omega (arith, c .before .before .before .before .before .before .before .before .before .before .before .before .pre .1 .1 .0 .1)))
 
--- src/lib.rt:225:9
 judge-open-requires : tie.Need-judge-open-requires
 judge-open-requires c κs =
     let a = c .before .before .before .before .before .before .before .before .before .before .before .before .args in
@@ -68,19 +52,15 @@ judge-open-requires c κs =
       ),
     )
 
--- src/lib.rt:226:20
 enum-known-j : tie.Need-enum-known-j
 enum-known-j c = search needs
 
--- src/lib.rt:227:9
 stopped-requires : tie.Need-stopped-requires
 stopped-requires c κs = search needs
 
--- src/lib.rt:227:9
 same-length : tie.Need-same-length
 same-length c = search needs
 
--- src/lib.rt:227:9
 returns : tie.Need-returns
 returns c =
     let a = c .before .before .before .before .before .before .before .before .before .before .before .before .before .before .before .before .before .args in
@@ -90,7 +70,6 @@ returns c =
     (after-refused (a .w) (a .buffer .now) i (a .chunk .now) l h (p .1 .0 .1) (p .1 .1 .1) (a .next) (p .1 .1 .0 .0) (p .1 .1 .0 .1) (p .0 .1)
     (j .result) (c .before .match .keys2) (j .last .1 .1 .1 .0) (j .ensures) _ (a .tail) refl e)
 
--- src/lib.rt:229:9
 judge-lines-requires : tie.Need-judge-lines-requires
 judge-lines-requires c κs =
     let a = c .before .before .before .before .before .before .before .before .before .before .before .before .before .before .before .before .before .before .before .before .before .before .args in
@@ -109,19 +88,15 @@ judge-lines-requires c κs =
       ),
     )
 
--- src/lib.rt:232:20
 enum-known-last : tie.Need-enum-known-last
 enum-known-last c = search needs
 
--- src/lib.rt:233:9
 stopped-requires-2 : tie.Need-stopped-requires-2
 stopped-requires-2 c κs = search needs
 
--- src/lib.rt:233:9
 same-length-2 : tie.Need-same-length-2
 same-length-2 c = search needs
 
--- src/lib.rt:233:9
 returns-2 : tie.Need-returns-2
 returns-2 c =
     let a = c .before .before .before .before .before .before .before .before .before .before .before .before .before .before .before .before .before .before .before .before .before .before .before .before .before .before .before .args in
@@ -137,19 +112,15 @@ returns-2 c =
     (after-later (a .w) (a .buffer .now) i (a .chunk .now) l h (p .1 .0 .1) (p .1 .1 .1) (a .next) (p .1 .1 .0 .0) (p .1 .1 .0 .1) (p .0 .1) d b t (omega (arith, win .used, p .1 .0 .1, p .1 .1 .0 .1, j, p .0 .1))
     (g .result .step) (g .last .1 .1 .1 .1 .1 .0) (g .result .at) (g .ensures .0) (g .ensures .1 .0) (g .ensures .1 .1) (c .before .match2 .keys2) _ (a .tail) refl e)
 
--- src/lib.rt:235:45
 sub-append : tie.Need-sub-append
 sub-append c = search needs
 
--- src/lib.rt:235:45
 part-append-start : tie.Need-part-append-start
 part-append-start c = search needs
 
--- src/lib.rt:235:45
 part-append-end : tie.Need-part-append-end
 part-append-end c = search needs
 
--- src/lib.rt:235:5
 append-requires : tie.Need-append-requires
 append-requires c κs =
     let a = c .before .before .before .before .before .before .before .before .before .before .before .before .before .before .before .before .before .before .before .before .before .before .before .before .before .before .before .before .before .before .args in
@@ -159,21 +130,17 @@ append-requires c κs =
     rw (rest (g .result .at) (a .chunk .now), length-drop (g .result .at) (a .chunk .now))
     (omega (arith, win .used, g .ensures .1, p .1 .0 .1, p .0 .1, c .before .before .before .before .before .before .before .before .before .before .before .before .before .before .before .before .before .judge-open, g, length-drop (g .result .at) (a .chunk .now), length-drop (a .next) (a .chunk .now)))
 
--- src/lib.rt:240:16
 add-t18 : tie.Need-add-t18
 add-t18 c =
     omega (arith, c .before .before .before .before .before .before .before .before .before .before .judge-lines .ensures .1, c .before .before .before .before .before .before .before .before .before .before .before .before .before .before .before .before .before .before .before .before .before .before .before .before .before .before .before .before .before .before .before .before .before .pre .1 .0 .1)
 
--- src/lib.rt:241:15
 sub-t41 : tie.Need-sub-t41
 sub-t41 c = search needs
 
--- src/lib.rt:212:1
 same-length-3 : tie.Need-same-length-3
 same-length-3 c =
     omega (arith, c .before .before .append, c .before .before .before .before .before .before .before .before .before .before .judge-lines, c .before .before .before .before .before .before .before .before .before .before .before .before .before .before .before .before .before .before .before .before .judge-open)
 
--- src/lib.rt:212:1
 returns-3 : tie.Need-returns-3
 returns-3 c =
     let a = c .before .before .before .before .before .before .before .before .before .before .before .before .before .before .before .before .before .before .before .before .before .before .before .before .before .before .before .before .before .before .before .before .before .args in

@@ -1,17 +1,14 @@
+-- `watch_arrivals::is_blank` meets its contract. Assumes nothing.
 use borrow.Author.Tests.{eq-eqb, ne-eqb}
 use Rattle.watch_arrivals.specs.Arrivals.{blank}
 use Rattle.watch_arrivals.proofs.is_blank.Statement.{statement}
 use Rattle.watch_arrivals.proofs.is_blank.Tie as tie
-use Rattle.watch_arrivals.proofs.is_blank.Reads as reads
-use Rattle.watch_arrivals.proofs.is_blank.Lts as lts
 
--- src/lib.rt:79:9
 returns : tie.Need-returns
 unfolding blank
 returns c =
     simp (eq-eqb _ _ (c .if1 .taken))
 
--- src/lib.rt:75:1
 returns-2 : tie.Need-returns-2
 unfolding blank
 returns-2 c =

@@ -1,3 +1,4 @@
+-- `watch_arrivals::next_line` meets its contract. Assumes nothing.
 use native.Mathlib.Omega.{arith}
 use mathlib.Core.Path.{sym, _∙_}
 use borrow.Author.Tests.{not-true, not-false}
@@ -5,73 +6,55 @@ use Rattle.watch_arrivals.proofs.ArrivalLaws.{lone-other, next-none, ne
 use borrow.Author.Needs.{needs}
 use Rattle.watch_arrivals.proofs.next_line.Statement.{statement}
 use Rattle.watch_arrivals.proofs.next_line.Tie as tie
-use Rattle.watch_arrivals.proofs.next_line.Reads as reads
-use Rattle.watch_arrivals.proofs.next_line.Lts as lts
-use Rattle.watch_arrivals.proofs.is_blank.Reads as is-blank-reads
-use Rattle.watch_arrivals.proofs.line_after.Reads as line-after-reads
 
--- src/lib.rt:105:13
 returns : tie.Need-returns
 returns c =
     sym (next-none (c .before .before .before .args .tail) (c .before .before .before .args .chunk .now) (c .if2 .taken))
 
--- src/lib.rt:107:30
 shared-slice-read-is-blank : tie.Need-shared-slice-read-is-blank
 shared-slice-read-is-blank c = search needs
 
--- src/lib.rt:107:13
 is-blank-requires : tie.Need-is-blank-requires
 is-blank-requires c κs = search needs
 
--- src/lib.rt:109:13
 returns-2 : tie.Need-returns-2
 returns-2 c =
     sym (next-at (c .before .before .before .before .before .before .args .tail) (c .before .before .before .before .before .before .args .chunk .now) (c .before .before .before .before .if1 .taken) (omega (arith, c .before .before .before .if2 .left)) (sym (c .before .is-blank .ensures) ∙ not-true (c .before .is-blank .result) (c .if3 .taken)))
 
--- src/lib.rt:111:9
 line-after-requires : tie.Need-line-after-requires
 line-after-requires c κs =
     (omega (arith, c .before .before .before .if2 .left), fine-on (c .before .before .before .before .before .before .args .tail) (c .before .before .before .before .before .before .args .chunk .now) (c .before .before .before .before .if1 .taken) (omega (arith, c .before .before .before .if2 .left)) (sym (c .before .is-blank .ensures) ∙ not-false (c .before .is-blank .result) (c .if3 .left)) (c .before .before .before .before .before .before .pre))
 
--- src/lib.rt:111:9
 returns-3 : tie.Need-returns-3
 returns-3 c =
     c .line-after .ensures ∙ sym (next-on (c .before .before .before .before .before .before .before .args .tail) (c .before .before .before .before .before .before .before .args .chunk .now) (c .before .before .before .before .before .if1 .taken) (omega (arith, c .before .before .before .before .if2 .left)) (sym (c .before .before .is-blank .ensures) ∙ not-false (c .before .before .is-blank .result) (c .before .if3 .left)))
 
--- src/lib.rt:115:13
 returns-4 : tie.Need-returns-4
 returns-4 c =
     sym (next-short (c .before .before .before .before .args .tail) (c .before .before .before .before .args .chunk .now) (c .before .if4 .taken) (c .if5 .taken))
 
--- src/lib.rt:117:30
 shared-slice-read-is-blank-2 : tie.Need-shared-slice-read-is-blank-2
 shared-slice-read-is-blank-2 c = search needs
 
--- src/lib.rt:117:13
 is-blank-requires-2 : tie.Need-is-blank-requires-2
 is-blank-requires-2 c κs = search needs
 
--- src/lib.rt:119:13
 returns-5 : tie.Need-returns-5
 returns-5 c =
     sym (next-one (c .before .before .before .before .before .before .before .args .tail) (c .before .before .before .before .before .before .before .args .chunk .now) (c .before .before .before .before .if4 .taken) (c .before .before .before .if5 .left) (c .before .before .before .before .before .before .before .pre) (sym (c .before .is-blank2 .ensures) ∙ not-true (c .before .is-blank2 .result) (c .if6 .taken)))
 
--- src/lib.rt:121:9
 line-after-requires-2 : tie.Need-line-after-requires-2
 line-after-requires-2 c κs =
     (c .before .before .before .if5 .left, fine-two (c .before .before .before .before .before .before .before .args .tail) (c .before .before .before .before .before .before .before .args .chunk .now) (c .before .before .before .before .if4 .taken) (c .before .before .before .if5 .left) (c .before .before .before .before .before .before .before .pre) (sym (c .before .is-blank2 .ensures) ∙ not-false (c .before .is-blank2 .result) (c .if6 .left)))
 
--- src/lib.rt:121:9
 returns-6 : tie.Need-returns-6
 returns-6 c =
     c .line-after2 .ensures ∙ sym (next-two (c .before .before .before .before .before .before .before .before .args .tail) (c .before .before .before .before .before .before .before .before .args .chunk .now) (c .before .before .before .before .before .if4 .taken) (c .before .before .before .before .if5 .left) (c .before .before .before .before .before .before .before .before .pre) (sym (c .before .before .is-blank2 .ensures) ∙ not-false (c .before .before .is-blank2 .result) (c .before .if6 .left)))
 
--- src/lib.rt:123:5
 line-after-requires-3 : tie.Need-line-after-requires-3
 line-after-requires-3 c κs =
     (omega arith, sym (lone-other (c .before .before .before .args .tail) (c .before .before .before .args .chunk .now) (c .if4 .left)) ∙ c .before .before .before .pre)
 
--- src/lib.rt:98:1
 returns-7 : tie.Need-returns-7
 returns-7 c =
     c .line-after3 .ensures ∙ omega (arith, next-other (c .before .before .before .before .args .tail) (c .before .before .before .before .args .chunk .now) (c .before .if4 .left) (c .before .before .if1 .left))

@@ -1,33 +1,25 @@
+-- `watch_buffer::append` meets its contract. Assumes nothing.
 use native.Mathlib.Omega.{arith}
 use Rattle.desk_pool.proofs.Patches.{put-copied}
 use borrow.Author.Needs.{needs}
 use Rattle.watch_buffer.proofs.append.Statement.{statement}
 use Rattle.watch_buffer.proofs.append.Tie as tie
-use Rattle.watch_buffer.proofs.append.Reads as reads
-use Rattle.watch_buffer.proofs.append.Lts as lts
-use Rattle.octets.proofs.copying.copy_in.Reads as copy-in-reads
 
--- src/lib.rt:12:30
 sub-copy-in : tie.Need-sub-copy-in
 sub-copy-in c = search needs
 
--- src/lib.rt:12:30
 part-copy-in-start : tie.Need-part-copy-in-start
 part-copy-in-start c = search needs
 
--- src/lib.rt:12:30
 part-copy-in-end : tie.Need-part-copy-in-end
 part-copy-in-end c = search needs
 
--- src/lib.rt:12:5
 copy-in-requires : tie.Need-copy-in-requires
 copy-in-requires c κs = search needs
 
--- src/lib.rt:8:1
 same-length : tie.Need-same-length
 same-length c = search needs
 
--- src/lib.rt:8:1
 returns : tie.Need-returns
 returns c =
     put-copied (c .before .before .before .before .before .before .args .buffer .now) (c .before .before .before .before .before .before .args .octets .now) (c .before .before .copy-in .last .0) (c .before .before .before .before .before .before .args .used) (omega arith) (c .before .before .copy-in .ensures)

@@ -1,7 +1,7 @@
+-- `watch_lines::join` meets its contract. Assumes nothing.
 use native.Mathlib.Omega.{arith}
-use mathlib.Core.Path.{_≡_, sym, ap, subst, _∙_}
-use mathlib.Core.List.{List, _++_}
-use Prim.Native.Nat.{ℕ, _+_, _-_}
+use mathlib.Core.Path.{_≡_, ap, _∙_}
+use Prim.Native.Nat.{_+_, _-_}
 use lib.ListN.{length, take, drop, length-drop}
 use lib.Seq.{length-take-le}
 use Rattle.desk_pool.proofs.Patches.{put-copied, part-size}
@@ -9,51 +9,37 @@ use Rattle.watch_lines.proofs.TakingLaws.{joined-front}
 use borrow.Author.Needs.{needs}
 use Rattle.watch_lines.proofs.join.Statement.{statement}
 use Rattle.watch_lines.proofs.join.Tie as tie
-use Rattle.watch_lines.proofs.join.Reads as reads
-use Rattle.watch_lines.proofs.join.Lts as lts
-use Rattle.octets.proofs.copying.copy_in.Reads as copy-in-reads
 
--- src/lib.rt:120:50
 add-copy-in : tie.Need-add-copy-in
 add-copy-in c = search needs
 
--- src/lib.rt:120:36
 sub-copy-in : tie.Need-sub-copy-in
 sub-copy-in c = search needs
 
--- src/lib.rt:120:36
 part-copy-in-start : tie.Need-part-copy-in-start
 part-copy-in-start c = search needs
 
--- src/lib.rt:120:36
 part-copy-in-end : tie.Need-part-copy-in-end
 part-copy-in-end c = search needs
 
--- src/lib.rt:120:5
 copy-in-requires : tie.Need-copy-in-requires
 copy-in-requires c κs = search needs
 
--- src/lib.rt:121:30
 sub-copy-in-2 : tie.Need-sub-copy-in-2
 sub-copy-in-2 c = search needs
 
--- src/lib.rt:121:30
 part-copy-in-start-2 : tie.Need-part-copy-in-start-2
 part-copy-in-start-2 c = search needs
 
--- src/lib.rt:121:30
 part-copy-in-end-2 : tie.Need-part-copy-in-end-2
 part-copy-in-end-2 c = search needs
 
--- src/lib.rt:121:5
 copy-in-requires-2 : tie.Need-copy-in-requires-2
 copy-in-requires-2 c κs = search needs
 
--- src/lib.rt:116:1
 same-length : tie.Need-same-length
 same-length c = search needs
 
--- src/lib.rt:116:1
 returns : tie.Need-returns
 returns c =
     let a = c .before .before .before .before .before .before .before .before .before .before .before .before .args in

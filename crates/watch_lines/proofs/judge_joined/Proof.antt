@@ -1,47 +1,37 @@
+-- `watch_lines::judge_joined` meets its contract. Assumes nothing.
 use native.Mathlib.Omega.{arith}
-use mathlib.Core.Path.{_≡_, sym, ap, subst, _∙_}
+use mathlib.Core.Path.{_≡_, sym, subst}
 use mathlib.Core.Bool.{false≢true}
 use mathlib.Core.List.{List, _++_}
-use Prim.Native.Nat.{ℕ, _+_, _-_, _≤_}
-use lib.ListN.{length, take, drop, length-take}
+use Prim.Native.Nat.{ℕ, _+_, _-_}
+use lib.ListN.{length, take, drop}
 use lib.Seq.{length-take-le}
 use Rattle.watch_lines.specs.Taking.{Took}
 use Rattle.watch_lines.proofs.TakingLaws.{joined-line}
 use borrow.Author.Needs.{needs}
 use Rattle.watch_lines.proofs.judge_joined.Statement.{statement}
 use Rattle.watch_lines.proofs.judge_joined.Tie as tie
-use Rattle.watch_lines.proofs.judge_joined.Reads as reads
-use Rattle.watch_lines.proofs.judge_joined.Lts as lts
-use Rattle.watch_lines.proofs.join.Reads as join-reads
-use Rattle.watch_lines.proofs.take_line.Reads as take-line-reads
 
--- src/lib.rt:144:13
 add-n : tie.Need-add-n
 add-n c = search needs
 
--- src/lib.rt:145:5
 join-requires : tie.Need-join-requires
 join-requires c κs = search needs
 
--- src/lib.rt:146:15
 sub-end : tie.Need-sub-end
 sub-end c = search needs
 
--- src/lib.rt:147:31
 slice-reshare-prefix-take-line : tie.Need-slice-reshare-prefix-take-line
 slice-reshare-prefix-take-line c = search needs
 
--- src/lib.rt:147:31
 slice-aggregate-take-line : tie.Need-slice-aggregate-take-line
 slice-aggregate-take-line c =
     let a = c .before .before .before .before .before .before .before .before .before .args in
     sym (length-take-le (a .«open» + length (a .rest .now) - 2) (c .before .before .before .join .last .0) (omega (arith, c .before .before .before .join, c .before .before .before .before .before .before .before .before .before .pre .1 .1 .1 .1)))
 
--- src/lib.rt:147:59
 add-take-line : tie.Need-add-take-line
 add-take-line c = search needs
 
--- src/lib.rt:147:5
 take-line-requires : tie.Need-take-line-requires
 take-line-requires c κs =
     let a = c .before .before .before .before .before .before .before .before .before .before .args in
@@ -58,15 +48,12 @@ take-line-requires c κs =
       ),
     )
 
--- src/lib.rt:125:1
 same-length : tie.Need-same-length
 same-length c = search needs
 
--- src/lib.rt:125:1
 same-length-2 : tie.Need-same-length-2
 same-length-2 c = search needs
 
--- src/lib.rt:125:1
 returns : tie.Need-returns
 returns c =
     let a = c .before .before .before .before .before .before .before .before .before .before .before .before .before .args in

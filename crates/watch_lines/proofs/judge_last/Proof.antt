@@ -1,65 +1,50 @@
+-- `watch_lines::judge_last` meets its contract. Assumes nothing.
 use native.Mathlib.Omega.{arith}
-use mathlib.Core.Path.{_≡_, refl, sym, ap, subst, _∙_}
+use mathlib.Core.Path.{_≡_, sym, ap, _∙_}
 use mathlib.Core.Bool.{false≢true}
-use mathlib.Core.List.{List, _++_}
-use Prim.Native.Nat.{ℕ, _+_, _-_, _≤_}
-use lib.ListN.{length, take, drop, length-take, length-drop}
+use Prim.Native.Nat.{_+_, _-_, _≤_}
+use lib.ListN.{length, take, drop, length-take}
 use lib.Seq.{length-take-le, take-at}
 use Rattle.line_folds.specs.Folds.{unfolded}
 use Rattle.property_table.specs.declared.Edition.the-variants.{First}
 use Rattle.card_state.specs.State.{Card}
-use Rattle.card_state.specs.Kept.{stepOf, cardOf}
+use Rattle.card_state.specs.Kept.{cardOf}
 use Rattle.card_state.proofs.KeptLaws.{card-front}
 use Rattle.card_judge.specs.Judge.{judgeLine}
 use Rattle.reader_walk.specs.Walk.{settled}
 use borrow.Author.Needs.{needs}
 use Rattle.watch_lines.proofs.judge_last.Statement.{statement}
 use Rattle.watch_lines.proofs.judge_last.Tie as tie
-use Rattle.watch_lines.proofs.judge_last.Reads as reads
-use Rattle.watch_lines.proofs.judge_last.Lts as lts
-use Rattle.octets.proofs.copying.copy_in.Reads as copy-in-reads
-use Rattle.reader_walk.proofs.judge_span.Reads as judge-span-reads
-use Rattle.reader_walk.proofs.settle.Reads as settle-reads
 
--- src/lib.rt:193:30
 slice-aggregate-copy-in : tie.Need-slice-aggregate-copy-in
 slice-aggregate-copy-in c = search needs
 
--- src/lib.rt:193:44
 slice-aggregate-copy-in-2 : tie.Need-slice-aggregate-copy-in-2
 slice-aggregate-copy-in-2 c =
     sym (length-take-le (c .before .before .before .args .c .used) (c .before .before .before .args .buffer .now) (omega (arith, c .before .before .before .pre .1 .1)))
 
--- src/lib.rt:193:5
 copy-in-requires : tie.Need-copy-in-requires
 copy-in-requires c κs =
     rw (length-take-le (c .before .before .before .args .c .used) (c .before .before .before .args .buffer .now) (omega (arith, c .before .before .before .pre .1 .1))) (omega (arith, c .before .before .before .pre .1 .1))
 
--- src/lib.rt:194:15
 add-end : tie.Need-add-end
 add-end c = search needs
 
--- src/lib.rt:194:15
 sub-end : tie.Need-sub-end
 sub-end c = search needs
 
--- src/lib.rt:195:13
 sub-s : tie.Need-sub-s
 sub-s c = search needs
 
--- src/lib.rt:195:13
 part-s-start : tie.Need-part-s-start
 part-s-start c = search needs
 
--- src/lib.rt:195:13
 part-s-end : tie.Need-part-s-end
 part-s-end c = search needs
 
--- src/lib.rt:196:78
 slice-aggregate-judge-span : tie.Need-slice-aggregate-judge-span
 slice-aggregate-judge-span c = search needs
 
--- src/lib.rt:196:9
 judge-span-requires : tie.Need-judge-span-requires
 judge-span-requires c κs =
     let a = c .before .before .before .before .before .before .before .args in
@@ -67,11 +52,9 @@ judge-span-requires c κs =
     let n : length (take (a .c .used + a .«open» - 2 - a .c .used) (drop (a .c .used) (a .buffer .now))) ≤ a .«open» - 2 = rw length-take (omega arith) in
     (z .0, (z .1 .0 .0, (record { lies = z .1 .0 .1; room = omega (arith, n, z .1 .1, c .before .before .before .copy-in); short = omega (arith, c .before .before .before .copy-in) }, λ e. absurd (false≢true (sym e)))))
 
--- src/lib.rt:197:5
 settle-requires : tie.Need-settle-requires
 settle-requires c κs = search needs
 
--- src/lib.rt:177:1
 returns : tie.Need-returns
 returns c =
     let a = c .before .before .before .before .before .before .before .before .before .before .args in

@@ -1,21 +1,16 @@
-use Rattle.watch_lines.proofs.TakingLaws.{Rest, rest-start, rest-refused, rest-next, within-next, went-open, went-refused, stopped-never, kept-low, turn-last, turn-next, turn-fine, turn-size, end-parted}
+-- `watch_lines::judge_lines` meets its contract. Assumes nothing.
+use Rattle.watch_lines.proofs.TakingLaws.{Rest, rest-start, rest-refused, rest-next, within-next, went-open, went-refused, stopped-never, turn-last, turn-next, turn-fine, turn-size, end-parted}
 use borrow.Author.Needs.{needs}
 use native.Mathlib.Omega.{arith}
-use mathlib.Core.Path.{_≡_, refl, sym, ap, subst, _∙_}
-use mathlib.Core.List.{List, []}
-use Prim.Native.Nat.{ℕ, _+_, _-_, _<_, _≤_}
+use mathlib.Core.Path.{_≡_, subst, _∙_}
+use Prim.Native.Nat.{_+_, _-_, _≤_}
 use lib.ListN.{length, take, drop, length-drop}
-use Rattle.card_state.specs.declared.Step.{Step as KeptStep}
 use Rattle.watch_arrivals.specs.Arrivals.{loneFrom}
 use Rattle.line_folds.proofs.SpanLaws.{whole, part-length}
-use Rattle.watch_lines.specs.Taking.{Took, Within, Went}
-use Rattle.watch_lines.proofs.TakingLaws.{Rest, rest-start, rest-refused, rest-next, within-next, went-open, went-refused, stopped-never, kept-low, turn-last, turn-next, turn-fine, end-parted}
+use Rattle.watch_lines.specs.Taking.{Took, Within}
+use Rattle.watch_lines.proofs.TakingLaws.{Rest, rest-start, rest-refused, rest-next, within-next, went-open, went-refused, stopped-never, turn-last, turn-next, turn-fine, end-parted}
 use Rattle.watch_lines.proofs.judge_lines.Statement.{statement}
 use Rattle.watch_lines.proofs.judge_lines.Tie as tie
-use Rattle.watch_lines.proofs.judge_lines.Reads as reads
-use Rattle.watch_lines.proofs.judge_lines.Lts as lts
-use Rattle.line_folds.proofs.spans.line_at.Reads as line-at-reads
-use Rattle.watch_lines.proofs.take_line.Reads as take-line-reads
 
 abbrev Inv-loop : tie.InvT-loop
 Inv-loop t rows steps chunk from buffer₀ base c₀ at₀ buffer c at =
@@ -26,28 +21,23 @@ abbrev μ-loop : tie.MeasureT-loop
 μ-loop t rows steps chunk from buffer₀ base c₀ at₀ buffer c at =
     length chunk - at
 
--- src/lib.rt:78:5
 loop-holds : tie.Need-loop-holds Inv-loop μ-loop
 loop-holds c =
     let p = c .before .before .pre in
     let a = c .before .before .args in
     (p .1 .0 .2, omega arith, p .1 .0 .0, p .1 .1 .1, p .1 .1 .0, rest-start (a .first) (drop (a .from) (a .chunk .now)) (a .buffer .now) (a .base + a .from) (omega (arith, p .1 .1 .0 .used, p .1 .0)))
 
--- src/lib.rt:79:13
 line-at-requires : tie.Need-line-at-requires Inv-loop μ-loop
 line-at-requires c κs = search needs
 
--- src/lib.rt:81:12
 sub-if1 : tie.Need-sub-if1 Inv-loop μ-loop
 sub-if1 c =
     omega (arith, c .line-at .ensures .2)
 
--- src/lib.rt:82:13
 same-length : tie.Need-same-length Inv-loop μ-loop
 same-length c =
     omega (arith, c .before .before .before .loop .inv .0, c .before .before .before .before .before .before .pre .1 .0 .2)
 
--- src/lib.rt:82:13
 returns : tie.Need-returns Inv-loop μ-loop
 returns c =
     let a = c .before .before .before .before .before .before .args in
@@ -57,12 +47,10 @@ returns c =
       (l .inv .1, l .inv .2),
     )
 
--- src/lib.rt:88:28
 sub-to : tie.Need-sub-to Inv-loop μ-loop
 sub-to c =
     omega (arith, c .before .before .line-at .ensures .1)
 
--- src/lib.rt:88:18
 add-to : tie.Need-add-to Inv-loop μ-loop
 add-to c =
     let a = c .before .before .before .before .before .before .before .before .args in
@@ -71,24 +59,19 @@ add-to c =
     let k = a .chunk .now in
     omega (arith, l .inv .4 .used, v .ensures .1, v .ensures .2, c .before .before .before .before .before .before .before .before .pre .1 .0 .1)
 
--- src/lib.rt:93:13
 sub-take-line : tie.Need-sub-take-line Inv-loop μ-loop
 sub-take-line c = search needs
 
--- src/lib.rt:93:13
 part-take-line-start : tie.Need-part-take-line-start Inv-loop μ-loop
 part-take-line-start c = search needs
 
--- src/lib.rt:93:13
 part-take-line-end : tie.Need-part-take-line-end Inv-loop μ-loop
 part-take-line-end c = search needs
 
--- src/lib.rt:97:13
 add-take-line : tie.Need-add-take-line Inv-loop μ-loop
 add-take-line c =
     omega (arith, c .before .before .before .before .before .before .before .loop .inv .2, c .before .before .before .before .before .before .before .before .before .before .pre .1 .0 .1)
 
--- src/lib.rt:89:13
 take-line-requires : tie.Need-take-line-requires Inv-loop μ-loop
 take-line-requires c κs =
     let a = c .before .before .before .before .before .before .before .before .before .before .args in
@@ -108,16 +91,13 @@ take-line-requires c κs =
       ),
     )
 
--- src/lib.rt:100:24
 enum-known-j : tie.Need-enum-known-j Inv-loop μ-loop
 enum-known-j c = search needs
 
--- src/lib.rt:101:13
 same-length-2 : tie.Need-same-length-2 Inv-loop μ-loop
 same-length-2 c =
     omega (arith, c .before .before .before .take-line, c .before .before .before .before .before .before .before .before .before .before .before .loop .inv .0, c .before .before .before .before .before .before .before .before .before .before .before .before .before .before .pre .1 .0 .2)
 
--- src/lib.rt:101:13
 returns-2 : tie.Need-returns-2 Inv-loop μ-loop
 returns-2 c =
     let a = c .before .before .before .before .before .before .before .before .before .before .before .before .before .before .args in
@@ -134,17 +114,14 @@ returns-2 c =
       (l .inv .1, l .inv .2),
     )
 
--- src/lib.rt:104:14
 add-at : tie.Need-add-at Inv-loop μ-loop
 add-at c =
     omega (arith, c .before .before .before .before .before .before .before .before .before .before .before .line-at .ensures .2, c .before .before .before .before .before .before .before .before .before .before .before .before .before .before .before .before .pre .1 .0 .1)
 
--- src/lib.rt:78:5
 loop-less : tie.Need-loop-less Inv-loop μ-loop
 loop-less c =
     omega (arith, c .before .before .before .before .before .before .before .before .before .before .before .line-at .ensures .1, c .before .before .before .before .before .before .before .before .before .before .before .line-at .ensures .2, c .before .before .before .before .before .before .before .before .before .before .if1 .left)
 
--- src/lib.rt:78:5
 loop-again : tie.Need-loop-again Inv-loop μ-loop
 loop-again c =
     let a = c .before .before .before .before .before .before .before .before .before .before .before .before .before .before .before .before .args in
@@ -172,12 +149,10 @@ loop-again c =
           s (drop (v .result .end + 2) k) first b (l .c .used + (v .result .end - l .at)) (omega arith) size d (omega (arith, full, w .used, c .before .before .before .before .before .before .before .before .before .before .if1 .left, c .before .before .before .before .before .before .before .before .before .before .before .before .before .before .before .before .pre .1 .0 .1)) t),
     )
 
--- src/lib.rt:59:1
 same-length-3 : tie.Need-same-length-3 Inv-loop μ-loop
 same-length-3 c =
     omega (arith, c .before .loop .inv .0, c .before .before .before .before .pre .1 .0 .2)
 
--- src/lib.rt:59:1
 returns-3 : tie.Need-returns-3 Inv-loop μ-loop
 returns-3 c =
     let a = c .before .before .before .before .args in

@@ -1,48 +1,37 @@
+-- `watch_lines::judge_open` meets its contract. Assumes nothing.
 use native.Mathlib.Omega.{arith}
 use borrow.Author.Needs.{needs}
 use Rattle.watch_lines.proofs.judge_open.Statement.{statement}
 use Rattle.watch_lines.proofs.judge_open.Tie as tie
-use Rattle.watch_lines.proofs.judge_open.Reads as reads
-use Rattle.watch_lines.proofs.judge_open.Lts as lts
-use Rattle.watch_lines.proofs.judge_joined.Reads as judge-joined-reads
 
--- src/lib.rt:167:13
 add-n : tie.Need-add-n
 add-n c = search needs
 
--- src/lib.rt:170:45
 slice-aggregate-judge-joined : tie.Need-slice-aggregate-judge-joined
 slice-aggregate-judge-joined c = search needs
 
--- src/lib.rt:170:9
 judge-joined-requires : tie.Need-judge-joined-requires
 judge-joined-requires c κs =
     let z = c .before .before .before .before .before .pre in
     (z .0, (z .1 .0, (z .1 .1 .0, (z .1 .1 .1, omega (arith, c .before .before .if1 .taken)))))
 
--- src/lib.rt:170:9
 same-length : tie.Need-same-length
 same-length c = search needs
 
--- src/lib.rt:170:9
 returns : tie.Need-returns
 returns c = search needs
 
--- src/lib.rt:173:34
 slice-aggregate-judge-joined-2 : tie.Need-slice-aggregate-judge-joined-2
 slice-aggregate-judge-joined-2 c = search needs
 
--- src/lib.rt:173:5
 judge-joined-requires-2 : tie.Need-judge-joined-requires-2
 judge-joined-requires-2 c κs =
     let z = c .before .before .before .before .before .pre in
     (z .0, (z .1 .0, (z .1 .1 .0, (z .1 .1 .1, omega (arith, z .1 .1 .0 .0)))))
 
--- src/lib.rt:151:1
 same-length-2 : tie.Need-same-length-2
 same-length-2 c = search needs
 
--- src/lib.rt:151:1
 returns-2 : tie.Need-returns-2
 returns-2 c = search needs
 

@@ -1,45 +1,33 @@
+-- `watch_lines::take_line` meets its contract. Assumes nothing.
 use native.Mathlib.Omega.{arith}
-use mathlib.Core.Path.{_≡_, sym, ap, subst, _∙_}
-use mathlib.Core.List.{List}
-use Prim.Native.Nat.{ℕ, _+_, _≤_}
+use mathlib.Core.Path.{_≡_, subst}
+use Prim.Native.Nat.{_+_}
 use lib.ListN.{length}
 use Rattle.property_table.specs.declared.Edition.the-variants.{First}
 use Rattle.card_state.specs.Kept.{stepOf, Holds}
-use Rattle.card_state.specs.declared.Step.{Step as KeptStep}
 use Rattle.reader_walk.specs.Walk.{Left}
 use Rattle.watch_lines.specs.Taking.{judgement}
 use Rattle.watch_lines.proofs.TakingLaws.{took-refused, took-next, kept-low}
 use borrow.Author.Needs.{needs}
 use Rattle.watch_lines.proofs.take_line.Statement.{statement}
 use Rattle.watch_lines.proofs.take_line.Tie as tie
-use Rattle.watch_lines.proofs.take_line.Reads as reads
-use Rattle.watch_lines.proofs.take_line.Lts as lts
-use Rattle.reader_walk.proofs.judge_span.Reads as judge-span-reads
-use Rattle.reader_walk.proofs.settle.Reads as settle-reads
-use Rattle.watch_buffer.proofs.clear.Reads as clear-reads
 
--- src/lib.rt:49:9
 judge-span-requires : tie.Need-judge-span-requires
 judge-span-requires c κs =
     let p = c .before .before .before .pre in (p .0, (p .1 .0, (p .1 .1 .0 .0, p .1 .1 .1 .0)))
 
--- src/lib.rt:50:20
 enum-known-j : tie.Need-enum-known-j
 enum-known-j c = search needs
 
--- src/lib.rt:51:9
 clear-requires : tie.Need-clear-requires
 clear-requires c κs = search needs
 
--- src/lib.rt:52:9
 settle-requires : tie.Need-settle-requires
 settle-requires c κs = search needs
 
--- src/lib.rt:52:9
 same-length : tie.Need-same-length
 same-length c = search needs
 
--- src/lib.rt:52:9
 returns : tie.Need-returns
 returns c =
     let p = c .before .before .before .before .before .before .before .before .before .before .before .before .pre in
@@ -48,7 +36,6 @@ returns c =
     took-refused (a .c) (a .s .now) (a .buffer .now) (j .last .1 .1 .1 .1 .1 .1 .0) (a .at) (a .to) (p .1 .1 .0 .1) (omega (arith, j)) (p .1 .1 .1 .1 .0) (p .1 .1 .1 .1 .1)
     (j .result) (c .before .before .before .before .before .match .keys2) (j .ensures .0) (j .ensures .1 .1) (c .settle .result) (c .settle .ensures) (c .before .before .before .clear .last .0) (c .before .before .before .clear .ensures)
 
--- src/lib.rt:54:5
 clear-requires-2 : tie.Need-clear-requires-2
 clear-requires-2 c κs =
     let p = c .before .before .before .before .before .before .before .before .before .before .pre in
@@ -57,11 +44,9 @@ clear-requires-2 c κs =
     let low = kept-low (a .c .used + length (a .s .now)) (j .result) (c .before .before .j .given .0 .0) (c .before .before .j .given .1) (j .ensures .1 .0) in
     (omega (arith, low, p .1 .1 .1 .1 .0), omega (arith, j, p .1 .1 .0 .1, p .1 .1 .1 .1 .1))
 
--- src/lib.rt:31:1
 same-length-2 : tie.Need-same-length-2
 same-length-2 c = search needs
 
--- src/lib.rt:31:1
 returns-2 : tie.Need-returns-2
 returns-2 c =
     let p = c .before .before .before .before .before .before .before .before .before .before .before .before .before .pre in

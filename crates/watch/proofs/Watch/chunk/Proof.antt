@@ -1,21 +1,14 @@
+-- `watch::Watch::chunk` meets its contract. Assumes nothing.
 use native.Mathlib.Omega.{arith}
-use mathlib.Core.Path.{_≡_, refl, sym, ap, subst, _∙_}
-use mathlib.Core.Bool.{false≢true}
-use borrow.Author.Tests.{ltb-true, ltb-false, lt-ltb, le-ltb, not-true, not-false}
+use mathlib.Core.Path.{refl, sym, _∙_}
+use borrow.Author.Tests.{ltb-true, ltb-false, not-true, not-false}
 use Rattle.watch.specs.State.{claims}
 use Rattle.watch.proofs.SoundLaws.{no-way}
 use Rattle.watch.proofs.ReachLaws.{reached-sound, sound-claims, first-buffer, first-stands, later-buffer}
 use borrow.Author.Needs.{needs}
 use Rattle.watch.proofs.Watch.chunk.Statement.{statement}
 use Rattle.watch.proofs.Watch.chunk.Tie as tie
-use Rattle.watch.proofs.Watch.chunk.Reads as reads
-use Rattle.watch.proofs.Watch.chunk.Lts as lts
-use Rattle.watch.proofs.arrive.Reads as arrive-reads
-use Rattle.watch.proofs.is_over.Reads as is-over-reads
-use Rattle.watch.proofs.is_sound.Reads as is-sound-reads
-use Rattle.watch_buffer.proofs.clear.Reads as clear-reads
 
--- src/lib.rt:343:13
 returns : tie.Need-returns
 returns c =
     record {
@@ -27,11 +20,9 @@ returns c =
       size = refl;
     }
 
--- src/lib.rt:345:13
 is-over-requires : tie.Need-is-over-requires
 is-over-requires c κs = search needs
 
--- src/lib.rt:347:13
 returns-2 : tie.Need-returns-2
 returns-2 c =
     let much = ltb-true 16384 (claims (c .before .before .before .before .before .args .self)) (sym (c .before .is-over .ensures) ∙ c .if2 .taken) in
@@ -44,11 +35,9 @@ returns-2 c =
       size = refl;
     }
 
--- src/lib.rt:349:13
 is-sound-requires : tie.Need-is-sound-requires
 is-sound-requires c κs = search needs
 
--- src/lib.rt:351:13
 returns-3 : tie.Need-returns-3
 returns-3 c =
     let low = ltb-false 16384 (claims (c .before .before .before .before .before .before .before .args .self)) (sym (c .before .before .before .is-over .ensures) ∙ c .before .before .if2 .left) in
@@ -62,25 +51,20 @@ returns-3 c =
       size = refl;
     }
 
--- src/lib.rt:353:12
 add-if4 : tie.Need-add-if4
 add-if4 c =
     omega (arith, c .before .before .is-sound .ensures .0 (not-false (c .before .before .is-sound .result) (c .before .if3 .left)) .counts .short)
 
--- src/lib.rt:354:13
 clear-requires : tie.Need-clear-requires
 clear-requires c κs = search needs
 
--- src/lib.rt:355:34
 arrive-requires : tie.Need-arrive-requires
 arrive-requires c κs =
     (c .before .before .before .before .before .before .before .before .is-sound .ensures .0 (not-false (c .before .before .before .before .before .before .before .before .is-sound .result) (c .before .before .before .before .before .before .before .if3 .left)), omega (arith, c .before .before .before .clear, c .before .before .before .before .before .before .before .before .before .before .before .if1 .left))
 
--- src/lib.rt:355:13
 same-length : tie.Need-same-length
 same-length c = search needs
 
--- src/lib.rt:355:13
 returns-4 : tie.Need-returns-4
 returns-4 c =
     let low = ltb-false 16384 (claims (c .before .before .before .before .before .before .before .before .before .before .before .before .before .before .before .before .before .args .self)) (sym (c .before .before .before .before .before .before .before .before .before .before .before .before .before .is-over .ensures) ∙ c .before .before .before .before .before .before .before .before .before .before .before .before .if2 .left) in
@@ -96,16 +80,13 @@ returns-4 c =
       size = omega (arith, c .before .before .arrive, c .before .before .before .before .before .before .clear);
     }
 
--- src/lib.rt:357:23
 arrive-requires-2 : tie.Need-arrive-requires-2
 arrive-requires-2 c κs =
     (c .before .before .before .before .is-sound .ensures .0 (not-false (c .before .before .before .before .is-sound .result) (c .before .before .before .if3 .left)), c .before .before .before .before .before .before .before .if1 .left)
 
--- src/lib.rt:339:5
 same-length-2 : tie.Need-same-length-2
 same-length-2 c = search needs
 
--- src/lib.rt:339:5
 returns-5 : tie.Need-returns-5
 returns-5 c =
     let low = ltb-false 16384 (claims (c .before .before .before .before .before .before .before .before .before .before .before .before .before .args .self)) (sym (c .before .before .before .before .before .before .before .before .before .is-over .ensures) ∙ c .before .before .before .before .before .before .before .before .if2 .left) in

@@ -1,5 +1,6 @@
+-- `watch::Watch::end` meets its contract. Assumes nothing.
 use native.Mathlib.Omega.{arith}
-use mathlib.Core.Path.{_≡_, refl, sym, ap, subst, _∙_}
+use mathlib.Core.Path.{refl, sym, _∙_}
 use borrow.Author.Tests.{ltb-true, ltb-false, not-true, not-false}
 use Rattle.watch.specs.State.{claims}
 use Rattle.watch.proofs.SoundLaws.{no-way}
@@ -7,13 +8,7 @@ use Rattle.watch.proofs.ReachLaws.{reached-sound, sound-claims}
 use borrow.Author.Needs.{needs}
 use Rattle.watch.proofs.Watch.end.Statement.{statement}
 use Rattle.watch.proofs.Watch.end.Tie as tie
-use Rattle.watch.proofs.Watch.end.Reads as reads
-use Rattle.watch.proofs.Watch.end.Lts as lts
-use Rattle.watch.proofs.conclude.Reads as conclude-reads
-use Rattle.watch.proofs.is_over.Reads as is-over-reads
-use Rattle.watch.proofs.is_sound.Reads as is-sound-reads
 
--- src/lib.rt:365:13
 returns : tie.Need-returns
 returns c =
     record {
@@ -23,11 +18,9 @@ returns c =
       led = λ i r e. absurd (c .if1 .taken e);
     }
 
--- src/lib.rt:367:13
 is-over-requires : tie.Need-is-over-requires
 is-over-requires c κs = search needs
 
--- src/lib.rt:369:13
 returns-2 : tie.Need-returns-2
 returns-2 c =
     let much = ltb-true 16384 (claims (c .before .before .before .before .args .self)) (sym (c .before .is-over .ensures) ∙ c .if2 .taken) in
@@ -38,11 +31,9 @@ returns-2 c =
       led = λ i r e. absurd (omega (arith, much, sound-claims (c .before .before .before .before .args .self) (reached-sound (c .before .before .before .before .args .self) (c .before .before .before .before .args .buffer .now) i (r .stands))));
     }
 
--- src/lib.rt:371:13
 is-sound-requires : tie.Need-is-sound-requires
 is-sound-requires c κs = search needs
 
--- src/lib.rt:373:13
 returns-3 : tie.Need-returns-3
 returns-3 c =
     let low = ltb-false 16384 (claims (c .before .before .before .before .before .before .args .self)) (sym (c .before .before .before .is-over .ensures) ∙ c .before .before .if2 .left) in
@@ -54,12 +45,10 @@ returns-3 c =
       led = λ i r e. no-way (sym unsound ∙ c .before .is-sound .ensures .1 (reached-sound (c .before .before .before .before .before .before .args .self) (c .before .before .before .before .before .before .args .buffer .now) i (r .stands)));
     }
 
--- src/lib.rt:375:9
 conclude-requires : tie.Need-conclude-requires
 conclude-requires c κs =
     (c .before .is-sound .ensures .0 (not-false (c .before .is-sound .result) (c .if3 .left)), c .before .before .before .before .if1 .left)
 
--- src/lib.rt:361:5
 returns-4 : tie.Need-returns-4
 returns-4 c =
     let low = ltb-false 16384 (claims (c .before .before .before .before .before .before .before .args .self)) (sym (c .before .before .before .before .is-over .ensures) ∙ c .before .before .before .if2 .left) in
