@@ -1,4 +1,5 @@
 -- `watch::stopped` meets its contract. Assumes nothing.
+use Rattle.card_state.specs.declared.Step.{Step as KeptStep}
 use mathlib.Core.Path.{sym, ap, _∙_}
 use Rattle.watch.specs.State.{stoppedState}
 use borrow.Author.Needs.{needs}

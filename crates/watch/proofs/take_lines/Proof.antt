@@ -1,4 +1,5 @@
 -- `watch::take_lines` meets its contract. Assumes nothing.
+use Rattle.card_state.specs.declared.Step.{Step as KeptStep}
 use native.Mathlib.Omega.{arith}
 use mathlib.Core.Path.{_≡_, refl, sym, subst}
 use mathlib.Core.List.{List, _++_}

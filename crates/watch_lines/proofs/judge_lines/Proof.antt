@@ -1,4 +1,5 @@
 -- `watch_lines::judge_lines` meets its contract. Assumes nothing.
+use Rattle.card_state.specs.declared.Step.{Step as KeptStep}
 use Rattle.watch_lines.proofs.TakingLaws.{Rest, rest-start, rest-refused, rest-next, within-next, went-open, went-refused, stopped-never, turn-last, turn-next, turn-fine, turn-size, end-parted}
 use borrow.Author.Needs.{needs}
 use native.Mathlib.Omega.{arith}

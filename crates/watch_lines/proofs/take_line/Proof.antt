@@ -1,4 +1,5 @@
 -- `watch_lines::take_line` meets its contract. Assumes nothing.
+use Rattle.card_state.specs.declared.Step.{Step as KeptStep}
 use native.Mathlib.Omega.{arith}
 use mathlib.Core.Path.{_≡_, subst}
 use Prim.Native.Nat.{_+_}
