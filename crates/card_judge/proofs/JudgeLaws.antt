@@ -20,7 +20,7 @@ use Rattle.value_kinds.specs.declared.Fault.{Fault}
 use Rattle.value_kinds.specs.declared.Fault.the-variants.{Fits, Breaks}
 use Rattle.card_line.specs.Parts.{altidName, altidOf, paramValue, firstValue, linePartsBy, linePartsOf}
 use Rattle.card_state.specs.State.{Card, Step, Refused, inOrder}
-use Rattle.card_judge.specs.Judge.{laden, entered, fitting, judgeParts, judgeParsed, judgeLine}
+use Rattle.card_judge.specs.Judge.{laden, entered, fitting, judgeParts, judgeParsed, judgeLine, addedAt, addedParsed, addedBy}
 use Rattle.card_line.specs.declared.Parts.{Parts}
 use Rattle.card_line.specs.declared.LineParts.the-variants.{Line as line, Fault as fault}
 use Rattle.card_line.proofs.PartLaws.{Read, read-accepted, value-is}
@@ -78,3 +78,10 @@ module _ (ed : Edition) (c : Card) (at : ℕ) (l : List ℕ) (clean : length l �
   judged x r =
       rw (rest (x .«value_start»), r .row, r .group, r .params, r .kind, value-is l (x .«name_end») (read-accepted ed l x r) altidName, r .value)
       (sym (next ∙ ap (judgeParsed ed c at) (r .parsed)))
+
+-- the octets that a line adds, by its parts
+pub added-line : (ed : Edition) (seen : ℕ) (l : List ℕ) (x : Parts) → Read ed l x → addedAt (x .row) seen (firstValue altidName l) ≡ addedBy ed seen l
+unfolding addedBy altidOf paramValue
+added-line ed seen l x r =
+    rw (r .row, value-is l (x .«name_end») (read-accepted ed l x r) altidName)
+    (sym (ap (addedParsed ed seen) (r .parsed)))

@@ -1,7 +1,7 @@
 -- A line that fits its place and its kind, of a property marked *1 or another: by what was seen before and by its ALTID value. Assumes nothing.
 use mathlib.Core.Path.{_≡_, refl, sym, ap, subst, _∙_}
 use mathlib.Core.Bool.{Bool, true, false, not, _&&_, false≢true}
-use mathlib.Core.List.{List, _++_, map, append-nil}
+use mathlib.Core.List.{List, [], _++_, map, append-nil}
 use mathlib.Core.Option.{Option, none, some}
 use mathlib.Core.Logic.{_⊎_, inl, inr}
 use Prim.Native.Nat.{ℕ, zero, suc, _+_, _-_, _<_, _≤_}
@@ -12,18 +12,18 @@ use borrow.Author.Tests.{eqb-true, ne-eqb}
 use Rattle.octets.specs.Pick.{pick}
 use Rattle.octets.proofs.Bools.{by, and-both}
 use Rattle.property_table.specs.Rows.{rows, newer, allRows, rowAt, single, onceAt, isGroup}
-use Rattle.card_state.specs.State.{Card, Step, Next, Refused, Flawed, flagOf, onceFlag, isSeen, sameTag, tagOf, tagged, secondInstance, going, lineCard, noted, closed}
+use Rattle.card_state.specs.State.{Card, Step, Next, Refused, Flawed, flagOf, onceFlag, isSeen, sameTag, tagOf, tagged, secondInstance, going, lineCard, noted, phaseAfter, endCard, closed}
 use Rattle.card_state.specs.Kept.{placesOf, tagAt, Lies, cardOf, stepOf, Holds, goneOn, Keeps}
 use Rattle.card_state.specs.declared.Card.{Card as Kept}
 use Rattle.card_state.specs.declared.Step.{Step as KeptStep}
-use Rattle.card_state.specs.declared.Step.the-variants.{Refused as refused, Flawed as flawed}
+use Rattle.card_state.specs.declared.Step.the-variants.{Next as next, Refused as refused, Flawed as flawed}
 use Rattle.card_state.proofs.KeptLaws.{holds-more, keep-lies, gone-card, keep-card}
 use Rattle.line_parameters.specs.First.{findFirst}
 use Rattle.line_parameters.specs.declared.First.{First}
 use Rattle.line_parameters.specs.declared.First.the-variants.{Between, Nothing}
 use Rattle.card_line.specs.Parts.{Accepted, firstValue}
 use Rattle.card_line.proofs.PartLaws.{value-missing, value-there}
-use Rattle.card_judge.specs.Judge.{entered, part, readBy, Keeping, Spans, Told, Takes}
+use Rattle.card_judge.specs.Judge.{entered, part, readBy, octetsOf, addedAt, KeepsOn, Keeping, Spans, Told, Takes}
 use Rattle.card_judge.specs.declared.judge.Judgement.{Judgement}
 use Rattle.card_judge.specs.declared.judge.Instance.{Instance}
 
@@ -76,23 +76,54 @@ part-size from to l g h = simp (length-take, length-drop) (omega arith)
 abbrev unkept : KeptStep → Judgement
 unkept st = record { step = st; from = 0; to = 0 }
 
-stepped : (c : Kept) (store l : List ℕ) (j : Judgement) (st : KeptStep) (s : Step) → j ≡ unkept st → Holds (c .used) st → stepOf store st ≡ s
-    → (readBy j store l ≡ s) × Keeping c l j
+stepped : {added : List ℕ} (c : Kept) (store l : List ℕ) (j : Judgement) (st : KeptStep) (s : Step) → j ≡ unkept st → Holds (c .used) st
+    → ((d : Kept) → st ≡ next d → ⊥) → stepOf store st ≡ s → (readBy j store l ≡ s) × Keeping c l added j
 unfolding readBy
-stepped c store l j st s e h q = rw e (
+stepped c store l j st s e h never q = rw e (
   rw (append-nil store) q,
-  record { order = omega arith; inside = omega arith; holds = holds-more st (c .used) (c .used + (0 - 0)) (omega arith) h },
+  record {
+    order = omega arith;
+    inside = omega arith;
+    holds = holds-more st (c .used) (c .used + (0 - 0)) (omega arith) h;
+    adds = λ d z. absurd (never d z);
+    counts = λ d z. absurd (never d z);
+  },
 )
 
-pub stopped : (c : Kept) (store l : List ℕ) (j : Judgement) (n p : ℕ) (s : Step) → j ≡ unkept (refused n p) → Refused n p ≡ s
-    → (readBy j store l ≡ s) × Keeping c l j
+pub stopped : {added : List ℕ} (c : Kept) (store l : List ℕ) (j : Judgement) (n p : ℕ) (s : Step) → j ≡ unkept (refused n p) → Refused n p ≡ s
+    → (readBy j store l ≡ s) × Keeping c l added j
 unfolding Holds stepOf
-stopped c store l j n p s e q = stepped c store l j (refused n p) s e tt q
+stopped c store l j n p s e q = stepped c store l j (refused n p) s e tt (λ d z. let y : _≡_ {A = ℕ} 0 1 = cc in absurd (omega arith)) q
 
-pub flawed-stop : (c : Kept) (store l : List ℕ) (j : Judgement) (n o : ℕ) (s : Step) → j ≡ unkept (flawed n o) → Flawed n o ≡ s
-    → (readBy j store l ≡ s) × Keeping c l j
+pub flawed-stop : {added : List ℕ} (c : Kept) (store l : List ℕ) (j : Judgement) (n o : ℕ) (s : Step) → j ≡ unkept (flawed n o) → Flawed n o ≡ s
+    → (readBy j store l ≡ s) × Keeping c l added j
 unfolding Holds stepOf
-flawed-stop c store l j n o s e q = stepped c store l j (flawed n o) s e tt q
+flawed-stop c store l j n o s e q = stepped c store l j (flawed n o) s e tt (λ d z. let y : _≡_ {A = ℕ} 0 1 = cc in absurd (omega arith)) q
+
+-- after END the card has not begun
+closed-phase : (x y : Card) (at : ℕ) → closed x at ≡ Next y → y .phase ≡ 0
+unfolding closed
+closed-phase x y at e = by-fn (x .«has_fn») (x .«has_member» && not (x .«is_group»)) e
+  where
+    by-fn : (f m : Bool) → pick f (pick m (Refused 12 at) (Next (endCard x))) (Refused 11 at) ≡ Next y → y .phase ≡ 0
+    by-fn false m e = let z : _≡_ {A = ℕ} 0 1 = cc in absurd (omega arith)
+    by-fn true true e = let z : _≡_ {A = ℕ} 0 1 = cc in absurd (omega arith)
+    by-fn true false e = let z : endCard x ≡ y = cc in sym (ap (λ (c : Card). c .phase) z)
+
+-- after END no values are kept
+pub end-keeps : (c : Kept) (at n : ℕ) (r : KeptStep) → stepOf [] r ≡ closed (cardOf c []) at → Holds 0 r → KeepsOn n r
+unfolding stepOf Holds cardOf
+end-keeps c at n r q h d e =
+    let p : d .phase ≡ 0 = closed-phase (cardOf c []) (cardOf d []) at (sym q ∙ ap (stepOf []) e) in
+    let u = subst (Holds 0) e h in
+    rw p (omega (arith, u .1))
+
+-- a line that is no END leaves the values
+pub gone-keeps : (c : Kept) (row : ℕ) (group : Bool) → KeepsOn (c .used) (next (goneOn c row group))
+unfolding goneOn phaseAfter
+gone-keeps c row group d e =
+    let z : goneOn c row group ≡ d = cc in
+    subst (λ (x : Kept). x .used ≡ pick (eqb (x .phase) 0) 0 (c .used)) z (by (eqb row 1) (λ t. rw t) (λ t. rw t))
 
 module _ (c : Kept) (store : List ℕ) (at row : ℕ) (v : List ℕ) where
   abbrev now-card : Card
@@ -181,6 +212,20 @@ module _ (c : Kept) (store l : List ℕ) (k : ℕ) (a : Option (List ℕ)) (i : 
   stays : (seen ≡ true) ⊎ (pick (eqb k 0) none a ≡ none) → pick seen tags (tagged tags k a) ≡ tags
   stays (inl e) = rw e
   stays (inr e) = by seen (λ q. rw q) (λ q. rw q (tagged-none tags k a e))
+
+  -- a line whose value is not kept adds none
+  none-added : (seen ≡ true) ⊎ (pick (eqb k 0) none a ≡ none) → [] ≡ pick seen [] (pick (eqb k 0) [] (octetsOf a))
+  none-added (inl e) = rw e
+  none-added (inr e) = by seen (λ q. rw q) (λ q. rw q (by (eqb k 0) (λ z. rw z) (λ z. let n : a ≡ none = rw z at e in rw (z, n))))
+
+  -- the octets to keep are those that the line adds
+  pub added-is : (row : ℕ) → k ≡ onceAt row → part (i .from) (i .to) l ≡ addedAt row (c .seen) a
+  unfolding addedAt onceFlag
+  added-is row here =
+      rw (← here)
+      (by (i .keeps)
+      (λ h. let f = told .first h in rw (f .0, ne-eqb k 0 (λ z. omega (arith, f .1 .0)), f .1 .1))
+      (λ h. let o = told .other h in rw (o .0 .0, o .0 .1) (none-added (o .1))))
 
   -- the state r has the line's value, where it is to be kept
   module _ (r : Kept) (takes : Takes c k i r) (lies : Lies c) (short : c .used + length l ≤ 16384) where

@@ -2,7 +2,7 @@
 use Prim.Native.Nat.{ℕ, _+_, _-_, _<_, _≤_}
 use mathlib.Core.Path.{_≡_}
 use mathlib.Core.Bool.{Bool, true, false, not, _&&_, _||_}
-use mathlib.Core.List.{List, _++_, map}
+use mathlib.Core.List.{List, [], _++_, map}
 use mathlib.Core.Option.{Option, none, some}
 use mathlib.Core.Logic.{_⊎_}
 use lib.Dec.{eqb, ltb}
@@ -17,14 +17,16 @@ use Rattle.line_parser.specs.Parse.{Parse, got, bad}
 use Rattle.line_parser.specs.Grammar.{Line}
 use Rattle.line_parser.specs.Rule.{parseLine}
 use Rattle.property_table.specs.declared.Edition.{Edition}
-use Rattle.property_table.specs.Rows.{isGroup, framing, Lists}
+use Rattle.property_table.specs.Rows.{onceAt, isGroup, framing, Lists}
 use Rattle.value_kinds.specs.Kinds.{valueIn}
 use Rattle.value_automaton.specs.States.{Scanner}
 use Rattle.value_kinds.specs.declared.Fault.{Fault}
 use Rattle.value_kinds.specs.declared.Fault.the-variants.{Fits, Breaks}
-use Rattle.card_state.specs.State.{Card, Step, Refused, Flawed, inOrder, flagOf, isSeen, sameTag, tagOf, noted, closed}
+use Rattle.card_state.specs.State.{Card, Step, Refused, Flawed, beforeBegin, inOrder, flagOf, onceFlag, isSeen, sameTag, tagOf, noted, closed}
 use Rattle.card_state.specs.Kept.{placesOf, tagAt, Lies, stepOf, Holds, Keeps}
 use Rattle.card_state.specs.declared.Card.{Card as Kept}
+use Rattle.card_state.specs.declared.Step.{Step as KeptStep}
+use Rattle.card_state.specs.declared.Step.the-variants.{Next as nextKept}
 use Rattle.card_line.specs.Parts.{rowOfLine, kindOfLine, altidOf, linePartsOf}
 use Rattle.card_line.specs.declared.Parts.{Parts}
 use Rattle.card_line.specs.declared.LineParts.the-variants.{Line as line}
@@ -84,11 +86,38 @@ pub record Stored (c : Kept) (store l : List ℕ) : Type 0 where
   pub all : length store ≡ c .used
   pub short : c .used + length l ≤ limit.octets
 
--- the octets to keep lie in the line, and the values of the next state in the store with them
-pub record Keeping (c : Kept) (l : List ℕ) (j : Judgement) : Type 0 where
+-- an ALTID value, or no octets where there is none
+abbrev pub octetsOf : Option (List ℕ) → List ℕ
+octetsOf none = []
+octetsOf (some v) = v
+
+-- the octets that a line of the row adds to the values that a card keeps: its ALTID value where it is the first line of a property marked *1
+unfoldable pub addedAt : ℕ → ℕ → Option (List ℕ) → List ℕ
+addedAt row seen altid = pick (isSeen (onceFlag row) seen) [] (pick (eqb (onceAt row) 0) [] (octetsOf altid))
+
+abbrev pub addedParsed : Edition → ℕ → Parse Line → List ℕ
+addedParsed e seen (got x k) = addedAt (rowOfLine e x) seen (altidOf x)
+addedParsed e seen (bad n) = []
+
+-- the octets that a line adds to the values that a card keeps, by the flags of the properties marked *1 that the card has had
+unfoldable pub addedBy : Edition → ℕ → List ℕ → List ℕ
+addedBy e seen l = addedParsed e seen (parseLine l)
+
+-- how many octets of values the state after a line keeps where there were n with the line's: none after END
+abbrev pub keptAfter : ℕ → Kept → ℕ
+keptAfter n d = pick (eqb (d .phase) beforeBegin) 0 n
+
+-- a state after a line, if that is what the step is, keeps so many octets
+abbrev pub KeepsOn : ℕ → KeptStep → Type 0
+KeepsOn n s = (d : Kept) → s ≡ nextKept d → d .used ≡ keptAfter n d
+
+-- the octets to keep lie in the line and are those that it adds, and the values of the next state in the store with them
+pub record Keeping (c : Kept) (l added : List ℕ) (j : Judgement) : Type 0 where
   pub order : j .from ≤ j .to
   pub inside : j .to ≤ length l
   pub holds : Holds (c .used + (j .to - j .from)) (j .step)
+  pub adds : (d : Kept) → j .step ≡ nextKept d → part (j .from) (j .to) l ≡ added
+  pub counts : KeepsOn (c .used + (j .to - j .from)) (j .step)
 
 -- what was found in the line l is this value of a parameter, or that it has none
 abbrev pub Spans : First → List ℕ → Option (List ℕ) → Type 0

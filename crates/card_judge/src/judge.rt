@@ -15,7 +15,7 @@ ghost use Rattle.property_table.specs.Rows.{onceAt, isGroup};
 ghost use Rattle.card_line.specs.Parts.{altidName, firstValue};
 ghost use Rattle.card_state.specs.State.{Next, Counted, singles, inOrder, flagOf, onceFlag, isSeen, closed};
 ghost use Rattle.card_state.specs.Kept.{Lies, cardOf, stepOf, Holds, goneOn};
-ghost use Rattle.card_judge.specs.Judge.{Tables, Parted, laden, entered, judgeParts, judgeLine, readBy, Stored, Keeping, Spans, Told, Takes};
+ghost use Rattle.card_judge.specs.Judge.{Tables, Parted, laden, entered, judgeParts, judgeLine, readBy, Stored, addedAt, addedBy, KeepsOn, Keeping, Spans, Told, Takes};
 use card_line::LineParts;
 use card_line::Parts;
 use card_state::Card;
@@ -98,7 +98,7 @@ fn enter(c: Card, at: usize, row: usize, once: usize, value: &[u8]) -> Step
     requires { ⌜ (once ≡ onceAt row) × (once ≤ limit.flags) ⌝ }
     requires { ⌜ Lies c ⌝ }
     ensures { λ r. ⌜ ((store : List ℕ) → stepOf store r ≡ pick (eqb row property.end) (closed (cardOf c store) at) (Next (cardOf (goneOn c row (isGroup (now (value .entry)))) store))) ⌝ }
-    ensures { λ r. ⌜ Holds (c .used) r ⌝ }
+    ensures { λ r. ⌜ Holds (c .used) r × KeepsOn (c .used) r ⌝ }
 {
     if row == property::END {
         return card_state::close(c, at);
@@ -181,7 +181,7 @@ fn settle(
     requires { ⌜ Counted (c .cards) (c .lines) ⌝ }
     requires { ⌜ Stored c (now store) (now s) ⌝ }
     ensures { λ r. ⌜ readBy r (now (store .entry)) (now (s .entry)) ≡ entered (cardOf c (now (store .entry))) at (x .row) (firstValue altidName (now (s .entry))) (now (value .entry)) ⌝ }
-    ensures { λ r. ⌜ Keeping c (now (s .entry)) r ⌝ }
+    ensures { λ r. ⌜ Keeping c (now (s .entry)) (addedAt (x .row) (c .seen) (firstValue altidName (now (s .entry)))) r ⌝ }
 {
     let row = x.row;
     let f = altid_at(t, s, x, once);
@@ -218,7 +218,7 @@ fn judge_parts(
     requires { ⌜ Counted (c .cards) (c .lines) ⌝ }
     requires { ⌜ Stored c (now store) (now s) ⌝ }
     ensures { λ r. ⌜ readBy r (now (store .entry)) (now (s .entry)) ≡ judgeParts edition (cardOf c (now (store .entry))) at (x .row) (x .«group_length») (x .«param_count») (x .kind) (firstValue altidName (now (s .entry))) (x .«value_start») (now (value .entry)) ⌝ }
-    ensures { λ r. ⌜ Keeping c (now (s .entry)) r ⌝ }
+    ensures { λ r. ⌜ Keeping c (now (s .entry)) (addedAt (x .row) (c .seen) (firstValue altidName (now (s .entry)))) r ⌝ }
 {
     let misplaced = !in_order(c.phase, x.row);
     let laden = is_laden(x);
@@ -252,7 +252,7 @@ pub fn judge_line(
     requires { ⌜ Counted (c .cards) (c .lines) ⌝ }
     requires { ⌜ Stored c (now store) (now s) ⌝ }
     ensures { λ r. ⌜ readBy r (now (store .entry)) (now (s .entry)) ≡ judgeLine edition (cardOf c (now (store .entry))) at (now (s .entry)) ⌝ }
-    ensures { λ r. ⌜ Keeping c (now (s .entry)) r ⌝ }
+    ensures { λ r. ⌜ Keeping c (now (s .entry)) (addedBy edition (c .seen) (now (s .entry))) r ⌝ }
 {
     let bad = utf8_screening::units::first_bad(t, s, false);
     if bad < s.len() {

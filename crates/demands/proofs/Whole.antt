@@ -4,6 +4,7 @@ use Rattle.desk_laws.proofs.Demand.{demand3, demand3-as-asked}
 use Rattle.desk_laws.proofs.Granted.{grants}
 use Rattle.replay_laws.proofs.Replays.{replays}
 use Rattle.report_laws.proofs.Reports.{reports}
+use Rattle.watch_laws.proofs.Cuttings.{watched}
 use Rattle.demands.specs.Demands.{Demands}
 use Rattle.demands.proofs.Examples.{examples}
 use Rattle.demands.proofs.Total.{demand1}
@@ -22,6 +23,7 @@ demands =
       separate-as-asked = demand3-as-asked;
       dated = demand4;
       named = demand5;
+      watched = watched;
       extended = demand13;
       labels = labels;
       granted = grants;

@@ -16,7 +16,7 @@ pub enum Verdict {
 }
 
 // What the last line leaves, at the end of an input of n octets: 9 inside a card.
-fn conclude(n: usize, last: Step) -> Verdict
+pub fn conclude(n: usize, last: Step) -> Verdict
     ensures { λ r. ⌜ ((store : List ℕ) → r ≡ verdictOf n (stepOf store last)) ⌝ }
 {
     match last {

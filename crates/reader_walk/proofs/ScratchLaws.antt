@@ -1,10 +1,11 @@
 -- What a state keeps at the front of the scratch when a line was judged behind it, and an octet moved down. Assumes nothing.
-use mathlib.Core.Path.{_≡_, refl, sym, ap, _∙_}
+use mathlib.Core.Path.{_≡_, refl, sym, ap, subst, _∙_}
 use mathlib.Core.Bool.{Bool, true, false}
 use mathlib.Core.List.{List, [], _∷_, _++_, append-nil, append-assoc}
 use Prim.Native.Nat.{ℕ, suc, _+_, _-_, _<_, _≤_}
 use native.Mathlib.Numerals.{add-one}
 use native.Mathlib.Omega.{arith}
+use lib.Dec.{eqb}
 use lib.ListN.{length, getD, take, drop, set, length-take, length-drop, length-append, take-append-drop, drop-of-length-le}
 use lib.Seq.{take-append-le, take-append-seam, drop-append-seam, drop-append-le, drop-append-add, length-take-le, take-all, drop-cons, take-suc, getD-drop, drop-drop, take-length}
 use borrow.Rule.Slice.PartMut.{putMid}
@@ -17,10 +18,13 @@ use Rattle.card_state.specs.Kept.{Lies, cardOf, stepOf, Holds}
 use Rattle.card_state.specs.declared.Card.{Card as Kept}
 use Rattle.card_state.proofs.KeptLaws.{card-front, step-front}
 use Rattle.property_table.specs.declared.Edition.{Edition}
-use Rattle.card_judge.specs.Judge.{part, readBy, judgeLine, Keeping}
+use Rattle.card_judge.specs.Judge.{part, readBy, judgeLine, addedBy, KeepsOn, Keeping}
 use Rattle.card_judge.specs.declared.judge.Judgement.{Judgement}
 use Rattle.card_judge.proofs.SettleLaws.{part-size}
-use Rattle.reader_walk.specs.Walk.{behind}
+use Rattle.line_folds.specs.Folds.{unfolded}
+use Rattle.line_folds.proofs.FoldLaws.{unfold-shorter}
+use Rattle.card_state.specs.declared.Step.the-variants.{Next as nextKept}
+use Rattle.reader_walk.specs.Walk.{behind, addedOf, Left}
 
 -- a part that was lent from a place on is back
 pub put-behind : (p q e : List ℕ) (a : ℕ) → a ≤ length p → e ≡ overlay q (take (length p - a) (drop a p)) → putMid a (length p - a) p e ≡ behind a q p
@@ -56,8 +60,20 @@ behind-after a q p h =
     let n : length (take a p) ≡ a = length-take-le a p h in
     ap (λ (k : ℕ). drop k (take a p ++ overlay q (drop a p))) (sym n) ∙ drop-append-seam (take a p) (overlay q (drop a p))
 
+-- what lies behind the octets that were laid stays
+pub behind-past : (a n : ℕ) (q p : List ℕ) → a ≤ length p → length q ≤ n → drop (a + n) (behind a q p) ≡ drop (a + n) p
+behind-past a n q p h g =
+    let k : length q + (n - length q) ≡ n = omega arith in
+    sym (drop-drop n a (behind a q p))
+    ∙ ap (drop n) (behind-after a q p h)
+    ∙ ap (λ (m : ℕ). drop m (overlay q (drop a p))) (sym k)
+    ∙ drop-append-add q (drop (length q) (drop a p)) (n - length q)
+    ∙ drop-drop (n - length q) (length q) (drop a p)
+    ∙ ap (λ (m : ℕ). drop m (drop a p)) k
+    ∙ drop-drop n a p
+
 -- a line l was judged with the front of p as store, and what is to be kept of it was laid behind the front
-module _ (ed : Edition) (c : Kept) (p q l : List ℕ) (j : Judgement) (at : ℕ) (lies : Lies c) (room : c .used ≤ length p) (keeps : Keeping c l j)
+module _ (ed : Edition) (c : Kept) (p q l : List ℕ) (j : Judgement) (at : ℕ) (lies : Lies c) (room : c .used ≤ length p) (added : List ℕ) (keeps : Keeping c l added j)
     (judged : readBy j (take (c .used) p) l ≡ judgeLine ed (cardOf c (take (c .used) p)) at l) (laid : q ≡ behind (c .used) (part (j .from) (j .to) l) p) where
   size : length (part (j .from) (j .to) l) ≡ j .to - j .from
   size = part-size (j .from) (j .to) l (keeps .order) (keeps .inside)
@@ -139,16 +155,45 @@ module _ (c : Kept) (p s l : List ℕ) (lies : Lies c) (room : c .used + length 
   hand-part true e from to g h = ap (take (to - from)) (drop-drop from (c .used) (behind (c .used) l p)) ∙ moved c p l (length l) lies room refl from to g h
   hand-part false e from to g h = ap (part from to) (sym (e refl))
 
-  pub hand-judged : (ed : Edition) (folded : Bool) → (folded ≡ false → l ≡ s) → (j : Judgement) (at : ℕ) (q : List ℕ) → Keeping c l j
+  pub hand-judged : (ed : Edition) (folded : Bool) → (folded ≡ false → l ≡ s) → (j : Judgement) (at : ℕ) (q added : List ℕ) → Keeping c l added j
       → readBy j (take (c .used) (behind (c .used) (hand folded) p)) l ≡ judgeLine ed (cardOf c (take (c .used) (behind (c .used) (hand folded) p))) at l
       → q ≡ behind (c .used) (part (j .from) (j .to) (pick folded (drop (c .used) (behind (c .used) (hand folded) p)) s)) (behind (c .used) (hand folded) p)
       → stepOf q (j .step) ≡ judgeLine ed (cardOf c p) at l
-  hand-judged ed folded e j at q keeps judged there =
+  hand-judged ed folded e j at q added keeps judged there =
       let y = hand folded in
       let laid = behind (c .used) y p in
-      span-judged ed c laid q l j at lies (omega (arith, hand-room folded, laid-length c p y (length y) lies (hand-room folded) refl)) keeps judged
+      span-judged ed c laid q l j at lies (omega (arith, hand-room folded, laid-length c p y (length y) lies (hand-room folded) refl)) added keeps judged
       (there ∙ ap (λ (x : List ℕ). behind (c .used) x laid) (hand-part folded e (j .from) (j .to) (keeps .order) (keeps .inside)))
       ∙ ap (λ (x : Card). judgeLine ed x at l) (card-front c laid p lies (behind-before (c .used) y p (omega (arith, hand-room folded))))
+
+  -- what the scratch holds then
+  pub hand-left : (ed : Edition) (folded : Bool) → (folded ≡ false → l ≡ s) → l ≡ unfolded s → (j : Judgement) (q : List ℕ) → Keeping c l (addedOf ed c s) j
+      → q ≡ behind (c .used) (part (j .from) (j .to) (pick folded (drop (c .used) (behind (c .used) (hand folded) p)) s)) (behind (c .used) (hand folded) p)
+      → Left ed c s p q (j .step)
+  hand-left ed folded e u j q keeps there =
+      let y = hand folded in
+      let laid = behind (c .used) y p in
+      let room′ : c .used ≤ length p = omega (arith, hand-room folded) in
+      let long : length laid ≡ length p = laid-length c p y (length y) lies (hand-room folded) refl in
+      let x = part (j .from) (j .to) l in
+      let size : length x ≡ j .to - j .from = part-size (j .from) (j .to) l (keeps .order) (keeps .inside) in
+      let is : q ≡ behind (c .used) x laid = there ∙ ap (λ (z : List ℕ). behind (c .used) z laid) (hand-part folded e (j .from) (j .to) (keeps .order) (keeps .inside)) in
+      let fits : length l ≤ length s = rw u (unfold-shorter s) in
+      let hands : length y ≤ length s = pick-shorter folded fits in
+      record {
+        front = λ d z.
+            subst (λ (w : List ℕ). take (c .used + length w) q ≡ take (c .used) p ++ w) (keeps .adds d z)
+            (ap (take (c .used + length x)) is ∙ behind-front (c .used) x laid (omega (arith, long)) ∙ ap (λ (w : List ℕ). w ++ x) (behind-before (c .used) y p room′));
+        short = λ d z. omega (arith, ap length (keeps .adds d z), size, keeps .inside, fits);
+        counts = λ d z. subst (λ (n : ℕ). d .used ≡ pick (eqb (d .phase) 0) 0 n) (omega (arith, ap length (keeps .adds d z), size)) (keeps .counts d z);
+        rest = ap (drop (c .used + length s)) is
+            ∙ behind-past (c .used) (length s) x laid (omega (arith, long)) (omega (arith, size, keeps .inside, fits))
+            ∙ behind-past (c .used) (length s) y p room′ hands;
+      }
+    where
+      pick-shorter : (f : Bool) → length l ≤ length s → length (pick f l []) ≤ length s
+      pick-shorter true h = h
+      pick-shorter false h = omega arith
 
 -- octets moved down one after the other
 module _ (b₀ : List ℕ) (to from n : ℕ) (down : to ≤ from) (room : from + n ≤ length b₀) where

@@ -10,8 +10,8 @@ ghost use Rattle.line_folds.specs.Folds.{unfolded};
 ghost use Rattle.line_folds.specs.Logical.{rawLines};
 ghost use Rattle.card_state.specs.State.{Counted, freshCard};
 ghost use Rattle.card_state.specs.Kept.{cardOf, stepOf, Holds};
-ghost use Rattle.card_judge.specs.Judge.{Tables, judgeLine, part, readBy, Keeping};
-ghost use Rattle.reader_walk.specs.Walk.{settled, judgeLines, behind, Roomy};
+ghost use Rattle.card_judge.specs.Judge.{Tables, judgeLine, part, readBy, addedBy, Keeping};
+ghost use Rattle.reader_walk.specs.Walk.{settled, judgeLines, behind, Roomy, Left};
 
 mod keeping;
 
@@ -53,7 +53,7 @@ fn judge_at_hand(
     requires { ⌜ Counted (c .cards) (c .lines) ⌝ }
     requires { ⌜ Roomy c [] (now buffer) × (c .used + length (now s) ≤ limit.octets) ⌝ }
     ensures { λ r. ⌜ readBy r (take (c .used) (now (buffer .entry))) (pick folded (drop (c .used) (now (buffer .entry))) (now (s .entry))) ≡ judgeLine edition (cardOf c (take (c .used) (now (buffer .entry)))) at (pick folded (drop (c .used) (now (buffer .entry))) (now (s .entry))) ⌝ }
-    ensures { λ r. ⌜ Keeping c (pick folded (drop (c .used) (now (buffer .entry))) (now (s .entry))) r ⌝ }
+    ensures { λ r. ⌜ Keeping c (pick folded (drop (c .used) (now (buffer .entry))) (now (s .entry))) (addedBy edition (c .seen) (pick folded (drop (c .used) (now (buffer .entry))) (now (s .entry)))) r ⌝ }
 {
     let used = c.used;
     let store = &buffer[..used];
@@ -86,7 +86,7 @@ fn keep_part(s: &[u8], folded: bool, scratch: &mut [u8], used: usize, from: usiz
 }
 
 // Judges the logical line s, which starts at `at` in the input: as it is where it has no fold, else unfolded; and keeps what is to be kept of it.
-fn judge_span(
+pub fn judge_span(
     t: &ClassTable,
     rows: &PropertyTable,
     steps: &Transitions,
@@ -102,7 +102,7 @@ fn judge_span(
     requires { ⌜ Roomy c (now s) (now scratch) ⌝ }
     requires { ⌜ (folded ≡ false → unfolded (now s) ≡ now s) ⌝ }
     ensures { λ r. ⌜ stepOf (now (scratch .exit)) r ≡ judgeLine edition (cardOf c (now (scratch .entry))) at (unfolded (now (s .entry))) ⌝ }
-    ensures { λ r. ⌜ Holds (c .used + length (now (s .entry))) r ⌝ }
+    ensures { λ r. ⌜ Holds (c .used + length (now (s .entry))) r × Left edition c (now (s .entry)) (now (scratch .entry)) (now (scratch .exit)) r ⌝ }
 {
     let used = c.used;
     let n = lay_behind(s, folded, scratch, used);
@@ -115,7 +115,7 @@ fn judge_span(
 }
 
 // The judgement of the line s, which starts at `at` in the input, with the place in the input of an octet that it names.
-fn settle(step: Step, s: &[u8], at: usize) -> Step
+pub fn settle(step: Step, s: &[u8], at: usize) -> Step
     requires { ⌜ at + length (now s) ≤ limit.octets ⌝ }
     ensures { λ r. ⌜ ((store : List ℕ) → stepOf store r ≡ settled at (now (s .entry)) (stepOf store step)) ⌝ }
 {

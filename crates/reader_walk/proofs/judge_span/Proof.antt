@@ -12,9 +12,9 @@ use Rattle.line_folds.specs.Folds.{unfolded}
 use Rattle.line_folds.proofs.FoldLaws.{unfold-shorter}
 use Rattle.card_state.specs.Kept.{cardOf}
 use Rattle.card_state.proofs.KeptLaws.{holds-more}
-use Rattle.card_judge.specs.Judge.{part, readBy, judgeLine, Keeping}
+use Rattle.card_judge.specs.Judge.{part, readBy, judgeLine, addedBy, Keeping}
 use Rattle.reader_walk.specs.Walk.{behind}
-use Rattle.reader_walk.proofs.ScratchLaws.{store-is, laid-length, hand-room, hand-line, hand-judged}
+use Rattle.reader_walk.proofs.ScratchLaws.{store-is, laid-length, hand-room, hand-line, hand-judged, hand-left}
 use Rattle.reader_walk.proofs.judge_span.Statement.{statement}
 use Rattle.reader_walk.proofs.judge_span.Tie as tie
 
@@ -82,7 +82,7 @@ hand c = pick (start c .args .folded) (unfolded (start c .args .s .now)) []
 heard : (c : tie.After-judge-at-hand)
     → (readBy (c .judge-at-hand .result) (take (start c .args .c .used) (behind (start c .args .c .used) (hand c) (start c .args .scratch .now))) (unfolded (start c .args .s .now))
     ≡ judgeLine (start c .args .edition) (cardOf (start c .args .c) (take (start c .args .c .used) (behind (start c .args .c .used) (hand c) (start c .args .scratch .now)))) (start c .args .at) (unfolded (start c .args .s .now)))
-    × Keeping (start c .args .c) (unfolded (start c .args .s .now)) (c .judge-at-hand .result)
+    × Keeping (start c .args .c) (unfolded (start c .args .s .now)) (addedBy (start c .args .edition) (start c .args .c .seen) (unfolded (start c .args .s .now))) (c .judge-at-hand .result)
 heard c =
     let s = start c in
     let a = s .args in
@@ -113,10 +113,13 @@ returns c =
     let j = h .judge-at-hand .result in
     let u = h .before .before .before .before .lay-behind in
     let k = heard h in
-    let m = c .before .before .keep-part in (
-      hand-judged (a .c) (a .scratch .now) (a .s .now) (unfolded (a .s .now)) (s .pre .1 .1 .0 .lies) (fits s) (a .edition) (a .folded) (plain s) j (a .at) (m .last .1 .1 .0) (k .1) (k .0)
-          (subst (λ (x : List ℕ). m .last .1 .1 .0 ≡ behind (a .c .used) (part (j .from) (j .to) (pick (a .folded) (drop (a .c .used) x) (a .s .now))) x) (u .ensures .1) (m .ensures)),
-      holds-more (j .step) (a .c .used + (j .to - j .from)) (a .c .used + length (a .s .now)) (omega (arith, k .1 .order, k .1 .inside, unfold-shorter (a .s .now))) (k .1 .holds),
+    let m = c .before .before .keep-part in
+    let there = subst (λ (x : List ℕ). m .last .1 .1 .0 ≡ behind (a .c .used) (part (j .from) (j .to) (pick (a .folded) (drop (a .c .used) x) (a .s .now))) x) (u .ensures .1) (m .ensures) in (
+      hand-judged (a .c) (a .scratch .now) (a .s .now) (unfolded (a .s .now)) (s .pre .1 .1 .0 .lies) (fits s) (a .edition) (a .folded) (plain s) j (a .at) (m .last .1 .1 .0) _ (k .1) (k .0) there,
+      (
+        holds-more (j .step) (a .c .used + (j .to - j .from)) (a .c .used + length (a .s .now)) (omega (arith, k .1 .order, k .1 .inside, unfold-shorter (a .s .now))) (k .1 .holds),
+        hand-left (a .c) (a .scratch .now) (a .s .now) (unfolded (a .s .now)) (s .pre .1 .1 .0 .lies) (fits s) (a .edition) (a .folded) (plain s) refl j (m .last .1 .1 .0) (k .1) there,
+      ),
     )
 
 pub judge-span-spec : {M : Type 1} → statement M

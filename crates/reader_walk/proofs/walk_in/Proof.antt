@@ -144,7 +144,7 @@ loop-again c =
     let a = c15 .args in
     let j = c5 .judge-span in
     let n = part-length (a .s .now) (l .at) (v .result .end) (c5 .before .before .before .before .before .loop-test .taken) (v .ensures .1) (v .ensures .2) in
-    let holds = subst (Holds (l .c .used + length (take (v .result .end - l .at) (drop (l .at) (a .s .now))))) e (j .ensures .1) in
+    let holds = subst (Holds (l .c .used + length (take (v .result .end - l .at) (drop (l .at) (a .s .now))))) e (j .ensures .1 .0) in
     let more = one-more (a .edition) (cardOf (l .c) (l .scratch)) (cardOf next (j .last .1 .1 .1 .1 .1 .1 .0)) (l .at) _ (sym (j .ensures .0) ∙ ap (stepOf (j .last .1 .1 .1 .1 .1 .1 .0)) e) in (
       omega (arith, j, l .inv .0),
       omega (arith, l .inv .1, more .0, more .1, more .2),

@@ -1,16 +1,17 @@
 -- `card_judge::judge::judge_line` meets its contract. Assumes nothing.
 use borrow.Author.Needs.{needs}
 use borrow.Author.Tests.{lt-ltb}
-use mathlib.Core.Path.{sym, _∙_}
+use mathlib.Core.Path.{sym, subst, _∙_}
+use mathlib.Core.List.{List}
 use mathlib.Core.Bool.{false}
-use Prim.Native.Nat.{_-_, _≤_}
+use Prim.Native.Nat.{ℕ, _-_, _≤_}
 use native.Mathlib.Omega.{arith}
 use lib.ListN.{length, take, drop, length-take}
 use Rattle.utf8.specs.Characters.{allowed, firstBad}
 use Rattle.card_line.proofs.PartLaws.{Read, read}
 use Rattle.card_state.specs.Kept.{cardOf}
-use Rattle.card_judge.specs.Judge.{judgeLine}
-use Rattle.card_judge.proofs.JudgeLaws.{refused, judged}
+use Rattle.card_judge.specs.Judge.{judgeLine, Keeping}
+use Rattle.card_judge.proofs.JudgeLaws.{refused, judged, added-line}
 use Rattle.card_judge.proofs.SettleLaws.{stopped, flawed-stop}
 use Rattle.card_judge.proofs.judge.judge_line.Statement.{statement}
 use Rattle.card_judge.proofs.judge.judge_line.Tie as tie
@@ -85,7 +86,7 @@ returns-3 c =
     let a = s .args in (
       c .judge-parts .ensures .0
           ∙ judged (a .edition) (cardOf (a .c) (a .store .now)) (a .at) (a .s .now) (rw (← c .before .before .before .before .before .before .before .first-bad .ensures) (c .before .before .before .before .before .before .if1 .left)) _ (there (c .before .before)),
-      c .judge-parts .ensures .1,
+      subst (λ (q : List ℕ). Keeping (a .c) (a .s .now) q (c .judge-parts .result)) (added-line (a .edition) (a .c .seen) (a .s .now) _ (there (c .before .before))) (c .judge-parts .ensures .1),
     )
 
 pub judge-line-spec : {M : Type 1} → statement M

@@ -8,8 +8,8 @@ use Rattle.card_line.specs.Parts.{altidName, firstValue}
 use Rattle.card_state.specs.State.{onceFlag}
 use Rattle.card_state.specs.Kept.{Holds}
 use Rattle.card_state.proofs.KeptLaws.{once-ten}
-use Rattle.card_judge.specs.Judge.{part, readBy}
-use Rattle.card_judge.proofs.SettleLaws.{stopped, takes-lies, takes-counts, takes-used, told-second, told-on}
+use Rattle.card_judge.specs.Judge.{part, readBy, KeepsOn}
+use Rattle.card_judge.proofs.SettleLaws.{stopped, added-is, takes-lies, takes-counts, takes-used, told-second, told-on}
 use Rattle.card_judge.proofs.judge.settle.Statement.{statement}
 use Rattle.card_judge.proofs.judge.settle.Tie as tie
 
@@ -65,14 +65,17 @@ returns-2 c =
     let a = s .args in
     let told = i .instance-of .ensures in
     let stored = s .pre .1 .1 .1 .1 .1 in
-    let j = i .instance-of .result in (
+    let j = i .instance-of .result in
+    let size = takes-used (a .c) (a .store .now) (a .s .now) (a .once) (firstValue altidName (a .s .now)) j told (w .with-value .result) (w .with-value .ensures) (stored .lies) (stored .short) in (
       c .enter .ensures .0 (a .store .now ++ part (j .from) (j .to) (a .s .now))
           ∙ told-on (a .c) (a .store .now) (a .s .now) (a .once) (firstValue altidName (a .s .now)) j told (a .at) (a .x .row) (a .value .now) (s .pre .1 .1 .0 .1 .0)
           (w .with-value .result) (w .with-value .ensures) (stored .lies) (stored .short) (stored .all) (w .before .if1 .left),
       record {
         order = told .order;
         inside = told .inside;
-        holds = subst (λ (n : ℕ). Holds n (c .enter .result)) (takes-used (a .c) (a .store .now) (a .s .now) (a .once) (firstValue altidName (a .s .now)) j told (w .with-value .result) (w .with-value .ensures) (stored .lies) (stored .short)) (c .enter .ensures .1);
+        holds = subst (λ (n : ℕ). Holds n (c .enter .result)) size (c .enter .ensures .1 .0);
+        adds = λ d z. added-is (a .c) (a .store .now) (a .s .now) (a .once) (firstValue altidName (a .s .now)) j told (a .x .row) (s .pre .1 .1 .0 .1 .0);
+        counts = subst (λ (n : ℕ). KeepsOn n (c .enter .result)) size (c .enter .ensures .1 .1);
       },
     )
 

@@ -1,0 +1,3 @@
+-- The definitions that the contracts of `watch` cite. Assumes nothing.
+pub mod Octets
+pub mod State

@@ -1,0 +1,2 @@
+-- The definitions that the contracts of `watch_arrivals` cite. Assumes nothing.
+pub mod Arrivals

@@ -1,0 +1,2 @@
+-- What the laws of this crate speak of. Assumes nothing.
+pub mod Cuttings
