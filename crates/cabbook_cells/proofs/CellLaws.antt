@@ -1,6 +1,5 @@
 -- A text shown character by character. Assumes nothing.
 use mathlib.Core.Path.{_≡_, refl, sym, ap, _∙_}
-use mathlib.Core.Bool.{Bool, true, false}
 use mathlib.Core.List.{List, [], _∷_, _++_}
 use Prim.Native.Nat.{ℕ, zero, suc, _+_, _-_, _<_, _≤_}
 use native.Mathlib.Nat.{add-zero}
@@ -11,9 +10,8 @@ use lib.Seq.{getD-drop}
 use borrow.Author.Tests.{eq-eqb, ne-eqb}
 use Rattle.octets.specs.Pick.{pick}
 use Rattle.octets.proofs.Scans.{gather-step, gather-end}
-use Rattle.utf8.specs.Characters.{allowed}
-use Rattle.utf8.proofs.Chars.{unit-inside}
-use Rattle.cabbook_columns.specs.Visible.{character, passed}
+use Rattle.cabbook_visible.proofs.VisibleLaws.{character-inside}
+use Rattle.cabbook_visible.specs.Visible.{character, passed}
 use Rattle.cabbook_cells.specs.Ranges.{ranges, cellsIn}
 use Rattle.cabbook_cells.specs.Cells.{codeBy, codeOf, blank, blanks}
 
@@ -32,7 +30,7 @@ module _ (s : List ℕ) (i n : ℕ) where
 
   module _ (h : i < length s) (e : n ≡ character (drop i s)) where
     pub step-inside : i + stepOf n ≤ length s
-    step-inside = inside n (unit-inside (allowed false) s i n e (omega arith))
+    step-inside = inside n (character-inside s i n e (omega arith))
       where
         inside : (m : ℕ) → i + m ≤ length s → i + stepOf m ≤ length s
         inside zero g = omega arith

@@ -1,32 +1,22 @@
-// Cells: how wide a terminal shows a text, and blanks of that width.
+// Cells: how wide a terminal shows a text, blanks of that width, and what a column has to spare beside it.
 mod ranges;
 mod unicode;
 
 ghost use mathlib.Core.Path.{_≡_};
-ghost use Prim.Native.Nat.{_+_, _*_, _%_, _<_};
+ghost use Prim.Native.Nat.{_+_, _-_, _*_, _%_, _<_};
 ghost use lib.Dec.{eqb};
-ghost use lib.ListN.{length, getD, drop};
+ghost use lib.ListN.{length, drop};
 ghost use Rattle.octets.specs.Pick.{pick};
 ghost use Rattle.program_output.specs.Pages.{page, added};
-ghost use Rattle.cabbook_columns.specs.Visible.{character};
+ghost use Rattle.cabbook_visible.specs.Visible.{character};
 ghost use Rattle.cabbook_cells.specs.Cells.{codeOf, blank, blanks};
-use octets::indices::wide;
+use cabbook_visible::octet_at;
 
 // The cells of an octet that is shown in digits, as `\x07`.
 const IN_DIGITS: usize = 4;
 
 // The values that the six bits of a character's later octets have.
 const LATER: usize = 64;
-
-// An octet of a text; 0 past its end.
-fn octet_at(s: &[u8], i: usize) -> usize
-    ensures { λ r. ⌜ r ≡ getD (now (s .entry)) i 0 ⌝ }
-{
-    if i < s.len() {
-        return wide(s[i]);
-    }
-    0
-}
 
 // A code point so far, with the six bits of the next octet.
 fn join(code: usize, octet: usize) -> usize
@@ -90,9 +80,49 @@ pub fn put_blanks(room: &mut [u8], at: usize, text: &[u8]) -> usize
     let mut next = at;
     let mut i: usize = 0;
     while i < text.len() {
-        let n = utf8_screening::units::unit_length(&t, text, i, false);
+        let n = cabbook_visible::shown_length(&t, text, i);
         next = put_blank(room, next, text, i, n);
         i += step_of(n);
     }
     next
+}
+
+// The cells of what is shown of the character of n octets at i; a tab counts as one, and with n 0 an octet in digits stands there.
+fn cells_at(text: &[u8], i: usize, n: usize) -> usize
+    requires { ⌜ (i < length (now text)) × (n ≡ character (drop i (now text))) ⌝ }
+    ensures { λ r. ⌜ r ≡ length (blank (drop i (now (text .entry)))) ⌝ }
+{
+    if n == 0 {
+        return IN_DIGITS;
+    }
+    if text[i] == b'\t' {
+        return 1;
+    }
+    let t = ranges::table();
+    ranges::cells_in(&t, code_at(text, i, n))
+}
+
+// A number less another, or 0.
+fn less(a: usize, b: usize) -> usize
+    ensures { λ r. ⌜ r ≡ a - b ⌝ }
+{
+    if a < b {
+        return 0;
+    }
+    a - b
+}
+
+// How many cells a column of so many has to spare beside a text.
+pub fn spare(text: &[u8], width: usize) -> usize
+    ensures { λ r. ⌜ r ≡ width - length (blanks (now (text .entry))) ⌝ }
+{
+    let t = octets::classes::table();
+    let mut left = width;
+    let mut i: usize = 0;
+    while i < text.len() {
+        let n = cabbook_visible::shown_length(&t, text, i);
+        left = less(left, cells_at(text, i, n));
+        i += step_of(n);
+    }
+    left
 }

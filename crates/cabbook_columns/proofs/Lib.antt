@@ -1,2 +1,1 @@
--- The laws that the proofs of `cabbook_columns` cite. Assumes nothing.
-pub mod VisibleLaws
+-- No laws of its own. Assumes nothing.

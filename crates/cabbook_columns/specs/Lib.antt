@@ -1,3 +1,2 @@
 -- The definitions that the contracts of `cabbook_columns` cite. Assumes nothing.
-pub mod Visible
 pub mod Columns

@@ -1,6 +1,4 @@
 // Text in columns of a lent page.
-pub mod visible;
-
 ghost use mathlib.Core.Path.{_≡_};
 ghost use Prim.Native.Nat.{_-_};
 ghost use lib.ListN.{replicate};
@@ -18,12 +16,12 @@ pub fn put_gap(room: &mut [u8], at: usize, used: usize, width: usize) -> usize
     program_output::put_spaces(room, at, width - used)
 }
 
-// Adds a text in a column of so many characters, and a space.
+// Adds a text in a column of so many cells, and a space.
 pub fn put_column(room: &mut [u8], at: usize, text: &[u8], width: usize) -> usize
     ensures { λ r. ⌜ page r (now (room .exit)) ≡ added (atLeft (now (text .entry)) width) (page at (now (room .entry))) ⌝ }
 {
-    let text_end = visible::put_visible(room, at, text);
-    let gap_end = put_gap(room, text_end, cabbook_positions::characters(text), width);
+    let text_end = cabbook_visible::put_visible(room, at, text);
+    let gap_end = program_output::put_spaces(room, text_end, cabbook_cells::spare(text, width));
     program_output::put_spaces(room, gap_end, 1)
 }
 

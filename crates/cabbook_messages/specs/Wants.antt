@@ -14,11 +14,11 @@ isEscape k escape = pick escape (pick (eqb k kind.uri) false (leb k kind.gender)
 
 unfoldable pub kindWants : ℕ → List ℕ
 kindWants k =
-    pick (eqb k kind.text) (octets " wants text without a bare ','")
-    (pick (eqb k kind.uri) (octets " wants a URI: a letter, scheme, ':', then visible ASCII")
-    (pick (eqb k kind.name) (octets " wants five parts, split by ';'")
-    (pick (eqb k kind.address) (octets " wants seven parts, split by ';'")
-    (pick (eqb k kind.organization) (octets " wants parts split by ';', without a bare ','")
+    pick (eqb k kind.text) (octets " wants text, in which a comma is written \\,")
+    (pick (eqb k kind.uri) (octets " wants a URI, as urn:uuid:.. or tel:.. or https:..")
+    (pick (eqb k kind.name) (octets " wants five parts split by ';', in edition 2 up to seven")
+    (pick (eqb k kind.address) (octets " wants seven parts split by ';', in edition 2 up to eighteen")
+    (pick (eqb k kind.organization) (octets " wants parts split by ';', in which a comma is written \\,")
     (pick (eqb k kind.gender) (octets " wants M, F, O, N, U or nothing, then perhaps ';' and text without a bare ','")
     (pick (eqb k kind.pidmap) (octets " wants digits, ';' and a URI")
     (pick (eqb k kind.date) (octets " wants a date of the calendar, a time or both, as 19850412, 1985-04, --0412, T1022 or 19850412T1022Z")
@@ -34,4 +34,4 @@ unfoldable pub wants : ℕ → ℕ → Bool → List ℕ
 wants row k escape =
     pick (eqb row property.begin) (octets " wants VCARD")
     (pick (eqb row property.end) (octets " wants VCARD")
-    (pick (eqb row property.version) (octets " wants 4.0") (valueWants k escape)))
+    (pick (eqb row property.version) (octets " wants 4.0: this unit takes version 4.0 alone") (valueWants k escape)))

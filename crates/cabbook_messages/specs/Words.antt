@@ -18,17 +18,17 @@ message n s = record { number = n; text = s }
 
 unfoldable pub messages : List Message
 messages =
-    message refusal.tooLong "input over 16,384 octets" ∷
-    message refusal.empty "input of 0 octets" ∷
-    message refusal.loneCrOrLf "CR without LF after it, or LF without CR before it" ∷
-    message refusal.noEnd "last two octets aren't CR LF" ∷
+    message refusal.tooLong "over 16,384 octets: a book has at most 16,384" ∷
+    message refusal.empty "no octets: the file is empty" ∷
+    message refusal.loneCrOrLf "a line end that isn't CR LF" ∷
+    message refusal.noEnd "the last line doesn't end with CR LF" ∷
     message refusal.badOctet "a control character, or not UTF-8" ∷
-    message refusal.value "value breaks its kind" ∷
-    message refusal.laden "group or parameter on BEGIN, VERSION or END" ∷
-    message refusal.order "line out of order, or input ends inside a card" ∷
-    message refusal.second "second instance of a property that a card has once" ∷
-    message refusal.noFn "no FN in the card" ∷
-    message refusal.member "MEMBER without a KIND line that says group" ∷
+    message refusal.value "a value that the property doesn't take" ∷
+    message refusal.laden "BEGIN, VERSION and END take no group and no parameter" ∷
+    message refusal.order "a line out of order, or a card without END" ∷
+    message refusal.second "this property stands again, and a card has it once" ∷
+    message refusal.noFn "the card has no FN line, the name to show" ∷
+    message refusal.member "MEMBER in a card without KIND:group" ∷
     message refusal.copyRoom "copy room too small" ∷
     message refusal.recordRoom "record room too small" ∷
     message refusal.room "output room too small" ∷

@@ -24,15 +24,27 @@ fn put_kind_wants(room: &mut [u8], at: usize, kind: usize) -> usize
     ensures { λ r. ⌜ page r (now (room .exit)) ≡ added (kindWants kind) (page at (now (room .entry))) ⌝ }
 {
     match kind {
-        kind::TEXT => put_all(room, at, b" wants text without a bare ','"),
+        kind::TEXT => put_all(room, at, b" wants text, in which a comma is written \\,"),
         kind::URI => put_all(
             room,
             at,
-            b" wants a URI: a letter, scheme, ':', then visible ASCII",
+            b" wants a URI, as urn:uuid:.. or tel:.. or https:..",
         ),
-        kind::NAME => put_all(room, at, b" wants five parts, split by ';'"),
-        kind::ADDRESS => put_all(room, at, b" wants seven parts, split by ';'"),
-        kind::ORGANIZATION => put_all(room, at, b" wants parts split by ';', without a bare ','"),
+        kind::NAME => put_all(
+            room,
+            at,
+            b" wants five parts split by ';', in edition 2 up to seven",
+        ),
+        kind::ADDRESS => put_all(
+            room,
+            at,
+            b" wants seven parts split by ';', in edition 2 up to eighteen",
+        ),
+        kind::ORGANIZATION => put_all(
+            room,
+            at,
+            b" wants parts split by ';', in which a comma is written \\,",
+        ),
         kind::GENDER => put_all(
             room,
             at,
@@ -77,7 +89,7 @@ pub fn put_wants(
     match row {
         property::BEGIN => put_all(room, at, b" wants VCARD"),
         property::END => put_all(room, at, b" wants VCARD"),
-        property::VERSION => put_all(room, at, b" wants 4.0"),
+        property::VERSION => put_all(room, at, b" wants 4.0: this unit takes version 4.0 alone"),
         _ => put_value_wants(room, at, kind, after_backslash),
     }
 }

@@ -8,20 +8,20 @@ use octets::indices::wide;
 const HEAD: usize = 2;
 
 // tools/messages makes the table from here on.
-const SIZE: usize = 1369;
+const SIZE: usize = 1426;
 
 const MESSAGES: [u8; SIZE] = *b"\
-    \x01\x18input over 16,384 octets\
-    \x02\x11input of 0 octets\
-    \x03\x32CR without LF after it, or LF without CR before it\
-    \x04\x1clast two octets aren't CR LF\
+    \x01\x2dover 16,384 octets: a book has at most 16,384\
+    \x02\x1cno octets: the file is empty\
+    \x03\x1ba line end that isn't CR LF\
+    \x04\x24the last line doesn't end with CR LF\
     \x05\x21a control character, or not UTF-8\
-    \x07\x15value breaks its kind\
-    \x08\x2bgroup or parameter on BEGIN, VERSION or END\
-    \x09\x2eline out of order, or input ends inside a card\
-    \x0a\x32second instance of a property that a card has once\
-    \x0b\x11no FN in the card\
-    \x0c\x2aMEMBER without a KIND line that says group\
+    \x07\x26a value that the property doesn't take\
+    \x08\x35BEGIN, VERSION and END take no group and no parameter\
+    \x09\x2aa line out of order, or a card without END\
+    \x0a\x32this property stands again, and a card has it once\
+    \x0b\x29the card has no FN line, the name to show\
+    \x0c\x23MEMBER in a card without KIND:group\
     \x0d\x13copy room too small\
     \x0e\x15record room too small\
     \x0f\x15output room too small\

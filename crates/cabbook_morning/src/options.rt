@@ -29,14 +29,14 @@ pub(crate) fn or_usual(n: usize, usual: usize) -> usize
     n
 }
 
-// How many characters argument i has.
+// How many cells argument i takes, up to the widest.
 fn width_of(i: usize) -> usize {
     let mut path = io::buffer();
     let n = os::arg(i, &mut path);
-    cabbook_positions::characters(&path[..n])
+    WIDEST - cabbook_cells::spare(&path[..n], WIDEST)
 }
 
-// How wide the column of names is: the most characters that a file's name has from argument `first` on, between the narrowest and the widest.
+// How wide the column of names is: the most cells that a file's name takes from argument `first` on, between the narrowest and the widest.
 pub(crate) fn widest(first: usize, dashes: usize, count: usize) -> usize
     ensures { λ r. ⌜ (narrowestColumn ≤ r) × (r ≤ widestColumn) ⌝ }
 {

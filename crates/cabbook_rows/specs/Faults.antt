@@ -15,6 +15,7 @@ use Rattle.line_parser.specs.declared.at_fault.AtFault.{AtFault}
 use Rattle.line_parser.specs.declared.at_fault.QuoteFault.{QuoteFault}
 use Rattle.line_parser.specs.declared.at_fault.QuoteFault.the-variants.{LeftOpen, Followed, InBare}
 use Rattle.cabbook_messages.specs.Words.{wordsOf}
+use Rattle.cabbook_reasons.specs.Reasons.{reason}
 use Rattle.cabbook_rows.specs.Under.{nameMost, cut, offending}
 use Rattle.cabbook_rows.specs.Values.{wantedWords}
 
@@ -60,7 +61,7 @@ isFault number = pick (ltb number refusal.name) false (leb number refusal.noColo
 abbrev pub rawWords : ℕ → List ℕ → List ℕ
 rawWords number r = pick (ltb limit.readRoom (length r)) (wordsOf number) (faultWords number (unfolded r))
 
--- what is wrong with the line in which the place lies, what its value should be, or the words of the refusal
+-- what is wrong with the line in which the place lies, what its value should be, or by what stands there
 abbrev pub why : List ℕ → ℕ → ℕ → List ℕ
 why s number place =
-    pick (isFault number) (rawWords number (offending s number place)) (pick (eqb number refusal.value) (wantedWords s place) (wordsOf number))
+    pick (isFault number) (rawWords number (offending s number place)) (pick (eqb number refusal.value) (wantedWords s place) (reason s number place))

@@ -3,4 +3,3 @@ pub mod Rows
 pub mod Under
 pub mod Values
 pub mod Faults
-pub mod Options

@@ -136,8 +136,8 @@ fn put_raw(room: &mut [u8], at: usize, line: &[u8], number: u32) -> usize
     put_fault(room, at, part(&text, 0, n), number)
 }
 
-// Adds why octets are refused: what is wrong with the line in which the place lies, what its value should be, or the words of the refusal.
-pub(crate) fn put_why(room: &mut [u8], at: usize, s: &[u8], number: u32, place: usize) -> usize
+// Adds why octets are refused: what is wrong with the line in which the place lies, what its value should be, or by what stands there.
+pub fn put_why(room: &mut [u8], at: usize, s: &[u8], number: u32, place: usize) -> usize
     ensures { λ r. ⌜ page r (now (room .exit)) ≡ added (why (now (s .entry)) number place) (page at (now (room .entry))) ⌝ }
 {
     if is_fault(number) {
@@ -146,5 +146,5 @@ pub(crate) fn put_why(room: &mut [u8], at: usize, s: &[u8], number: u32, place: 
     if number == refusal::VALUE {
         return values::put_wanted(room, at, s, place);
     }
-    cabbook_messages::words::put_words(room, at, number)
+    cabbook_reasons::put_reason(room, at, s, number, place)
 }

@@ -2,8 +2,8 @@
 ghost use lib.ListN.{length};
 ghost use Prim.Native.Nat.{_≤_};
 use crate::dates;
-use cabbook_columns::visible::put_visible;
 use cabbook_tables::fields;
+use cabbook_visible::put_visible;
 use label_carets::Rule;
 use line_parameters::First;
 use numbers::kind;

@@ -27,35 +27,35 @@ loop-holds : tie.Need-loop-holds Inv-loop μ-loop
 loop-holds c =
     (refl, omega arith, refl)
 
-unit-length-requires : tie.Need-unit-length-requires Inv-loop μ-loop
-unit-length-requires c κs =
+shown-length-requires : tie.Need-shown-length-requires Inv-loop μ-loop
+shown-length-requires c κs =
     (c .before .before .before .table .ensures, c .before .loop-test .taken)
 
 put-blank-requires : tie.Need-put-blank-requires Inv-loop μ-loop
 put-blank-requires c κs =
-    (c .before .before .before .loop-test .taken, c .before .unit-length .ensures)
+    (c .before .before .before .loop-test .taken, c .before .shown-length .ensures)
 
 step-of-requires : tie.Need-step-of-requires Inv-loop μ-loop
 step-of-requires c κs = search needs
 
 add-i : tie.Need-add-i Inv-loop μ-loop
 add-i c =
-    let at-unit-length = c .before .before .before .before .before in
-    omega (arith, step-inside (c .before .before .before .before .before .before .before .before .before .before .before .before .args .text .now) (c .before .before .before .before .before .before .before .before .loop .i) (at-unit-length .unit-length .result) (c .before .before .before .before .before .before .before .loop-test .taken) (at-unit-length .unit-length .ensures))
+    let at-shown-length = c .before .before .before .before .before in
+    omega (arith, step-inside (c .before .before .before .before .before .before .before .before .before .before .before .before .args .text .now) (c .before .before .before .before .before .before .before .before .loop .i) (at-shown-length .shown-length .result) (c .before .before .before .before .before .before .before .loop-test .taken) (at-shown-length .shown-length .ensures))
 
 loop-less : tie.Need-loop-less Inv-loop μ-loop
 loop-less c =
-    let at-unit-length = c .before .before .before .before .before in
-    omega (arith, step-inside (c .before .before .before .before .before .before .before .before .before .before .before .before .args .text .now) (c .before .before .before .before .before .before .before .before .loop .i) (at-unit-length .unit-length .result) (c .before .before .before .before .before .before .before .loop-test .taken) (at-unit-length .unit-length .ensures), step-some (at-unit-length .unit-length .result))
+    let at-shown-length = c .before .before .before .before .before in
+    omega (arith, step-inside (c .before .before .before .before .before .before .before .before .before .before .before .before .args .text .now) (c .before .before .before .before .before .before .before .before .loop .i) (at-shown-length .shown-length .result) (c .before .before .before .before .before .before .before .loop-test .taken) (at-shown-length .shown-length .ensures), step-some (at-shown-length .shown-length .result))
 
 loop-again : tie.Need-loop-again Inv-loop μ-loop
 loop-again c =
-    let at-unit-length = c .before .before .before .before .before in
+    let at-shown-length = c .before .before .before .before .before in
     let at-loop-test = c .before .before .before .before .before .before .before in
     let l = c .before .before .before .before .before .before .before .before .loop in
     let a = c .before .before .before .before .before .before .before .before .before .before .before .before .args in
     let t = a .text .now in
-    (search needs, rw (c .step-of .ensures) (step-inside t (l .i) (at-unit-length .unit-length .result) (at-loop-test .loop-test .taken) (at-unit-length .unit-length .ensures)), rw (c .step-of .ensures) (added-piece (blanks (drop (l .i) t)) (blank (drop (l .i) t)) (blanks (drop (l .i + stepOf (at-unit-length .unit-length .result)) t)) (page (l .next) (l .room)) _ (blanks-step t (l .i) (at-unit-length .unit-length .result) (at-loop-test .loop-test .taken) (at-unit-length .unit-length .ensures)) (c .before .before .before .put-blank .ensures) ∙ l .inv .2))
+    (search needs, rw (c .step-of .ensures) (step-inside t (l .i) (at-shown-length .shown-length .result) (at-loop-test .loop-test .taken) (at-shown-length .shown-length .ensures)), rw (c .step-of .ensures) (added-piece (blanks (drop (l .i) t)) (blank (drop (l .i) t)) (blanks (drop (l .i + stepOf (at-shown-length .shown-length .result)) t)) (page (l .next) (l .room)) _ (blanks-step t (l .i) (at-shown-length .shown-length .result) (at-loop-test .loop-test .taken) (at-shown-length .shown-length .ensures)) (c .before .before .before .put-blank .ensures) ∙ l .inv .2))
 
 same-length : tie.Need-same-length Inv-loop μ-loop
 same-length c =
@@ -75,7 +75,7 @@ put-blanks-spec =
     μ-loop
     table-requires
     loop-holds
-    unit-length-requires
+    shown-length-requires
     put-blank-requires
     step-of-requires
     add-i

@@ -31,15 +31,15 @@ returns-2 : tie.Need-returns-2
 returns-2 c =
     rw (sym (c .before .before .before .before .before .before .is-fault .ensures) ∙ c .before .before .before .before .before .if1 .left, eq-eqb (c .before .before .before .before .before .before .before .before .before .args .number) 7 (c .before .before .before .before .if2 .taken)) (c .before .before .put-wanted .ensures)
 
-put-words-requires : tie.Need-put-words-requires
-put-words-requires c κs = search needs
+put-reason-requires : tie.Need-put-reason-requires
+put-reason-requires c κs = search needs
 
 same-length-3 : tie.Need-same-length-3
 same-length-3 c = search needs
 
 returns-3 : tie.Need-returns-3
 returns-3 c =
-    rw (sym (c .before .before .before .before .before .before .is-fault .ensures) ∙ c .before .before .before .before .before .if1 .left, ne-eqb (c .before .before .before .before .before .before .before .before .before .args .number) 7 (c .before .before .before .before .if2 .left)) (c .before .before .put-words .ensures)
+    rw (sym (c .before .before .before .before .before .before .is-fault .ensures) ∙ c .before .before .before .before .before .if1 .left, ne-eqb (c .before .before .before .before .before .before .before .before .before .args .number) 7 (c .before .before .before .before .if2 .left)) (c .before .before .put-reason .ensures)
 
 pub put-why-spec : {M : Type 1} → statement M
 put-why-spec =
@@ -53,6 +53,6 @@ put-why-spec =
     put-wanted-requires
     same-length-2
     returns-2
-    put-words-requires
+    put-reason-requires
     same-length-3
     returns-3)

@@ -1,0 +1,2 @@
+-- The definitions that the contracts of `cabbook_reasons` cite. Assumes nothing.
+pub mod Reasons
