@@ -178,9 +178,12 @@ pub fn put_new(s: &[u8], out: &mut [u8]) -> usize
 
 // Writes a GEO value of version 4 as one of version 3 to the start of `out`, and answers how many octets that are.
 pub fn put_old(s: &[u8], out: &mut [u8]) -> usize
-    requires { ⌜ (4 ≤ length (now s)) × (length (now s) ≤ length (now out)) ⌝ }
+    requires { ⌜ length (now s) ≤ length (now out) ⌝ }
     ensures { λ r. ⌜ (r ≡ length (madeOld (now (s .entry)))) × (now (out .exit) ≡ overlay (madeOld (now (s .entry))) (now (out .entry))) ⌝ }
 {
+    if s.len() < 4 {
+        return 0;
+    }
     put_swapped(&s[4..], b',', b';', out);
     s.len() - 4
 }
