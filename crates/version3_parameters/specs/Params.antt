@@ -1,15 +1,16 @@
 -- The parameters of a line that is taken in or given out. In: TYPE values pref, in any case and without their quotes, go, and a TYPE so left
 -- with none too; then `;PREF=1` comes last, once. Out: PREF goes, and `;TYPE=pref` comes last. All else stays. Assumes nothing.
 use Prim.Native.Nat.{ℕ, _+_}
-use mathlib.Core.Bool.{Bool, true, false, _&&_, _||_, not}
+use mathlib.Core.Bool.{Bool, true, false, _&&_, _||_}
 use mathlib.Core.List.{List, [], _∷_, _++_}
 use lib.Dec.{eqb, ltb}
+use lib.ListN.{length, getD}
 use Rattle.octets.specs.Ascii as ascii
 use Rattle.octets.specs.Ascii.{octets}
 use Rattle.octets.specs.Pick.{pick}
 use Rattle.octets.specs.Classes.{bit}
 use Rattle.octets.specs.Cases.{same}
-use Rattle.line_parser.specs.Grammar.{Value, plain, inQuotes, Param, led, paramText}
+use Rattle.line_parser.specs.Grammar.{Value, plain, Param, led, paramText}
 use Rattle.line_parameters.specs.First.{valueOctets}
 use Rattle.version3_parameters.specs.declared.Way.{Way}
 use Rattle.version3_parameters.specs.declared.Way.the-variants.{Inward, Outward}
@@ -32,10 +33,10 @@ unfoldable pub kept : List Value → List Value
 kept [] = []
 kept (v ∷ vs) = pick (isPref v) (kept vs) (v ∷ kept vs)
 
--- how many go
-unfoldable pub dropped : List Value → ℕ
-dropped [] = 0
-dropped (v ∷ vs) = bit (isPref v) 1 + dropped vs
+-- some value goes
+unfoldable pub anyPref : List Value → Bool
+anyPref [] = false
+anyPref (v ∷ vs) = isPref v || anyPref vs
 
 abbrev pub valuesOf : Param → List Value
 valuesOf p = p .first ∷ p .more
@@ -56,18 +57,18 @@ unfoldable pub changed : Way → Param → List Param
 changed Inward p = pick (isType p) (withValues (p .name) (kept (valuesOf p))) (p ∷ [])
 changed Outward p = pick (isPrefParam p) [] (p ∷ [])
 
--- how often it says that its line is preferred
-unfoldable pub gone : Way → Param → ℕ
-gone Inward p = pick (isType p) (dropped (valuesOf p)) 0
-gone Outward p = pick (isPrefParam p) 1 0
+-- whether it says that its line is preferred
+unfoldable pub prefers : Way → Param → Bool
+prefers Inward p = isType p && anyPref (valuesOf p)
+prefers Outward p = isPrefParam p
 
 unfoldable pub changedAll : Way → List Param → List Param
 changedAll w [] = []
 changedAll w (p ∷ ps) = changed w p ++ changedAll w ps
 
-unfoldable pub goneAll : Way → List Param → ℕ
-goneAll w [] = 0
-goneAll w (p ∷ ps) = gone w p + goneAll w ps
+unfoldable pub anyPrefers : Way → List Param → Bool
+anyPrefers w [] = false
+anyPrefers w (p ∷ ps) = prefers w p || anyPrefers w ps
 
 -- the parameter that says so in the other version
 abbrev pub mark : Way → Param
@@ -75,23 +76,24 @@ mark Inward = record { name = prefName; first = plain (octets "1"); more = [] }
 mark Outward = record { name = typeName; first = plain prefText; more = [] }
 
 unfoldable pub newParams : Way → List Param → List Param
-newParams w ps = changedAll w ps ++ pick (eqb (goneAll w ps) 0) [] (mark w ∷ [])
+newParams w ps = changedAll w ps ++ pick (anyPrefers w ps) (mark w ∷ []) []
 
 -- as they are written
 unfoldable pub paramsText : List Param → List ℕ
 paramsText ps = led ascii.semicolon paramText ps
 
--- a PREF that may be there: in none, out one with the single value 1, quotes off
-abbrev pub isOne : Param → Bool
-isOne p = pick (noMore (p .more)) (same (valueOctets (p .first)) (octets "1")) false
-  where
-    noMore : List Value → Bool
-    noMore [] = true
-    noMore (v ∷ vs) = false
+-- the octet 1 alone
+unfoldable pub oneText : List ℕ → Bool
+oneText l = eqb (length l) 1 && eqb (getD l 0 0) 49
 
+abbrev pub oneValue : List Value → Value → Bool
+oneValue [] v = oneText (valueOctets v)
+oneValue (u ∷ us) v = false
+
+-- a PREF that may be there: in none, out one with the single value 1, quotes off
 abbrev pub lawful : Way → Param → Bool
 lawful Inward p = false
-lawful Outward p = isOne p
+lawful Outward p = oneValue (p .more) (p .first)
 
 -- each PREF is lawful
 unfoldable pub allLawful : Way → List Param → Bool

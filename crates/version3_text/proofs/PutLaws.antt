@@ -1,10 +1,10 @@
 -- Two pieces written one after the other to the start of room, and the rest of a list that is lent from a place on. Assumes nothing.
 use mathlib.Core.Path.{_≡_, refl, sym, ap, _∙_}
-use mathlib.Core.List.{List, [], _++_, append-nil, append-assoc}
+use mathlib.Core.List.{List, [], _∷_, _++_, append-nil, append-assoc}
 use Prim.Native.Nat.{ℕ, _+_, _-_, _≤_}
 use native.Mathlib.Nat.{zero-add}
 use native.Mathlib.Omega.{arith}
-use lib.ListN.{length, take, drop, length-append, length-drop}
+use lib.ListN.{length, take, drop, set, length-append, length-drop}
 use lib.Seq.{take-all}
 use borrow.Rule.Slice.PartMut.{putMid}
 use Rattle.octets.specs.Room.{overlay}
@@ -30,3 +30,8 @@ module _ (d₀ d₁ x y p : List ℕ) (w : ℕ) (e : w ≡ length x) (first : d�
   -- y was written to the start of the tail behind x
   pub two-pieces : p ≡ overlay y (take (length d₁ - w) (drop w d₁)) → putMid w (length d₁ - w) d₁ p ≡ overlay (x ++ y) d₀
   two-pieces q = rw e (all-written (put-part begun y [] p (sym (append-nil y)) (omega (arith, same)) (rw e at q)) refl)
+
+-- an octet written to the start of room
+pub lead-first : (a : ℕ) (d : List ℕ) → 1 ≤ length d → set d 0 a ≡ overlay (a ∷ []) d
+lead-first a [] h = absurd (omega arith)
+lead-first a (x ∷ xs) h = refl
