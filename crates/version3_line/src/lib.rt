@@ -1,4 +1,14 @@
 // A line of one version written as a line of the other: its parameters and its value.
+ghost use mathlib.Core.Path.{_≡_};
+ghost use Prim.Native.Nat.{_+_, _≤_};
+ghost use lib.ListN.{length};
+ghost use Rattle.octets.specs.Room.{overlay};
+ghost use Rattle.octets.specs.Classes.{Classes};
+ghost use Rattle.line_parser.specs.Rule.{parseLine};
+ghost use Rattle.property_table.specs.declared.Edition.the-variants.{First};
+ghost use Rattle.card_line.specs.Parts.{linePartsOf};
+ghost use Rattle.card_line.specs.declared.LineParts.the-variants.{Line as line};
+ghost use Rattle.version3_line.specs.Lines.{needed, parted, anewBy, lacking, filledBy, versionText, geoBy, textBy, newValue, writtenBy};
 use card_line::Parts;
 use numbers::kind;
 use numbers::property;
@@ -6,24 +16,36 @@ use octets::classes::ClassTable;
 use version3_parameters::Way;
 
 // How many bare semicolons a value of the kind has at least.
-fn needed(kind: usize) -> usize {
-    match kind {
-        kind::NAME => 4,
-        kind::ADDRESS => 6,
-        _ => 0,
+fn needed(kind: usize) -> usize
+    ensures { λ r. ⌜ r ≡ needed kind ⌝ }
+{
+    if kind == kind::NAME {
+        return 4;
     }
+    if kind == kind::ADDRESS {
+        return 6;
+    }
+    0
 }
 
 // Whether the texts of a value of the kind are parted by semicolons.
-fn is_parted(kind: usize) -> bool {
-    match kind {
-        kind::NAME | kind::ADDRESS | kind::ORGANIZATION => true,
-        _ => false,
+fn is_parted(kind: usize) -> bool
+    ensures { λ r. ⌜ r ≡ parted kind ⌝ }
+{
+    if kind == kind::NAME {
+        return true;
     }
+    if kind == kind::ADDRESS {
+        return true;
+    }
+    kind == kind::ORGANIZATION
 }
 
 // Writes a value of the kind, its texts escaped anew, to the start of d, and answers how many octets that are.
-fn put_text(kind: usize, value: &[u8], d: &mut [u8]) -> usize {
+fn put_text(kind: usize, value: &[u8], d: &mut [u8]) -> usize
+    requires { ⌜ length (anewBy kind (now value)) ≤ length (now d) ⌝ }
+    ensures { λ r. ⌜ (r ≡ length (anewBy kind (now (value .entry)))) × (now (d .exit) ≡ overlay (anewBy kind (now (value .entry))) (now (d .entry))) ⌝ }
+{
     if kind == kind::TEXT {
         return version3_text::renew(true, value, d);
     }
@@ -35,7 +57,9 @@ fn put_text(kind: usize, value: &[u8], d: &mut [u8]) -> usize {
 }
 
 // How many semicolons a value lacks of those that its kind has.
-fn lacking(kind: usize, value: &[u8]) -> usize {
+fn count_lacking(kind: usize, value: &[u8]) -> usize
+    ensures { λ r. ⌜ r ≡ lacking kind (now (value .entry)) ⌝ }
+{
     let most = needed(kind);
     if most == 0 {
         return 0;
@@ -48,24 +72,38 @@ fn lacking(kind: usize, value: &[u8]) -> usize {
 }
 
 // Writes a value, its texts escaped anew and its components filled up with empty ones.
-fn put_filled(kind: usize, value: &[u8], d: &mut [u8]) -> usize {
+fn put_filled(kind: usize, value: &[u8], d: &mut [u8]) -> usize
+    requires { ⌜ length (filledBy kind (now value)) ≤ length (now d) ⌝ }
+    ensures { λ r. ⌜ (r ≡ length (filledBy kind (now (value .entry)))) × (now (d .exit) ≡ overlay (filledBy kind (now (value .entry))) (now (d .entry))) ⌝ }
+{
     let n = put_text(kind, value, d);
-    let more = lacking(kind, value);
+    let more = count_lacking(kind, value);
     version3_text::put_semicolons(more, &mut d[n..]);
     n + more
 }
 
 // Writes the number of the other version.
-fn put_version(way: Way, d: &mut [u8]) -> usize {
+fn put_version(way: Way, d: &mut [u8]) -> usize
+    requires { ⌜ 3 ≤ length (now d) ⌝ }
+    ensures { λ r. ⌜ (r ≡ length (versionText way)) × (now (d .exit) ≡ overlay (versionText way) (now (d .entry))) ⌝ }
+{
     match way {
-        Way::Inward => octets::copying::copy_in(d, b"4.0"),
-        Way::Outward => octets::copying::copy_in(d, b"3.0"),
+        Way::Inward => {
+            octets::copying::copy_in(d, b"4.0");
+            3
+        }
+        Way::Outward => {
+            octets::copying::copy_in(d, b"3.0");
+            3
+        }
     }
-    3
 }
 
 // Writes a GEO value of the other version.
-fn put_geo(way: Way, value: &[u8], d: &mut [u8]) -> usize {
+fn put_geo(way: Way, value: &[u8], d: &mut [u8]) -> usize
+    requires { ⌜ length (now value) + 4 ≤ length (now d) ⌝ }
+    ensures { λ r. ⌜ (r ≡ length (geoBy way (now (value .entry)))) × (now (d .exit) ≡ overlay (geoBy way (now (value .entry))) (now (d .entry))) ⌝ }
+{
     match way {
         Way::Inward => version3_geo::put_new(value, d),
         Way::Outward => version3_geo::put_old(value, d),
@@ -73,7 +111,10 @@ fn put_geo(way: Way, value: &[u8], d: &mut [u8]) -> usize {
 }
 
 // Writes a value of the row and the kind as the other version has it to the start of d, and answers how many octets that are.
-fn put_value(way: Way, row: usize, kind: usize, value: &[u8], d: &mut [u8]) -> usize {
+fn put_value(way: Way, row: usize, kind: usize, value: &[u8], d: &mut [u8]) -> usize
+    requires { ⌜ (length (newValue way row kind (now value)) ≤ length (now d)) × (length (now value) + 4 ≤ length (now d)) ⌝ }
+    ensures { λ r. ⌜ (r ≡ length (newValue way row kind (now (value .entry)))) × (now (d .exit) ≡ overlay (newValue way row kind (now (value .entry))) (now (d .entry))) ⌝ }
+{
     if row == property::VERSION {
         return put_version(way, d);
     }
@@ -87,7 +128,12 @@ fn put_value(way: Way, row: usize, kind: usize, value: &[u8], d: &mut [u8]) -> u
 }
 
 // Writes the line s with the parts x as the other version has it to the start of d, and answers how many octets that are.
-pub fn put_line(way: Way, t: &ClassTable, s: &[u8], x: Parts, d: &mut [u8]) -> usize {
+pub fn put_line(way: Way, t: &ClassTable, s: &[u8], x: Parts, d: &mut [u8]) -> usize
+    requires { ⌜ Classes (now t) ⌝ }
+    requires { ⌜ line x ≡ linePartsOf First (now s) ⌝ }
+    requires { ⌜ length (writtenBy way (parseLine (now s))) + length (now s) + 4 ≤ length (now d) ⌝ }
+    ensures { λ r. ⌜ (r ≡ length (writtenBy way (parseLine (now (s .entry))))) × (now (d .exit) ≡ overlay (writtenBy way (parseLine (now (s .entry)))) (now (d .entry))) ⌝ }
+{
     let name_end = x.name_end;
     octets::copying::copy_in(d, &s[..name_end]);
     let n = version3_parameters::put_params(way, t, s, name_end, &mut d[name_end..]);
