@@ -1,7 +1,27 @@
 // The judgement of a card that is taken in from version 3 or given out to it, line by line: 5, 40 to 43, 9, 8, and 50 or 51.
+ghost use mathlib.Core.Path.{_≡_};
+ghost use mathlib.Core.Bool.{false, not, _&&_, _||_};
+ghost use lib.Dec.{eqb};
+ghost use Prim.Native.Nat.{_+_, _≤_, _<_};
+ghost use lib.ListN.{length, drop};
+ghost use Rattle.numbers.specs.Kinds as kinds;
+ghost use Rattle.numbers.specs.Limits as limit;
+ghost use Rattle.numbers.specs.Properties as property;
+ghost use Rattle.octets.specs.Pick.{pick};
+ghost use Rattle.octets.specs.Cases.{same};
+ghost use Rattle.octets.specs.Classes.{Classes};
+ghost use Rattle.line_folds.specs.Folds.{unfolded};
+ghost use Rattle.line_folds.specs.Logical.{rawLines};
+ghost use Rattle.property_table.specs.declared.Edition.the-variants.{First};
+ghost use Rattle.value_automaton.specs.States.{Scanner};
+ghost use Rattle.card_line.specs.Parts.{Accepted, linePartsOf};
+ghost use Rattle.card_line.specs.declared.LineParts.the-variants.{Line as line};
+ghost use Rattle.card_judge.specs.Judge.{Tables, laden};
+ghost use Rattle.version3_geo.specs.Floats.{oldGeo};
+ghost use Rattle.version3_parameters.specs.Places.{paramsOf};
+ghost use Rattle.version3_judge.specs.Judge.{inside, ended, freshSet, numberOf, inPlace, common, ofKind, short, fills, goesOver, versionRead, whole, frames, goes, good, noted, judgeParts, judgeLine, settled, judgeLines};
 use card_line::LineParts;
 use card_line::Parts;
-use line_folds::places;
 use numbers::kind;
 use numbers::limit;
 use numbers::property;
@@ -41,7 +61,9 @@ pub enum Step {
 }
 
 // Before the first line.
-pub fn fresh() -> Set {
+fn fresh() -> Set
+    ensures { λ r. ⌜ r ≡ freshSet ⌝ }
+{
     Set {
         phase: BEFORE_BEGIN,
         has_fn: false,
@@ -51,7 +73,9 @@ pub fn fresh() -> Set {
 }
 
 // The number of a line that is not taken in, or not given out.
-fn number_of(way: Way) -> u32 {
+fn number_of(way: Way) -> u32
+    ensures { λ r. ⌜ r ≡ numberOf way ⌝ }
+{
     match way {
         Way::Inward => refusal::NOT_TAKEN_IN,
         Way::Outward => refusal::NOT_GIVEN_OUT,
@@ -59,7 +83,9 @@ fn number_of(way: Way) -> u32 {
 }
 
 // Whether a line of the row may stand here: BEGIN first, no other BEGIN inside, and nothing but BEGIN after END.
-fn in_order(phase: u32, row: usize) -> bool {
+fn in_order(phase: u32, row: usize) -> bool
+    ensures { λ r. ⌜ r ≡ inPlace phase row ⌝ }
+{
     if phase == INSIDE {
         return row != property::BEGIN;
     }
@@ -67,7 +93,9 @@ fn in_order(phase: u32, row: usize) -> bool {
 }
 
 // Whether a framing line has a group or a parameter.
-fn is_laden(x: Parts) -> bool {
+fn is_laden(x: Parts) -> bool
+    ensures { λ r. ⌜ r ≡ laden (x .row) (x .«group_length») (x .«param_count») ⌝ }
+{
     if !property_table::is_framing(x.row) {
         return false;
     }
@@ -78,71 +106,127 @@ fn is_laden(x: Parts) -> bool {
 }
 
 // Whether lines of the row are in cards of both versions.
-fn is_common(row: usize) -> bool {
-    match row {
-        property::FN | property::N | property::ADR | property::TEL | property::EMAIL => true,
-        property::GEO | property::TITLE | property::ROLE | property::ORG => true,
-        property::NOTE | property::URL => true,
-        _ => false,
+fn is_common(row: usize) -> bool
+    ensures { λ r. ⌜ r ≡ common row ⌝ }
+{
+    if row == property::TEL {
+        return true;
     }
+    if row == property::EMAIL {
+        return true;
+    }
+    if row == property::FN {
+        return true;
+    }
+    if row == property::N {
+        return true;
+    }
+    if row == property::ADR {
+        return true;
+    }
+    if row == property::NOTE {
+        return true;
+    }
+    if row == property::TITLE {
+        return true;
+    }
+    if row == property::ROLE {
+        return true;
+    }
+    if row == property::ORG {
+        return true;
+    }
+    if row == property::GEO {
+        return true;
+    }
+    row == property::URL
 }
 
 // Whether a value is of the kind.
-fn is_of_kind(steps: &Transitions, kind: usize, value: &[u8]) -> bool {
-    match value_automaton::value_fault(steps, Edition::First, kind, value) {
+fn is_of_kind(steps: &Transitions, kind: usize, value: &[u8]) -> bool
+    requires { ⌜ Scanner (now steps) ⌝ }
+    requires { ⌜ kind < kinds.count ⌝ }
+    ensures { λ r. ⌜ r ≡ ofKind kind (now (value .entry)) ⌝ }
+{
+    let fault = value_automaton::value_fault(steps, Edition::First, kind, value);
+    match fault {
         Fault::Fits => true,
         Fault::Breaks(octet) => false,
     }
 }
 
+// Whether a value is lists of texts with fewer than so many bare semicolons.
+fn is_short(steps: &Transitions, most: usize, value: &[u8]) -> bool
+    requires { ⌜ Scanner (now steps) ⌝ }
+    ensures { λ r. ⌜ r ≡ short most (now (value .entry)) ⌝ }
+{
+    if !is_of_kind(steps, kind::TEXTS, value) {
+        return false;
+    }
+    version3_text::count_semicolons(value) < most
+}
+
 // Whether a value of version 3 is of its kind once its components are filled up.
-fn fills(steps: &Transitions, kind: usize, value: &[u8]) -> bool {
+fn does_fill(steps: &Transitions, kind: usize, value: &[u8]) -> bool
+    requires { ⌜ Scanner (now steps) ⌝ }
+    requires { ⌜ kind < kinds.count ⌝ }
+    ensures { λ r. ⌜ r ≡ fills kind (now (value .entry)) ⌝ }
+{
     if kind == kind::NAME {
-        if !is_of_kind(steps, kind::TEXTS, value) {
-            return false;
-        }
-        return version3_text::count_semicolons(value) < 5;
+        return is_short(steps, 5, value);
     }
     if kind == kind::ADDRESS {
-        if !is_of_kind(steps, kind::TEXTS, value) {
-            return false;
-        }
-        return version3_text::count_semicolons(value) < 7;
+        return is_short(steps, 7, value);
     }
     is_of_kind(steps, kind, value)
 }
 
+// Whether a GEO value of version 3 goes over: as one of version 4 it would be no text.
+fn is_old_geo(kind: usize, value: &[u8]) -> bool
+    ensures { λ r. ⌜ r ≡ (not (eqb kind kinds.text) && oldGeo (now (value .entry))) ⌝ }
+{
+    if kind == kind::TEXT {
+        return false;
+    }
+    version3_geo::is_old(value)
+}
+
 // Whether the value of a line goes over to the other version.
-fn goes_over(way: Way, steps: &Transitions, row: usize, kind: usize, value: &[u8]) -> bool {
+fn does_go_over(way: Way, steps: &Transitions, row: usize, kind: usize, value: &[u8]) -> bool
+    requires { ⌜ Scanner (now steps) ⌝ }
+    requires { ⌜ kind < kinds.count ⌝ }
+    ensures { λ r. ⌜ r ≡ goesOver way row kind (now (value .entry)) ⌝ }
+{
     match way {
         Way::Inward => {
-            if row != property::GEO {
-                return fills(steps, kind, value);
+            if row == property::GEO {
+                return is_old_geo(kind, value);
             }
-            if kind == kind::TEXT {
-                return false;
-            }
-            version3_geo::is_old(value)
+            does_fill(steps, kind, value)
         }
         Way::Outward => {
-            if row != property::GEO {
-                return true;
+            if row == property::GEO {
+                return version3_geo::is_new(value);
             }
-            version3_geo::is_new(value)
+            true
         }
     }
 }
 
 // Whether a value is the number of the version that is read.
-fn is_version(way: Way, value: &[u8]) -> bool {
+fn is_version(way: Way, value: &[u8]) -> bool
+    ensures { λ r. ⌜ r ≡ same (now (value .entry)) (versionRead way) ⌝ }
+{
     match way {
         Way::Inward => same_name(value, b"3.0"),
         Way::Outward => same_name(value, b"4.0"),
     }
 }
 
-// Whether a card that ends has what both versions ask for.
-fn is_whole(c: Set) -> bool {
+// Whether FN, N and VERSION have come.
+fn is_whole(c: Set) -> bool
+    ensures { λ r. ⌜ r ≡ whole c ⌝ }
+{
     if !c.has_fn {
         return false;
     }
@@ -153,7 +237,9 @@ fn is_whole(c: Set) -> bool {
 }
 
 // Whether a framing line is the one that may stand here.
-fn frames(way: Way, c: Set, row: usize, value: &[u8]) -> bool {
+fn does_frame(way: Way, c: Set, row: usize, value: &[u8]) -> bool
+    ensures { λ r. ⌜ r ≡ frames way c row (now (value .entry)) ⌝ }
+{
     if row == property::VERSION {
         if c.has_version {
             return false;
@@ -169,8 +255,18 @@ fn frames(way: Way, c: Set, row: usize, value: &[u8]) -> bool {
     is_whole(c)
 }
 
-// Whether a line of the row that is common to both versions may stand here and goes over.
-fn is_fit(
+// Whether a line of N is a second one.
+fn is_second(c: Set, row: usize) -> bool
+    ensures { λ r. ⌜ r ≡ (eqb row property.n && c .«has_n») ⌝ }
+{
+    if row != property::N {
+        return false;
+    }
+    c.has_n
+}
+
+// Whether a line that frames nothing may stand here and goes over.
+fn does_go(
     way: Way,
     t: &ClassTable,
     steps: &Transitions,
@@ -178,46 +274,22 @@ fn is_fit(
     s: &[u8],
     x: Parts,
     value: &[u8],
-) -> bool {
+) -> bool
+    requires { ⌜ Classes (now t) × Scanner (now steps) ⌝ }
+    requires { ⌜ Accepted (now s) (x .«name_end») × (x .kind < kinds.count) ⌝ }
+    ensures { λ r. ⌜ r ≡ goes way c (x .row) (x .kind) (paramsOf (now (s .entry))) (now (value .entry)) ⌝ }
+{
     if !is_common(x.row) {
         return false;
     }
-    if x.row == property::N {
-        if c.has_n {
-            return false;
-        }
+    if is_second(c, x.row) {
+        return false;
     }
     let name_end = x.name_end;
     if !version3_parameters::do_prefs_fit(way, t, s, name_end) {
         return false;
     }
-    goes_over(way, steps, x.row, x.kind, value)
-}
-
-// Whether one of two holds.
-fn either(a: bool, b: bool) -> bool {
-    if a {
-        return true;
-    }
-    b
-}
-
-// The phase after a line of the row that may stand here.
-fn phase_after(row: usize) -> u32 {
-    if row == property::END {
-        return ENDED;
-    }
-    INSIDE
-}
-
-// The card after a line of the row that may stand here.
-fn note(c: Set, row: usize) -> Set {
-    Set {
-        phase: phase_after(row),
-        has_fn: either(c.has_fn, row == property::FN),
-        has_n: either(c.has_n, row == property::N),
-        has_version: either(c.has_version, row == property::VERSION),
-    }
+    does_go_over(way, steps, x.row, x.kind, value)
 }
 
 // Whether a line that is in order and not laden may stand here.
@@ -229,11 +301,47 @@ fn is_good(
     s: &[u8],
     x: Parts,
     value: &[u8],
-) -> bool {
+) -> bool
+    requires { ⌜ Classes (now t) × Scanner (now steps) ⌝ }
+    requires { ⌜ Accepted (now s) (x .«name_end») × (x .kind < kinds.count) ⌝ }
+    ensures { λ r. ⌜ r ≡ good way c (x .row) (x .kind) (paramsOf (now (s .entry))) (now (value .entry)) ⌝ }
+{
     if property_table::is_framing(x.row) {
-        return frames(way, c, x.row, value);
+        return does_frame(way, c, x.row, value);
     }
-    is_fit(way, t, steps, c, s, x, value)
+    does_go(way, t, steps, c, s, x, value)
+}
+
+// Whether one of two holds.
+fn either(a: bool, b: bool) -> bool
+    ensures { λ r. ⌜ r ≡ (a || b) ⌝ }
+{
+    if a {
+        return true;
+    }
+    b
+}
+
+// The phase after a line of the row that may stand here.
+fn phase_after(row: usize) -> u32
+    ensures { λ r. ⌜ r ≡ pick (eqb row property.end) ended inside ⌝ }
+{
+    if row == property::END {
+        return ENDED;
+    }
+    INSIDE
+}
+
+// The card after a line of the row that may stand here.
+fn note(c: Set, row: usize) -> Set
+    ensures { λ r. ⌜ r ≡ noted c row ⌝ }
+{
+    Set {
+        phase: phase_after(row),
+        has_fn: either(c.has_fn, row == property::FN),
+        has_n: either(c.has_n, row == property::N),
+        has_version: either(c.has_version, row == property::VERSION),
+    }
 }
 
 // The checks of a line whose parts are known: 9, 8, and 50 or 51.
@@ -246,7 +354,11 @@ fn judge_parts(
     x: Parts,
     at: usize,
     c: Set,
-) -> Step {
+) -> Step
+    requires { ⌜ Classes (now t) × Scanner (now steps) ⌝ }
+    requires { ⌜ Accepted (now s) (x .«name_end») × (x .kind < kinds.count) ⌝ }
+    ensures { λ r. ⌜ r ≡ judgeParts way c at (x .row) (x .«group_length») (x .«param_count») (x .kind) (paramsOf (now (s .entry))) (now (value .entry)) ⌝ }
+{
     if !in_order(c.phase, x.row) {
         return Step::Refused(refusal::ORDER, at);
     }
@@ -268,7 +380,11 @@ fn judge_line(
     s: &[u8],
     at: usize,
     c: Set,
-) -> Step {
+) -> Step
+    requires { ⌜ Tables (now t) (now rows) (now steps) ⌝ }
+    requires { ⌜ length (now s) ≤ limit.octets ⌝ }
+    ensures { λ r. ⌜ r ≡ judgeLine way c at (now (s .entry)) ⌝ }
+{
     let bad = utf8_screening::units::first_bad(t, s, false);
     if bad < s.len() {
         return Step::Flawed(refusal::BAD_OCTET, bad);
@@ -293,7 +409,12 @@ fn judge_span(
     scratch: &mut [u8],
     at: usize,
     c: Set,
-) -> Step {
+) -> Step
+    requires { ⌜ Tables (now t) (now rows) (now steps) ⌝ }
+    requires { ⌜ (length (now s) ≤ length (now scratch)) × (length (now scratch) ≤ limit.octets) ⌝ }
+    requires { ⌜ (folds ≡ false → unfolded (now s) ≡ now s) ⌝ }
+    ensures { λ r. ⌜ r ≡ judgeLine way c at (unfolded (now (s .entry))) ⌝ }
+{
     if !folds {
         return judge_line(way, t, rows, steps, s, at, c);
     }
@@ -302,11 +423,14 @@ fn judge_span(
 }
 
 // The judgement of the line s, which starts at `at` in the input, with the place in the input of an octet that it names.
-fn settle(step: Step, s: &[u8], at: usize) -> Step {
+fn settle(step: Step, s: &[u8], at: usize) -> Step
+    requires { ⌜ at + length (now s) ≤ limit.octets ⌝ }
+    ensures { λ r. ⌜ r ≡ settled at (now (s .entry)) step ⌝ }
+{
     let Step::Flawed(number, octet) = step else {
         return step;
     };
-    let place = places::place_of(s, octet);
+    let place = line_folds::places::place_of(s, octet);
     Step::Refused(number, at + place)
 }
 
@@ -317,7 +441,11 @@ pub fn walk(
     rows: &PropertyTable,
     steps: &Transitions,
     s: &[u8],
-) -> Step {
+) -> Step
+    requires { ⌜ Tables (now t) (now rows) (now steps) ⌝ }
+    requires { ⌜ length (now s) ≤ limit.octets ⌝ }
+    ensures { λ r. ⌜ r ≡ judgeLines way (rawLines (now (s .entry))) 0 freshSet ⌝ }
+{
     let mut scratch = [0u8; limit::OCTETS];
     let mut c = fresh();
     let mut at: usize = 0;
