@@ -160,16 +160,17 @@ pub made-new-length : (s : List ℕ) → length s + 4 ≡ length (madeNew s)
 unfolding madeNew swapped octets
 made-new-length s = sym (rw (length-append geoText (set s (upTo 59 s) 44), length-set s (upTo 59 s) 44) (omega arith))
 
-pub made-old-length : (s : List ℕ) → length (madeOld s) ≡ length s - 4
-unfolding madeOld swapped
-made-old-length s = length-set (drop 4 s) (upTo 44 (drop 4 s)) 59 ∙ length-drop 4 s
+pub made-old-not : (s : List ℕ) → false ≡ schemed s → madeOld s ≡ s
+unfolding madeOld
+made-old-not s e = rw (← e)
 
-pub made-old-none : (s : List ℕ) → length s < 4 → madeOld s ≡ []
-unfolding madeOld swapped
-made-old-none s h =
-    let k : length s ≤ 4 = omega arith in
-    let n : drop 4 s ≡ [] = drop-of-length-le s k in
-    rw n
+pub made-old : (s : List ℕ) → true ≡ schemed s → madeOld s ≡ swapped 44 59 (drop 4 s)
+unfolding madeOld
+made-old s e = rw (← e)
+
+pub old-length : (s : List ℕ) → length (swapped 44 59 (drop 4 s)) ≡ length s - 4
+unfolding swapped
+old-length s = length-set (drop 4 s) (upTo 44 (drop 4 s)) 59 ∙ length-drop 4 s
 
 pub new-not : (s : List ℕ) → false ≡ schemed s → false ≡ newGeo s
 unfolding newGeo

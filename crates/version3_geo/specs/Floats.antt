@@ -54,9 +54,9 @@ oldGeo l = floats ascii.semicolon l
 unfoldable pub newGeo : List ℕ → Bool
 newGeo l = schemed l && floats ascii.comma (drop 4 l)
 
--- each made the other
+-- each made the other; a value without `geo:` stays
 unfoldable pub madeNew : List ℕ → List ℕ
 madeNew l = geoText ++ swapped ascii.semicolon ascii.comma l
 
 unfoldable pub madeOld : List ℕ → List ℕ
-madeOld l = swapped ascii.comma ascii.semicolon (drop 4 l)
+madeOld l = pick (schemed l) (swapped ascii.comma ascii.semicolon (drop 4 l)) l

@@ -176,13 +176,14 @@ pub fn put_new(s: &[u8], out: &mut [u8]) -> usize
     s.len() + 4
 }
 
-// Writes a GEO value of version 4 as one of version 3 to the start of `out`, and answers how many octets that are.
+// Writes a GEO value of version 4 as one of version 3 to the start of `out`, and answers how many octets that are; one without `geo:` stays.
 pub fn put_old(s: &[u8], out: &mut [u8]) -> usize
     requires { ⌜ length (now s) ≤ length (now out) ⌝ }
     ensures { λ r. ⌜ (r ≡ length (madeOld (now (s .entry)))) × (now (out .exit) ≡ overlay (madeOld (now (s .entry))) (now (out .entry))) ⌝ }
 {
-    if s.len() < 4 {
-        return 0;
+    if !has_scheme(s) {
+        octets::copying::copy_in(out, s);
+        return s.len();
     }
     put_swapped(&s[4..], b',', b';', out);
     s.len() - 4
