@@ -12,7 +12,10 @@ use Rattle.octets.specs.Room.{Filled, refuse, fillBounded}
 use Rattle.line_breaks.specs.Lone.{firstLone, endsCrLf}
 use Rattle.line_folds.specs.Logical.{rawLines}
 use Rattle.version3_parameters.specs.declared.Way.{Way}
+use Rattle.version3_judge.specs.declared.Set.{Set}
+use Rattle.version3_judge.specs.declared.Step.the-variants.{Next}
 use Rattle.version3_judge.specs.Judge.{freshSet, judgeLines}
+use Rattle.version3.specs.Card.{cardText}
 use Rattle.version3.specs.Outcome.{concluded, convertOutcome}
 
 pub bound-over : (xs room : List ℕ) → 16384 < length xs → refuse 16 16384 room ≡ fillBounded xs room
@@ -42,3 +45,11 @@ module _ (w : Way) (i room : List ℕ) where
         pub convert-on : endsCrLf i ≡ true → concluded w (judgeLines w (rawLines i) 0 freshSet) i room ≡ convertOutcome w i room
         unfolding convertOutcome
         convert-on q = sym (rw (le-ltb 16384 (length i) s, ne-eqb (length i) 0 n, ← e, le-ltb p (length i) h, q))
+
+-- after the last line
+module _ (w : Way) (c : Set) (i room : List ℕ) where
+  pub conclude-open : (c .phase ≡ 2 → ⊥) → refuse 9 (length i) room ≡ concluded w (Next c) i room
+  conclude-open n = sym (rw (ne-eqb (c .phase) 2 n))
+
+  pub conclude-done : c .phase ≡ 2 → fillBounded (cardText w i) room ≡ concluded w (Next c) i room
+  conclude-done e = sym (rw (eq-eqb (c .phase) 2 e))
