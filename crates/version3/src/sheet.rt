@@ -159,7 +159,7 @@ fn write_turn(
 ) -> usize
     requires { ⌜ Classes (now t) × Lists (now rows) ⌝ }
     requires { ⌜ (length (now s) ≤ limit.octets) × (length (now s) ≤ length (now scratch)) × (3 * length (now s) + 20 ≤ length (now form)) ⌝ }
-    requires { ⌜ length (foldedLines (forms way turn (logicalLines (now s)))) ≤ length (now d) ⌝ }
+    requires { ⌜ (length (foldedLines (forms way turn (logicalLines (now s)))) ≤ length (now d)) × (length (foldedLines (forms way turn (logicalLines (now s)))) ≤ limit.octets) ⌝ }
     ensures { λ r. ⌜ (r ≡ length (foldedLines (forms way turn (logicalLines (now (s .entry)))))) × (now (d .exit) ≡ overlay (foldedLines (forms way turn (logicalLines (now (s .entry))))) (now (d .entry))) ⌝ }
 {
     let mut at: usize = 0;
@@ -192,7 +192,7 @@ fn write_places(
 ) -> usize
     requires { ⌜ Classes (now t) × Lists (now rows) ⌝ }
     requires { ⌜ (length (now s) ≤ limit.octets) × (length (now s) ≤ length (now scratch)) × (3 * length (now s) + 20 ≤ length (now form)) ⌝ }
-    requires { ⌜ length (cardText way (now s)) ≤ length (now out) ⌝ }
+    requires { ⌜ (length (cardText way (now s)) ≤ length (now out)) × (length (cardText way (now s)) ≤ limit.octets) ⌝ }
     ensures { λ r. ⌜ (r ≡ length (cardText way (now (s .entry)))) × (now (out .exit) ≡ overlay (cardText way (now (s .entry))) (now (out .entry))) ⌝ }
 {
     let a = write_turn(FIRST, way, t, rows, s, scratch, form, out);

@@ -1,3 +1,15 @@
+use mathlib.Core.Path.{_≡_, refl, sym, ap, _∙_, subst}
+use mathlib.Core.Bool.{Bool, true, false, _||_, _&&_}
+use mathlib.Core.List.{List, [], _∷_, _++_}
+use Prim.Native.Nat.{ℕ, _≤_, _<_, _+_, _-_}
+use native.Mathlib.Omega.{arith}
+use lib.ListN.{length, take, drop, getD, set, length-take, length-drop, length-set, length-append}
+use borrow.Author.Tests.{not-true, not-false}
+use Rattle.octets.specs.Room.{overlay}
+use Rattle.version3_text.proofs.PutLaws.{rest-of, overlay-length, two-pieces, lead-first}
+use Rattle.version3_judge.specs.declared.Step.{Step}
+use Rattle.version3.specs.Outcome.{concluded}
+use Rattle.version3.proofs.OutcomeLaws.{conclude-open, conclude-done}
 use borrow.Author.Needs.{needs}
 use Rattle.version3.proofs.conclude.Statement.{statement}
 use Rattle.version3.proofs.conclude.Tie as tie
@@ -11,7 +23,8 @@ enum-known-last c = search needs
 
 -- src/lib.rt:26:17
 returns : tie.Need-returns
-returns c = ?
+returns c =
+    conclude-open (c .before .before .before .before .before .before .before .args .way) (c .before .before .before .last .given .0 .0) (c .before .before .before .before .before .before .before .args .input .now) (c .before .before .before .before .before .before .before .args .out .now) (c .if1 .taken) ∙ sym (ap (λ (r : Step). concluded (c .before .before .before .before .before .before .before .args .way) r (c .before .before .before .before .before .before .before .args .input .now) (c .before .before .before .before .before .before .before .args .out .now)) (c .before .before .before .last .given .1))
 
 -- src/lib.rt:28:13
 write-card-requires : tie.Need-write-card-requires
@@ -31,15 +44,18 @@ same-length c = search needs
 
 -- src/lib.rt:19:1
 returns-2 : tie.Need-returns-2
-returns-2 c = ?
+returns-2 c =
+    c .before .before .write-card .ensures ∙ conclude-done (c .before .before .before .before .before .before .before .before .before .before .before .args .way) (c .before .before .before .before .before .before .before .last .given .0 .0) (c .before .before .before .before .before .before .before .before .before .before .before .args .input .now) (c .before .before .before .before .before .before .before .before .before .before .before .args .out .now) (c .before .before .before .before .if1 .left) ∙ sym (ap (λ (r : Step). concluded (c .before .before .before .before .before .before .before .before .before .before .before .args .way) r (c .before .before .before .before .before .before .before .before .before .before .before .args .input .now) (c .before .before .before .before .before .before .before .before .before .before .before .args .out .now)) (c .before .before .before .before .before .before .before .last .given .1))
 
 -- src/lib.rt:19:1
 returns-3 : tie.Need-returns-3
-returns-3 c = ?
+returns-3 c =
+    sym (ap (λ (r : Step). concluded (c .before .before .before .before .before .args .way) r (c .before .before .before .before .before .args .input .now) (c .before .before .before .before .before .args .out .now)) (c .before .last2 .given .1))
 
 -- src/lib.rt:19:1
 returns-4 : tie.Need-returns-4
-returns-4 c = ?
+returns-4 c =
+    sym (ap (λ (r : Step). concluded (c .before .before .before .before .before .args .way) r (c .before .before .before .before .before .args .input .now) (c .before .before .before .before .before .args .out .now)) (c .before .last3 .given .1))
 
 pub conclude-spec : {M : Type 1} → statement M
 conclude-spec =

@@ -1,3 +1,14 @@
+use mathlib.Core.Path.{_≡_, refl, sym, ap, _∙_, subst}
+use mathlib.Core.Bool.{Bool, true, false, _||_, _&&_}
+use mathlib.Core.List.{List, [], _∷_, _++_}
+use Prim.Native.Nat.{ℕ, _≤_, _<_, _+_, _-_}
+use native.Mathlib.Omega.{arith}
+use lib.ListN.{length, take, drop, getD, set, length-take, length-drop, length-set, length-append}
+use borrow.Author.Tests.{not-true, not-false}
+use Rattle.octets.specs.Room.{overlay}
+use Rattle.version3_text.proofs.PutLaws.{rest-of, overlay-length, two-pieces, lead-first}
+use Rattle.reader.specs.declared.Verdict.{Verdict}
+use Rattle.version3.specs.Outcome.{giveBy, giveOutcome}
 use borrow.Author.Needs.{needs}
 use Rattle.version3.proofs.give_out.Statement.{statement}
 use Rattle.version3.proofs.give_out.Tie as tie
@@ -28,11 +39,15 @@ same-length c = search needs
 
 -- src/lib.rt:70:1
 returns : tie.Need-returns
-returns c = ?
+unfolding giveOutcome
+returns c =
+    c .before .before .convert .ensures ∙ sym (ap (λ (r : Verdict). giveBy r (c .before .before .before .before .before .before .before .before .before .before .args .input .now) (c .before .before .before .before .before .before .before .before .before .before .args .out .now)) (sym (c .before .before .before .before .before .before .before .judge .ensures) ∙ c .before .before .before .before .before .v .given .1))
 
 -- src/lib.rt:70:1
 returns-2 : tie.Need-returns-2
-returns-2 c = ?
+unfolding giveOutcome
+returns-2 c =
+    sym (ap (λ (r : Verdict). giveBy r (c .before .before .before .before .before .before .args .input .now) (c .before .before .before .before .before .before .args .out .now)) (sym (c .before .before .before .judge .ensures) ∙ c .before .v2 .given .1))
 
 pub give-out-spec : {M : Type 1} → statement M
 give-out-spec =

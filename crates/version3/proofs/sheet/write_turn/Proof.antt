@@ -1,3 +1,4 @@
+use lib.Seq.{length-take-le}
 use borrow.Author.Needs.{needs}
 use mathlib.Core.Path.{_≡_, refl, sym, ap, _∙_, subst}
 use mathlib.Core.Bool.{Bool, true, false, _||_, _&&_}
@@ -59,7 +60,17 @@ module _ (c : tie.After-form-span Inv-loop μ-loop) where
       let l = c .before .before .before .before .before .before .before .loop in
       let v = c .before .before .before .before .before .line-at in
       let t = forms-yes (a .s .now) (l .at) (v .result .end) (c .before .before .before .before .before .before .loop-test .taken) (v .ensures .1) (v .ensures .2) (a .way) (a .turn) q in
-      omega (arith, room (l .inv .2) (p .pre .1 .1), ap length t, length-append (folded (formOf (a .way) (unfolded line))) (foldedLines (forms (a .way) (a .turn) (logicalLines (drop (v .result .end + 2) (a .s .now))))))
+      omega (arith, room (l .inv .2) (p .pre .1 .1 .0), ap length t, length-append (folded (formOf (a .way) (unfolded line))) (foldedLines (forms (a .way) (a .turn) (logicalLines (drop (v .result .end + 2) (a .s .now))))))
+
+  bounded : turnOf (unfolded line) ≡ c .before .before .before .before .before .before .before .before .before .before .before .before .args .turn
+      → c .before .before .before .before .before .before .before .loop .w + length (folded (formOf (c .before .before .before .before .before .before .before .before .before .before .before .before .args .way) (unfolded line))) ≤ 16384
+  bounded q =
+      let p = c .before .before .before .before .before .before .before .before .before .before .before .before in
+      let a = p .args in
+      let l = c .before .before .before .before .before .before .before .loop in
+      let v = c .before .before .before .before .before .line-at in
+      let t = forms-yes (a .s .now) (l .at) (v .result .end) (c .before .before .before .before .before .before .loop-test .taken) (v .ensures .1) (v .ensures .2) (a .way) (a .turn) q in
+      omega (arith, ap length (l .inv .2 .done) ∙ length-append (take (l .w) (l .d)) (foldedLines (forms (a .way) (a .turn) (logicalLines (drop (l .at) (a .s .now))))), length-take-le (l .w) (l .d) (l .inv .2 .inside), p .pre .1 .1 .1, ap length t, length-append (folded (formOf (a .way) (unfolded line))) (foldedLines (forms (a .way) (a .turn) (logicalLines (drop (v .result .end + 2) (a .s .now))))))
 
 -- src/sheet.rt:167:5
 loop-holds : tie.Need-loop-holds Inv-loop μ-loop
@@ -118,7 +129,7 @@ fold-line-requires c κs =
 -- src/sheet.rt:174:13
 add-w : tie.Need-add-w Inv-loop μ-loop
 add-w c =
-    omega (arith, fits (c .before .before .before .before .before .before .before .before .before .before .before) (sym (c .before .before .before .before .before .before .before .before .before .before .before .form-span .ensures .turn) ∙ c .before .before .before .before .before .if1 .taken), rw (c .before .before .before .before .before .before .before .before .before .before .before .form-span .ensures .text) at (c .before .before .fold-line .ensures .0), c .before .before .before .before .before .before .before .before .before .before .before .before .before .before .before .before .before .before .loop .inv .2 .same)
+    omega (arith, bounded (c .before .before .before .before .before .before .before .before .before .before .before) (sym (c .before .before .before .before .before .before .before .before .before .before .before .form-span .ensures .turn) ∙ c .before .before .before .before .before .if1 .taken), rw (c .before .before .before .before .before .before .before .before .before .before .before .form-span .ensures .text) at (c .before .before .fold-line .ensures .0))
 
 -- src/sheet.rt:175:18
 add-at : tie.Need-add-at Inv-loop μ-loop
