@@ -26,11 +26,14 @@ const SHORT: usize = 1024;
 
 // Room for a line of such an input as the other version has it, and of any input.
 const SHORT_FORM: usize = 3 * SHORT + 20;
+
 const FORM: usize = 3 * limit::OCTETS + 20;
 
 // The places of lines in a card: BEGIN first, VERSION second, then all others.
 const FIRST: usize = 0;
+
 const SECOND: usize = 1;
+
 const OTHERS: usize = 2;
 
 // A line as the other version has it: its place in the card, and how long it is.

@@ -435,13 +435,7 @@ fn settle(step: Step, s: &[u8], at: usize) -> Step
 }
 
 // Judges the lines one after the other, up to the first refusal.
-pub fn walk(
-    way: Way,
-    t: &ClassTable,
-    rows: &PropertyTable,
-    steps: &Transitions,
-    s: &[u8],
-) -> Step
+pub fn walk(way: Way, t: &ClassTable, rows: &PropertyTable, steps: &Transitions, s: &[u8]) -> Step
     requires { ⌜ Tables (now t) (now rows) (now steps) ⌝ }
     requires { ⌜ length (now s) ≤ limit.octets ⌝ }
     ensures { λ r. ⌜ r ≡ judgeLines way (rawLines (now (s .entry))) 0 freshSet ⌝ }

@@ -144,8 +144,15 @@ all-most : (w : Way) (ps : List Param) → length (paramsText (changedAll w ps))
 unfolding changedAll paramsText led
 all-most w [] = omega arith
 all-most w (p ∷ ps) =
-    omega (arith, ap length (led-append 59 paramText (changed w p) (changedAll w ps)), length-append (led 59 paramText (changed w p)) (led 59 paramText (changedAll w ps)),
-    all-most w ps, changed-most w p, one-param p, length-append (paramText p) (led 59 paramText ps))
+    omega (
+      arith,
+      ap length (led-append 59 paramText (changed w p) (changedAll w ps)),
+      length-append (led 59 paramText (changed w p)) (led 59 paramText (changedAll w ps)),
+      all-most w ps,
+      changed-most w p,
+      one-param p,
+      length-append (paramText p) (led 59 paramText ps),
+    )
 
 mark-ten : (w : Way) → length (paramsText (mark w ∷ [])) ≤ 10
 mark-ten Inward = omega (arith, ap length (mark-in Inward refl))
@@ -172,9 +179,19 @@ line-most w x =
     let p = led 59 paramText (x .params) in
     let q = led 59 paramText (newParams w (x .params)) in
     let v = newValue w (rowOfLine First x) (kindOfLine First x) (x .value) in
-    omega (arith, params-most w (x .params), value-most w (rowOfLine First x) (kindOfLine First x) (x .value),
-    length-append (g ++ (a ++ (p ++ 58 ∷ []))) (x .value), length-append g (a ++ (p ++ 58 ∷ [])), length-append a (p ++ 58 ∷ []), length-append p (58 ∷ []),
-    length-append (g ++ (a ++ (q ++ 58 ∷ []))) v, length-append g (a ++ (q ++ 58 ∷ [])), length-append a (q ++ 58 ∷ []), length-append q (58 ∷ []))
+    omega (
+      arith,
+      params-most w (x .params),
+      value-most w (rowOfLine First x) (kindOfLine First x) (x .value),
+      length-append (g ++ (a ++ (p ++ 58 ∷ []))) (x .value),
+      length-append g (a ++ (p ++ 58 ∷ [])),
+      length-append a (p ++ 58 ∷ []),
+      length-append p (58 ∷ []),
+      length-append (g ++ (a ++ (q ++ 58 ∷ []))) v,
+      length-append g (a ++ (q ++ 58 ∷ [])),
+      length-append a (q ++ 58 ∷ []),
+      length-append q (58 ∷ []),
+    )
 
 pub written-most : (w : Way) (l : List ℕ) → length (writtenBy w (parseLine l)) ≤ 2 * length l + 16
 written-most w l = by (parseLine l) refl

@@ -30,6 +30,7 @@ loop-holds c =
 -- src/lib.rt:97:12
 shared-slice-read-if1 : tie.Need-shared-slice-read-if1 Inv-loop μ-loop
 shared-slice-read-if1 c = search needs
+
 -- src/lib.rt:98:13
 returns : tie.Need-returns Inv-loop μ-loop
 unfolding upTo
@@ -40,9 +41,11 @@ returns c =
 -- src/lib.rt:100:9
 add-i : tie.Need-add-i Inv-loop μ-loop
 add-i c = search needs
+
 -- src/lib.rt:96:5
 loop-less : tie.Need-loop-less Inv-loop μ-loop
 loop-less c = search needs
+
 -- src/lib.rt:96:5
 loop-again : tie.Need-loop-again Inv-loop μ-loop
 unfolding upTo

@@ -52,6 +52,7 @@ turn c =
 -- src/lib.rt:450:9
 fresh-requires : tie.Need-fresh-requires Inv-loop μ-loop
 fresh-requires c κs = search needs
+
 -- src/lib.rt:452:5
 loop-holds : tie.Need-loop-holds Inv-loop μ-loop
 loop-holds c =
@@ -60,18 +61,23 @@ loop-holds c =
 -- src/lib.rt:453:13
 line-at-requires : tie.Need-line-at-requires Inv-loop μ-loop
 line-at-requires c κs = search needs
+
 -- src/lib.rt:456:49
 sub-judge-span : tie.Need-sub-judge-span Inv-loop μ-loop
 sub-judge-span c = search needs
+
 -- src/lib.rt:456:49
 part-judge-span-start : tie.Need-part-judge-span-start Inv-loop μ-loop
 part-judge-span-start c = search needs
+
 -- src/lib.rt:456:49
 part-judge-span-end : tie.Need-part-judge-span-end Inv-loop μ-loop
 part-judge-span-end c = search needs
+
 -- src/lib.rt:456:69
 slice-aggregate-judge-span : tie.Need-slice-aggregate-judge-span Inv-loop μ-loop
 slice-aggregate-judge-span c = search needs
+
 -- src/lib.rt:456:13
 judge-span-requires : tie.Need-judge-span-requires Inv-loop μ-loop
 judge-span-requires c κs =
@@ -84,15 +90,19 @@ judge-span-requires c κs =
 -- src/lib.rt:457:24
 enum-known-j : tie.Need-enum-known-j Inv-loop μ-loop
 enum-known-j c = search needs
+
 -- src/lib.rt:458:30
 sub-settle : tie.Need-sub-settle Inv-loop μ-loop
 sub-settle c = search needs
+
 -- src/lib.rt:458:30
 part-settle-start : tie.Need-part-settle-start Inv-loop μ-loop
 part-settle-start c = search needs
+
 -- src/lib.rt:458:30
 part-settle-end : tie.Need-part-settle-end Inv-loop μ-loop
 part-settle-end c = search needs
+
 -- src/lib.rt:458:13
 settle-requires : tie.Need-settle-requires Inv-loop μ-loop
 settle-requires c κs =
@@ -115,6 +125,7 @@ add-at c =
 -- src/lib.rt:452:5
 loop-less : tie.Need-loop-less Inv-loop μ-loop
 loop-less c = search needs
+
 -- src/lib.rt:452:5
 loop-again : tie.Need-loop-again Inv-loop μ-loop
 loop-again c =

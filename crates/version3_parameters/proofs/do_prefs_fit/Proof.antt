@@ -62,6 +62,7 @@ loop-holds c =
 -- src/lib.rt:281:12
 shared-slice-read-if1 : tie.Need-shared-slice-read-if1 Inv-loop μ-loop
 shared-slice-read-if1 c = search needs
+
 -- src/lib.rt:282:13
 returns : tie.Need-returns Inv-loop μ-loop
 returns c =
@@ -72,12 +73,15 @@ returns c =
 -- src/lib.rt:284:21
 add-start : tie.Need-add-start Inv-loop μ-loop
 add-start c = search needs
+
 -- src/lib.rt:285:13
 read-param-requires : tie.Need-read-param-requires Inv-loop μ-loop
 read-param-requires c κs = search needs
+
 -- src/lib.rt:286:24
 enum-known-p : tie.Need-enum-known-p Inv-loop μ-loop
 enum-known-p c = search needs
+
 -- src/lib.rt:287:13
 returns-2 : tie.Need-returns-2 Inv-loop μ-loop
 returns-2 c =
@@ -88,6 +92,7 @@ returns-2 c =
 -- src/lib.rt:289:39
 slice-aggregate-is-named : tie.Need-slice-aggregate-is-named Inv-loop μ-loop
 slice-aggregate-is-named c = search needs
+
 -- src/lib.rt:289:12
 is-named-requires : tie.Need-is-named-requires Inv-loop μ-loop
 is-named-requires c κs =

@@ -22,10 +22,12 @@ slice-write-d c = search needs
 sub-copy-in : tie.Need-sub-copy-in
 sub-copy-in c =
     simp length-set (omega (arith, c .before .before .pre))
+
 -- src/lib.rt:46:30
 part-copy-in-start : tie.Need-part-copy-in-start
 part-copy-in-start c =
     simp length-set (omega (arith, c .before .before .pre))
+
 -- src/lib.rt:46:30
 part-copy-in-end : tie.Need-part-copy-in-end
 part-copy-in-end c = search needs
@@ -34,6 +36,7 @@ part-copy-in-end c = search needs
 copy-in-requires : tie.Need-copy-in-requires
 copy-in-requires c κs =
     simp (length-set, length-take, length-drop) (omega (arith, c .before .before .before .pre))
+
 -- src/lib.rt:47:5
 add-result : tie.Need-add-result
 add-result c = search needs

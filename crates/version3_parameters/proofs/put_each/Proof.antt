@@ -73,6 +73,7 @@ loop-holds c =
 -- src/lib.rt:189:12
 shared-slice-read-if1 : tie.Need-shared-slice-read-if1 Inv-loop μ-loop
 shared-slice-read-if1 c = search needs
+
 -- src/lib.rt:190:13
 same-length : tie.Need-same-length Inv-loop μ-loop
 same-length c =
@@ -89,12 +90,15 @@ returns c =
 -- src/lib.rt:192:21
 add-start : tie.Need-add-start Inv-loop μ-loop
 add-start c = search needs
+
 -- src/lib.rt:193:13
 read-param-requires : tie.Need-read-param-requires Inv-loop μ-loop
 read-param-requires c κs = search needs
+
 -- src/lib.rt:194:24
 enum-known-p : tie.Need-enum-known-p Inv-loop μ-loop
 enum-known-p c = search needs
+
 -- src/lib.rt:195:13
 same-length-2 : tie.Need-same-length-2 Inv-loop μ-loop
 same-length-2 c =
@@ -120,6 +124,7 @@ part-put-param-start c =
 -- src/lib.rt:197:52
 part-put-param-end : tie.Need-part-put-param-end Inv-loop μ-loop
 part-put-param-end c = search needs
+
 -- src/lib.rt:197:13
 put-param-requires : tie.Need-put-param-requires Inv-loop μ-loop
 put-param-requires c κs =
@@ -134,6 +139,7 @@ add-w c =
 -- src/lib.rt:199:9
 either-requires : tie.Need-either-requires Inv-loop μ-loop
 either-requires c κs = search needs
+
 -- src/lib.rt:188:5
 loop-less : tie.Need-loop-less Inv-loop μ-loop
 loop-less c =

@@ -30,6 +30,7 @@ slice-aggregate-copy-in c = search needs
 copy-in-requires : tie.Need-copy-in-requires
 copy-in-requires c κs =
     omega (arith, ap length (mark-in (c .before .before .before .before .before .args .way) (c .before .before .enum-told .given .1)), c .before .before .before .before .before .pre)
+
 -- src/lib.rt:216:38
 enum-told-2 : tie.Need-enum-told-2
 enum-told-2 c = search needs
@@ -42,6 +43,7 @@ slice-aggregate-copy-in-2 c = search needs
 copy-in-requires-2 : tie.Need-copy-in-requires-2
 copy-in-requires-2 c κs =
     omega (arith, ap length (mark-out (c .before .before .before .before .before .args .way) (c .before .before .enum-told2 .given .1)), c .before .before .before .before .before .pre)
+
 -- src/lib.rt:206:1
 same-length : tie.Need-same-length
 same-length c = search needs
@@ -50,6 +52,7 @@ same-length c = search needs
 returns : tie.Need-returns
 returns c =
     rw (mark-in (c .before .before .before .before .before .before .before .before .args .way) (c .before .before .before .before .before .enum-told .given .1)) (refl, c .before .before .copy-in .ensures)
+
 -- src/lib.rt:206:1
 same-length-2 : tie.Need-same-length-2
 same-length-2 c = search needs
@@ -58,6 +61,7 @@ same-length-2 c = search needs
 returns-2 : tie.Need-returns-2
 returns-2 c =
     rw (mark-out (c .before .before .before .before .before .before .before .before .args .way) (c .before .before .before .before .before .enum-told2 .given .1)) (refl, c .before .before .copy-in2 .ensures)
+
 pub put-mark-spec : {M : Type 1} → statement M
 put-mark-spec =
     tie.close

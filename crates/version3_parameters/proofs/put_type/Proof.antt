@@ -112,9 +112,11 @@ part-same-name-end c =
 -- src/lib.rt:109:36
 slice-aggregate-same-name : tie.Need-slice-aggregate-same-name Inv-loop μ-loop
 slice-aggregate-same-name c = search needs
+
 -- src/lib.rt:109:12
 same-name-requires : tie.Need-same-name-requires Inv-loop μ-loop
 same-name-requires c κs = search needs
+
 -- src/lib.rt:111:18
 add-at-2 : tie.Need-add-at-2 Inv-loop μ-loop
 add-at-2 c =
@@ -178,6 +180,7 @@ part-put-value-start-3 c =
 -- src/lib.rt:113:71
 part-put-value-end-3 : tie.Need-part-put-value-end-3 Inv-loop μ-loop
 part-put-value-end-3 c = search needs
+
 -- src/lib.rt:113:18
 put-value-requires : tie.Need-put-value-requires Inv-loop μ-loop
 unfolding octets

@@ -44,6 +44,7 @@ sub-put-after c =
     let k = length-append (59 ∷ c .before .before .before .before .before .before .before .before .args .name .now) (61 ∷ c .before .before .before .before .before .before .before .before .args .value .now) in
     let r = ap length (c .before .before .put-after2 .ensures .1) ∙ overlay-length (59 ∷ c .before .before .before .before .before .before .before .before .args .name .now) (c .before .before .before .before .before .before .before .before .args .d .now) (omega (arith, ap length e, k, c .before .before .before .before .before .before .before .before .pre)) in
     omega (arith, ap length e, k, r, c .before .before .put-after2 .ensures .0, c .before .before .before .before .before .before .before .before .pre)
+
 -- src/lib.rt:89:36
 part-put-after-start : tie.Need-part-put-after-start
 part-put-after-start c =
@@ -51,6 +52,7 @@ part-put-after-start c =
     let k = length-append (59 ∷ c .before .before .before .before .before .before .before .before .args .name .now) (61 ∷ c .before .before .before .before .before .before .before .before .args .value .now) in
     let r = ap length (c .before .before .put-after2 .ensures .1) ∙ overlay-length (59 ∷ c .before .before .before .before .before .before .before .before .args .name .now) (c .before .before .before .before .before .before .before .before .args .d .now) (omega (arith, ap length e, k, c .before .before .before .before .before .before .before .before .pre)) in
     omega (arith, ap length e, k, r, c .before .before .put-after2 .ensures .0, c .before .before .before .before .before .before .before .before .pre)
+
 -- src/lib.rt:89:36
 part-put-after-end : tie.Need-part-put-after-end
 part-put-after-end c = search needs
@@ -62,12 +64,14 @@ put-after-requires-3 c κs =
     let k = length-append (59 ∷ c .before .before .before .before .before .before .before .before .before .args .name .now) (61 ∷ c .before .before .before .before .before .before .before .before .before .args .value .now) in
     let r = ap length (c .before .before .before .put-after2 .ensures .1) ∙ overlay-length (59 ∷ c .before .before .before .before .before .before .before .before .before .args .name .now) (c .before .before .before .before .before .before .before .before .before .args .d .now) (omega (arith, ap length e, k, c .before .before .before .before .before .before .before .before .before .pre)) in
     simp (length-take, length-drop) (omega (arith, ap length e, k, r, c .before .before .before .put-after2 .ensures .0, c .before .before .before .before .before .before .before .before .before .pre))
+
 -- src/lib.rt:90:5
 add-result : tie.Need-add-result
 add-result c =
     let e = piece-first (c .before .before .before .before .before .before .before .before .before .before .before .before .args .first) (c .before .before .before .before .before .before .before .before .before .before .before .before .args .name .now) (c .before .before .before .before .before .before .before .before .before .before .before .before .args .value .now) (not-false _ (c .before .before .before .before .before .before .before .before .if1 .left)) in
     let k = length-append (59 ∷ c .before .before .before .before .before .before .before .before .before .before .before .before .args .name .now) (61 ∷ c .before .before .before .before .before .before .before .before .before .before .before .before .args .value .now) in
     omega (arith, ap length e, k, c .before .before .before .before .before .before .put-after2 .ensures .0, c .before .before .put-after3 .ensures .0, c .before .before .before .before .before .before .before .before .before .before .before .before .pre)
+
 -- src/lib.rt:81:1
 same-length-2 : tie.Need-same-length-2
 same-length-2 c = search needs

@@ -51,15 +51,19 @@ loop-again c =
 -- src/lib.rt:79:19
 shared-slice-read-if2 : tie.Need-shared-slice-read-if2 Inv-loop μ-loop
 shared-slice-read-if2 c = search needs
+
 -- src/lib.rt:80:13
 add-n : tie.Need-add-n Inv-loop μ-loop
 add-n c = search needs
+
 -- src/lib.rt:81:13
 add-i-2 : tie.Need-add-i-2 Inv-loop μ-loop
 add-i-2 c = search needs
+
 -- src/lib.rt:76:5
 loop-less-2 : tie.Need-loop-less-2 Inv-loop μ-loop
 loop-less-2 c = search needs
+
 -- src/lib.rt:76:5
 loop-again-2 : tie.Need-loop-again-2 Inv-loop μ-loop
 loop-again-2 c =
@@ -71,9 +75,11 @@ loop-again-2 c =
 -- src/lib.rt:83:13
 add-i-3 : tie.Need-add-i-3 Inv-loop μ-loop
 add-i-3 c = search needs
+
 -- src/lib.rt:76:5
 loop-less-3 : tie.Need-loop-less-3 Inv-loop μ-loop
 loop-less-3 c = search needs
+
 -- src/lib.rt:76:5
 loop-again-3 : tie.Need-loop-again-3 Inv-loop μ-loop
 loop-again-3 c =

@@ -132,9 +132,11 @@ loop-again c =
 -- src/lib.rt:56:29
 shared-slice-read-is-marked : tie.Need-shared-slice-read-is-marked Inv-loop μ-loop
 shared-slice-read-is-marked c = search needs
+
 -- src/lib.rt:56:19
 is-marked-requires : tie.Need-is-marked-requires Inv-loop μ-loop
 is-marked-requires c κs = search needs
+
 -- src/lib.rt:57:13
 slice-write-out-3 : tie.Need-slice-write-out-3 Inv-loop μ-loop
 slice-write-out-3 c =
@@ -158,9 +160,11 @@ add-j-2 c =
 -- src/lib.rt:60:13
 add-i-2 : tie.Need-add-i-2 Inv-loop μ-loop
 add-i-2 c = search needs
+
 -- src/lib.rt:50:5
 loop-less-2 : tie.Need-loop-less-2 Inv-loop μ-loop
 loop-less-2 c = search needs
+
 -- src/lib.rt:50:5
 loop-again-2 : tie.Need-loop-again-2 Inv-loop μ-loop
 loop-again-2 c =
@@ -170,6 +174,7 @@ loop-again-2 c =
 -- src/lib.rt:62:22
 shared-slice-read-out : tie.Need-shared-slice-read-out Inv-loop μ-loop
 shared-slice-read-out c = search needs
+
 -- src/lib.rt:62:13
 slice-write-out-5 : tie.Need-slice-write-out-5 Inv-loop μ-loop
 slice-write-out-5 c =
@@ -183,9 +188,11 @@ add-j-3 c =
 -- src/lib.rt:64:13
 add-i-3 : tie.Need-add-i-3 Inv-loop μ-loop
 add-i-3 c = search needs
+
 -- src/lib.rt:50:5
 loop-less-3 : tie.Need-loop-less-3 Inv-loop μ-loop
 loop-less-3 c = search needs
+
 -- src/lib.rt:50:5
 loop-again-3 : tie.Need-loop-again-3 Inv-loop μ-loop
 loop-again-3 c =

@@ -57,15 +57,19 @@ loop-holds c =
 -- src/sheet.rt:138:13
 line-at-requires : tie.Need-line-at-requires Inv-loop μ-loop
 line-at-requires c κs = search needs
+
 -- src/sheet.rt:141:41
 sub-form-span : tie.Need-sub-form-span Inv-loop μ-loop
 sub-form-span c = search needs
+
 -- src/sheet.rt:141:41
 part-form-span-start : tie.Need-part-form-span-start Inv-loop μ-loop
 part-form-span-start c = search needs
+
 -- src/sheet.rt:141:41
 part-form-span-end : tie.Need-part-form-span-end Inv-loop μ-loop
 part-form-span-end c = search needs
+
 -- src/sheet.rt:141:13
 form-span-requires : tie.Need-form-span-requires Inv-loop μ-loop
 form-span-requires c κs =

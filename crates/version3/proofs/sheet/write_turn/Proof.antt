@@ -80,15 +80,19 @@ loop-holds c =
 -- src/sheet.rt:168:13
 line-at-requires : tie.Need-line-at-requires Inv-loop μ-loop
 line-at-requires c κs = search needs
+
 -- src/sheet.rt:171:41
 sub-form-span : tie.Need-sub-form-span Inv-loop μ-loop
 sub-form-span c = search needs
+
 -- src/sheet.rt:171:41
 part-form-span-start : tie.Need-part-form-span-start Inv-loop μ-loop
 part-form-span-start c = search needs
+
 -- src/sheet.rt:171:41
 part-form-span-end : tie.Need-part-form-span-end Inv-loop μ-loop
 part-form-span-end c = search needs
+
 -- src/sheet.rt:171:13
 form-span-requires : tie.Need-form-span-requires Inv-loop μ-loop
 form-span-requires c κs =
@@ -121,6 +125,7 @@ part-fold-line-start c =
 -- src/sheet.rt:174:67
 part-fold-line-end : tie.Need-part-fold-line-end Inv-loop μ-loop
 part-fold-line-end c = search needs
+
 -- src/sheet.rt:174:18
 fold-line-requires : tie.Need-fold-line-requires Inv-loop μ-loop
 fold-line-requires c κs =
