@@ -1,0 +1,3 @@
+-- The definitions that the contracts of `version3` cite. Assumes nothing.
+pub mod Card
+pub mod Outcome

@@ -1,0 +1,2 @@
+-- The definitions that the contracts of `version3_line` cite. Assumes nothing.
+pub mod Lines
