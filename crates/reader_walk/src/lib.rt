@@ -22,7 +22,6 @@ use numbers::limit;
 use octets::classes::ClassTable;
 use property_table::Edition;
 use property_table::rows::PropertyTable;
-use value_automaton::states::Transitions;
 
 // Unfolds a line that has a fold behind the first `used` octets, and answers how many octets it wrote.
 fn lay_behind(s: &[u8], folded: bool, scratch: &mut [u8], used: usize) -> usize
@@ -41,7 +40,7 @@ fn lay_behind(s: &[u8], folded: bool, scratch: &mut [u8], used: usize) -> usize
 fn judge_at_hand(
     t: &ClassTable,
     rows: &PropertyTable,
-    steps: &Transitions,
+    steps: &[u8],
     edition: Edition,
     s: &[u8],
     folded: bool,
@@ -89,7 +88,7 @@ fn keep_part(s: &[u8], folded: bool, scratch: &mut [u8], used: usize, from: usiz
 pub fn judge_span(
     t: &ClassTable,
     rows: &PropertyTable,
-    steps: &Transitions,
+    steps: &[u8],
     edition: Edition,
     s: &[u8],
     folded: bool,
@@ -133,7 +132,7 @@ const SHORT: usize = 1024;
 fn walk_in(
     t: &ClassTable,
     rows: &PropertyTable,
-    steps: &Transitions,
+    steps: &[u8],
     edition: Edition,
     s: &[u8],
     scratch: &mut [u8],
@@ -163,7 +162,7 @@ fn walk_in(
 pub fn walk(
     t: &ClassTable,
     rows: &PropertyTable,
-    steps: &Transitions,
+    steps: &[u8],
     edition: Edition,
     s: &[u8],
 ) -> Step

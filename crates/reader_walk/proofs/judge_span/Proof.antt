@@ -31,33 +31,33 @@ laid-room : (s : tie.Start) → s .args .c .used + length (pick (s .args .folded
 laid-room s = hand-room (s .args .c) (s .args .scratch .now) (s .args .s .now) (unfolded (s .args .s .now)) (s .pre .1 .1 .0 .lies) (fits s) (s .args .folded)
 
 -- the scratch is as long as it was
-long : (c : tie.After-slice-known2) → length (c .before .before .lay-behind .last .1 .1 .0) ≡ length (c .before .before .before .before .before .before .args .scratch .now)
+long : (c : tie.After-slice-known2) → length (c .before .before .lay-behind .last .1 .1 .0) ≡ length (c .before .before .before .before .before .before .before .args .scratch .now)
 long c =
-    let s = c .before .before .before .before .before .before in
+    let s = c .before .before .before .before .before .before .before in
     let u = c .before .before .lay-behind in
     ap length (u .ensures .1)
     ∙ laid-length (s .args .c) (s .args .scratch .now) (pick (s .args .folded) (unfolded (s .args .s .now)) []) _ (s .pre .1 .1 .0 .lies) (laid-room s) refl
 
 -- the end of the line is within it
-reach : (c : tie.After-slice-known2) → c .before .before .before .before .before .before .args .c .used + c .before .before .lay-behind .result ≤ length (c .before .before .lay-behind .last .1 .1 .0)
-reach c = omega (arith, long c, laid-room (c .before .before .before .before .before .before), c .before .before .lay-behind .ensures .0)
+reach : (c : tie.After-slice-known2) → c .before .before .before .before .before .before .before .args .c .used + c .before .before .lay-behind .result ≤ length (c .before .before .lay-behind .last .1 .1 .0)
+reach c = omega (arith, long c, laid-room (c .before .before .before .before .before .before .before), c .before .before .lay-behind .ensures .0)
 
 lay-behind-requires : tie.Need-lay-behind-requires
-lay-behind-requires c κs = fits (c .before .before .before)
+lay-behind-requires c κs = fits (c .before .before .before .before)
 
 add-end : tie.Need-add-end
-add-end c = omega (arith, reach c, long c, c .before .before .before .before .before .before .pre .1 .1 .0 .short)
+add-end c = omega (arith, reach c, long c, c .before .before .before .before .before .before .before .pre .1 .1 .0 .short)
 
 slice-reshare-prefix-judge-at-hand : tie.Need-slice-reshare-prefix-judge-at-hand
 slice-reshare-prefix-judge-at-hand c = reach c
 
 slice-aggregate-judge-at-hand : tie.Need-slice-aggregate-judge-at-hand
 slice-aggregate-judge-at-hand c =
-    simp length-take (omega (arith, reach (c .before), long (c .before), c .before .before .before .before .before .before .before .pre .1 .1 .0 .short))
+    simp length-take (omega (arith, reach (c .before), long (c .before), c .before .before .before .before .before .before .before .before .pre .1 .1 .0 .short))
 
 judge-at-hand-requires : tie.Need-judge-at-hand-requires
 judge-at-hand-requires c κs =
-    let s = c .before .before .before .before .before .before .before in
+    let s = c .before .before .before .before .before .before .before .before in
     let u = c .before .before .before .lay-behind in
     let r = s .pre .1 .1 .0 in
     let n = length-take-le (s .args .c .used + u .result) (u .last .1 .1 .0) (reach (c .before)) in (
@@ -72,7 +72,7 @@ judge-at-hand-requires c κs =
     )
 
 abbrev start : tie.After-judge-at-hand → tie.Start
-start c = c .before .before .before .before .before .before .before .before
+start c = c .before .before .before .before .before .before .before .before .before
 
 -- what was laid behind the values
 abbrev hand : tie.After-judge-at-hand → List ℕ

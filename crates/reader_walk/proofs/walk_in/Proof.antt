@@ -31,19 +31,19 @@ abbrev μ-loop : tie.MeasureT-loop
 abbrev line : tie.After-judge-span Inv-loop μ-loop → List ℕ
 line c =
     let at = c .before .before .before .before .before .before .loop .at in
-    take (c .before .before .before .before .line-at .result .end - at) (drop at (c .before .before .before .before .before .before .before .before .before .before .args .s .now))
+    take (c .before .before .before .before .line-at .result .end - at) (drop at (c .before .before .before .before .before .before .before .before .before .before .before .args .s .now))
 
 abbrev edition : tie.After-judge-span Inv-loop μ-loop → Edition
-edition c = c .before .before .before .before .before .before .before .before .before .before .args .edition
+edition c = c .before .before .before .before .before .before .before .before .before .before .before .args .edition
 
 -- one turn, judged
 turn : (c : tie.After-judge-span Inv-loop μ-loop)
-    → judgeLines (edition c) (rawLines (c .before .before .before .before .before .before .before .before .before .before .args .s .now)) 0 freshCard
-    ≡ onward (settled (c .before .before .before .before .before .before .loop .at) (line c) (stepOf (c .judge-span .last .1 .1 .1 .1 .1 .1 .0) (c .judge-span .result))) (judgeLines (edition c) (rawLines (drop (c .before .before .before .before .line-at .result .end + 2) (c .before .before .before .before .before .before .before .before .before .before .args .s .now))) (c .before .before .before .before .line-at .result .end + 2))
+    → judgeLines (edition c) (rawLines (c .before .before .before .before .before .before .before .before .before .before .before .args .s .now)) 0 freshCard
+    ≡ onward (settled (c .before .before .before .before .before .before .loop .at) (line c) (stepOf (c .judge-span .last .1 .1 .1 .1 .1 .1 .0) (c .judge-span .result))) (judgeLines (edition c) (rawLines (drop (c .before .before .before .before .line-at .result .end + 2) (c .before .before .before .before .before .before .before .before .before .before .before .args .s .now))) (c .before .before .before .before .line-at .result .end + 2))
 turn c =
     let l = c .before .before .before .before .before .before .loop in
     let v = c .before .before .before .before .line-at in
-    let s = c .before .before .before .before .before .before .before .before .before .before .args .s .now in
+    let s = c .before .before .before .before .before .before .before .before .before .before .before .args .s .now in
     l .inv .5 ∙ judged (edition c) s (l .at) (v .result .end) (c .before .before .before .before .before .loop-test .taken) (v .ensures .1) (v .ensures .2) (cardOf (l .c) (l .scratch)) (stepOf (c .judge-span .last .1 .1 .1 .1 .1 .1 .0) (c .judge-span .result)) (c .judge-span .ensures .0)
 
 fresh-requires : tie.Need-fresh-requires Inv-loop μ-loop
@@ -58,7 +58,7 @@ loop-holds c =
       omega arith,
       none-lie,
       omega arith,
-      ap (judgeLines (c .before .before .before .args .edition) (rawLines (c .before .before .before .args .s .now)) 0) (sym (fresh-card _)),
+      ap (judgeLines (c .before .before .before .before .args .edition) (rawLines (c .before .before .before .before .args .s .now)) 0) (sym (fresh-card _)),
     )
 
 line-at-requires : tie.Need-line-at-requires Inv-loop μ-loop
@@ -75,10 +75,10 @@ part-judge-span-end c = search needs
 
 judge-span-requires : tie.Need-judge-span-requires Inv-loop μ-loop
 judge-span-requires c κs =
-    let a = c .before .before .before .before .before .before .before .before .before .args in
+    let a = c .before .before .before .before .before .before .before .before .before .before .args in
     let l = c .before .before .before .before .before .loop in
     let v = c .before .before .before .line-at in
-    let z = c .before .before .before .before .before .before .before .before .before .pre in
+    let z = c .before .before .before .before .before .before .before .before .before .before .pre in
     let part = take (v .result .end - l .at) (drop (l .at) (a .s .now)) in
     let n = part-length (a .s .now) (l .at) (v .result .end) (c .before .before .before .before .loop-test .taken) (v .ensures .1) (v .ensures .2) in (
       z .0,
@@ -108,7 +108,7 @@ settle-requires c κs =
     let c9 = c .before .before .before .before .before .before .before .before in
     let l = c9 .before .before .loop in
     let v = c9 .line-at in
-    let s = c9 .before .before .before .before .before .before in
+    let s = c9 .before .before .before .before .before .before .before in
     let n = part-length (s .args .s .now) (l .at) (v .result .end) (c9 .before .loop-test .taken) (v .ensures .1) (v .ensures .2) in
     omega (arith, n, c9 .before .loop-test .taken, v .ensures .1, v .ensures .2, s .pre .1 .0)
 
@@ -125,7 +125,7 @@ returns c =
 add-at : tie.Need-add-at Inv-loop μ-loop
 add-at c =
     let v = c .before .before .before .before .before .before .before .before .before .line-at in
-    omega (arith, v .ensures .2, c .before .before .before .before .before .before .before .before .before .before .before .before .before .before .before .pre .1 .0)
+    omega (arith, v .ensures .2, c .before .before .before .before .before .before .before .before .before .before .before .before .before .before .before .before .pre .1 .0)
 
 loop-less : tie.Need-loop-less Inv-loop μ-loop
 loop-less c = search needs
@@ -136,7 +136,7 @@ loop-again c =
     let c5 = c .before .before .before .before .before in
     let c9 = c5 .before .before .before .before in
     let c11 = c9 .before .before in
-    let c15 = c11 .before .before .before .before in
+    let c15 = c11 .before .before .before .before .before in
     let e = c .before .j .given .1 in
     let next = c .before .j .given .0 .0 in
     let l = c11 .loop in
@@ -161,7 +161,7 @@ returns-2 : tie.Need-returns-2 Inv-loop μ-loop
 unfolding judgeLines stepOf
 returns-2 c =
     let l = c .before .loop in
-    (l .scratch, sym (l .inv .5 ∙ ap (λ (ls : List (List ℕ)). judgeLines (c .before .before .before .before .before .args .edition) ls (l .at) (cardOf (l .c) (l .scratch))) (lines-end (c .before .before .before .before .before .args .s .now) (l .at) (c .loop-test .left))))
+    (l .scratch, sym (l .inv .5 ∙ ap (λ (ls : List (List ℕ)). judgeLines (c .before .before .before .before .before .before .args .edition) ls (l .at) (cardOf (l .c) (l .scratch))) (lines-end (c .before .before .before .before .before .before .args .s .now) (l .at) (c .loop-test .left))))
 
 pub walk-in-spec : {M : Type 1} → statement M
 walk-in-spec =
