@@ -17,6 +17,7 @@ mod uris;
 use numbers::kind;
 use numbers::property;
 use property_table::Edition;
+use states::Transitions;
 use value_kinds::Fault;
 
 // The length below which a value is scanned at once, since a look at pairs of octets costs more.
@@ -39,7 +40,7 @@ fn does_fit(edition: Edition, kind: usize, s: &[u8]) -> bool
 }
 
 // Whether s satisfies its kind: `Breaks` has the first octet from which nothing could, or the end.
-pub fn value_fault(steps: &[u8], edition: Edition, kind: usize, s: &[u8]) -> Fault
+pub fn value_fault(steps: &Transitions, edition: Edition, kind: usize, s: &[u8]) -> Fault
     requires { ⌜ Scanner (now steps) ⌝ }
     requires { ⌜ kind < kinds.count ⌝ }
     ensures { λ r. ⌜ r ≡ kindIn edition kind (now (s .entry)) ⌝ }

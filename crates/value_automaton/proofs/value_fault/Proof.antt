@@ -21,8 +21,8 @@ scan-requires c κs = search needs
 returns-2 : tie.Need-returns-2
 unfolding kindIn
 returns-2 c =
-    let f = c .before in
-    c .scan .ensures ∙ ap (λ (r : Shape). faultFrom r 0 (f .before .before .before .before .before .args .s .now)) (f .start .ensures .1)
+    let f = c .before .before in
+    c .scan .ensures ∙ ap (λ (r : Shape). faultFrom r 0 (f .before .before .before .before .args .s .now)) (f .start .ensures .1)
 
 pub value-fault-spec : {M : Type 1} → statement M
 value-fault-spec =
