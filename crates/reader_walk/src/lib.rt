@@ -183,13 +183,7 @@ fn walk_in(
 }
 
 // Judges the lines one after the other, up to the first refusal.
-pub fn walk(
-    t: &ClassTable,
-    rows: &PropertyTable,
-    steps: &[u8],
-    edition: Edition,
-    s: &[u8],
-) -> Step
+pub fn walk(t: &ClassTable, rows: &PropertyTable, steps: &[u8], edition: Edition, s: &[u8]) -> Step
     requires { ⌜ Tables (now t) (now rows) (now steps) ⌝ }
     requires { ⌜ length (now s) ≤ limit.octets ⌝ }
     ensures { λ r. ⌜ ((store : List ℕ) × (stepOf store r ≡ judgeLines edition (rawLines (now (s .entry))) 0 freshCard)) ⌝ }

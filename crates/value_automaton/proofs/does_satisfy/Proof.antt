@@ -20,7 +20,7 @@ returns c =
     let f = c .before .before in
     let a = f .before .before .args in
     λ e. c .does-fit .ensures e
-        ∙ ap (λ (r : Shape). faultFrom r 0 (a .s .now)) (sym (of-kind (a .edition) (a .row) (a .kind) (sym (f .is-framing .ensures) ∙ not-true (f .is-framing .result) (c .before .if1 .taken))))
+    ∙ ap (λ (r : Shape). faultFrom r 0 (a .s .now)) (sym (of-kind (a .edition) (a .row) (a .kind) (sym (f .is-framing .ensures) ∙ not-true (f .is-framing .result) (c .before .if1 .taken))))
 
 is-four-requires : tie.Need-is-four-requires
 is-four-requires c κs = search needs

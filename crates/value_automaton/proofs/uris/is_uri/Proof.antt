@@ -55,7 +55,7 @@ returns-4 c =
     let t = drop (e + 1) s in
     let le : length t ≤ length s - (e + 1) = omega (arith, length-drop (e + 1) s) in
     λ q. uri-matches s e (g .before .if1 .left) (inside e (length s) (v .scheme-end .ensures .0) (g .if2 .left)) (v .scheme-end .ensures .1) (f .if3 .left)
-        (ap (allIn (holds graphic)) (sym (take-all (length s - (e + 1)) t le)) ∙ sym (c .is-printing .ensures) ∙ q)
+    (ap (allIn (holds graphic)) (sym (take-all (length s - (e + 1)) t le)) ∙ sym (c .is-printing .ensures) ∙ q)
 
 pub is-uri-spec : {M : Type 1} → statement M
 is-uri-spec =
