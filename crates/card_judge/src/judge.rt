@@ -26,7 +26,6 @@ use numbers::refusal;
 use octets::classes::ClassTable;
 use property_table::Edition;
 use property_table::rows::PropertyTable;
-use value_automaton::states::Transitions;
 use value_kinds::Fault;
 
 // What a line makes of its card, and which octets of the line are to be kept behind those in the store, from `from` to `to`.
@@ -202,7 +201,7 @@ fn settle(
 fn judge_parts(
     t: &ClassTable,
     rows: &PropertyTable,
-    steps: &Transitions,
+    steps: &[u8],
     edition: Edition,
     s: &[u8],
     value: &[u8],
@@ -241,7 +240,7 @@ fn judge_parts(
 pub fn judge_line(
     t: &ClassTable,
     rows: &PropertyTable,
-    steps: &Transitions,
+    steps: &[u8],
     edition: Edition,
     s: &[u8],
     store: &[u8],

@@ -1,6 +1,6 @@
 // Folding the logical lines of a text: they are measured before they are written.
 ghost use mathlib.Core.Path.{_≡_};
-ghost use mathlib.Core.Bool.{false};
+ghost use mathlib.Core.Bool.{true, false};
 ghost use Prim.Native.Nat.{_+_, _*_, _≤_};
 ghost use lib.ListN.{length};
 ghost use Rattle.numbers.specs.Limits as limit;
@@ -105,8 +105,8 @@ pub fn write_text(style: Style, s: &[u8], scratch: &mut [u8], out: &mut [u8]) ->
     w
 }
 
-// Folds a text in a style, with a scratch that holds it: 16, 15, else the octets written.
-fn fold_in(style: Style, s: &[u8], scratch: &mut [u8], out: &mut [u8]) -> Written
+// Folds a text in a style, measured first, with a scratch that holds it: 16, 15, else the octets written.
+fn fold_measured(style: Style, s: &[u8], scratch: &mut [u8], out: &mut [u8]) -> Written
     requires { ⌜ All Clean (logicalLines (now s)) × (length (now s) ≤ limit.octets) × (length (now s) ≤ length (now scratch)) ⌝ }
     ensures { λ r. ⌜ filled r (now (out .exit)) ≡ fillBounded (foldedLines (map (written style) (logicalLines (now (s .entry))))) (now (out .entry)) ⌝ }
 {
@@ -119,6 +119,30 @@ fn fold_in(style: Style, s: &[u8], scratch: &mut [u8], out: &mut [u8]) -> Writte
     }
     let w = write_text(style, s, scratch, out);
     Written::Wrote(w)
+}
+
+// True only where the folded form of n octets surely has room: a line folded has at most four octets for each of its own, and two.
+fn is_roomy(n: usize, room: usize) -> bool
+    requires { ⌜ n ≤ limit.octets ⌝ }
+    ensures { λ r. ⌜ (r ≡ true → (4 * n + 2 ≤ room) × (4 * n + 2 ≤ limit.octets)) ⌝ }
+{
+    let most = 4 * n + 2;
+    if limit::OCTETS < most {
+        return false;
+    }
+    most <= room
+}
+
+// Folds a text in a style, with a scratch that holds it: 16, 15, else the octets written. It is measured only where it could be too long.
+fn fold_in(style: Style, s: &[u8], scratch: &mut [u8], out: &mut [u8]) -> Written
+    requires { ⌜ All Clean (logicalLines (now s)) × (length (now s) ≤ limit.octets) × (length (now s) ≤ length (now scratch)) ⌝ }
+    ensures { λ r. ⌜ filled r (now (out .exit)) ≡ fillBounded (foldedLines (map (written style) (logicalLines (now (s .entry))))) (now (out .entry)) ⌝ }
+{
+    if is_roomy(s.len(), out.len()) {
+        let w = write_text(style, s, scratch, out);
+        return Written::Wrote(w);
+    }
+    fold_measured(style, s, scratch, out)
 }
 
 // A text of at most so many octets is folded with a scratch of as many, since the scratch is made at each call.

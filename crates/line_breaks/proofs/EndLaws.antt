@@ -2,20 +2,16 @@
 use mathlib.Core.Path.{_≡_, refl, sym, ap, _∙_}
 use mathlib.Core.Bool.{Bool, true, false, not, _&&_, true≢false}
 use mathlib.Core.List.{List, [], _∷_}
-use Prim.Native.Nat.{ℕ, suc, _+_, _<_, _≤_}
+use Prim.Native.Nat.{ℕ, suc, _+_, _-_, _<_, _≤_}
 use native.Mathlib.Nat.{add-zero}
-use native.Mathlib.Numerals.{add-one}
 use native.Mathlib.Omega.{arith}
-use lib.Dec.{eqb}
-use lib.Bits.{bitOr}
-use lib.ListN.{length, getD, drop, drop-of-length-le, List·getD-eq-default}
-use lib.Seq.{getD-drop, drop-cons}
-use borrow.Author.Tests.{eq-eqb, ne-eqb, eqb-true}
-use Rattle.octets.specs.Classes.{bit}
-use Rattle.octets.proofs.Marks.{mark-step}
+use lib.Dec.{eqb, ltb}
+use lib.ListN.{length, getD, drop, List·getD-eq-default}
+use lib.Seq.{getD-drop}
+use borrow.Author.Tests.{ne-eqb, eqb-true, ltb-true, ltb-false}
 use Rattle.octets.specs.Pick.{pick}
 use Rattle.octets.specs.Scan.{after, scan}
-use Rattle.line_breaks.specs.Lone.{loneStep, firstLone, differ, pairedAfter, paired}
+use Rattle.line_breaks.specs.Lone.{loneStep, firstLone, differ, splitAt, Joined, pairedAfter, paired}
 
 module _ (s : List ℕ) (i : ℕ) where
   pub step-eq : loneStep (drop i s) ≡ pick (eqb (getD s i 0) 10) 0 (pick (eqb (getD s i 0) 13) (pick (eqb (getD s (i + 1) 0) 10) 2 0) 1)
@@ -42,34 +38,43 @@ unfolding paired pairedAfter
 pair-none [] h = refl
 pair-none (x ∷ xs) h = absurd (omega arith)
 
-pub pair-lf : (s : List ℕ) → (length s ≡ 0 → ⊥) → getD s 0 0 ≡ 10 → paired s ≡ false
-unfolding paired pairedAfter
-pair-lf [] h e = absurd (h refl)
-pair-lf (x ∷ xs) h e = simp (eq-eqb x 10 e)
-
 pub pair-start : (s : List ℕ) → (length s ≡ 0 → ⊥) → (getD s 0 0 ≡ 10 → ⊥) → paired s ≡ pairedAfter (eqb (getD s 0 0) 13) (drop 1 s)
 unfolding paired pairedAfter
 pair-start [] h n = absurd (h refl)
 pair-start (x ∷ xs) h n = simp (ne-eqb x 10 n)
 
-module _ (s : List ℕ) (i : ℕ) where
-  pair-at : i + 1 < length s
-      → pairedAfter (eqb (getD s i 0) 13) (drop (i + 1) s)
-      ≡ (not (differ (eqb (getD s i 0) 13) (eqb (getD s (i + 1) 0) 10)) && pairedAfter (eqb (getD s (i + 1) 0) 13) (drop (i + 1 + 1) s))
-  unfolding pairedAfter
-  pair-at h = rw (add-one (i + 1), drop-cons s (i + 1) 0)
+both : (a b : Bool) → a ≡ false → b ≡ true → (not a && b) ≡ true
+both true b e f = absurd (true≢false e)
+both false b e f = f
 
-  pub pair-step : i + 1 < length s → (a x : ℕ) → x ≡ bit (differ (eqb (getD s i 0) 13) (eqb (getD s (i + 1) 0) 10)) 1
-      → (eqb a 0 && pairedAfter (eqb (getD s i 0) 13) (drop (i + 1) s))
-      ≡ (eqb (bitOr a x) 0 && pairedAfter (eqb (getD s (i + 1) 0) 13) (drop (i + 1 + 1) s))
-  pair-step h a x e =
-      ap (λ (t : Bool). eqb a 0 && t) (pair-at h)
-      ∙ mark-step a x (differ (eqb (getD s i 0) 13) (eqb (getD s (i + 1) 0) 10)) (pairedAfter (eqb (getD s (i + 1) 0) 13) (drop (i + 1 + 1) s)) e
+-- no pair is split and CR is not the last octet
+after-joined : (x : ℕ) (xs : List ℕ) → (getD (x ∷ xs) (length xs) 0 ≡ 13 → ⊥) → Joined (x ∷ xs) (length xs) → pairedAfter (eqb x 13) xs ≡ true
+unfolding pairedAfter splitAt
+after-joined x [] h j = ap not (ne-eqb x 13 h)
+after-joined x (y ∷ ys) h j =
+    both (differ (eqb x 13) (eqb y 10)) (pairedAfter (eqb y 13) ys) (j 0 (omega arith))
+    (after-joined y ys h
+    (λ k g. let q : suc (k + 1) ≡ suc k + 1 = omega arith in
+    ap (λ (m : ℕ). differ (eqb (getD (y ∷ ys) k 0) 13) (eqb (getD (x ∷ y ∷ ys) m 0) 10)) q ∙ j (suc k) (omega arith)))
 
-  pub pair-end : length s ≤ i + 1 → (a : ℕ) (t : Bool) → eqb (getD s i 0) 13 ≡ t
-      → (eqb a 0 && pairedAfter (eqb (getD s i 0) 13) (drop (i + 1) s)) ≡ (eqb a 0 && not t)
-  unfolding pairedAfter
-  pair-end h a t e = rw (drop-of-length-le s h, e)
+-- a text that starts with no LF and ends in no CR, and no pair of it is split
+pub joined-paired : (s : List ℕ) → (length s ≡ 0 → ⊥) → (getD s 0 0 ≡ 10 → ⊥) → (getD s (length s - 1) 0 ≡ 13 → ⊥) → Joined s (length s - 1) → paired s ≡ true
+joined-paired [] h n l j = absurd (h refl)
+joined-paired (x ∷ xs) h n l j =
+    let q : length (x ∷ xs) - 1 ≡ length xs = omega arith in
+    pair-start (x ∷ xs) h n ∙ after-joined x xs (λ e. l (ap (λ (m : ℕ). getD (x ∷ xs) m 0) q ∙ e)) (λ k g. j k (omega arith))
+
+module _ (s : List ℕ) where
+  -- pairs up to a and pairs from i on
+  pub joined-on : (i n m : ℕ) → i ≤ n → Joined s n → ((k : ℕ) → k < m → splitAt s (i + k) ≡ false) → Joined s (i + m)
+  joined-on i n m h f g k l = by (ltb k n) refl
+    where
+      by : (t : Bool) → ltb k n ≡ t → splitAt s k ≡ false
+      by true e = f k (ltb-true k n e)
+      by false e = let q : i + (k - i) ≡ k = omega (arith, ltb-false k n e) in ap (splitAt s) (sym q) ∙ g (k - i) (omega (arith, ltb-false k n e))
+
+  pub joined-none : Joined s 0
+  joined-none k h = absurd (omega arith)
 
 -- two octets on, by whether they are LF or CR
 module _ (x y : ℕ) (ys : List ℕ) where

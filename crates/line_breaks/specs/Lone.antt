@@ -1,6 +1,7 @@
 -- Refusals 3 and 4 of REFERENCE, Refusals: CR without LF after it, or LF without CR before it; and whether the last two octets are CR LF.
 -- Assumes nothing.
-use Prim.Native.Nat.{ℕ, _-_}
+use Prim.Native.Nat.{ℕ, _+_, _-_, _<_}
+use mathlib.Core.Path.{_≡_}
 use mathlib.Core.Bool.{Bool, true, false, not, _&&_}
 use mathlib.Core.List.{List, [], _∷_}
 use lib.Dec.{eqb, ltb}
@@ -20,6 +21,14 @@ firstLone i = scan loneStep i 0
 abbrev pub differ : Bool → Bool → Bool
 differ true b = not b
 differ false b = b
+
+-- only one of the octets at i and behind it is half of a CR LF
+unfoldable pub splitAt : List ℕ → ℕ → Bool
+splitAt s i = differ (eqb (getD s i 0) ascii.cr) (eqb (getD s (i + 1) 0) ascii.lf)
+
+-- none of the first n pairs of neighbours is split
+abbrev pub Joined : List ℕ → ℕ → Type 0
+Joined s n = (k : ℕ) → k < n → splitAt s k ≡ false
 
 -- LF stands exactly after each CR; cr says whether CR is the octet before
 unfoldable pub pairedAfter : Bool → List ℕ → Bool

@@ -8,10 +8,10 @@ ghost use Rattle.octets.specs.Classes.{run};
 ghost use Rattle.line_folds.specs.Folds.{notCr};
 
 // How many octets are tested at a time.
-const BLOCK: usize = 16;
+pub const BLOCK: usize = 16;
 
 // False only where none of the sixteen octets from i is CR.
-fn has_cr(s: &[u8], i: usize) -> bool
+pub fn has_cr(s: &[u8], i: usize) -> bool
     requires { ⌜ i + 16 ≤ length (now s) ⌝ }
     ensures { λ r. ⌜ (r ≡ false → (k : ℕ) → k < 16 → getD (now (s .entry)) (i + k) 0 ≡ ascii.cr → ⊥) ⌝ }
 {

@@ -7,12 +7,10 @@ ghost use lib.ListN.{length, drop};
 ghost use Rattle.numbers.specs.Limits as limit;
 ghost use Rattle.octets.specs.Classes.{bit};
 ghost use Rattle.line_folds.specs.Folds.{foldAt, unfolded};
+use line_folds::hops::BLOCK;
 use line_folds::spans::FOLD_LENGTH;
 use line_folds::spans::ONE_BY_ONE;
 use line_folds::spans::fold_at;
-
-// At how many places a fold is sought at a time.
-const BLOCK: usize = 16;
 
 // 1 where the three octets are a fold, else 0.
 fn fold_bit(a: u8, b: u8, c: u8) -> u8
@@ -39,28 +37,14 @@ pub fn unfolded_length(s: &[u8]) -> usize
     s.len() - FOLD_LENGTH * folds as usize
 }
 
-// False only where no fold starts at one of the sixteen octets from i.
-fn has_fold(s: &[u8], i: usize) -> bool
-    requires { ⌜ i + 18 ≤ length (now s) ⌝ }
-    ensures { λ r. ⌜ (r ≡ false → (k : ℕ) → k < 16 → foldAt (drop (i + k) (now (s .entry))) ≡ false) ⌝ }
-{
-    let mut hit: u8 = 0;
-    let mut k: usize = 0;
-    while k < BLOCK {
-        hit = hit | fold_bit(s[i + k], s[i + k + 1], s[i + k + 2]);
-        k += 1;
-    }
-    hit != 0
-}
-
-// A place up to which no fold starts from `from` on, sixteen octets at a time.
+// A place up to which no fold starts from `from` on: the next CR, or a place near the end.
 fn skip_to_fold(s: &[u8], from: usize) -> usize
     requires { ⌜ from ≤ length (now s) ⌝ }
     ensures { λ r. ⌜ (from ≤ r) × (r ≤ length (now (s .entry))) × ((k : ℕ) → from ≤ k → k < r → foldAt (drop k (now (s .entry))) ≡ false) ⌝ }
 {
     let mut i = from;
-    while 18 <= s.len() - i {
-        if has_fold(s, i) {
+    while BLOCK <= s.len() - i {
+        if line_folds::hops::has_cr(s, i) {
             return line_folds::hops::next_cr(s, i);
         }
         i += BLOCK;

@@ -333,11 +333,11 @@ module _ (t : List ℕ) (table : Lists t) (n : ℕ) (h : n < 44) where
         rule = at 15 (omega arith) ∙ alike (λ j. getD (entries j) 15 0) ruleAt 44 refl n h;
       }
 
-firsts-at : (c l k i : ℕ) → i < k → getD (firsts c l k) i 0 ≡ firstOf (l + i) c
+firsts-at : (c l k i : ℕ) → i < k → getD (firsts c l k) i 0 ≡ firstOf (l + i) c + (l + i)
 unfolding firsts
 firsts-at c l zero i h = absurd (omega arith)
-firsts-at c l (suc k) zero h = ap (λ (n : ℕ). firstOf n c) (omega arith)
-firsts-at c l (suc k) (suc i) h = firsts-at c (suc l) k i (omega arith) ∙ ap (λ (n : ℕ). firstOf n c) (omega arith)
+firsts-at c l (suc k) zero h = ap (λ (n : ℕ). firstOf n c + n) (omega arith)
+firsts-at c l (suc k) (suc i) h = firsts-at c (suc l) k i (omega arith) ∙ ap (λ (n : ℕ). firstOf n c + n) (omega arith)
 
 firsts-length : (c l k : ℕ) → length (firsts c l k) ≡ k
 unfolding firsts
@@ -349,7 +349,7 @@ unfolding indexEntries
 index-length n h = firsts-length (97 + n) 0 16
 
 -- the index's entry for a letter and names of l octets
-pub index-at : (t : List ℕ) → Lists t → (n l : ℕ) → n < 26 → l < 16 → getD t (704 + n * 16 + l) 0 ≡ firstOf l (97 + n)
+pub index-at : (t : List ℕ) → Lists t → (n l : ℕ) → n < 26 → l < 16 → getD t (704 + n * 16 + l) 0 ≡ firstOf l (97 + n) + l
 unfolding indexEntries
 index-at t table n l g h =
     let there : 704 + n * 16 + l ≡ 704 + (n * 16 + l) = omega arith in
@@ -358,4 +358,4 @@ index-at t table n l g h =
     ∙ sym (getD-drop 704 t (n * 16 + l) 0)
     ∙ entry-at indexEntries 16 26 index-length (drop 704 t) (table .index) n g l h
     ∙ firsts-at (97 + n) 0 16 l h
-    ∙ ap (λ (j : ℕ). firstOf j (97 + n)) size
+    ∙ ap (λ (j : ℕ). firstOf j (97 + n) + j) size

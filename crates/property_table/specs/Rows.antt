@@ -239,19 +239,19 @@ longestRest = 12
 abbrev pub rowLength : ℕ
 rowLength = 16
 
--- what the table has in the place of a row's name: the name behind its first letter, filled up by points
+-- what the table has in the place of a row's name: the name behind its first letter, filled up by points and hyphens
 unfoldable pub nameEntries : ℕ → List ℕ
-nameEntries n = take longestRest (drop 1 (rowAt n .name) ++ octets "............")
+nameEntries n = take longestRest (drop 1 (rowAt n .name) ++ octets ".-.-.-.-.-.-")
 
 -- the sixteen entries that the table has for a row: its number among the rows marked *1, those of its name, its kind, the next row that agrees
 -- with its name, and how parameters set the kind
 unfoldable pub entries : ℕ → List ℕ
 entries n = onceAt n ∷ nameEntries n ++ kindAt n ∷ nextOf n ∷ ruleAt n ∷ []
 
--- for names that start with c, the first row for each of k lengths from l on
+-- for names that start with c, the first row and the length, for each of k lengths from l on
 unfoldable pub firsts : ℕ → ℕ → ℕ → List ℕ
 firsts c l zero = []
-firsts c l (suc k) = firstOf l c ∷ firsts c (suc l) k
+firsts c l (suc k) = (firstOf l c + l) ∷ firsts c (suc l) k
 
 -- how many letters there are, and the first of them
 abbrev pub letterCount : ℕ
@@ -260,7 +260,7 @@ letterCount = 26
 abbrev pub firstLetter : ℕ
 firstLetter = 97
 
--- the index's entries for names that start with the letter of this number, counted from 0: the first row for each length from 0 to 15
+-- the index's entries for names that start with the letter of this number, counted from 0: the first row and the length, for each length from 0 to 15
 unfoldable pub indexEntries : ℕ → List ℕ
 indexEntries n = firsts (firstLetter + n) 0 rowLength
 

@@ -93,7 +93,7 @@ fn first_chosen(rows: &PropertyTable, name: &[u8]) -> usize
     if b'z' < letter {
         return 0;
     }
-    wide(rows[INDEX + (wide(letter) - FIRST_LETTER) * ROW + name.len()])
+    wide(rows[INDEX + (wide(letter) - FIRST_LETTER) * ROW + name.len()]) - name.len()
 }
 
 // The next row that agrees with this one's name in length and first letter, 0 for none.

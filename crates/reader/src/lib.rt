@@ -1,8 +1,13 @@
 // The reader: judges an input of cards, and writes its copy and its records.
 ghost use mathlib.Core.Path.{_≡_};
 ghost use mathlib.Core.List.{List};
-ghost use Prim.Native.Nat.{ℕ};
+ghost use Prim.Native.Nat.{ℕ, _≤_};
+ghost use lib.ListN.{length};
+ghost use Rattle.numbers.specs.Limits as limit;
+ghost use Rattle.line_folds.specs.Logical.{rawLines};
+ghost use Rattle.card_state.specs.State.{freshCard};
 ghost use Rattle.card_state.specs.Kept.{stepOf};
+ghost use Rattle.reader_walk.specs.Walk.{judgeLines};
 ghost use Rattle.reader.specs.Outcome.{verdictOf, judgeIn, judgeOf, took, readIn};
 use card_state::Step;
 use numbers::limit;
@@ -31,6 +36,23 @@ pub fn conclude(n: usize, last: Step) -> Verdict
     }
 }
 
+// An input of at most so many octets is judged without the scanner's table, which is then built for each value that needs it.
+const SHORT: usize = 1024;
+
+// What the lines of an input leave, with the tables made for them.
+fn walk(edition: Edition, input: &[u8]) -> Step
+    requires { ⌜ length (now input) ≤ limit.octets ⌝ }
+    ensures { λ r. ⌜ ((store : List ℕ) × (stepOf store r ≡ judgeLines edition (rawLines (now (input .entry))) 0 freshCard)) ⌝ }
+{
+    let t = octets::classes::table();
+    let rows = property_table::table();
+    if input.len() <= SHORT {
+        return reader_walk::walk(&t, &rows, &input[..0], edition, input);
+    }
+    let steps = value_automaton::scanner::table();
+    reader_walk::walk(&t, &rows, &steps, edition, input)
+}
+
 // The verdict on an input in an edition: a refusal, or the counts.
 pub fn judge_as(edition: Edition, input: &[u8]) -> Verdict
     ensures { λ r. ⌜ r ≡ judgeIn edition (now (input .entry)) ⌝ }
@@ -49,10 +71,7 @@ pub fn judge_as(edition: Edition, input: &[u8]) -> Verdict
     if !ended {
         return Verdict::Refused(refusal::NO_END, input.len());
     }
-    let t = octets::classes::table();
-    let rows = property_table::table();
-    let steps = value_automaton::scanner::table();
-    let last = reader_walk::walk(&t, &rows, &steps, edition, input);
+    let last = walk(edition, input);
     conclude(input.len(), last)
 }
 

@@ -41,7 +41,7 @@ fn lay_behind(s: &[u8], folded: bool, scratch: &mut [u8], used: usize) -> usize
 fn judge_at_hand(
     t: &ClassTable,
     rows: &PropertyTable,
-    steps: &Transitions,
+    steps: &[u8],
     edition: Edition,
     s: &[u8],
     folded: bool,
@@ -86,10 +86,11 @@ fn keep_part(s: &[u8], folded: bool, scratch: &mut [u8], used: usize, from: usiz
 }
 
 // Judges the logical line s, which starts at `at` in the input: as it is where it has no fold, else unfolded; and keeps what is to be kept of it.
-pub fn judge_span(
+// It is lent the scanner's table, or no octets.
+fn judge_raw(
     t: &ClassTable,
     rows: &PropertyTable,
-    steps: &Transitions,
+    steps: &[u8],
     edition: Edition,
     s: &[u8],
     folded: bool,
@@ -114,6 +115,28 @@ pub fn judge_span(
     j.step
 }
 
+// Judges the logical line s, which starts at `at` in the input, with the scanner's table.
+pub fn judge_span(
+    t: &ClassTable,
+    rows: &PropertyTable,
+    steps: &Transitions,
+    edition: Edition,
+    s: &[u8],
+    folded: bool,
+    scratch: &mut [u8],
+    at: usize,
+    c: Card,
+) -> Step
+    requires { ⌜ Tables (now t) (now rows) (now steps) ⌝ }
+    requires { ⌜ Counted (c .cards) (c .lines) ⌝ }
+    requires { ⌜ Roomy c (now s) (now scratch) ⌝ }
+    requires { ⌜ (folded ≡ false → unfolded (now s) ≡ now s) ⌝ }
+    ensures { λ r. ⌜ stepOf (now (scratch .exit)) r ≡ judgeLine edition (cardOf c (now (scratch .entry))) at (unfolded (now (s .entry))) ⌝ }
+    ensures { λ r. ⌜ Holds (c .used + length (now (s .entry))) r × Left edition c (now (s .entry)) (now (scratch .entry)) (now (scratch .exit)) r ⌝ }
+{
+    judge_raw(t, rows, steps, edition, s, folded, scratch, at, c)
+}
+
 // The judgement of the line s, which starts at `at` in the input, with the place in the input of an octet that it names.
 pub fn settle(step: Step, s: &[u8], at: usize) -> Step
     requires { ⌜ at + length (now s) ≤ limit.octets ⌝ }
@@ -133,7 +156,7 @@ const SHORT: usize = 1024;
 fn walk_in(
     t: &ClassTable,
     rows: &PropertyTable,
-    steps: &Transitions,
+    steps: &[u8],
     edition: Edition,
     s: &[u8],
     scratch: &mut [u8],
@@ -149,7 +172,7 @@ fn walk_in(
         let span = line_folds::spans::line_at(s, at);
         let end = span.end;
         let folded = span.cr != end;
-        let j = judge_span(t, rows, steps, edition, &s[at..end], folded, scratch, at, c);
+        let j = judge_raw(t, rows, steps, edition, &s[at..end], folded, scratch, at, c);
         let Step::Next(next) = j else {
             return settle(j, &s[at..end], at);
         };
@@ -160,13 +183,7 @@ fn walk_in(
 }
 
 // Judges the lines one after the other, up to the first refusal.
-pub fn walk(
-    t: &ClassTable,
-    rows: &PropertyTable,
-    steps: &Transitions,
-    edition: Edition,
-    s: &[u8],
-) -> Step
+pub fn walk(t: &ClassTable, rows: &PropertyTable, steps: &[u8], edition: Edition, s: &[u8]) -> Step
     requires { ⌜ Tables (now t) (now rows) (now steps) ⌝ }
     requires { ⌜ length (now s) ≤ limit.octets ⌝ }
     ensures { λ r. ⌜ ((store : List ℕ) × (stepOf store r ≡ judgeLines edition (rawLines (now (s .entry))) 0 freshCard)) ⌝ }

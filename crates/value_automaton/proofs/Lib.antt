@@ -2,3 +2,5 @@
 pub mod StepLaws
 pub mod TableLaws
 pub mod FixedLaws
+pub mod FrameLaws
+pub mod UriLaws

@@ -15,7 +15,7 @@ use Rattle.value_kinds.specs.Octets.{Octets, graphic, holds}
 use Rattle.value_kinds.specs.Shapes.{Shape, never, empty, one, _then_, _or_, many, nullable, dead, derivative, faultFrom}
 use Rattle.value_kinds.specs.Dates.{fours, others, year, months, month, day28, day29, day30, day31, hour, minute, second, lastMinute, offset, zoned, pastMinute, pastHour, clock, lastSecond, time, timed, leapDate, commonDate, noYear, dateAndOrTime, fullTime, leapFull, commonFull, timestamp}
 use Rattle.value_kinds.specs.Kinds.{text, texts, uri, component, parts, upTo, spread, components, gender, pidmap, vcard, version}
-use Rattle.value_automaton.specs.States.{stateCount, uriTail, firstNullable, stride, stepCount, states, stateShape, representative, Scanner, Next}
+use Rattle.value_automaton.specs.States.{stateCount, uriTail, firstNullable, stride, stepCount, states, stateShape, representative, Whole, Next}
 use Rattle.value_kinds.specs.declared.Fault.the-variants.{Fits, Breaks}
 use Rattle.octets.proofs.Upto.{upto, alike}
 use Rattle.value_kinds.proofs.ShapeLaws.{fits-from}
@@ -41,7 +41,7 @@ derivative-alike x y h (a or b) = rw (derivative-alike x y h a, derivative-alike
 derivative-alike x y h (many a) = rw (derivative-alike x y h a)
 
 -- an entry is its column at least, and less its column the next state
-pub over : (t : List ℕ) (q b : ℕ) → Scanner t → q < stateCount → b < 256 → getD t b 0 ≤ getD t (256 + (q * stride + getD t b 0)) 0
+pub over : (t : List ℕ) (q b : ℕ) → Whole t → q < stateCount → b < 256 → getD t b 0 ≤ getD t (256 + (q * stride + getD t b 0)) 0
 over t q b h hq hb =
     let c = getD t b 0 in
     let low : c < stride = h .sort-low b hb in
@@ -49,7 +49,7 @@ over t q b h hq hb =
     let column : (q * stride + c) % stride ≡ c = omega arith in
     rw column at (h .step-over (q * stride + c) k)
 
-pub next : (t : List ℕ) (q b : ℕ) → Scanner t → q < stateCount → b < 256 → Next q b (getD t (256 + (q * stride + getD t b 0)) 0 - getD t b 0)
+pub next : (t : List ℕ) (q b : ℕ) → Whole t → q < stateCount → b < 256 → Next q b (getD t (256 + (q * stride + getD t b 0)) 0 - getD t b 0)
 next t q b h hq hb =
     let c = getD t b 0 in
     let low : c < stride = h .sort-low b hb in

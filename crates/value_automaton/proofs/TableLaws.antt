@@ -6,14 +6,14 @@ use Prim.Native.Nat.{ℕ, zero, suc, _+_, _-_, _<_, _≤_, _/_, _%_}
 use native.Mathlib.Nat.{add-zero, zero-add}
 use native.Mathlib.Omega.{arith}
 use lib.Dec.{leb, ltb}
-use lib.ListN.{length, getD, take, drop}
+use lib.ListN.{length, getD, take, drop, length-drop}
 use lib.Seq.{getD-drop}
 use borrow.Author.Tests.{leb-true, ltb-true}
 use Rattle.octets.specs.Pick.{pick}
 use Rattle.octets.specs.Classes.{digit as isDigit}
 use Rattle.value_kinds.specs.Octets.{Octets, any, plain, inner, escapee, backslash, comma, semicolon, colon, letter, scheme, graphic, digit, sex, theV, theC, theA, theR, theD, four, point, nought, theT, theZ, minus, sign, figures, among, holds}
 use Rattle.value_kinds.specs.Shapes.{derivative}
-use Rattle.value_automaton.specs.States.{stateCount, stride, stepCount, stateShape, representative, Scanner}
+use Rattle.value_automaton.specs.States.{stateCount, stride, stepCount, stateShape, representative, Whole}
 use Rattle.octets.proofs.Bools.{and-both}
 use Rattle.octets.proofs.Upto.{upto, along, entries}
 
@@ -115,9 +115,10 @@ module _ (t : List ℕ) where
       → covers 0 steps ≡ true
       → take stepCount (along (λ x. ltb x stateCount) (less 0 steps)) ≡ upto (λ j. true) 0 stepCount
       → take stepCount (along stateShape (less 0 steps)) ≡ upto (λ j. derivative (representative (j % stride)) (stateShape (j / stride))) 0 stepCount
-      → Scanner t
+      → Whole t
   scanner a b f size over c d =
       record {
+        size = omega (arith, length-drop 256 t);
         sort-low = below 256 t stride a;
         sort = λ x h p.
             in-same x (representative (getD t x 0)) (sym (entries (λ y. marks (representative y)) marks t 256 b x h))

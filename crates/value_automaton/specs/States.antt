@@ -3,7 +3,7 @@
 use Prim.Native.Nat.{ℕ, _+_, _-_, _<_, _≤_, _/_, _%_}
 use mathlib.Core.Path.{_≡_}
 use mathlib.Core.List.{List, [], _∷_}
-use lib.ListN.{getD}
+use lib.ListN.{length, getD}
 use Rattle.value_kinds.specs.Octets.{Octets, any, plain, inner, escapee, comma, semicolon, colon, scheme, graphic, digit, theC, theA, theR, theD, point, nought, minus, holds}
 use Rattle.value_kinds.specs.Shapes.{Shape, never, empty, one, _then_, _or_, many, derivative}
 use Rattle.value_kinds.specs.Dates.{fig, upTo1, upTo3, upTo8, nonzero, evenEnd, oddEnd, zeroEnd, fours, others, monthEnd, lateEnd, month, day28, day29, day30, day31, hour, minute, second, lastMinute, offset, zoned, pastMinute, pastHour, clock, lastSecond, time, timed, leapDate, commonDate, noYear, dateAndOrTime, fullTime, leapFull, commonFull, timestamp}
@@ -217,12 +217,17 @@ abbrev pub leadsTo : List ℕ → ℕ → ℕ
 leadsTo t k = getD t (256 + k) 0 - k % stride
 
 -- the table gives the sort of each octet, and from 256 on, stride entries a state, the next state for each sort
-pub record Scanner (t : List ℕ) : Type 0 where
+pub record Whole (t : List ℕ) : Type 0 where
+  pub size : length t ≡ 256 + stepCount
   pub sort-low : (b : ℕ) → b < 256 → getD t b 0 < stride
   pub sort : (b : ℕ) → b < 256 → (p : Octets) → holds p b ≡ holds p (representative (getD t b 0))
   pub step-over : (k : ℕ) → k < stepCount → k % stride ≤ getD t (256 + k) 0
   pub step-low : (k : ℕ) → k < stepCount → leadsTo t k < stateCount
   pub step : (k : ℕ) → k < stepCount → stateShape (leadsTo t k) ≡ derivative (representative (k % stride)) (stateShape (k / stride))
+
+-- what a user of the scanner is lent: the table, or no octets
+pub record Scanner (t : List ℕ) : Type 0 where
+  pub whole : (length t ≡ 0 → ⊥) → Whole t
 
 -- the octet b leads from state q to state n
 pub record Next (q b n : ℕ) : Type 0 where

@@ -6,12 +6,15 @@ ghost use Rattle.numbers.specs.Kinds as kinds;
 ghost use Rattle.octets.specs.Classes.{bit};
 ghost use Rattle.value_kinds.specs.Octets.{neither};
 ghost use Rattle.value_kinds.specs.Shapes.{Matches};
-ghost use Rattle.value_kinds.specs.Kinds.{kindIn, valueIn, vcard, version};
-ghost use Rattle.value_automaton.specs.States.{Scanner};
+ghost use Rattle.value_kinds.specs.Kinds.{kindIn, lineShape, valueIn, vcard, version};
+ghost use Rattle.value_kinds.specs.declared.Fault.the-variants.{Fits as fitsIt};
+ghost use Rattle.value_automaton.specs.States.{stateCount, stateShape, Scanner};
 
 pub mod scanner;
 pub mod states;
+mod uris;
 
+use numbers::kind;
 use numbers::property;
 use property_table::Edition;
 use states::Transitions;
@@ -20,19 +23,30 @@ use value_kinds::Fault;
 // The length below which a value is scanned at once, since a look at pairs of octets costs more.
 const SHORT: usize = 32;
 
+// True only where a look without the table shows that s satisfies its kind.
+fn does_fit(edition: Edition, kind: usize, s: &[u8]) -> bool
+    ensures { λ r. ⌜ (r ≡ true → fitsIt ≡ kindIn edition kind (now (s .entry))) ⌝ }
+{
+    if value_kinds::fits_at_once(edition, kind, s) {
+        return true;
+    }
+    if kind == kind::URI {
+        return uris::is_uri(s);
+    }
+    if s.len() < SHORT {
+        return false;
+    }
+    value_kinds::pairs::fits_by_pairs(kind, s)
+}
+
 // Whether s satisfies its kind: `Breaks` has the first octet from which nothing could, or the end.
 pub fn value_fault(steps: &Transitions, edition: Edition, kind: usize, s: &[u8]) -> Fault
     requires { ⌜ Scanner (now steps) ⌝ }
     requires { ⌜ kind < kinds.count ⌝ }
     ensures { λ r. ⌜ r ≡ kindIn edition kind (now (s .entry)) ⌝ }
 {
-    if value_kinds::fits_at_once(edition, kind, s) {
+    if does_fit(edition, kind, s) {
         return Fault::Fits;
-    }
-    if SHORT <= s.len() {
-        if value_kinds::pairs::fits_by_pairs(kind, s) {
-            return Fault::Fits;
-        }
     }
     let first = scanner::start(edition, kind);
     scanner::scan(steps, first, s)
@@ -69,29 +83,44 @@ fn is_four(s: &[u8]) -> bool
     (s[0] != b'4') as u8 | (s[1] != b'.') as u8 | (s[2] != b'0') as u8 == 0
 }
 
-// Whether s satisfies what its row asks: VCARD on BEGIN and END, 4.0 on VERSION, else the line's kind.
-pub fn judge_value(
-    steps: &Transitions,
-    edition: Edition,
-    row: usize,
-    kind: usize,
-    s: &[u8],
-) -> Fault
+// True only where a look without the table shows that s satisfies what its row asks.
+fn does_satisfy(edition: Edition, row: usize, kind: usize, s: &[u8]) -> bool
+    ensures { λ r. ⌜ (r ≡ true → fitsIt ≡ valueIn edition row kind (now (s .entry))) ⌝ }
+{
+    if !property_table::is_framing(row) {
+        return does_fit(edition, kind, s);
+    }
+    if row == property::VERSION {
+        return is_four(s);
+    }
+    is_vcard(s)
+}
+
+// The state in which a value of the row starts.
+fn first_state(edition: Edition, row: usize, kind: usize) -> u8
+    requires { ⌜ kind < kinds.count ⌝ }
+    ensures { λ r. ⌜ r < stateCount ⌝ }
+    ensures { λ r. ⌜ stateShape r ≡ lineShape edition row kind ⌝ }
+{
+    if !property_table::is_framing(row) {
+        return scanner::start(edition, kind);
+    }
+    if row == property::VERSION {
+        return states::VERSION;
+    }
+    states::VCARD
+}
+
+// Whether s satisfies what its row asks: VCARD on BEGIN and END, 4.0 on VERSION, else the line's kind. The scanner is asked at one place, so that
+// it is compiled into the walk.
+pub fn judge_value(steps: &[u8], edition: Edition, row: usize, kind: usize, s: &[u8]) -> Fault
     requires { ⌜ Scanner (now steps) ⌝ }
     requires { ⌜ kind < kinds.count ⌝ }
     ensures { λ r. ⌜ r ≡ valueIn edition row kind (now (s .entry)) ⌝ }
 {
-    if !property_table::is_framing(row) {
-        return value_fault(steps, edition, kind, s);
-    }
-    if row == property::VERSION {
-        if is_four(s) {
-            return Fault::Fits;
-        }
-        return scanner::scan(steps, states::VERSION, s);
-    }
-    if is_vcard(s) {
+    if does_satisfy(edition, row, kind, s) {
         return Fault::Fits;
     }
-    scanner::scan(steps, states::VCARD, s)
+    let first = first_state(edition, row, kind);
+    scanner::scan(steps, first, s)
 }

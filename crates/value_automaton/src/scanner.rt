@@ -8,7 +8,7 @@ ghost use Rattle.octets.specs.Counts.{allIn};
 ghost use Rattle.value_kinds.specs.Octets.{graphic, holds};
 ghost use Rattle.value_kinds.specs.Shapes.{faultFrom};
 ghost use Rattle.value_kinds.specs.Kinds.{shapeIn};
-ghost use Rattle.value_automaton.specs.States.{stateCount, uriTail, stateShape, Scanner, Next};
+ghost use Rattle.value_automaton.specs.States.{stateCount, uriTail, stateShape, Whole, Scanner, Next};
 use crate::states;
 use crate::states::Transitions;
 use numbers::kind;
@@ -16,11 +16,19 @@ use octets::indices::wide;
 use property_table::Edition;
 use value_kinds::Fault;
 
-// The table as a value, which its users are lent: a use of the constant in a loop would build it there at each turn.
+// The table as a value.
+fn whole_table() -> Transitions
+    ensures { λ r. ⌜ Whole r ⌝ }
+{
+    states::TABLE
+}
+
+// The table as a value, which its users are lent: a use of the constant in a loop would build it there at each turn. Who is lent no octets builds
+// it for each value that needs it.
 pub fn table() -> Transitions
     ensures { λ r. ⌜ Scanner r ⌝ }
 {
-    states::TABLE
+    whole_table()
 }
 
 // The state in which a value of N starts.
@@ -68,8 +76,8 @@ pub fn start(edition: Edition, kind: usize) -> u8
 }
 
 // The state after the octet x in the state q.
-fn step(steps: &Transitions, q: u8, x: u8) -> u8
-    requires { ⌜ Scanner (now steps) ⌝ }
+fn step(steps: &[u8], q: u8, x: u8) -> u8
+    requires { ⌜ Whole (now steps) ⌝ }
     requires { ⌜ q < stateCount ⌝ }
     ensures { λ r. ⌜ Next q x r ⌝ }
 {
@@ -90,8 +98,8 @@ fn is_settled(n: u8, s: &[u8], i: usize) -> bool
 }
 
 // A place up to which all octets from `from` on leave the state as it is.
-fn stay(steps: &Transitions, q: u8, s: &[u8], from: usize) -> usize
-    requires { ⌜ Scanner (now steps) ⌝ }
+fn stay(steps: &[u8], q: u8, s: &[u8], from: usize) -> usize
+    requires { ⌜ Whole (now steps) ⌝ }
     requires { ⌜ (0 < q) × (q < stateCount) ⌝ }
     requires { ⌜ from ≤ length (now s) ⌝ }
     ensures { λ r. ⌜ (from ≤ r) × (r ≤ length (now (s .entry))) ⌝ }
@@ -107,9 +115,9 @@ fn stay(steps: &Transitions, q: u8, s: &[u8], from: usize) -> usize
     i
 }
 
-// The fault of s from a state on.
-pub fn scan(steps: &Transitions, first: u8, s: &[u8]) -> Fault
-    requires { ⌜ Scanner (now steps) ⌝ }
+// The fault of s from a state on, by the table.
+fn scan_by(steps: &[u8], first: u8, s: &[u8]) -> Fault
+    requires { ⌜ Whole (now steps) ⌝ }
     requires { ⌜ first < stateCount ⌝ }
     ensures { λ r. ⌜ r ≡ faultFrom (stateShape first) 0 (now (s .entry)) ⌝ }
 {
@@ -134,4 +142,25 @@ pub fn scan(steps: &Transitions, first: u8, s: &[u8]) -> Fault
         return Fault::Breaks(i);
     }
     Fault::Fits
+}
+
+// The fault of s from a state on, by a table that is built for it.
+fn scan_anew(first: u8, s: &[u8]) -> Fault
+    requires { ⌜ first < stateCount ⌝ }
+    ensures { λ r. ⌜ r ≡ faultFrom (stateShape first) 0 (now (s .entry)) ⌝ }
+{
+    let steps = whole_table();
+    scan_by(&steps, first, s)
+}
+
+// The fault of s from a state on.
+pub fn scan(steps: &[u8], first: u8, s: &[u8]) -> Fault
+    requires { ⌜ Scanner (now steps) ⌝ }
+    requires { ⌜ first < stateCount ⌝ }
+    ensures { λ r. ⌜ r ≡ faultFrom (stateShape first) 0 (now (s .entry)) ⌝ }
+{
+    if steps.len() == 0 {
+        return scan_anew(first, s);
+    }
+    scan_by(steps, first, s)
 }

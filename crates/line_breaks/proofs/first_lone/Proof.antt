@@ -1,5 +1,5 @@
 -- `line_breaks::first_lone` meets its contract. Assumes nothing.
-use mathlib.Core.Path.{sym, _∙_}
+use mathlib.Core.Path.{sym}
 use Rattle.line_breaks.proofs.EndLaws.{paired-all}
 use borrow.Author.Needs.{needs}
 use Rattle.line_breaks.proofs.first_lone.Statement.{statement}
@@ -10,7 +10,7 @@ all-paired-requires c κs = search needs
 
 returns : tie.Need-returns
 returns c =
-    sym (paired-all (c .before .before .before .args .s .now) (sym (c .before .all-paired .ensures) ∙ c .if1 .taken))
+    sym (paired-all (c .before .before .before .args .s .now) (c .before .all-paired .ensures (c .if1 .taken)))
 
 find-lone-requires : tie.Need-find-lone-requires
 find-lone-requires c κs = search needs

@@ -3,6 +3,7 @@ use borrow.Author.Needs.{needs}
 use Prim.Native.Nat.{_≤_, _+_, _-_}
 use native.Mathlib.Omega.{arith}
 use lib.ListN.{length}
+use Rattle.line_folds.proofs.FoldLaws.{not-cr}
 use Rattle.line_unfolding.proofs.RunLaws.{Flat, flat-none, flat-join, flat-sixteen, flat-run}
 use Rattle.line_unfolding.proofs.skip_to_fold.Statement.{statement}
 use Rattle.line_unfolding.proofs.skip_to_fold.Tie as tie
@@ -22,8 +23,8 @@ loop-holds c =
 sub-loop : tie.Need-sub-loop Inv-loop μ-loop
 sub-loop c = search needs
 
-has-fold-requires : tie.Need-has-fold-requires Inv-loop μ-loop
-has-fold-requires c κs = search needs
+has-cr-requires : tie.Need-has-cr-requires Inv-loop μ-loop
+has-cr-requires c κs = search needs
 
 next-cr-requires : tie.Need-next-cr-requires Inv-loop μ-loop
 next-cr-requires c κs = search needs
@@ -45,7 +46,7 @@ loop-again : tie.Need-loop-again Inv-loop μ-loop
 loop-again c =
     let a = c .before .before .before .before .before .args in
     let l = c .before .before .before .loop in
-    (omega arith, omega arith, flat-join (a .s .now) (a .from) (l .i) (l .i + 16) (l .inv .2) (flat-sixteen (a .s .now) (l .i) (c .before .has-fold .ensures (c .if1 .left))))
+    (omega arith, omega arith, flat-join (a .s .now) (a .from) (l .i) (l .i + 16) (l .inv .2) (flat-sixteen (a .s .now) (l .i) (λ k h. not-cr (a .s .now) (l .i + k) (c .before .has-cr .ensures (c .if1 .left) k h))))
 
 returns-2 : tie.Need-returns-2 Inv-loop μ-loop
 returns-2 c =
@@ -59,7 +60,7 @@ skip-to-fold-spec =
     μ-loop
     loop-holds
     sub-loop
-    has-fold-requires
+    has-cr-requires
     next-cr-requires
     returns
     add-i

@@ -1,15 +1,25 @@
 -- `property_table::first_chosen` meets its contract. Assumes nothing.
 use borrow.Author.Needs.{needs}
 use mathlib.Core.Path.{_≡_, sym, ap, _∙_}
-use Prim.Native.Nat.{_+_, _-_, _<_}
+use mathlib.Core.List.{List}
+use Prim.Native.Nat.{ℕ, _+_, _*_, _-_, _<_, _≤_}
 use native.Mathlib.Omega.{arith}
 use lib.Bits.{bitOr}
 use lib.ListN.{length, getD}
-use Rattle.property_table.specs.Rows.{initial, firstOf}
+use Rattle.property_table.specs.Rows.{initial, firstOf, Lists}
 use Rattle.property_table.proofs.RowLaws.{first-none, index-at}
 use Rattle.property_table.proofs.Letters.{letter-bounds, letter-small}
 use Rattle.property_table.proofs.first_chosen.Statement.{statement}
 use Rattle.property_table.proofs.first_chosen.Tie as tie
+
+-- the entry r of the index for a name whose first octet, as a small letter, is w
+found : (t v : List ℕ) (w r : ℕ) → Lists t → getD v 0 0 < 256 → w ≡ bitOr (getD v 0 0) 32 → 97 ≤ w → w ≤ 122 → length v < 16
+    → r ≡ getD t (704 + (w - 97) * 16 + length v) 0 → r ≡ firstOf (length v) (initial v) + length v
+unfolding initial
+found t v w r table octet e low high short q =
+    let small = letter-small (getD v 0 0) octet (omega arith) (omega arith) in
+    let there : 97 + (w - 97) ≡ bitOr (getD v 0 0) 32 = omega arith in
+    q ∙ index-at t table (w - 97) (length v) (omega arith) short ∙ ap (λ (n : ℕ). firstOf (length v) n + length v) (there ∙ small)
 
 returns : tie.Need-returns
 returns c =
@@ -59,19 +69,25 @@ element-copy-out-wide c = search needs
 wide-requires-2 : tie.Need-wide-requires-2
 wide-requires-2 c κs = search needs
 
+sub-result : tie.Need-sub-result
+sub-result c =
+    let w = c .before .before in
+    let k = w .before .before .before in
+    let s = k .before .before .before .before in
+    let v = s .args .name .now in
+    let octet : getD v 0 0 < 256 = omega (arith, k .shared-slice-known2 .given 0) in
+    let r = found (s .args .rows .now) v (w .wide .result) (c .wide2 .result) (s .pre) octet (w .wide .ensures) (omega arith) (omega arith) (omega arith) (c .wide2 .ensures) in
+    omega (arith, r)
+
 returns-5 : tie.Need-returns-5
-unfolding initial
 returns-5 c =
     let w = c .before .before in
     let k = w .before .before .before in
     let s = k .before .before .before .before in
     let v = s .args .name .now in
     let octet : getD v 0 0 < 256 = omega (arith, k .shared-slice-known2 .given 0) in
-    let small = letter-small (getD v 0 0) octet (omega arith) (omega arith) in
-    let there : 97 + (w .wide .result - 97) ≡ bitOr (getD v 0 0) 32 = omega arith in
-    c .wide2 .ensures
-    ∙ index-at (s .args .rows .now) (s .pre) (w .wide .result - 97) (length v) (omega arith) (omega arith)
-    ∙ ap (firstOf (length v)) (there ∙ small)
+    let r = found (s .args .rows .now) v (w .wide .result) (c .wide2 .result) (s .pre) octet (w .wide .ensures) (omega arith) (omega arith) (omega arith) (c .wide2 .ensures) in
+    omega (arith, r)
 
 pub first-chosen-spec : {M : Type 1} → statement M
 first-chosen-spec =
@@ -89,4 +105,5 @@ first-chosen-spec =
     add-wide-2
     element-copy-out-wide
     wide-requires-2
+    sub-result
     returns-5)

@@ -34,15 +34,6 @@ returns-4 c =
     let e = c .before .before .before .first-lone .ensures in
     simp (le-ltb _ _ (c .before .before .before .before .before .if1 .left), ne-eqb _ _ (c .before .before .before .before .if2 .left), le-ltb _ _ (rw e at (c .before .before .if3 .left)), sym (c .before .ends-cr-lf .ensures) ∙ not-true _ (c .if4 .taken))
 
-table-requires : tie.Need-table-requires
-table-requires c κs = search needs
-
-table-requires-2 : tie.Need-table-requires-2
-table-requires-2 c κs = search needs
-
-table-requires-3 : tie.Need-table-requires-3
-table-requires-3 c κs = search needs
-
 walk-requires : tie.Need-walk-requires
 walk-requires c κs = search needs
 
@@ -52,7 +43,7 @@ conclude-requires c κs = search needs
 returns-5 : tie.Need-returns-5
 unfolding judgeIn
 returns-5 c =
-    let c8 = c .before .before .before .before .before .before .before .before in
+    let c8 = c .before .before in
     let c13 = c8 .before .before .before .before .before in
     let e = c8 .before .before .before .first-lone .ensures in
     c .conclude .ensures (c .before .walk .ensures .0) ∙ ap (verdictOf _) (c .before .walk .ensures .1) ∙ sym (simp (le-ltb _ _ (c13 .if1 .left), ne-eqb _ _ (c8 .before .before .before .before .if2 .left), le-ltb _ _ (rw e at (c8 .before .before .if3 .left)), sym (c8 .before .ends-cr-lf .ensures) ∙ not-false _ (c8 .if4 .left)))
@@ -67,9 +58,6 @@ judge-as-spec =
     returns-3
     ends-cr-lf-requires
     returns-4
-    table-requires
-    table-requires-2
-    table-requires-3
     walk-requires
     conclude-requires
     returns-5)

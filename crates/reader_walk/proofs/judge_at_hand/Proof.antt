@@ -18,20 +18,20 @@ all : (s : tie.Start) → length (take (s .args .c .used) (s .args .buffer .now)
 all s = length-take-le (s .args .c .used) (s .args .buffer .now) (omega (arith, s .pre .1 .1 .0 .room))
 
 slice-aggregate-store : tie.Need-slice-aggregate-store
-slice-aggregate-store c = simp length-take (omega (arith, c .before .before .before .pre .1 .1 .0 .room))
+slice-aggregate-store c = simp length-take (omega (arith, c .before .before .before .before .pre .1 .1 .0 .room))
 
 sub-judge-line : tie.Need-sub-judge-line
-sub-judge-line c = omega (arith, c .before .before .before .before .pre .1 .1 .0 .room)
+sub-judge-line c = omega (arith, c .before .before .before .before .before .pre .1 .1 .0 .room)
 
 part-judge-line-start : tie.Need-part-judge-line-start
-part-judge-line-start c = omega (arith, c .before .before .before .before .pre .1 .1 .0 .room)
+part-judge-line-start c = omega (arith, c .before .before .before .before .before .pre .1 .1 .0 .room)
 
 part-judge-line-end : tie.Need-part-judge-line-end
 part-judge-line-end c = search needs
 
 judge-line-requires : tie.Need-judge-line-requires
 judge-line-requires c κs =
-    let s = c .before .before .before .before .before in
+    let s = c .before .before .before .before .before .before in
     let r = s .pre .1 .1 .0 in
     let b = s .args .buffer .now in
     let u = s .args .c .used in
@@ -39,13 +39,13 @@ judge-line-requires c κs =
 
 returns : tie.Need-returns
 returns c =
-    let a = c .before .before .before .before .before .before .args in
+    let a = c .before .before .before .before .before .before .before .args in
     let x = rest (a .c .used) (a .buffer .now) in
     rw (c .before .before .if1 .taken) (rw x at (c .judge-line .ensures .0), rw x at (c .judge-line .ensures .1))
 
 judge-line-requires-2 : tie.Need-judge-line-requires-2
 judge-line-requires-2 c κs =
-    let s = c .before .before .before .before in
+    let s = c .before .before .before .before .before in
     (s .pre .0, (s .pre .1 .0, record { lies = s .pre .1 .1 .0 .lies; all = all s; short = s .pre .1 .1 .1 }))
 
 returns-2 : tie.Need-returns-2

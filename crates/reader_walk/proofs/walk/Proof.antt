@@ -19,7 +19,7 @@ slice-aggregate-walk-in-2 c = search needs
 
 walk-in-requires-2 : tie.Need-walk-in-requires-2
 walk-in-requires-2 c κs =
-    let p = c .before .before .before .pre in
+    let p = c .before .before .before .before .pre in
     (p .0, (p .1, (simp length-replicate (omega (arith, p .1)), simp length-replicate (omega arith))))
 
 returns-2 : tie.Need-returns-2

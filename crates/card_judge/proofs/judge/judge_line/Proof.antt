@@ -25,7 +25,7 @@ unkept-requires c κs = search needs
 returns : tie.Need-returns
 unfolding judgeLine
 returns c =
-    let a = c .before .before .before .before .before .args in
+    let a = c .before .before .before .before .before .before .args in
     let l = a .s .now in
     flawed-stop (a .c) (a .store .now) l (c .unkept .result) 5 _ _ (c .unkept .ensures)
     (simp (c .before .before .first-bad .ensures, lt-ltb (firstBad (allowed false) l) (length l) (rw (← c .before .before .first-bad .ensures) (c .before .if1 .taken))))
@@ -44,7 +44,7 @@ enum-known-x c = search needs
 
 -- the line by its parts
 there : (c : tie.After-known-told2)
-    → Read (c .before .before .before .before .before .before .before .before .args .edition) (c .before .before .before .before .before .before .before .before .args .s .now) (c .before .x .given .0 .0)
+    → Read (c .before .before .before .before .before .before .before .before .before .args .edition) (c .before .before .before .before .before .before .before .before .before .args .s .now) (c .before .x .given .0 .0)
 there c = read _ _ _ (sym (c .before .x .given .1) ∙ c .before .before .before .parts-of .ensures)
 
 sub-judge-parts : tie.Need-sub-judge-parts
@@ -58,7 +58,7 @@ part-judge-parts-end c = search needs
 
 judge-parts-requires : tie.Need-judge-parts-requires
 judge-parts-requires c κs =
-    let s = c .before .before .before .before .before .before .before .before .before in
+    let s = c .before .before .before .before .before .before .before .before .before .before in
     let x = c .before .before .x .given .1 in
     let l = s .args .s .now in
     let v = c .before .before .x .given .0 .0 .«value_start» in
@@ -75,14 +75,14 @@ judge-parts-requires c κs =
 
 returns-2 : tie.Need-returns-2
 returns-2 c =
-    let a = c .before .before .before .before .before .before .before .before .before .args in
+    let a = c .before .before .before .before .before .before .before .before .before .before .args in
     stopped (a .c) (a .store .now) (a .s .now) (c .unkept2 .result) _ (a .at) _ (c .unkept2 .ensures)
     (refused (a .edition) (cardOf (a .c) (a .store .now)) (a .at) (a .s .now) (rw (← c .before .before .before .before .before .before .first-bad .ensures) (c .before .before .before .before .before .if1 .left))
     (sym (c .before .before .e .given .1) ∙ c .before .before .before .before .parts-of .ensures))
 
 returns-3 : tie.Need-returns-3
 returns-3 c =
-    let s = c .before .before .before .before .before .before .before .before .before .before in
+    let s = c .before .before .before .before .before .before .before .before .before .before .before in
     let a = s .args in (
       c .judge-parts .ensures .0
           ∙ judged (a .edition) (cardOf (a .c) (a .store .now)) (a .at) (a .s .now) (rw (← c .before .before .before .before .before .before .before .first-bad .ensures) (c .before .before .before .before .before .before .if1 .left)) _ (there (c .before .before)),

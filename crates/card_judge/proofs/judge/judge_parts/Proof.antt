@@ -25,13 +25,13 @@ judge-value-requires c κs = search needs
 
 -- the judgement by what the three tests answered
 found : (c : tie.After-judge-value)
-    → let a = c .before .before .before .before .before .before .args in
+    → let a = c .before .before .before .before .before .before .before .args in
     judgeParts (a .edition) (cardOf (a .c) (a .store .now)) (a .at) (a .x .row) (a .x .«group_length») (a .x .«param_count») (a .x .kind) (firstValue altidName (a .s .now)) (a .x .«value_start») (a .value .now)
     ≡ pick (not (c .before .before .in-order .result)) (Refused 9 (a .at)) (pick (c .before .is-laden .result) (Refused 8 (a .at))
     (fitting (a .x .«value_start») (c .judge-value .result) (entered (cardOf (a .c) (a .store .now)) (a .at) (a .x .row) (firstValue altidName (a .s .now)) (a .value .now))))
 unfolding cardOf
 found c =
-    let a = c .before .before .before .before .before .before .args in
+    let a = c .before .before .before .before .before .before .before .args in
     tests (a .edition) (cardOf (a .c) (a .store .now)) (a .at) (a .x .row) (a .x .«group_length») (a .x .«param_count») (a .x .kind) (firstValue altidName (a .s .now)) (a .x .«value_start») (a .value .now)
     (c .before .before .in-order .ensures) (c .before .is-laden .ensures) (c .judge-value .ensures)
 
@@ -40,7 +40,7 @@ unkept-requires c κs = search needs
 
 returns : tie.Need-returns
 returns c =
-    let a = c .before .before .before .before .before .before .before .before .args in
+    let a = c .before .before .before .before .before .before .before .before .before .args in
     stopped (a .c) (a .store .now) (a .s .now) (c .unkept .result) 9 (a .at) _ (c .unkept .ensures) (simp (found (c .before .before), c .before .if1 .taken))
 
 unkept-requires-2 : tie.Need-unkept-requires-2
@@ -48,7 +48,7 @@ unkept-requires-2 c κs = search needs
 
 returns-2 : tie.Need-returns-2
 returns-2 c =
-    let a = c .before .before .before .before .before .before .before .before .before .args in
+    let a = c .before .before .before .before .before .before .before .before .before .before .args in
     stopped (a .c) (a .store .now) (a .s .now) (c .unkept2 .result) 8 (a .at) _ (c .unkept2 .ensures)
     (simp (found (c .before .before .before), c .before .before .if1 .left, c .before .if2 .taken))
 
@@ -58,7 +58,7 @@ enum-known-fault c = search needs
 -- the octet lies within the value
 add-t20 : tie.Need-add-t20
 add-t20 c =
-    let s = c .before .before .before .before .before .before .before .before .before .before .before .before in
+    let s = c .before .before .before .before .before .before .before .before .before .before .before .before .before in
     omega (arith, s .pre .1 .1 .1 .0, fault-inside _ _ _ _ _ (sym (c .before .before .before .before .before .before .judge-value .ensures) ∙ c .before .before .fault .given .1))
 
 unkept-requires-3 : tie.Need-unkept-requires-3
@@ -66,7 +66,7 @@ unkept-requires-3 c κs = search needs
 
 returns-3 : tie.Need-returns-3
 returns-3 c =
-    let a = c .before .before .before .before .before .before .before .before .before .before .before .before .before .args in
+    let a = c .before .before .before .before .before .before .before .before .before .before .before .before .before .before .args in
     flawed-stop (a .c) (a .store .now) (a .s .now) (c .unkept3 .result) 7 _ _ (c .unkept3 .ensures)
     (simp (found (c .before .before .before .before .before .before .before), c .before .before .before .before .before .before .if1 .left, c .before .before .before .before .before .if2 .left, c .before .before .before .fault .given .1))
 
@@ -83,7 +83,7 @@ settle-requires : tie.Need-settle-requires
 unfolding onceFlag
 settle-requires c κs =
     let o = c .before .once-of .ensures in
-    let s = c .before .before .before .before .before .before .before .before .before .before .before .before in
+    let s = c .before .before .before .before .before .before .before .before .before .before .before .before .before in
     let p = s .pre in (
       p .0 .0,
       (

@@ -39,7 +39,7 @@ loop-less c = search needs
 loop-again : tie.Need-loop-again Inv-loop μ-loop
 loop-again c =
     let l = c .before .before .before .before in
-    let a = l .before .before .args in
+    let a = l .before .before .before .args in
     let i = l .loop .i in
     let x : Next (a .q) (getD (a .s .now) i 0) (a .q) = subst (Next (a .q) (getD (a .s .now) i 0)) (c .if1 .left) (c .before .step .ensures) in
     (omega arith, omega arith, l .loop .inv .2 ∙ fault-step (a .s .now) (a .q) i (a .q) (omega arith) x (λ e. omega arith))
