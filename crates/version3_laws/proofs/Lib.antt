@@ -1,0 +1,3 @@
+-- The laws of cards that are taken in and given out. Assumes nothing.
+pub mod TextLaws
+pub mod SaysLaws
