@@ -1,3 +1,5 @@
 -- The laws of cards that are taken in and given out. Assumes nothing.
 pub mod TextLaws
 pub mod SaysLaws
+pub mod ParamLaws
+pub mod PlaceLaws
