@@ -24,10 +24,10 @@ use Rattle.version3_laws.specs.Floats as places
 clash : {A : Type 0} {b : Bool} → b ≡ true → b ≡ false → A
 clash p q = absurd (true≢false (sym p ∙ q))
 
-pub each-append : {A : Type 0} {P : A → Type 0} (u v : List A) → Each P u → Each P v → Each P (u ++ v)
+pub each-append : {A : Type 0} (P : A → Type 0) (u v : List A) → Each P u → Each P v → Each P (u ++ v)
 unfolding Each
-each-append [] v h g = g
-each-append (x ∷ u) v h g = (h .0, each-append u v (h .1) g)
+each-append P [] v h g = g
+each-append P (x ∷ u) v h g = (h .0, each-append P u v (h .1) g)
 
 -- ---- digits
 
@@ -59,7 +59,7 @@ fraction-to : (u l : List ℕ) → Digits u → fraction l ≡ true → Unsigned
 unfolding fraction
 fraction-to u [] h e = subst Unsigned (sym (append-nil u)) (whole h)
 fraction-to u (x ∷ l) h e =
-    let a = and-both (eqb x 46) (digits l) e in
+    let a = and-both (eqb x 46) (digits l) (rw (ne-eqb (suc (length l)) 0 (λ q. omega arith)) at e) in
     subst (λ (y : ℕ). Unsigned (u ++ (y ∷ l))) (sym (eqb-true x 46 (a .0))) (broken h (digits-to l (a .1)))
 
 unsigned-to : (l : List ℕ) → unsigned l ≡ true → Unsigned l
@@ -76,7 +76,7 @@ fraction-none = refl
 
 fraction-dot : (v : List ℕ) → Digits v → fraction (46 ∷ v) ≡ true
 unfolding fraction
-fraction-dot v h = digits-from v h
+fraction-dot v h = rw (ne-eqb (suc (length v)) 0 (λ q. omega arith)) (digits-from v h)
 
 unsigned-run : (u v : List ℕ) → Digits u → run digit (u ++ v) ≡ length u → fraction v ≡ true → unsigned (u ++ v) ≡ true
 unfolding unsigned
@@ -150,7 +150,7 @@ each-digit (x ∷ u) h = (a-digit (h .0), each-digit u (h .1))
 unsigned-octets : {l : List ℕ} → Unsigned l → Each InFloat l
 unfolding Each
 unsigned-octets (whole {u = u} h) = each-digit u (h .each)
-unsigned-octets (broken {u = u} {v = v} h g) = each-append u (46 ∷ v) (each-digit u (h .each)) (a-dot, each-digit v (g .each))
+unsigned-octets (broken {u = u} {v = v} h g) = each-append InFloat u (46 ∷ v) (each-digit u (h .each)) (a-dot, each-digit v (g .each))
 
 pub float-octets : {l : List ℕ} → Float l → Each InFloat l
 unfolding Each
@@ -158,38 +158,38 @@ float-octets (places.unsigned h) = unsigned-octets h
 float-octets (signed {s = s} (inl e) h) = (subst InFloat (sym e) a-plus, unsigned-octets h)
 float-octets (signed {s = s} (inr e) h) = (subst InFloat (sym e) a-minus, unsigned-octets h)
 
-each-map : {A : Type 0} {P Q : A → Type 0} → ((x : A) → P x → Q x) → (u : List A) → Each P u → Each Q u
+each-map : {A : Type 0} (P Q : A → Type 0) → ((x : A) → P x → Q x) → (u : List A) → Each P u → Each Q u
 unfolding Each
-each-map f [] h = tt
-each-map f (x ∷ u) h = (f x (h .0), each-map f u (h .1))
+each-map P Q f [] h = tt
+each-map P Q f (x ∷ u) h = (f x (h .0), each-map P Q f u (h .1))
 
 -- a mark that no float has
 abbrev Parts : ℕ → Type 0
 Parts mark = (x : ℕ) → InFloat x → not (eqb x mark) ≡ true
 
-parts-by : (mark : ℕ) → digit mark ≡ false → eqb 46 mark ≡ false → eqb 43 mark ≡ false → eqb 45 mark ≡ false → Parts mark
-parts-by mark d a b c x (a-digit h) = by (eqb x mark) (λ e. clash h (ap digit (eqb-true x mark e) ∙ d)) (λ e. rw e)
-parts-by mark d a b c .(46) a-dot = rw a
-parts-by mark d a b c .(43) a-plus = rw b
-parts-by mark d a b c .(45) a-minus = rw c
+parts-by : (mark : ℕ) → digit mark ≡ false → eqb 46 mark ≡ false → eqb 43 mark ≡ false → eqb 45 mark ≡ false → {x : ℕ} → InFloat x → not (eqb x mark) ≡ true
+parts-by mark d a b c (a-digit {x = x} h) = by (eqb x mark) (λ e. clash h (ap digit (eqb-true x mark e) ∙ d)) (λ e. rw e)
+parts-by mark d a b c a-dot = rw a
+parts-by mark d a b c a-plus = rw b
+parts-by mark d a b c a-minus = rw c
 
 semicolon-parts : Parts 59
 unfolding digit
-semicolon-parts x h = parts-by 59 refl refl refl refl x h
+semicolon-parts x h = parts-by 59 refl refl refl refl h
 
 comma-parts : Parts 44
 unfolding digit
-comma-parts x h = parts-by 44 refl refl refl refl x h
+comma-parts x h = parts-by 44 refl refl refl refl h
 
 -- a run ends at an octet that fails the test
 run-stops : (p : ℕ → Bool) (l : List ℕ) → run p l < length l → p (getD l (run p l) 0) ≡ false
 unfolding run
 run-stops p [] h = absurd (omega arith)
-run-stops p (x ∷ l) h = go (p x) refl h
+run-stops p (x ∷ l) h = go (p x) refl h (λ k. run-stops p l k)
   where
-    go : (b : Bool) → p x ≡ b → more b (run p l) < suc (length l) → p (getD (x ∷ l) (more b (run p l)) 0) ≡ false
-    go true e g = run-stops p l (omega arith)
-    go false e g = e
+    go : (b : Bool) → p x ≡ b → more b (run p l) < suc (length l) → (run p l < length l → p (getD l (run p l) 0) ≡ false) → p (getD (x ∷ l) (more b (run p l)) 0) ≡ false
+    go true e g ih = ih (omega arith)
+    go false e g ih = e
 
 not-false : (x mark : ℕ) → not (eqb x mark) ≡ false → x ≡ mark
 not-false x mark e = by (eqb x mark) (λ h. eqb-true x mark h) (λ h. absurd (true≢false (ap not (sym h) ∙ e)))
@@ -208,7 +208,7 @@ module _ (mark : ℕ) (parts : Parts mark) where
 
   up-to : (a b : List ℕ) → Float a → upTo mark (a ++ (mark ∷ b)) ≡ length a
   unfolding upTo
-  up-to a b h = run-append (λ x. not (eqb x mark)) a (mark ∷ b) (each-map parts a (float-octets h)) (rw (eq-eqb mark mark refl))
+  up-to a b h = run-append (λ x. not (eqb x mark)) a (mark ∷ b) (each-map InFloat (Is (λ x. not (eqb x mark))) parts a (float-octets h)) (rw (eq-eqb mark mark refl))
 
   floats-from : {a b l : List ℕ} → Floats mark a b l → floats mark l ≡ true
   unfolding floats
