@@ -3,3 +3,4 @@ pub mod TextLaws
 pub mod SaysLaws
 pub mod ParamLaws
 pub mod PlaceLaws
+pub mod ValueLaws

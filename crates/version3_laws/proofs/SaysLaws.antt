@@ -258,7 +258,7 @@ alone-anew : (k : ℕ) → worded k ≡ true → {v : List ℕ} {ts : List (List
 unfolding component led
 alone-anew k e (alone {t = t} m) u = append-nil (textIn k t) ∙ text-of k e t ∙ member-anew m u
 
-unworded : (k : ℕ) → worded k ≡ false → (v : List ℕ) → anewBy k v ≡ v
+pub unworded : (k : ℕ) → worded k ≡ false → (v : List ℕ) → anewBy k v ≡ v
 unfolding worded anewBy parted
 unworded k e v = go (eqb k 1) (eqb k 4) (eqb k 5) (eqb k 6) e
   where
@@ -334,11 +334,11 @@ blanks-written k n cs c ds e =
     (ap (λ (l : List ℕ). component k c ++ l) (led-append 59 (component k) ds (replicate n blank) ∙ ap (λ (l : List ℕ). led 59 (component k) ds ++ l) (blanks-led k n))
     ∙ sym (append-assoc (component k c) (led 59 (component k) ds) (replicate n 59)))
 
-no-name : (k : ℕ) → worded k ≡ false → eqb k 4 ≡ false
+pub no-name : (k : ℕ) → worded k ≡ false → eqb k 4 ≡ false
 unfolding worded
 no-name k e = or-none-left (eqb k 4) (eqb k 5 || eqb k 6) (or-none-right (eqb k 1) (eqb k 4 || (eqb k 5 || eqb k 6)) e)
 
-no-address : (k : ℕ) → worded k ≡ false → eqb k 5 ≡ false
+pub no-address : (k : ℕ) → worded k ≡ false → eqb k 5 ≡ false
 unfolding worded
 no-address k e =
     or-none-left (eqb k 5) (eqb k 6) (or-none-right (eqb k 4) (eqb k 5 || eqb k 6) (or-none-right (eqb k 1) (eqb k 4 || (eqb k 5 || eqb k 6)) e))
