@@ -4,3 +4,4 @@ pub mod SaysLaws
 pub mod ParamLaws
 pub mod PlaceLaws
 pub mod ValueLaws
+pub mod FairLaws

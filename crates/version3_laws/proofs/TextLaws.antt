@@ -79,7 +79,7 @@ semicolons-nil : length (semicolons []) ≡ 0
 unfolding semicolons gather
 semicolons-nil = refl
 
-no-mark : (w : Bool) (x : ℕ) → (x ≡ 59 → ⊥) → (w && eqb x 59) ≡ false
+pub no-mark : (w : Bool) (x : ℕ) → (x ≡ 59 → ⊥) → (w && eqb x 59) ≡ false
 no-mark true x n = ne-eqb x 59 n
 no-mark false x n = refl
 
