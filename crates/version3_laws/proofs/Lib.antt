@@ -5,3 +5,4 @@ pub mod ParamLaws
 pub mod PlaceLaws
 pub mod ValueLaws
 pub mod FairLaws
+pub mod LineLaws
