@@ -6,3 +6,4 @@ pub mod PlaceLaws
 pub mod ValueLaws
 pub mod FairLaws
 pub mod LineLaws
+pub mod NewLines
