@@ -7,3 +7,4 @@ pub mod ValueLaws
 pub mod FairLaws
 pub mod LineLaws
 pub mod NewLines
+pub mod JudgeLaws
