@@ -124,7 +124,7 @@ unfolding octets same lower
 number-same Inward = refl
 number-same Outward = refl
 
-number-from : (w : Way) (v : List ℕ) → Number w v → same v (versionRead w) ≡ true
+pub number-from : (w : Way) (v : List ℕ) → Number w v → same v (versionRead w) ≡ true
 number-from w v e = ap (λ (l : List ℕ). same l (versionRead w)) e ∙ number-same w
 
 pub version-to : (w : Way) (x : Line) → rowOfLine First x ≡ 34 → Bare x → Number w (x .value) → VersionRead w x
@@ -161,19 +161,19 @@ module _ (w : Way) (c : Set) (x : Line) where
   unfolding good
   good-inside f = rw f
 
-  good-begin : rowOfLine First x ≡ 1 → isGood w c x ≡ (same (x .value) (octets "VCARD") && eqb (c .phase) 0)
+  pub good-begin : rowOfLine First x ≡ 1 → isGood w c x ≡ (same (x .value) (octets "VCARD") && eqb (c .phase) 0)
   unfolding frames
   good-begin e = good-frame (inl e) ∙ rw e
 
-  good-version : rowOfLine First x ≡ 34 → isGood w c x ≡ (not (c .«has_version») && same (x .value) (versionRead w))
+  pub good-version : rowOfLine First x ≡ 34 → isGood w c x ≡ (not (c .«has_version») && same (x .value) (versionRead w))
   unfolding frames
   good-version e = good-frame (inr (inl e)) ∙ rw e
 
-  good-end : rowOfLine First x ≡ 2 → isGood w c x ≡ (same (x .value) (octets "VCARD") && (c .«has_fn» && (c .«has_n» && c .«has_version»)))
+  pub good-end : rowOfLine First x ≡ 2 → isGood w c x ≡ (same (x .value) (octets "VCARD") && (c .«has_fn» && (c .«has_n» && c .«has_version»)))
   unfolding frames judging.whole
   good-end e = good-frame (inr (inr e)) ∙ rw e
 
-  good-goes : framing (rowOfLine First x) ≡ false
+  pub good-goes : framing (rowOfLine First x) ≡ false
       → isGood w c x ≡ (common (rowOfLine First x) && (not (eqb (rowOfLine First x) 7 && c .«has_n») && (prefsFit w (x .params) && goesOver w (rowOfLine First x) (kindOfLine First x) (x .value))))
   unfolding goes
   good-goes f = good-inside f
@@ -182,10 +182,10 @@ phase-fresh : (c : Set) → c ≡ freshSet → eqb (c .phase) 0 ≡ true
 phase-fresh c e = rw e
 
 -- a bool that is another's
-none-by : (p : Line → Bool) (ys : List Line) {b : Bool} → b ≡ any p ys → b ≡ false → count p ys ≡ 0
+pub none-by : (p : Line → Bool) (ys : List Line) {b : Bool} → b ≡ any p ys → b ≡ false → count p ys ≡ 0
 none-by p ys e f = any-none First p ys (sym e ∙ f)
 
-some-by : (p : Line → Bool) (ys : List Line) {b : Bool} → b ≡ any p ys → b ≡ true → 1 ≤ count p ys
+pub some-by : (p : Line → Bool) (ys : List Line) {b : Bool} → b ≡ any p ys → b ≡ true → 1 ≤ count p ys
 some-by p ys e f = any-some First p ys (sym e ∙ f)
 
 not-true : (b : Bool) → not b ≡ true → b ≡ false

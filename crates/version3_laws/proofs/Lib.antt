@@ -8,3 +8,6 @@ pub mod FairLaws
 pub mod LineLaws
 pub mod NewLines
 pub mod JudgeLaws
+pub mod ReasonLaws
+pub mod WalkLaws
+pub mod CardLaws
