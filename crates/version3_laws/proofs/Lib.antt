@@ -11,3 +11,6 @@ pub mod JudgeLaws
 pub mod ReasonLaws
 pub mod WalkLaws
 pub mod CardLaws
+pub mod RunLaws
+pub mod AnswerLaws
+pub mod TakeLaws

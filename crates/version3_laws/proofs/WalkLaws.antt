@@ -93,7 +93,7 @@ module _ (w : Way) where
           record { us = y ∷ r .us; v = r .v; xs = r .xs; us′ = z ∷ r .us′; xs′ = r .xs′; parts = ap (λ (l : List Line). y ∷ l) (r .parts); version = r .version; first = more g (r .first); later = r .later }
 
   -- the lines but VERSION
-  others : (row : ℕ) (us : List Line) (v : Line) (xs : List Line) → (rowOfLine First v ≡ row → ⊥) → linesOf First row (us ++ (v ∷ xs)) ≡ linesOf First row (us ++ xs)
+  pub others : (row : ℕ) (us : List Line) (v : Line) (xs : List Line) → (rowOfLine First v ≡ row → ⊥) → linesOf First row (us ++ (v ∷ xs)) ≡ linesOf First row (us ++ xs)
   others row us v xs n =
       count-append First (ofRow First row) us (v ∷ xs) ∙ ap (λ (m : ℕ). linesOf First row us + m) (head-same row v xs n) ∙ sym (count-append First (ofRow First row) us xs)
 
