@@ -14,3 +14,5 @@ pub mod CardLaws
 pub mod RunLaws
 pub mod AnswerLaws
 pub mod TakeLaws
+pub mod SourceLaws
+pub mod GiveLaws

@@ -57,23 +57,23 @@ module _ (w : Way) where
   advance-eleven (ends h p q r) n = absurd (n (inr (inr (h .row))))
 
 -- nothing advances a whole card
-abbrev placeOf : Before → ℕ
+abbrev pub placeOf : Before → ℕ
 placeOf nothing = 0
 placeOf (begun ys) = 1
 placeOf whole = 2
 
-advance-place : {w : Way} {b d : Before} {x : Line} → Advances w b x d → placeOf b ≤ 1
+pub advance-place : {w : Way} {b d : Before} {x : Line} → Advances w b x d → placeOf b ≤ 1
 advance-place (begins h) = omega arith
 advance-place (version h z) = omega arith
 advance-place (passes h f) = omega arith
 advance-place (ends h p q r) = omega arith
 
-n-unframed : (row : ℕ) → row ≡ 7 → Framing row → ⊥
+pub n-unframed : (row : ℕ) → row ≡ 7 → Framing row → ⊥
 n-unframed row e (inl q) = omega arith
 n-unframed row e (inr (inl q)) = omega arith
 n-unframed row e (inr (inr q)) = omega arith
 
-geo-unframed : (row : ℕ) → row ≡ 19 → Framing row → ⊥
+pub geo-unframed : (row : ℕ) → row ≡ 19 → Framing row → ⊥
 geo-unframed row e (inl q) = omega arith
 geo-unframed row e (inr (inl q)) = omega arith
 geo-unframed row e (inr (inr q)) = omega arith

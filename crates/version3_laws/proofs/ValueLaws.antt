@@ -398,11 +398,11 @@ value-in-only {row} g u (lines.ValueIn.said {k = k} {v = v} n s) f =
     (q ∙ sym (by-other row k v n), over-other row k v n ∙ fills-from s (subst (OfKind First k) q f))
 
 module _ (row k : ℕ) (v : List ℕ) where
-  out-geo : row ≡ 19 → (goesOver Outward row k v ≡ newGeo v) × (valueBy Outward row k v ≡ madeOld v)
+  pub out-geo : row ≡ 19 → (goesOver Outward row k v ≡ newGeo v) × (valueBy Outward row k v ≡ madeOld v)
   unfolding goesOver valueBy
   out-geo e = (rw (eq-eqb row 19 e), rw (eq-eqb row 19 e))
 
-  out-other : (row ≡ 19 → ⊥) → (goesOver Outward row k v ≡ true) × (valueBy Outward row k v ≡ anewBy k v)
+  pub out-other : (row ≡ 19 → ⊥) → (goesOver Outward row k v ≡ true) × (valueBy Outward row k v ≡ anewBy k v)
   unfolding goesOver valueBy
   out-other n = (rw (ne-eqb row 19 n), rw (ne-eqb row 19 n))
 
