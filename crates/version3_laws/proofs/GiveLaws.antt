@@ -188,6 +188,9 @@ record Split (xs : List Line) (us : List (List ℕ)) (l : List ℕ) (vs : List (
   first : us ≡ map render before
   line : l ≡ render at
 
+both : {A : Type 0} {a b : A} {us vs : List A} → a ≡ b → us ≡ vs → a ∷ us ≡ b ∷ vs
+both p q = λ i. p i ∷ q i
+
 split-lines : (xs : List Line) (us : List (List ℕ)) (l : List ℕ) (vs : List (List ℕ)) → us ++ (l ∷ vs) ≡ map render xs → Split xs us l vs
 split-lines [] [] l vs e = let z : _≡_ {A = ℕ} 0 1 = cc in absurd (omega arith)
 split-lines [] (u ∷ us) l vs e = let z : _≡_ {A = ℕ} 0 1 = cc in absurd (omega arith)
@@ -201,7 +204,7 @@ split-lines (x ∷ xs) (u ∷ us) l vs e =
       at = s .at;
       behind = s .behind;
       parts = ap (λ (t : List Line). x ∷ t) (s .parts);
-      first = ap (λ (t : List ℕ). t ∷ us) a ∙ ap (λ (t : List (List ℕ)). render x ∷ t) (s .first);
+      first = both a (s .first);
       line = s .line;
     }
 
@@ -222,7 +225,7 @@ module _ (i room : List ℕ) where
   card-of : {ys : List Line} → Converts Outward i ys → Card Outward i ys
   card-of c = record { lines = c .lines; written = c .written; readable = c .readable; card = c .card }
 
-  give-card : {ys : List Line} → Converts Outward i ys → giveOutcome i room ≡ fillBounded (cardOctets ys) room
+  pub give-card : {ys : List Line} → Converts Outward i ys → giveOutcome i room ≡ fillBounded (cardOctets ys) room
   give-card c = give-accepted i room 1 (length (c .lines)) (source-accepted c) ∙ card-answer Outward i room (c .short) (card-of c)
 
   room-from : {n p : ℕ} → NoRoom Outward i room n p → giveOutcome i room ≡ refuse n p room

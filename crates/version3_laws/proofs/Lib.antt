@@ -16,3 +16,6 @@ pub mod AnswerLaws
 pub mod TakeLaws
 pub mod SourceLaws
 pub mod GiveLaws
+pub mod AcceptLaws
+pub mod BackLaws
+pub mod KeptLaws

@@ -5,3 +5,4 @@ pub mod Params
 pub mod Lines
 pub mod Cards
 pub mod Refusals
+pub mod Keeps
