@@ -19,3 +19,4 @@ pub mod GiveLaws
 pub mod AcceptLaws
 pub mod BackLaws
 pub mod KeptLaws
+pub mod MeaningLaws
