@@ -20,3 +20,4 @@ pub mod AcceptLaws
 pub mod BackLaws
 pub mod KeptLaws
 pub mod MeaningLaws
+pub mod ExampleLaws

@@ -6,3 +6,4 @@ pub mod Lines
 pub mod Cards
 pub mod Refusals
 pub mod Keeps
+pub mod Examples
