@@ -203,7 +203,7 @@ split-lines (x ∷ xs) (u ∷ us) l vs e =
       before = x ∷ s .before;
       at = s .at;
       behind = s .behind;
-      parts = ap (λ (t : List Line). x ∷ t) (s .parts);
+      parts = both refl (s .parts);
       first = both a (s .first);
       line = s .line;
     }

@@ -22,6 +22,9 @@ free-append none g = g
 free-append (octet n m f) g = octet n m (free-append f g)
 free-append (pair f) g = pair (free-append f g)
 
+both : {A : Type 0} {a b : A} {us vs : List A} → a ≡ b → us ≡ vs → a ∷ us ≡ b ∷ vs
+both p q = λ i. p i ∷ q i
+
 module _ (mark : ℕ) (plain : mark ≡ 92 → ⊥) where
   -- the first bare mark is where it is
   cut : {u v : List ℕ} (w z : List ℕ) → Free mark u → Free mark v → u ++ (mark ∷ w) ≡ v ++ (mark ∷ z) → (u ≡ v) × (w ≡ z)
@@ -33,7 +36,7 @@ module _ (mark : ℕ) (plain : mark ≡ 92 → ⊥) where
       let q : x ≡ y = cc in
       let r : u ++ (mark ∷ w) ≡ v ++ (mark ∷ z) = cc in
       let s = cut w z f g r in
-      (ap (λ (k : ℕ). k ∷ u) q ∙ ap (λ (l : List ℕ). y ∷ l) (s .0), s .1)
+      (both q (s .0), s .1)
   cut w z (octet {x = x} n m f) (pair g) e = let q : x ≡ 92 = cc in absurd (m q)
   cut w z (pair f) none e = let q : mark ≡ 92 = cc in absurd (plain q)
   cut w z (pair f) (octet {x = x} n m g) e = let q : x ≡ 92 = cc in absurd (m q)
@@ -41,7 +44,7 @@ module _ (mark : ℕ) (plain : mark ≡ 92 → ⊥) where
       let q : a ≡ b = cc in
       let r : u ++ (mark ∷ w) ≡ v ++ (mark ∷ z) = cc in
       let s = cut w z f g r in
-      (ap (λ (k : ℕ). 92 ∷ k ∷ u) q ∙ ap (λ (l : List ℕ). 92 ∷ b ∷ l) (s .0), s .1)
+      (both refl (both q (s .0)), s .1)
 
   -- and text without one has none
   uncut : {u v : List ℕ} (w : List ℕ) → Free mark u → Free mark v → u ++ (mark ∷ w) ≡ v → ⊥
