@@ -1,18 +1,17 @@
 -- What is taken in the reader accepts as one card. Assumes nothing.
 use mathlib.Core.Path.{_≡_, refl, sym, ap, subst, _∙_}
-use mathlib.Core.Bool.{Bool, true, false, false≢true, true≢false}
+use mathlib.Core.Bool.{true, false≢true}
 use mathlib.Core.List.{List, [], _∷_, _++_, map, append-nil, append-assoc}
-use Prim.Native.Nat.{ℕ, suc, _+_, _≤_}
+use Prim.Native.Nat.{ℕ, suc, _≤_}
 use native.Mathlib.Omega.{arith}
 use lib.Dec.{eqb}
 use lib.ListN.{length, take}
 use lib.Seq.{take-append-seam}
-use borrow.Author.Tests.{eqb-true, eqb-false, eq-eqb, ne-eqb}
+use borrow.Author.Tests.{eqb-true, eqb-false}
 use Rattle.octets.specs.Room.{filled}
 use Rattle.octets.specs.declared.rooms.Written.the-variants.{Wrote}
 use Rattle.octets.proofs.Bools.{by}
 use Rattle.line_parser.specs.Grammar.{Line, Each, render}
-use Rattle.line_laws.specs.Lined.{Folded}
 use Rattle.property_table.specs.declared.Edition.the-variants.{First}
 use Rattle.property_table.specs.Rows.{rows, newer, allRows, rowAt, single}
 use Rattle.card_line.specs.Parts.{rowOfLine, kindOfLine}
@@ -21,21 +20,19 @@ use Rattle.folder_laws.proofs.BackLaws.{whole-line}
 use Rattle.reader.specs.Outcome.{judgeOf}
 use Rattle.reader.specs.declared.Verdict.the-variants.{Accepted}
 use Rattle.reader_grammar.specs.Values.{OfKind}
-use Rattle.reader_grammar.specs.Cards.{Readable, Inside, Versions, Once, Body, CardLines, Cards, ofRow, count, linesOf, instances}
+use Rattle.reader_grammar.specs.Cards.{Readable, Inside, Versions, Once, Body, CardLines, Cards, count, linesOf}
 use Rattle.reader_grammar.specs.Cards as grammar
-use Rattle.reader_grammar.specs.Inputs.{Written, none, more, InputIn, InputOf}
-use Rattle.reader_grammar.proofs.Known.{count-append}
+use Rattle.reader_grammar.specs.Inputs.{Written, none, more, InputOf}
 use Rattle.reader_grammar.proofs.BegunLaws.{each-join, each-split}
 use Rattle.reader_grammar.proofs.InstanceLaws.{instances-few}
 use Rattle.reader_grammar.proofs.Accepted.{accepted-law}
 use Rattle.version3_parameters.specs.declared.Way.{Way}
-use Rattle.version3_parameters.specs.declared.Way.the-variants.{Inward, Outward}
-use Rattle.version3_line.specs.Lines.{newLine}
+use Rattle.version3_parameters.specs.declared.Way.the-variants.{Inward}
 use Rattle.version3.specs.Outcome.{takeOutcome}
 use Rattle.version3_laws.specs.Lines.{Eleven, fn, n as the-n, tel, email, adr, note, title, role, org, geo, url, TakenIn, GoesOver, versioned}
 use Rattle.version3_laws.specs.Cards.{Pairs, CardBy, card, cardOctets, Takes}
 use Rattle.version3_laws.specs.Cards as cards
-use Rattle.version3_laws.proofs.LineLaws.{eleven-no, value-unbroken, goes-from, goes-eleven, version-row, version-bare}
+use Rattle.version3_laws.proofs.LineLaws.{eleven-no, value-unbroken, goes-from, goes-eleven}
 use Rattle.version3_laws.proofs.NewLines.{row-kept, kind-kept, goes-readable, version-readable}
 use Rattle.version3_laws.proofs.WalkLaws.{head-same, head-more}
 use Rattle.version3_laws.proofs.TakeLaws.{takes}

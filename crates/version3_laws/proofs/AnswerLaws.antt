@@ -1,23 +1,21 @@
 -- What taking in and giving out answer past the refusals of the whole input, in either way. Assumes nothing.
 use mathlib.Core.Path.{_≡_, refl, sym, ap, subst, _∙_}
-use mathlib.Core.Bool.{Bool, true, false, false≢true}
-use mathlib.Core.List.{List, [], _∷_, _++_, map, map-append}
-use Prim.Native.Nat.{ℕ, suc, _+_, _<_, _≤_}
+use mathlib.Core.Bool.{Bool, true, false}
+use mathlib.Core.List.{List, [], _∷_, _++_, map}
+use Prim.Native.Nat.{ℕ, _+_, _<_, _≤_}
 use native.Mathlib.Nat.{zero-add}
 use native.Mathlib.Omega.{arith}
-use lib.Dec.{eqb, ltb}
+use lib.Dec.{ltb}
 use lib.ListN.{length, length-append}
 use borrow.Author.Tests.{le-ltb, lt-ltb, ltb-true, ltb-false, eq-eqb, ne-eqb}
 use Rattle.octets.specs.Pick.{pick}
 use Rattle.octets.specs.Room.{Filled, filled, refuse, overlay, fill, fillBounded}
-use Rattle.octets.specs.declared.rooms.Written.{Written as Answer}
 use Rattle.octets.specs.declared.rooms.Written.the-variants.{Wrote, Refused as refused}
 use Rattle.octets.proofs.Bools.{clash}
-use Rattle.line_breaks.specs.Lone.{firstLone, endsCrLf}
+use Rattle.line_breaks.specs.Lone.{firstLone}
 use Rattle.line_folds.specs.Folds.{unfolded}
 use Rattle.line_folds.specs.Logical.{linesBy, rawLines, logicalLines}
-use Rattle.line_parser.specs.Grammar.{Line, Each, render}
-use Rattle.line_laws.specs.Lined.{EndsCrLf}
+use Rattle.line_parser.specs.Grammar.{Line, Each}
 use Rattle.line_laws.proofs.LinedLaws.{ends-law}
 use Rattle.reader.specs.Outcome.{ended}
 use Rattle.reader_grammar.specs.Cards.{Readable}
@@ -28,13 +26,13 @@ use Rattle.reader_grammar.proofs.PairedLaws.{paired-law}
 use Rattle.version3_parameters.specs.declared.Way.{Way}
 use Rattle.version3_judge.specs.declared.Set.{Set}
 use Rattle.version3_judge.specs.declared.Step.{Step}
-use Rattle.version3_judge.specs.declared.Step.the-variants.{Next, Refused, Flawed}
+use Rattle.version3_judge.specs.declared.Step.the-variants.{Next, Refused}
 use Rattle.version3_judge.specs.Judge.{freshSet, settled, judgeLines, onward}
-use Rattle.version3.specs.Card.{cardText}
 use Rattle.version3.specs.Outcome.{concluded, convertOutcome}
-use Rattle.version3_laws.specs.Cards.{CardBy, card, cardOctets}
-use Rattle.version3_laws.specs.Refusals.{Before, nothing, begun, whole, SoFar, no-line, in-card, after-card}
-use Rattle.version3_laws.proofs.JudgeLaws.{Tells, at-nothing, at-begun, at-whole, Judged, outcome}
+use Rattle.version3_laws.specs.Cards.{CardBy, card, Converts, cardOctets}
+use Rattle.version3_laws.specs.Refusals.{Before, begun, whole, SoFar, no-line, in-card, after-card, NoRoom}
+use Rattle.version3_laws.specs.Refusals as reasons
+use Rattle.version3_laws.proofs.JudgeLaws.{Tells, at-begun, at-whole, Judged, outcome}
 use Rattle.version3_laws.proofs.WalkLaws.{Reached, Walked, finished, stopped, AllKinded, walk, fresh-reached}
 use Rattle.version3_laws.proofs.CardLaws.{card-law}
 use Rattle.version3_laws.proofs.RunLaws.{steps-run, lead, judge-after}
@@ -86,6 +84,21 @@ fill-long t room h = rw (lt-ltb 16384 (length t) h)
 pub fill-small : (t room : List ℕ) → length t ≤ 16384 → length room < length t → fillBounded t room ≡ refuse 15 (length t) room
 unfolding fillBounded fill
 fill-small t room h g = rw (le-ltb 16384 (length t) h, lt-ltb (length room) (length t) g)
+
+-- a card that goes over and is not written has no room
+pub fill-refused : (w : Way) (i room : List ℕ) (ys : List Line) → Converts w i ys → (n p : ℕ) → fillBounded (cardOctets ys) room ≡ refuse n p room → NoRoom w i room n p
+unfolding fillBounded fill
+fill-refused w i room ys c n p = go (ltb 16384 (length (cardOctets ys))) (ltb (length room) (length (cardOctets ys))) refl refl
+  where
+    go : (a b : Bool) → ltb 16384 (length (cardOctets ys)) ≡ a → ltb (length room) (length (cardOctets ys)) ≡ b
+        → pick a (refuse 16 16384 room) (pick b (refuse 15 (length (cardOctets ys)) room) (filled (Wrote (length (cardOctets ys))) (overlay (cardOctets ys) room))) ≡ refuse n p room → NoRoom w i room n p
+    go true b k q e =
+        let m = refusal-numbers e in
+        rw (← m .0, ← m .1) (reasons.NoRoom.long c (ltb-true 16384 (length (cardOctets ys)) k))
+    go false true k q e =
+        let m = refusal-numbers e in
+        rw (← m .0, ← m .1) (reasons.NoRoom.small c (ltb-false 16384 (length (cardOctets ys)) k) (ltb-true (length room) (length (cardOctets ys)) q))
+    go false false k q e = never (sym e)
 
 -- ---- past 1 to 4
 

@@ -2,38 +2,31 @@
 use mathlib.Core.Path.{_≡_, refl, sym, ap, subst, _∙_}
 use mathlib.Core.Bool.{Bool, true, false, _||_, false≢true, true≢false}
 use mathlib.Core.List.{List, [], _∷_, _++_, append-nil, append-assoc}
-use mathlib.Core.Logic.{_⊎_, inl, inr}
-use Prim.Native.Nat.{ℕ, zero, suc, _+_, _-_, _≤_}
+use Prim.Native.Nat.{ℕ, zero, suc, _-_}
 use native.Mathlib.Omega.{arith}
 use lib.Dec.{eqb}
-use lib.ListN.{length, take, replicate, length-append, length-replicate}
-use lib.Seq.{take-append-seam}
+use lib.ListN.{length, replicate, length-append, length-replicate}
 use borrow.Author.Tests.{eqb-true, eqb-false}
 use Rattle.octets.specs.Ascii.{octets}
 use Rattle.octets.specs.Pick.{pick}
 use Rattle.octets.specs.Cases.{lower, same}
-use Rattle.octets.specs.Room.{filled, fillBounded}
-use Rattle.octets.specs.declared.rooms.Written.the-variants.{Wrote}
-use Rattle.octets.proofs.Bools.{by}
 use Rattle.text_marks.specs.Marks.{special, marked}
 use Rattle.text_escaping.specs.Escaped.{letter, inEscape, escaped}
-use Rattle.text_laws.specs.Stands.{Escape, Stands}
+use Rattle.text_laws.specs.Stands.{Escape}
 use Rattle.text_laws.specs.Stands as stands
 use Rattle.text_laws.proofs.BackLaws.{escaped-stands}
-use Rattle.line_parser.specs.Grammar.{Value, plain, Param, Line, Each, led}
+use Rattle.line_parser.specs.Grammar.{Value, Param, Each, led}
 use Rattle.line_parameters.specs.First.{valueOctets}
-use Rattle.property_table.specs.declared.Edition.the-variants.{First}
-use Rattle.card_line.specs.Parts.{rowOfLine, kindOfLine}
-use Rattle.reader_grammar.specs.Values.{OfKind}
 use Rattle.version3_laws.specs.Says.{Member, Joined, one, more, Listed, Alone, alone, worded, Says, text, name, address, organization, other, between, textIn, component, written, wanted, blank, padded}
 use Rattle.version3_laws.specs.Says as says
-use Rattle.version3_laws.specs.Params.{Named, Nowhere, Some, here, there, Pref, valuesOf, Preferred, Without, Pruned, PrunedAll, prefOne, typePref, ParamsIn, PrefOne, ParamsOut}
+use Rattle.version3_laws.specs.Params.{Named, Nowhere, Some, here, there, Pref, valuesOf, Without, Pruned, PrunedAll, prefOne, typePref, ParamsIn, ParamsOut}
 use Rattle.version3_laws.specs.Params as params
 use Rattle.version3_laws.specs.Lines.{ValueIn, ValueOut}
 use Rattle.version3_laws.specs.Lines as lines
 use Rattle.version3_laws.specs.Keeps.{SameValue}
 use Rattle.version3_laws.specs.Keeps as keeps
 use Rattle.version3_laws.proofs.PlaceLaws.{each-append}
+use Rattle.version3_laws.proofs.Small.{worded-name, worded-address, worded-organization}
 
 -- ---- a value that is written says what it was written for
 
@@ -113,10 +106,6 @@ unfolding component led
 alone-component k e ts (t, q) =
     subst (λ (l : List (List ℕ)). Alone (between 44 (textIn k) l) l) (sym q) (subst (λ (l : List ℕ). Alone l (t ∷ [])) (sym (append-nil (textIn k t))) (alone (text-member k e t)))
 
-worded-all : (worded 1 ≡ true) × (worded 4 ≡ true) × (worded 5 ≡ true) × (worded 6 ≡ true)
-unfolding worded
-worded-all = (refl, refl, refl, refl)
-
 each-blank : (n : ℕ) → Each Texts (replicate n blank)
 unfolding Each
 each-blank zero = tt
@@ -149,7 +138,7 @@ unfolding written
 units-again {v} {cs} j =
     let c = some-parts j in
     subst (λ (l : List (List (List ℕ))). Joined 59 Alone (between 59 (component 6) l) l) (sym (c .2))
-    (joined-between (component 6) OneText (alone-component 6 (worded-all .3)) (c .0) (c .1) (subst (Each OneText) (c .2) (all-one j)))
+    (joined-between (component 6) OneText (alone-component 6 worded-organization) (c .0) (c .1) (subst (Each OneText) (c .2) (all-one j)))
 
 text-written : (t : List ℕ) → written 1 ((t ∷ []) ∷ []) ≡ escaped t
 unfolding written component textIn worded led
@@ -175,8 +164,8 @@ pub says-again : {k : ℕ} {v : List ℕ} {cs : List (List (List ℕ))} → Says
 says-again (text {t = t} h) =
     subst (λ (ds : List (List (List ℕ))). Says 1 (written 1 ds) ds) (sym (padded-none 1 ((t ∷ []) ∷ []) (wanted-none .0)))
     (subst (λ (l : List ℕ). Says 1 l ((t ∷ []) ∷ [])) (sym (text-written t)) (text (escaped-stands t)))
-says-again (name j) = name (components-again 4 (worded-all .1) j)
-says-again (address j) = address (components-again 5 (worded-all .2) j)
+says-again (name j) = name (components-again 4 worded-name j)
+says-again (address j) = address (components-again 5 worded-address j)
 says-again (organization {cs = cs} j) =
     subst (λ (ds : List (List (List ℕ))). Says 6 (written 6 ds) ds) (sym (padded-none 6 cs (wanted-none .1))) (organization (units-again j))
 says-again (other {k = k} {v = v} e) =

@@ -1,17 +1,15 @@
 -- The octets that are written are the card of the relation, folded. Assumes nothing.
-use mathlib.Core.Path.{_≡_, refl, sym, ap, subst, _∙_}
-use mathlib.Core.Bool.{Bool, true, false, false≢true}
-use mathlib.Core.List.{List, [], _∷_, _++_, map, append-nil, append-assoc, map-append}
-use mathlib.Core.Logic.{_⊎_, inl, inr}
-use Prim.Native.Nat.{ℕ, _+_, _≤_}
+use mathlib.Core.Path.{_≡_, refl, sym, ap, _∙_}
+use mathlib.Core.Bool.{false}
+use mathlib.Core.List.{List, [], _∷_, _++_, map, append-assoc, map-append}
+use mathlib.Core.Logic.{inl, inr}
+use Prim.Native.Nat.{ℕ}
 use native.Mathlib.Omega.{arith}
-use lib.Dec.{eqb, ltb}
 use lib.ListN.{length}
 use borrow.Author.Tests.{eq-eqb, ne-eqb, le-ltb}
-use Rattle.octets.specs.Pick.{pick}
 use Rattle.utf8.specs.Characters.{allowed, firstBad}
 use Rattle.line_folds.specs.Logical.{logicalLines}
-use Rattle.line_parser.specs.Parse.{Parse, got, bad}
+use Rattle.line_parser.specs.Parse.{Parse, got}
 use Rattle.line_parser.specs.Grammar.{Line, Each, front, render}
 use Rattle.line_parser.specs.Rule.{parseLine}
 use Rattle.line_parameters.proofs.Law.{line-law}
@@ -23,7 +21,7 @@ use Rattle.reader_grammar.proofs.BegunLaws.{each-split}
 use Rattle.version3_parameters.specs.declared.Way.{Way}
 use Rattle.version3_line.specs.Lines.{newLine, writtenBy}
 use Rattle.version3.specs.Card.{turnOfRow, turnBy, turnOf, clear, formOf, forms, arranged, cardText}
-use Rattle.version3_laws.specs.Lines.{GoesOver, VersionRead, versioned}
+use Rattle.version3_laws.specs.Lines.{GoesOver, versioned}
 use Rattle.version3_laws.specs.Cards.{Pairs, none, more, CardBy, card, cardOctets}
 use Rattle.version3_laws.proofs.FairLaws.{clean-fair, fair-bad}
 use Rattle.version3_laws.proofs.LineLaws.{value-unbroken, goes-from, goes-eleven, eleven-no, version-row, version-line, frame-line}

@@ -1,6 +1,6 @@
 -- The worked example, computed. Assumes nothing.
 use Prim.Native.Nat.{ℕ}
-use mathlib.Core.Path.{_≡_, refl, ap, _∙_}
+use mathlib.Core.Path.{_≡_, refl}
 use mathlib.Core.List.{List}
 use Rattle.octets.specs.Ascii as ascii
 use Rattle.octets.specs.Cases as letters

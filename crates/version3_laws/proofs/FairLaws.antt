@@ -1,12 +1,12 @@
 -- Whole characters without controls: joined, split at octets of ASCII, and with text escaped anew. Assumes nothing.
 use mathlib.Core.Path.{_≡_, refl, sym, ap, subst, _∙_}
-use mathlib.Core.Bool.{Bool, true, false, _&&_, _||_, false≢true, true≢false}
-use mathlib.Core.List.{List, [], _∷_, _++_, append-nil, append-assoc}
-use Prim.Native.Nat.{ℕ, zero, suc, _+_, _<_, _≤_}
+use mathlib.Core.Bool.{Bool, true, false, _&&_, _||_, false≢true}
+use mathlib.Core.List.{List, [], _∷_, _++_, append-nil}
+use Prim.Native.Nat.{ℕ, zero, suc, _<_}
 use native.Mathlib.Omega.{arith}
-use lib.Dec.{eqb, ltb, leb}
+use lib.Dec.{eqb}
 use lib.ListN.{length, getD, replicate}
-use borrow.Author.Tests.{le-ltb, eqb-true, eqb-false, ne-eqb, ltb-true, ltb-false, le-leb, leb-true}
+use borrow.Author.Tests.{eqb-true}
 use Rattle.octets.specs.Classes.{valued}
 use Rattle.octets.proofs.Bools.{by}
 use Rattle.utf8.specs.Characters.{tail, charLength, allowed, firstBad}
@@ -15,10 +15,7 @@ use Rattle.utf8.proofs.Chains.{Chars, end, start, inner, char-same, char-more, 
 use Rattle.utf8_laws.proofs.Utf8.{allowed-only}
 use Rattle.line_parser.specs.Grammar.{Each, led}
 use Rattle.reader_grammar.specs.Cards.{Clean}
-use Rattle.reader_grammar.proofs.ValueLaws.{clean-law}
-use Rattle.property_table.specs.declared.Edition.the-variants.{First}
 use Rattle.value_kinds.specs.Octets.{escapee, holds}
-use Rattle.value_kinds.specs.Octets as classes
 use Rattle.value_laws.specs.Words.{In, Escaped, ends, bare, bare-comma, bare-semicolon, escape}
 use Rattle.version3_text.specs.Renewed.{small, renewed}
 use Rattle.version3_laws.proofs.TextLaws.{inner-is, comma-is, semicolon-is, backslash-is, renewed-nil, renewed-octet, renewed-mark, renewed-pair, no-mark}
@@ -82,9 +79,6 @@ fair-each (x ∷ u) h = fair-cons (h .0) (fair-each u (h .1))
 pub fair-repeat : (n : ℕ) {c : ℕ} → Ascii c → Fair (replicate n c)
 fair-repeat zero a = end
 fair-repeat (suc n) a = fair-cons a (fair-repeat n a)
-
-pub is-ascii : (c : ℕ) → c < 128 → valued c ≡ true → Ascii c
-is-ascii c h v = record { low = h; fine = unfold allowed in rw v }
 
 -- parts behind a mark
 module _ {A : Type 0} (c : ℕ) (f : A → List ℕ) where

@@ -1,24 +1,19 @@
 -- Giving out answers exactly as the relations say: what it writes, and what it refuses with which number and place. Assumes nothing.
 use mathlib.Core.Path.{_≡_, refl, sym, ap, subst, _∙_}
-use mathlib.Core.Bool.{Bool, true, false, not, _&&_, false≢true, true≢false}
+use mathlib.Core.Bool.{true, false, _&&_}
 use mathlib.Core.List.{List, [], _∷_, _++_, map, map-append, append-nil}
-use mathlib.Core.Logic.{_⊎_, inl, inr, _↔_}
-use Prim.Native.Nat.{ℕ, suc, _+_, _<_, _≤_}
-use native.Mathlib.Nat.{add-zero}
+use mathlib.Core.Logic.{inl, inr, _↔_}
+use Prim.Native.Nat.{ℕ}
 use native.Mathlib.Omega.{arith}
-use lib.Dec.{eqb, ltb}
+use lib.Dec.{eqb}
 use lib.ListN.{length, length-map}
-use borrow.Author.Tests.{ltb-true, ltb-false, eqb-true, eqb-false}
-use Rattle.octets.specs.Ascii.{octets}
-use Rattle.octets.specs.Pick.{pick}
-use Rattle.octets.specs.Cases.{same}
-use Rattle.octets.specs.Room.{Filled, filled, refuse, overlay, fill, fillBounded}
+use borrow.Author.Tests.{eqb-true, eqb-false}
+use Rattle.octets.specs.Room.{Filled, filled, refuse, fillBounded}
 use Rattle.octets.specs.declared.rooms.Written.the-variants.{Wrote}
 use Rattle.octets.proofs.Bools.{by, and-both}
 use Rattle.line_folds.specs.Folds.{unfolded}
 use Rattle.line_folds.specs.Logical.{rawLines}
-use Rattle.line_parser.specs.Grammar.{Param, Line, Each, front, render}
-use Rattle.line_parser.specs.Rule.{parseLine}
+use Rattle.line_parser.specs.Grammar.{Line, Each, front, render}
 use Rattle.line_parser.specs.Parse.{Parse, got, bad}
 use Rattle.utf8.specs.Characters.{allowed, firstBad}
 use Rattle.utf8_laws.specs.Texts.{BadAt}
@@ -35,44 +30,38 @@ use Rattle.reader.specs.Outcome.{ended, judgeOf}
 use Rattle.reader.specs.declared.Verdict.{Verdict}
 use Rattle.reader.specs.declared.Verdict.the-variants.{Accepted, Refused as Rejected}
 use Rattle.reader.proofs.AcceptLaws.{accepting}
-use Rattle.reader_grammar.specs.Cards.{Readable, CardLines, Cards, ofRow, linesOf, any}
+use Rattle.reader_grammar.specs.Cards.{Readable, CardLines, Cards, ofRow}
 use Rattle.reader_grammar.specs.Cards as grammar
-use Rattle.reader_grammar.specs.Inputs.{InputIn, InputOf}
-use Rattle.reader_grammar.specs.Refusals.{Framed, Framing, Unladen, Reads, RefusedBy}
+use Rattle.reader_grammar.specs.Inputs.{InputOf}
+use Rattle.reader_grammar.specs.Refusals.{Framed, Framing, Unladen, Reads}
 use Rattle.reader_grammar.proofs.FoldLaws.{written-lines}
 use Rattle.reader_grammar.proofs.PairedLaws.{paired-law}
 use Rattle.reader_grammar.proofs.BegunLaws.{each-split}
 use Rattle.reader_grammar.proofs.Accepted.{accepted-law}
 use Rattle.reader_grammar.proofs.Refused.{refused-law}
 use Rattle.reader_grammar.proofs.Known.{none-any, some-any}
-use Rattle.version3_parameters.specs.declared.Way.{Way}
-use Rattle.version3_parameters.specs.declared.Way.the-variants.{Inward, Outward}
+use Rattle.version3_parameters.specs.declared.Way.the-variants.{Outward}
 use Rattle.version3_parameters.specs.Params.{prefsFit}
-use Rattle.version3_geo.specs.Floats.{newGeo}
 use Rattle.version3_judge.specs.declared.Set.{Set}
 use Rattle.version3_judge.specs.declared.Step.{Step}
-use Rattle.version3_judge.specs.declared.Step.the-variants.{Next, Refused, Flawed}
-use Rattle.version3_judge.specs.Judge.{freshSet, common, goesOver, settled, judgeLine}
+use Rattle.version3_judge.specs.declared.Step.the-variants.{Refused}
+use Rattle.version3_judge.specs.Judge.{freshSet, common, goesOver, settled}
 use Rattle.version3.specs.Outcome.{convertOutcome, giveBy, giveOutcome}
-use Rattle.version3_laws.specs.Floats.{NewGeo}
-use Rattle.version3_laws.specs.Params.{ParamsOut}
-use Rattle.version3_laws.specs.Cards.{CardBy, Converts, cardOctets, WrittenBy, Gives}
-use Rattle.version3_laws.specs.Refusals.{Before, nothing, begun, whole, InPlace, SoFar, in-card, NotGiven, NoRoom, RefusedOut}
+use Rattle.version3_laws.specs.Cards.{CardBy, Converts, cardOctets, Gives}
+use Rattle.version3_laws.specs.Refusals.{Before, begun, InPlace, SoFar, in-card, NotGiven, NoRoom, RefusedOut}
 use Rattle.version3_laws.specs.Refusals as reasons
 use Rattle.version3_laws.proofs.ParamLaws.{params-out, params-out-only}
 use Rattle.version3_laws.proofs.PlaceLaws.{new-to, new-from}
 use Rattle.version3_laws.proofs.ValueLaws.{out-geo, out-other}
 use Rattle.version3_laws.proofs.FairLaws.{clean-fair, fair-bad}
-use Rattle.version3_laws.proofs.LineLaws.{eleven-to, eleven-from, eleven-unframed, Passes}
+use Rattle.version3_laws.proofs.LineLaws.{eleven-to, eleven-from, eleven-unframed}
 use Rattle.version3_laws.proofs.JudgeLaws.{framing-to, framing-from, number-from, Tells, at-nothing, at-begun, at-whole, Advances, isGood, good-begin, good-version, good-end, good-goes, none-by, some-by, good-to, Judged, flawed, ruled, misplaced, heavy, unwanted, advanced}
 use Rattle.version3_laws.proofs.ReasonLaws.{advance-end, advance-eleven, n-unframed, geo-unframed, advance-place, placeOf}
 use Rattle.version3_laws.proofs.WalkLaws.{AllKinded}
-use Rattle.version3_laws.proofs.AnswerLaws.{never, refusal-numbers, Fits, fill-to, fill-from, fill-long, fill-small, Card, card-answer, stop-answer, Answered, over, inside, halted, answered}
-use Rattle.version3_laws.proofs.TakeLaws.{raw-there, lines-there, line-there, rest-there, split-at}
+use Rattle.version3_laws.proofs.AnswerLaws.{never, refusal-numbers, fill-to, fill-from, fill-long, fill-small, fill-refused, Card, card-answer, stop-answer, Answered, over, inside, halted, answered}
+use Rattle.version3_laws.proofs.TakeLaws.{raw-there, lines-there, line-there, split-at}
 use Rattle.version3_laws.proofs.SourceLaws.{same-lines, cards-kinded, all-kinded, FirstCard, first-card, Sourced, Counted, one-card, no-open, sourced}
-
-clash : {A : Type 0} {b : Bool} → b ≡ true → b ≡ false → A
-clash p q = absurd (true≢false (sym p ∙ q))
+use Rattle.version3_laws.proofs.Small.{clash, both, same-step, no-step}
 
 -- ---- the reasons
 
@@ -173,12 +162,6 @@ got-bad p q = let z : _≡_ {A = ℕ} 0 1 = cc in absurd (omega arith)
 reads-ruled : {l : List ℕ} {x : Line} {n : ℕ} → Reads l x → FirstFault n l → ⊥
 reads-ruled {l} {x} {n} r f = got-bad (line-law l x (length (front x)) .1 (r .readable .formed, r .text, refl)) (first-fault-law l n .1 f)
 
-same-step : {n p m q : ℕ} → Refused n p ≡ Refused m q → (n ≡ m) × (p ≡ q)
-same-step e = (cc, cc)
-
-no-step : {A : Type 0} {c : Set} {m q : ℕ} → Next c ≡ Refused m q → A
-no-step e = let z : _≡_ {A = ℕ} 0 1 = cc in absurd (omega arith)
-
 -- a list that another is mapped from, split where that one is
 record Split (xs : List Line) (us : List (List ℕ)) (l : List ℕ) (vs : List (List ℕ)) : Type 0 where
   before : List Line
@@ -188,8 +171,9 @@ record Split (xs : List Line) (us : List (List ℕ)) (l : List ℕ) (vs : List (
   first : us ≡ map render before
   line : l ≡ render at
 
-both : {A : Type 0} {a b : A} {us vs : List A} → a ≡ b → us ≡ vs → a ∷ us ≡ b ∷ vs
-both p q = λ i. p i ∷ q i
+split-more : {xs : List Line} {us : List (List ℕ)} {l u : List ℕ} {vs : List (List ℕ)} (x : Line) → u ≡ render x → Split xs us l vs → Split (x ∷ xs) (u ∷ us) l vs
+split-more x a s =
+    record { before = x ∷ s .before; at = s .at; behind = s .behind; parts = both refl (s .parts); first = both a (s .first); line = s .line }
 
 split-lines : (xs : List Line) (us : List (List ℕ)) (l : List ℕ) (vs : List (List ℕ)) → us ++ (l ∷ vs) ≡ map render xs → Split xs us l vs
 split-lines [] [] l vs e = let z : _≡_ {A = ℕ} 0 1 = cc in absurd (omega arith)
@@ -198,15 +182,7 @@ split-lines (x ∷ xs) [] l vs e = record { before = []; at = x; behind = xs; pa
 split-lines (x ∷ xs) (u ∷ us) l vs e =
     let a : u ≡ render x = cc in
     let b : us ++ (l ∷ vs) ≡ map render xs = cc in
-    let s = split-lines xs us l vs b in
-    record {
-      before = x ∷ s .before;
-      at = s .at;
-      behind = s .behind;
-      parts = both refl (s .parts);
-      first = both a (s .first);
-      line = s .line;
-    }
+    split-more x a (split-lines xs us l vs b)
 
 -- a line of an accepted input has none of the reader's refusals
 told : {b : Before} {c : Set} {l : List ℕ} {s : Step} (raw : List ℕ) (at n p : ℕ) (x : Line) → l ≡ render x → Readable x → Sourced b x → Counted b x → Tells c b → Judged Outward b c at l s → settled at raw s ≡ Refused n p
@@ -280,22 +256,8 @@ module _ (i room : List ℕ) where
 
   -- ---- the answer
 
-  fill-refused : (ys : List Line) → Converts Outward i ys → (n p : ℕ) → fillBounded (cardOctets ys) room ≡ refuse n p room → RefusedOut i room n p
-  unfolding fillBounded fill
-  fill-refused ys c n p = go (ltb 16384 (length (cardOctets ys))) (ltb (length room) (length (cardOctets ys))) refl refl
-    where
-      go : (a b : Bool) → ltb 16384 (length (cardOctets ys)) ≡ a → ltb (length room) (length (cardOctets ys)) ≡ b
-          → pick a (refuse 16 16384 room) (pick b (refuse 15 (length (cardOctets ys)) room) (filled (Wrote (length (cardOctets ys))) (overlay (cardOctets ys) room))) ≡ refuse n p room → RefusedOut i room n p
-      go true b k q e =
-          let m = refusal-numbers e in
-          rw (← m .0, ← m .1) (reasons.RefusedOut.room (reasons.NoRoom.long c (ltb-true 16384 (length (cardOctets ys)) k)))
-      go false true k q e =
-          let m = refusal-numbers e in
-          rw (← m .0, ← m .1) (reasons.RefusedOut.room (reasons.NoRoom.small c (ltb-false 16384 (length (cardOctets ys)) k) (ltb-true (length room) (length (cardOctets ys)) q)))
-      go false false k q e = never (sym e)
-
   answered-refused : {f : Filled} (k m : ℕ) (a : InputOf i k m) → Framed i → Answered Outward i room f → (n p : ℕ) → f ≡ refuse n p room → RefusedOut i room n p
-  answered-refused k m a f (over ys c) n p e = fill-refused ys (converts k m a c) n p e
+  answered-refused k m a f (over ys c) n p e = reasons.RefusedOut.room (fill-refused Outward i room ys (converts k m a c) n p e)
   answered-refused k m a f (inside ys h) n p e = absurd (not-open k m a h refl (lines-of k m a))
   answered-refused k m a f (halted ds l es c s y q z r j g) n p e =
       let o = refusal-numbers e in

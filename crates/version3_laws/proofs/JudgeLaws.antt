@@ -1,24 +1,24 @@
 -- The judgement of one line of a card that goes over, in both directions: what stops it, and what stands before the next line where nothing
 -- does. Assumes nothing.
 use mathlib.Core.Path.{_≡_, refl, sym, ap, subst, _∙_}
-use mathlib.Core.Bool.{Bool, true, false, not, _&&_, _||_, false≢true, true≢false}
+use mathlib.Core.Bool.{Bool, true, false, not, _&&_, _||_, false≢true}
 use mathlib.Core.List.{List, [], _∷_, _++_}
-use mathlib.Core.Logic.{_⊎_, inl, inr}
-use Prim.Native.Nat.{ℕ, suc, _+_, _<_, _≤_}
+use mathlib.Core.Logic.{inl, inr}
+use Prim.Native.Nat.{ℕ, _<_, _≤_}
 use native.Mathlib.Omega.{arith}
 use lib.Dec.{eqb, ltb}
 use lib.ListN.{length}
-use borrow.Author.Tests.{eqb-true, eqb-false, eq-eqb, ne-eqb, lt-ltb, ltb-true, ltb-false}
+use borrow.Author.Tests.{eqb-true, eq-eqb, ne-eqb, lt-ltb, ltb-true, ltb-false}
 use Rattle.octets.specs.Ascii.{octets}
 use Rattle.octets.specs.Pick.{pick}
 use Rattle.octets.specs.Cases.{lower, same}
 use Rattle.octets.proofs.CaseLaws.{lower-below, lower-above, lower-capital}
-use Rattle.octets.proofs.Bools.{by, and-both, or-some}
+use Rattle.octets.proofs.Bools.{by, and-both}
 use Rattle.utf8.specs.Characters.{allowed, firstBad}
 use Rattle.utf8_laws.specs.Texts.{BadAt}
 use Rattle.utf8_laws.proofs.Utf8.{bad-at, bad-at-only}
 use Rattle.line_parser.specs.Parse.{Parse, got, bad}
-use Rattle.line_parser.specs.Grammar.{Param, Line, Each, front, render}
+use Rattle.line_parser.specs.Grammar.{Line, Each, front}
 use Rattle.line_parser.specs.Rule.{parseLine}
 use Rattle.line_parameters.proofs.Law.{line-law}
 use Rattle.line_laws.specs.FirstFault.{FirstFault}
@@ -27,8 +27,7 @@ use Rattle.property_table.specs.declared.Edition.the-variants.{First}
 use Rattle.property_table.specs.Rows.{framing}
 use Rattle.card_line.specs.Parts.{rowOfLine, kindOfLine}
 use Rattle.card_judge.specs.Judge.{laden}
-use Rattle.reader_grammar.specs.Values.{Vcard, Four}
-use Rattle.reader_grammar.specs.Cards.{Clean, Bare, Frame, Begins, Ends, ofRow, count, linesOf, any}
+use Rattle.reader_grammar.specs.Cards.{Clean, Bare, Begins, Ends, ofRow, count, linesOf, any}
 use Rattle.reader_grammar.specs.Refusals.{Reads, Framing, Unladen}
 use Rattle.reader_grammar.proofs.ValueLaws.{clean-law}
 use Rattle.reader_grammar.proofs.Known.{any-some, any-none, some-any, none-any, any-last}
@@ -40,12 +39,10 @@ use Rattle.version3_judge.specs.declared.Step.{Step}
 use Rattle.version3_judge.specs.declared.Step.the-variants.{Next, Refused, Flawed}
 use Rattle.version3_judge.specs.Judge.{freshSet, numberOf, inPlace, common, goesOver, versionRead, frames, goes, good, noted, judgeParts, judgeParsed, judgeLine}
 use Rattle.version3_judge.specs.Judge as judging
-use Rattle.version3_laws.specs.Lines.{Three, VersionRead}
+use Rattle.version3_laws.specs.Lines.{VersionRead}
 use Rattle.version3_laws.specs.Refusals.{Before, nothing, begun, whole, InPlace}
 use Rattle.version3_laws.proofs.LineLaws.{eleven-to, eleven-inside, eleven-no, eleven-unframed, Passes, version-row, version-bare}
-
-clash : {A : Type 0} {b : Bool} → b ≡ true → b ≡ false → A
-clash p q = absurd (true≢false (sym p ∙ q))
+use Rattle.version3_laws.proofs.Small.{clash}
 
 -- ---- small laws
 

@@ -1,19 +1,17 @@
 -- A card that is taken in and given out keeps what its values say; taken in again it gives the same octets; a line without pref and PREF keeps
 -- its parameters. Assumes nothing.
 use mathlib.Core.Path.{_≡_, refl, sym, ap, subst, _∙_}
-use mathlib.Core.List.{List, [], _∷_, _++_, map, append-nil}
-use Prim.Native.Nat.{ℕ, _+_, _≤_}
+use mathlib.Core.List.{List, [], _∷_, _++_}
+use Prim.Native.Nat.{ℕ, _≤_}
 use native.Mathlib.Omega.{arith}
 use lib.ListN.{length, take}
 use lib.Seq.{take-append-seam}
 use Rattle.octets.specs.Ascii.{octets}
-use Rattle.octets.specs.Room.{filled, overlay, fillBounded}
+use Rattle.octets.specs.Room.{filled, fillBounded}
 use Rattle.octets.specs.declared.rooms.Written.the-variants.{Wrote}
-use Rattle.line_parser.specs.Grammar.{Param, Line, Each, render}
-use Rattle.folder_line.specs.Pieces.{foldedLines}
+use Rattle.line_parser.specs.Grammar.{Param, Line, Each}
 use Rattle.property_table.specs.declared.Edition.the-variants.{First}
 use Rattle.card_line.specs.Parts.{rowOfLine, kindOfLine}
-use Rattle.reader_grammar.specs.Values.{OfKind}
 use Rattle.reader_grammar.specs.Cards.{Readable, CardLines, linesOf}
 use Rattle.reader_grammar.specs.Inputs.{Written}
 use Rattle.reader_grammar.proofs.BegunLaws.{each-join, each-split}
@@ -22,10 +20,10 @@ use Rattle.version3_parameters.specs.declared.Way.the-variants.{Inward, Outward
 use Rattle.version3.specs.Outcome.{takeOutcome, giveOutcome}
 use Rattle.version3_laws.specs.Params.{Named, Nowhere, Preferred, ParamsIn, ParamsOut}
 use Rattle.version3_laws.specs.Params as params
-use Rattle.version3_laws.specs.Lines.{Eleven, ValueIn, ValueOut, TakenIn, GivenOut, GoesOver, VersionRead, versioned}
+use Rattle.version3_laws.specs.Lines.{Eleven, TakenIn, GivenOut, GoesOver, VersionRead, versioned}
 use Rattle.version3_laws.specs.Cards.{Pairs, CardBy, card, Converts, cardOctets}
 use Rattle.version3_laws.specs.Cards as cards
-use Rattle.version3_laws.specs.Keeps.{SameValue, KeepsLine, Keeps}
+use Rattle.version3_laws.specs.Keeps.{KeepsLine, Keeps}
 use Rattle.version3_laws.specs.Keeps as keeps
 use Rattle.version3_laws.proofs.NewLines.{goes-readable, version-readable}
 use Rattle.version3_laws.proofs.AnswerLaws.{fill-to, Card, card-answer}
@@ -41,10 +39,6 @@ pub record LineBack (x y : Line) : Type 0 where
   pub given : GivenOut y out
   pub again : TakenIn out y
   pub kept : KeepsLine x out
-
-by-name : (x y : Line) → x .name ≡ y .name → rowOfLine First x ≡ rowOfLine First y
-unfolding rowOfLine
-by-name x y e = rw e
 
 pub line-back : (x y : Line) → Readable x → TakenIn x y → LineBack x y
 line-back x y r h =

@@ -1,4 +1,5 @@
 -- The laws of cards that are taken in and given out. Assumes nothing.
+pub mod Small
 pub mod TextLaws
 pub mod SaysLaws
 pub mod ParamLaws

@@ -1,34 +1,29 @@
 -- A line goes over exactly where the tests say so, and as the line that is written. Assumes nothing.
 use mathlib.Core.Path.{_≡_, refl, sym, ap, subst, _∙_}
-use mathlib.Core.Bool.{Bool, true, false, _&&_, _||_, false≢true, true≢false}
-use mathlib.Core.List.{List, [], _∷_, _++_}
+use mathlib.Core.Bool.{Bool, true, false, _||_, false≢true, true≢false}
+use mathlib.Core.List.{List, [], _∷_}
 use mathlib.Core.Logic.{_⊎_, inl, inr}
 use mathlib.Core.Option.{Option}
 use Prim.Native.Nat.{ℕ}
-use native.Mathlib.Omega.{arith}
 use lib.Dec.{eqb}
-use lib.ListN.{length}
-use borrow.Author.Tests.{eqb-true, eqb-false, eq-eqb, ne-eqb}
+use borrow.Author.Tests.{eqb-true, ne-eqb}
 use Rattle.octets.specs.Ascii.{octets}
-use Rattle.octets.specs.Pick.{pick}
 use Rattle.octets.specs.Classes.{valued}
 use Rattle.utf8.specs.Characters.{allowed}
-use Rattle.octets.proofs.Bools.{by}
 use Rattle.utf8_laws.specs.Texts.{Each as EachOctet}
-use Rattle.line_parser.specs.Grammar.{Param, Line, Each, front, render}
+use Rattle.line_parser.specs.Grammar.{Line, front, render}
 use Rattle.property_table.specs.declared.Edition.the-variants.{First}
 use Rattle.property_table.specs.Rows.{rows, newer, allRows, rowAt, kindAt, framing, takesValue, ruleAt, lineKind, valueName, calscaleName}
 use Rattle.line_laws.specs.Lined.{Unbroken}
 use Rattle.card_line.specs.Parts.{rowOfLine, kindOfLine, paramValue}
 use Rattle.reader_grammar.specs.Values.{OfKind}
-use Rattle.reader_grammar.specs.Cards.{Readable, Bare, Frame}
+use Rattle.reader_grammar.specs.Cards.{Readable, Bare}
 use Rattle.reader_grammar.specs.Refusals.{Framing}
 use Rattle.version3_parameters.specs.declared.Way.{Way}
 use Rattle.version3_parameters.specs.declared.Way.the-variants.{Inward, Outward}
 use Rattle.version3_parameters.specs.Params.{changedAll, anyPrefers, newParams, prefsFit}
-use Rattle.version3_line.specs.Lines.{anewBy, parted, filledBy, versionText, geoBy, textBy, newValue, newLine}
+use Rattle.version3_line.specs.Lines.{anewBy, parted, versionText, newValue, newLine}
 use Rattle.version3_judge.specs.Judge.{common, goesOver}
-use Rattle.version3_laws.specs.Params.{Nowhere}
 use Rattle.version3_laws.specs.Lines.{Eleven, fn, n, tel, email, adr, note, title, role, org, geo, url, TakenIn, GivenOut, GoesOver, VersionRead, versioned}
 use Rattle.version3_laws.proofs.SaysLaws.{unbroken-right}
 use Rattle.version3_laws.proofs.ParamLaws.{params-in, params-in-only, no-pref-law, params-out, params-out-only}

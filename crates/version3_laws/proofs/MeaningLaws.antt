@@ -3,13 +3,12 @@ use mathlib.Core.Path.{_≡_, refl, sym, ap, subst, _∙_}
 use mathlib.Core.List.{List, [], _∷_, _++_}
 use Prim.Native.Nat.{ℕ}
 use native.Mathlib.Omega.{arith}
-use lib.Dec.{eqb}
-use mathlib.Core.Bool.{Bool, true, false, true≢false}
 use Rattle.text_laws.specs.Stands.{Stands}
 use Rattle.text_laws.specs.Stands as stands
 use Rattle.text_laws.proofs.StandsLaws.{gives}
-use Rattle.version3_laws.specs.Says.{Member, Joined, one, more, Listed, Alone, alone, worded, Says, text, name, address, organization, other}
+use Rattle.version3_laws.specs.Says.{Member, Joined, one, more, Listed, Alone, alone, Says, text, name, address, organization, other}
 use Rattle.version3_laws.specs.Says as says
+use Rattle.version3_laws.proofs.Small.{clash, both, worded-text, worded-name, worded-address, worded-organization}
 
 -- text in which no mark is bare: a backslash takes the next octet along
 data Free (mark : ℕ) : List ℕ → Type 0 where
@@ -21,9 +20,6 @@ free-append : {mark : ℕ} {u v : List ℕ} → Free mark u → Free mark v → 
 free-append none g = g
 free-append (octet n m f) g = octet n m (free-append f g)
 free-append (pair f) g = pair (free-append f g)
-
-both : {A : Type 0} {a b : A} {us vs : List A} → a ≡ b → us ≡ vs → a ∷ us ≡ b ∷ vs
-both p q = λ i. p i ∷ q i
 
 module _ (mark : ℕ) (plain : mark ≡ 92 → ⊥) where
   -- the first bare mark is where it is
@@ -100,27 +96,20 @@ alone-one w ts us (alone {t = t} m) (alone {t = u} n) = ap (λ (k : List ℕ). k
 alone-semicolons : (w : List ℕ) (ts : List (List ℕ)) → Alone w ts → Free 59 w
 alone-semicolons w ts (alone m) = member-semicolons m
 
-worded-all : (worded 1 ≡ true) × (worded 4 ≡ true) × (worded 5 ≡ true) × (worded 6 ≡ true)
-unfolding worded
-worded-all = (refl, refl, refl, refl)
-
-clash : {A : Type 0} {b : Bool} → b ≡ true → b ≡ false → A
-clash p q = absurd (true≢false (sym p ∙ q))
-
 -- what a value of each kind says, whatever says so
 says-by : {k : ℕ} {v : List ℕ} {cs ds : List (List (List ℕ))} → Says k v cs → Says k v ds → cs ≡ ds
 says-by (text {v = v} h) (text g) = ap (λ (t : List ℕ). (t ∷ []) ∷ []) (sym (gives h) ∙ gives g)
-says-by (text h) (other e) = clash (worded-all .0) e
+says-by (text h) (other e) = clash worded-text e
 says-by (name j) (name i) = joined-one 59 (λ e. omega arith) (λ v t h. listed-semicolons h) listed-one j i refl
-says-by (name j) (other e) = clash (worded-all .1) e
+says-by (name j) (other e) = clash worded-name e
 says-by (address j) (address i) = joined-one 59 (λ e. omega arith) (λ v t h. listed-semicolons h) listed-one j i refl
-says-by (address j) (other e) = clash (worded-all .2) e
+says-by (address j) (other e) = clash worded-address e
 says-by (organization j) (organization i) = joined-one 59 (λ e. omega arith) alone-semicolons alone-one j i refl
-says-by (organization j) (other e) = clash (worded-all .3) e
-says-by (other e) (text h) = clash (worded-all .0) e
-says-by (other e) (name h) = clash (worded-all .1) e
-says-by (other e) (address h) = clash (worded-all .2) e
-says-by (other e) (organization h) = clash (worded-all .3) e
+says-by (organization j) (other e) = clash worded-organization e
+says-by (other e) (text h) = clash worded-text e
+says-by (other e) (name h) = clash worded-name e
+says-by (other e) (address h) = clash worded-address e
+says-by (other e) (organization h) = clash worded-organization e
 says-by (other e) (other f) = refl
 
 pub says-one : (k : ℕ) (v : List ℕ) (cs ds : List (List (List ℕ))) → Says k v cs → Says k v ds → cs ≡ ds

@@ -1,14 +1,13 @@
 -- The line that is written may be read: it is by the line rule, and whole characters without controls; and it has the row and the kind of the
 -- line that was read. Assumes nothing.
 use mathlib.Core.Path.{_≡_, refl, sym, ap, subst, _∙_}
-use mathlib.Core.Bool.{Bool, true, false, _&&_, _||_, or-true, false≢true, true≢false}
+use mathlib.Core.Bool.{true, false, or-true, true≢false}
 use mathlib.Core.List.{List, [], _∷_, _++_, append-nil, append-assoc}
-use mathlib.Core.Logic.{_⊎_, inl, inr}
 use mathlib.Core.Option.{Option, some}
-use Prim.Native.Nat.{ℕ, _+_, _<_, _≤_}
+use Prim.Native.Nat.{ℕ, _<_, _≤_}
 use native.Mathlib.Omega.{arith}
 use lib.Dec.{eqb, leb}
-use lib.ListN.{length, replicate}
+use lib.ListN.{length}
 use borrow.Author.Tests.{eqb-true, eqb-false, leb-true, le-leb}
 use Rattle.octets.specs.Ascii.{octets}
 use Rattle.octets.specs.Pick.{pick}
@@ -17,21 +16,21 @@ use Rattle.octets.specs.Cases.{same}
 use Rattle.octets.proofs.Bools.{by, and-both}
 use Rattle.octets.proofs.CaseLaws.{same-length}
 use Rattle.utf8.specs.Characters.{allowed}
-use Rattle.line_parser.specs.Grammar.{Value, plain, inQuotes, Param, Line, Each, Is, Word, GoodValue, GoodParam, WellFormed, led, valueText, paramText, groupText, front, render}
-use Rattle.line_parameters.specs.First.{firstNamed, valueOctets}
+use Rattle.line_parser.specs.Grammar.{Value, Param, Line, Each, Is, Word, GoodValue, GoodParam, led, valueText, paramText, groupText, front, render}
+use Rattle.line_parameters.specs.First.{firstNamed}
 use Rattle.line_laws.specs.Lined.{Unbroken}
 use Rattle.property_table.specs.declared.Edition.the-variants.{First}
 use Rattle.property_table.specs.Rows.{lineKind, valueName, calscaleName}
 use Rattle.card_line.specs.Parts.{octetsOf, paramValue, rowOfLine, kindOfLine}
-use Rattle.reader_grammar.specs.Cards.{Readable, Frame}
+use Rattle.reader_grammar.specs.Cards.{Readable}
 use Rattle.version3_parameters.specs.declared.Way.{Way}
 use Rattle.version3_parameters.specs.declared.Way.the-variants.{Inward, Outward}
 use Rattle.version3_parameters.specs.Params.{isPref, kept, withValues, isType, isPrefParam, valuesOf, changed, changedAll, anyPrefers, mark, newParams}
 use Rattle.version3_line.specs.Lines.{anewBy, parted, lacking, filledBy, newLine}
 use Rattle.version3_laws.specs.Says.{Says, text, name, address, organization, other}
-use Rattle.version3_laws.specs.Floats.{OldGeo, NewGeo}
+use Rattle.version3_laws.specs.Floats.{NewGeo}
 use Rattle.version3_laws.specs.Floats as places
-use Rattle.version3_laws.specs.Lines.{ValueIn, ValueOut, GoesOver, VersionRead, versioned, numberWritten}
+use Rattle.version3_laws.specs.Lines.{ValueIn, ValueOut, GoesOver, versioned, numberWritten}
 use Rattle.version3_laws.specs.Lines as lines
 use Rattle.version3_laws.proofs.SaysLaws.{stands-text, components-text, units-text, unworded, anew-law, filled-law}
 use Rattle.version3_laws.proofs.PlaceLaws.{each-append, InFloat, a-digit, a-dot, a-plus, a-minus, float-octets}

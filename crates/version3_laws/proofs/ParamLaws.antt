@@ -1,28 +1,24 @@
 -- The parameters that are written are those of the relations, in both ways. Assumes nothing.
 use mathlib.Core.Path.{_≡_, refl, sym, ap, subst, _∙_}
-use mathlib.Core.Bool.{Bool, true, false, _&&_, _||_, false≢true, true≢false}
-use mathlib.Core.List.{List, [], _∷_, _++_, append-nil, append-assoc}
+use mathlib.Core.Bool.{true, false, _&&_, false≢true}
+use mathlib.Core.List.{List, [], _∷_, _++_, append-nil}
 use mathlib.Core.Logic.{_⊎_, inl, inr, _↔_}
-use Prim.Native.Nat.{ℕ, suc, _+_}
+use Prim.Native.Nat.{ℕ, _+_}
 use native.Mathlib.Omega.{arith}
 use lib.Dec.{eqb, ltb}
 use lib.ListN.{length, getD}
 use borrow.Author.Tests.{eqb-true, lt-ltb, ltb-true}
 use Rattle.octets.specs.Ascii.{octets}
-use Rattle.octets.specs.Pick.{pick}
 use Rattle.octets.specs.Cases.{same}
-use Rattle.octets.specs.Classes.{bit}
-use Rattle.octets.proofs.Bools.{by, and-both, or-some, or-left, or-right}
+use Rattle.octets.proofs.Bools.{by, and-both, or-left, or-right}
 use Rattle.line_parser.specs.Grammar.{Value, Param, Each}
 use Rattle.line_parameters.specs.First.{valueOctets}
 use Rattle.version3_parameters.specs.declared.Way.{Way}
 use Rattle.version3_parameters.specs.declared.Way.the-variants.{Inward, Outward}
-use Rattle.version3_parameters.specs.Params.{isPref, kept, anyPref, withValues, isType, isPrefParam, changed, prefers, changedAll, anyPrefers, mark, newParams, oneText, oneValue, lawful, allLawful, prefs, prefsFit}
+use Rattle.version3_parameters.specs.Params.{isPref, kept, anyPref, withValues, isType, changed, prefers, changedAll, anyPrefers, newParams, oneText, oneValue, lawful, allLawful, prefs, prefsFit}
 use Rattle.version3_laws.specs.Params.{Named, Nowhere, Some, here, there, Pref, valuesOf, Preferred, Without, none, goes, stays, Pruned, other, left, emptied, PrunedAll, prefOne, typePref, ParamsIn, plainly, preferred, PrefOne, ParamsOut}
 use Rattle.version3_laws.specs.Params as params
-
-clash : {A : Type 0} {b : Bool} → b ≡ true → b ≡ false → A
-clash p q = absurd (true≢false (sym p ∙ q))
+use Rattle.version3_laws.proofs.Small.{clash}
 
 -- ---- taken in
 

@@ -1,28 +1,25 @@
 -- The tests of floats and of the two forms of GEO hold exactly where the relations do, and each form is made of the other. Assumes nothing.
 use mathlib.Core.Path.{_≡_, refl, sym, ap, subst, _∙_}
-use mathlib.Core.Bool.{Bool, true, false, not, _&&_, _||_, false≢true, true≢false}
+use mathlib.Core.Bool.{Bool, true, false, not, _&&_, false≢true, true≢false}
 use mathlib.Core.List.{List, [], _∷_, _++_, append-nil}
 use mathlib.Core.Logic.{_⊎_, inl, inr, _↔_}
-use Prim.Native.Nat.{ℕ, zero, suc, _+_, _<_, _≤_}
+use Prim.Native.Nat.{ℕ, suc, _<_}
 use native.Mathlib.Omega.{arith}
 use lib.Dec.{eqb, ltb, leb}
-use lib.ListN.{length, getD, take, drop, set, take-append-drop, length-append}
-use lib.Seq.{take-append-seam, drop-append-seam, take-length, split-at, length-take-le, set-append-seam, drop-length}
-use borrow.Author.Tests.{eqb-true, eqb-false, eq-eqb, ne-eqb, lt-ltb, ltb-true}
+use lib.ListN.{length, getD, take, drop, take-append-drop, length-append}
+use lib.Seq.{take-append-seam, drop-append-seam, take-length, split-at, length-take-le, set-append-seam}
+use borrow.Author.Tests.{eqb-true, eq-eqb, ne-eqb, lt-ltb, ltb-true}
 use Rattle.octets.specs.Ascii.{octets}
-use Rattle.octets.specs.Pick.{pick}
 use Rattle.octets.specs.Classes.{digit, run, more}
-use Rattle.octets.proofs.Bools.{by, and-both, or-some, or-left, or-right}
+use Rattle.octets.proofs.Bools.{by, and-both}
 use Rattle.line_parser.specs.Grammar.{Each, Is}
 use Rattle.line_parser.proofs.PartLaws.{run-le}
 use Rattle.line_parameters.proofs.Complete.{run-append}
 use Rattle.line_parameters.proofs.Sound.{run-each}
-use Rattle.version3_geo.specs.Floats.{digits, fraction, unsigned, sign, float, upTo, floats, swapped, geoText, schemed, oldGeo, newGeo, madeNew, madeOld}
+use Rattle.version3_geo.specs.Floats.{digits, fraction, unsigned, sign, float, upTo, floats, swapped, schemed, oldGeo, newGeo, madeNew, madeOld}
 use Rattle.version3_laws.specs.Floats.{Digits, Unsigned, whole, broken, Float, signed, Floats, OldGeo, NewGeo}
 use Rattle.version3_laws.specs.Floats as places
-
-clash : {A : Type 0} {b : Bool} → b ≡ true → b ≡ false → A
-clash p q = absurd (true≢false (sym p ∙ q))
+use Rattle.version3_laws.proofs.Small.{clash}
 
 pub each-append : {A : Type 0} (P : A → Type 0) (u v : List A) → Each P u → Each P v → Each P (u ++ v)
 unfolding Each

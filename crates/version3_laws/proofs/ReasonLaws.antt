@@ -1,12 +1,12 @@
 -- A line that may stand in its place is not taken in exactly for one of the reasons of 50. Assumes nothing.
-use mathlib.Core.Path.{_≡_, refl, sym, ap, subst, _∙_}
-use mathlib.Core.Bool.{Bool, true, false, not, _&&_, _||_, false≢true, true≢false}
-use mathlib.Core.List.{List, [], _∷_, _++_}
-use mathlib.Core.Logic.{_⊎_, inl, inr}
+use mathlib.Core.Path.{_≡_, sym, _∙_}
+use mathlib.Core.Bool.{Bool, true, false, _&&_}
+use mathlib.Core.List.{List}
+use mathlib.Core.Logic.{inl, inr}
 use Prim.Native.Nat.{ℕ, _≤_}
 use native.Mathlib.Omega.{arith}
 use lib.Dec.{eqb}
-use borrow.Author.Tests.{eqb-true, eqb-false, eq-eqb}
+use borrow.Author.Tests.{eqb-true}
 use Rattle.octets.specs.Ascii.{octets}
 use Rattle.octets.specs.Cases.{same}
 use Rattle.octets.proofs.Bools.{by, and-both}
@@ -14,28 +14,25 @@ use Rattle.line_parser.specs.Grammar.{Line}
 use Rattle.line_laws.specs.Lined.{Unbroken}
 use Rattle.property_table.specs.declared.Edition.the-variants.{First}
 use Rattle.property_table.specs.Rows.{framing}
-use Rattle.card_line.specs.Parts.{rowOfLine, kindOfLine}
-use Rattle.reader_grammar.specs.Values.{OfKind, Vcard}
-use Rattle.reader_grammar.specs.Cards.{Ends, ofRow, count, linesOf, any}
+use Rattle.card_line.specs.Parts.{rowOfLine}
+use Rattle.reader_grammar.specs.Values.{Vcard}
+use Rattle.reader_grammar.specs.Cards.{ofRow, linesOf}
 use Rattle.reader_grammar.specs.Refusals.{Framing, Unladen}
 use Rattle.version3_parameters.specs.declared.Way.{Way}
-use Rattle.version3_parameters.specs.declared.Way.the-variants.{Inward, Outward}
+use Rattle.version3_parameters.specs.declared.Way.the-variants.{Inward}
 use Rattle.version3_parameters.specs.Params.{prefsFit}
 use Rattle.version3_judge.specs.declared.Set.{Set}
-use Rattle.version3_judge.specs.Judge.{freshSet, common, goesOver, versionRead}
+use Rattle.version3_judge.specs.Judge.{freshSet, common}
 use Rattle.version3_laws.specs.Floats.{OldGeo}
-use Rattle.version3_laws.specs.Lines.{Eleven, ValueIn, Three, VersionRead}
+use Rattle.version3_laws.specs.Lines.{ValueIn, VersionRead}
 use Rattle.version3_laws.specs.Lines as lines
 use Rattle.version3_laws.specs.Refusals.{Before, nothing, begun, whole, InPlace, NotTaken}
 use Rattle.version3_laws.specs.Refusals as reasons
 use Rattle.version3_laws.proofs.ParamLaws.{no-pref-law}
-use Rattle.version3_laws.proofs.PlaceLaws.{old-to}
-use Rattle.version3_laws.proofs.ValueLaws.{geo-kind, valueBy, value-in, value-in-only}
+use Rattle.version3_laws.proofs.ValueLaws.{geo-kind, value-in-only}
 use Rattle.version3_laws.proofs.LineLaws.{eleven-to, eleven-from, eleven-no, eleven-unframed, Passes, version-row, taken-to}
-use Rattle.version3_laws.proofs.JudgeLaws.{framing-to, framing-from, number-from, Tells, at-nothing, at-begun, at-whole, Advances, begins, version, passes, ends, isGood, good-begin, good-version, good-end, good-goes, none-by, some-by, good-to, version-number}
-
-clash : {A : Type 0} {b : Bool} → b ≡ true → b ≡ false → A
-clash p q = absurd (true≢false (sym p ∙ q))
+use Rattle.version3_laws.proofs.JudgeLaws.{framing-to, framing-from, number-from, Tells, at-nothing, at-begun, at-whole, Advances, begins, version, passes, ends, isGood, good-begin, good-version, good-end, good-goes, none-by, some-by, good-to}
+use Rattle.version3_laws.proofs.Small.{clash}
 
 -- ---- what a line that advances has
 
@@ -108,9 +105,6 @@ module _ (x : Line) (u : Unbroken (x .value)) where
   module _ (c : Set) {b : Before} (t : Tells c b) (p : InPlace b x) (l : Unladen First x) where
     pub not-taken-from : NotTaken b x → isGood Inward c x ≡ false
     not-taken-from h = by (isGood Inward c x) (λ g. absurd (stops h (good-to Inward c x l t p g .1))) (λ g. g)
-
-  and-left-no : (a b : Bool) → a ≡ true → (a && b) ≡ false → b ≡ false
-  and-left-no a b e f = rw e at f
 
   pub not-taken-to : (c : Set) {b : Before} → Tells c b → InPlace b x → isGood Inward c x ≡ false → NotTaken b x
   not-taken-to c (at-nothing e) p g =

@@ -1,8 +1,8 @@
 -- The lines that stand before a line are judged one after the other, and lead to a state that knows them. Assumes nothing.
 use mathlib.Core.Path.{_≡_, refl, sym, ap, subst, _∙_}
-use mathlib.Core.List.{List, [], _∷_, _++_, map, append-nil, append-assoc, map-append}
-use mathlib.Core.Logic.{_⊎_, inl, inr}
-use Prim.Native.Nat.{ℕ, suc, _+_, _≤_}
+use mathlib.Core.List.{List, [], _∷_, _++_, map, append-nil, append-assoc}
+use mathlib.Core.Logic.{inl, inr}
+use Prim.Native.Nat.{ℕ, _+_, _≤_}
 use native.Mathlib.Nat.{add-zero}
 use native.Mathlib.Omega.{arith}
 use lib.ListN.{length, length-append}
@@ -21,9 +21,9 @@ use Rattle.version3_judge.specs.declared.Step.{Step}
 use Rattle.version3_judge.specs.declared.Step.the-variants.{Next, Refused, Flawed}
 use Rattle.version3_judge.specs.Judge.{freshSet, noted, judgeLine, onward, settled, judgeLines}
 use Rattle.version3_laws.specs.Lines.{GoesOver}
-use Rattle.version3_laws.specs.Cards.{Pairs, CardBy, card}
+use Rattle.version3_laws.specs.Cards.{Pairs, card}
 use Rattle.version3_laws.specs.Cards as cards
-use Rattle.version3_laws.specs.Refusals.{Before, nothing, begun, whole, Within, SoFar, no-line, in-card, after-card}
+use Rattle.version3_laws.specs.Refusals.{Before, nothing, begun, whole, SoFar, no-line, in-card, after-card}
 use Rattle.version3_laws.proofs.LineLaws.{eleven-no, value-unbroken, goes-from, goes-eleven, version-row}
 use Rattle.version3_laws.proofs.JudgeLaws.{Tells, at-nothing, Advances, begins, version, passes, ends, advance-tells, advanced, outcome}
 use Rattle.version3_laws.proofs.WalkLaws.{Going, head-same, head-more, others}

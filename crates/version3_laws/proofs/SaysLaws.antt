@@ -6,7 +6,7 @@ use mathlib.Core.List.{List, [], _∷_, _++_, append-nil, append-assoc}
 use Prim.Native.Nat.{ℕ, zero, suc, _+_, _-_}
 use native.Mathlib.Omega.{arith}
 use lib.Dec.{eqb}
-use lib.ListN.{length, replicate, length-append, length-replicate}
+use lib.ListN.{length, replicate}
 use borrow.Author.Tests.{eqb-true, eqb-false, ne-eqb}
 use Rattle.octets.specs.Pick.{pick}
 use Rattle.octets.proofs.Bools.{by, or-none-left, or-none-right}
@@ -18,13 +18,14 @@ use Rattle.line_parser.specs.Grammar.{led}
 use Rattle.line_laws.specs.Lined.{Unbroken}
 use Rattle.value_kinds.specs.Octets.{escapee, holds}
 use Rattle.value_kinds.specs.Octets as octets
-use Rattle.value_laws.specs.Words.{In, Text, Texts, Semicolons, Escaped, ends, bare, bare-comma, bare-semicolon, escape}
+use Rattle.value_laws.specs.Words.{In, Text, Escaped, ends, bare, bare-comma, bare-semicolon, escape}
 use Rattle.version3_text.specs.Renewed.{small, renewed, semicolons}
 use Rattle.version3_line.specs.Lines.{needed, parted, anewBy, lacking, filledBy}
 use Rattle.version3_parameters.proofs.EachLaws.{led-append}
 use Rattle.version3_laws.specs.Says.{Member, none, Joined, one, more, Listed, Alone, alone, worded, Says, text, name, address, organization, other, between, textIn, component, written, wanted, blank, padded}
 use Rattle.version3_laws.specs.Says as says
 use Rattle.version3_laws.proofs.TextLaws.{inner-is, is-inner, comma-is, semicolon-is, backslash-is, marks-in, renewed-nil, renewed-octet, renewed-mark, renewed-pair, semicolons-count, escaped-append, renewed-append}
+use Rattle.version3_laws.proofs.Small.{worded-text, worded-name, worded-address, worded-organization}
 
 -- ---- escapes
 
@@ -272,22 +273,6 @@ unworded k e v = go (eqb k 1) (eqb k 4) (eqb k 5) (eqb k 6) e
 as-it-is : (k : ℕ) → worded k ≡ false → (v : List ℕ) → written k ((v ∷ []) ∷ []) ≡ v
 unfolding written component textIn led
 as-it-is k e v = rw e (append-nil ((v ++ [])) ∙ append-nil v)
-
-worded-text : worded 1 ≡ true
-unfolding worded
-worded-text = refl
-
-worded-name : worded 4 ≡ true
-unfolding worded
-worded-name = refl
-
-worded-address : worded 5 ≡ true
-unfolding worded
-worded-address = refl
-
-worded-organization : worded 6 ≡ true
-unfolding worded
-worded-organization = refl
 
 -- a value written anew is the value renewed octet by octet
 pub anew-law : {k : ℕ} {v : List ℕ} {cs : List (List (List ℕ))} → Says k v cs → Unbroken v → written k cs ≡ anewBy k v

@@ -1,23 +1,22 @@
 -- Where a line stands in an accepted input, by what stands before it. Assumes nothing.
 use mathlib.Core.Path.{_≡_, refl, sym, ap, subst, _∙_}
-use mathlib.Core.List.{List, [], _∷_, _++_, map, append-nil, append-assoc, map-append}
+use mathlib.Core.List.{List, [], _∷_, _++_, map, append-assoc}
 use mathlib.Core.Logic.{_⊎_, inl, inr}
-use Prim.Native.Nat.{ℕ, suc, _+_, _≤_}
+use Prim.Native.Nat.{ℕ, _≤_}
 use native.Mathlib.Omega.{arith}
-use lib.ListN.{length}
 use Rattle.line_folds.specs.Folds.{unfolded}
 use Rattle.line_parser.specs.Grammar.{Line, Each, render}
 use Rattle.line_parameters.proofs.Law.{line-unique}
 use Rattle.property_table.specs.declared.Edition.the-variants.{First}
 use Rattle.card_line.specs.Parts.{rowOfLine, kindOfLine}
-use Rattle.reader_grammar.specs.Values.{OfKind, Fitting}
-use Rattle.reader_grammar.specs.Cards.{Readable, Bare, Begins, Versions, Ends, Inside, Body, CardLines, Cards, linesOf}
+use Rattle.reader_grammar.specs.Values.{Fitting}
+use Rattle.reader_grammar.specs.Cards.{Readable, Begins, Versions, Ends, Inside, Body, CardLines, Cards, linesOf}
 use Rattle.reader_grammar.specs.Cards as grammar
-use Rattle.reader_grammar.specs.Refusals.{Framing, Unladen, Reads}
-use Rattle.reader_grammar.proofs.BegunLaws.{each-join, each-split, begin-stands, version-stands, end-stands, inside-stands}
+use Rattle.reader_grammar.specs.Refusals.{Framing, Unladen}
+use Rattle.reader_grammar.proofs.BegunLaws.{each-join, begin-stands, version-stands, end-stands, inside-stands}
 use Rattle.version3_parameters.specs.declared.Way.{Way}
-use Rattle.version3_parameters.specs.declared.Way.the-variants.{Inward, Outward}
-use Rattle.version3_laws.specs.Lines.{GoesOver, VersionRead}
+use Rattle.version3_parameters.specs.declared.Way.the-variants.{Outward}
+use Rattle.version3_laws.specs.Lines.{GoesOver}
 use Rattle.version3_laws.specs.Cards.{Pairs, CardBy, card}
 use Rattle.version3_laws.specs.Cards as cards
 use Rattle.version3_laws.specs.Refusals.{Before, nothing, begun, whole, InPlace, SoFar, no-line, in-card, after-card}
@@ -100,11 +99,6 @@ module _ (w : Way) where
   }
 
 -- ---- an accepted input
-
-inside-framed : (x : Line) → Inside First x → Framing (rowOfLine First x) → ⊥
-inside-framed x h (inl e) = h .begin e
-inside-framed x h (inr (inl e)) = h .version e
-inside-framed x h (inr (inr e)) = h .end e
 
 inside-no-end : (zs : List Line) → Each (Inside First) zs → Each NoEnd zs
 unfolding Each

@@ -3,54 +3,47 @@ use mathlib.Core.Path.{_≡_, refl, sym, ap, subst, _∙_}
 use mathlib.Core.Bool.{Bool, true, false, false≢true}
 use mathlib.Core.List.{List, [], _∷_, _++_, map, map-append}
 use mathlib.Core.Logic.{_↔_}
-use Prim.Native.Nat.{ℕ, _+_, _<_, _≤_}
+use Prim.Native.Nat.{ℕ, _+_, _≤_}
 use native.Mathlib.Nat.{add-zero}
 use native.Mathlib.Omega.{arith}
 use lib.Dec.{eqb, ltb}
-use lib.ListN.{length, length-append, length-map}
+use lib.ListN.{length, length-map}
 use borrow.Author.Tests.{ltb-true, ltb-false, lt-ltb, le-ltb, eqb-true, eqb-false, ne-eqb}
 use Rattle.octets.specs.Pick.{pick}
-use Rattle.octets.specs.Room.{Filled, filled, refuse, overlay, fill, fillBounded}
+use Rattle.octets.specs.Room.{Filled, filled, refuse}
 use Rattle.octets.specs.declared.rooms.Written.the-variants.{Wrote}
 use Rattle.octets.proofs.Bools.{by}
 use Rattle.octets.proofs.Scans.{scan-le}
 use Rattle.line_breaks.specs.Lone.{loneStep, firstLone, endsCrLf}
 use Rattle.line_folds.specs.Folds.{unfolded}
-use Rattle.line_folds.specs.Places.{placeOf}
 use Rattle.line_folds.specs.Logical.{rawLines}
-use Rattle.line_parser.specs.Grammar.{Line, Each, render}
+use Rattle.line_parser.specs.Grammar.{Line, Each}
 use Rattle.line_laws.specs.Lined.{Folded, Unbroken, Lined, EndsCrLf}
 use Rattle.line_laws.proofs.LinedLaws.{ends-law, lined-law, lined-only}
 use Rattle.line_laws.proofs.PlacedLaws.{placed, placed-only, lined-there}
 use Rattle.property_table.specs.declared.Edition.the-variants.{First}
 use Rattle.reader.specs.Outcome.{ended}
 use Rattle.reader_laws.proofs.LoneLaws.{lone-here, lone-none}
-use Rattle.reader_grammar.specs.Refusals.{Framed, Reads, Where, at-start, at-octet, Placed}
+use Rattle.reader_grammar.specs.Refusals.{Framed, Where, at-start, at-octet, Placed}
 use Rattle.reader_grammar.proofs.PairedLaws.{lone-within, paired-law, lone-first}
 use Rattle.reader_grammar.proofs.Walks.{placeIn}
-use Rattle.version3_parameters.specs.declared.Way.{Way}
-use Rattle.version3_parameters.specs.declared.Way.the-variants.{Inward, Outward}
+use Rattle.version3_parameters.specs.declared.Way.the-variants.{Inward}
 use Rattle.version3_judge.specs.declared.Set.{Set}
 use Rattle.version3_judge.specs.declared.Step.{Step}
-use Rattle.version3_judge.specs.declared.Step.the-variants.{Next, Refused, Flawed}
+use Rattle.version3_judge.specs.declared.Step.the-variants.{Refused, Flawed}
 use Rattle.version3_judge.specs.Judge.{freshSet, settled, judgeLines}
 use Rattle.version3.specs.Outcome.{concluded, convertOutcome, takeOutcome}
-use Rattle.version3_laws.specs.Cards.{Converts, cardOctets, WrittenBy, Takes}
+use Rattle.version3_laws.specs.Cards.{Converts, cardOctets, Takes}
 use Rattle.version3_laws.specs.Refusals.{Before, begun, SoFar, LineRefused, octet, rule, order, laden, not-taken, NoRoom, RefusedIn}
 use Rattle.version3_laws.specs.Refusals as reasons
 use Rattle.version3_laws.proofs.LineLaws.{value-unbroken}
 use Rattle.version3_laws.proofs.JudgeLaws.{Tells, Judged, flawed, ruled, misplaced, heavy, unwanted, advanced}
 use Rattle.version3_laws.proofs.ReasonLaws.{not-taken-from, not-taken-to}
 use Rattle.version3_laws.proofs.WalkLaws.{AllKinded}
-use Rattle.version3_laws.proofs.AnswerLaws.{never, refusal-numbers, Fits, fill-to, fill-from, fill-long, fill-small, Card, card-answer, open-answer, stop-answer, Answered, over, inside, halted, answered}
+use Rattle.version3_laws.proofs.AnswerLaws.{never, refusal-numbers, fill-to, fill-from, fill-long, fill-small, fill-refused, Card, card-answer, open-answer, stop-answer, Answered, over, inside, halted, answered}
+use Rattle.version3_laws.proofs.Small.{same-step, no-step}
 
 -- ---- places
-
-same-step : {n p m q : ℕ} → Refused n p ≡ Refused m q → (n ≡ m) × (p ≡ q)
-same-step e = (cc, cc)
-
-no-step : {A : Type 0} {c : Set} {m q : ℕ} → Next c ≡ Refused m q → A
-no-step e = let z : _≡_ {A = ℕ} 0 1 = cc in absurd (omega arith)
 
 -- an octet of the line, or its end
 abbrev Inside : Where → List ℕ → Type 0
@@ -91,9 +84,6 @@ module _ {i : List ℕ} (ds es ls ms : List (List ℕ)) (r l : List ℕ) (h : Li
 
   pub line-there : l ≡ unfolded r
   line-there = let e = parts-there .1 in cc
-
-  pub rest-there : ms ≡ map unfolded es
-  rest-there = let e = parts-there .1 in cc
 
 -- past 1 to 4 the walk splits the input into its lines
 pub split-so : (i : List ℕ) → Framed i → Lined i (rawLines i) (map unfolded (rawLines i))
@@ -187,22 +177,8 @@ module _ (i room : List ℕ) where
       open-answer Inward i room ys f (subst (λ (x : List (List ℕ)). SoFar Inward x (begun ys)) (lined-only e .1) h)
   refused-from (reasons.RefusedIn.room h) = room-from h
 
-  fill-refused : (ys : List Line) → Converts Inward i ys → (n p : ℕ) → fillBounded (cardOctets ys) room ≡ refuse n p room → RefusedIn i room n p
-  unfolding fillBounded fill
-  fill-refused ys c n p = go (ltb 16384 (length (cardOctets ys))) (ltb (length room) (length (cardOctets ys))) refl refl
-    where
-      go : (a b : Bool) → ltb 16384 (length (cardOctets ys)) ≡ a → ltb (length room) (length (cardOctets ys)) ≡ b
-          → pick a (refuse 16 16384 room) (pick b (refuse 15 (length (cardOctets ys)) room) (filled (Wrote (length (cardOctets ys))) (overlay (cardOctets ys) room))) ≡ refuse n p room → RefusedIn i room n p
-      go true b k q e =
-          let m = refusal-numbers e in
-          rw (← m .0, ← m .1) (reasons.RefusedIn.room (reasons.NoRoom.long c (ltb-true 16384 (length (cardOctets ys)) k)))
-      go false true k q e =
-          let m = refusal-numbers e in
-          rw (← m .0, ← m .1) (reasons.RefusedIn.room (reasons.NoRoom.small c (ltb-false 16384 (length (cardOctets ys)) k) (ltb-true (length room) (length (cardOctets ys)) q)))
-      go false false k q e = never (sym e)
-
   answered-refused : {f : Filled} → Framed i → Answered Inward i room f → (n p : ℕ) → f ≡ refuse n p room → RefusedIn i room n p
-  answered-refused f (over ys c) n p e = fill-refused ys (converts (f .short) c) n p e
+  answered-refused f (over ys c) n p e = reasons.RefusedIn.room (fill-refused Inward i room ys (converts (f .short) c) n p e)
   answered-refused f (inside ys h) n p e =
       let m = refusal-numbers e in
       rw (← m .0, ← m .1) (reasons.RefusedIn.unfinished (rawLines i) (map unfolded (rawLines i)) ys f (split-so i f) h)

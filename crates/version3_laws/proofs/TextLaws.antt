@@ -1,16 +1,16 @@
 -- Text escaped anew, octet by octet: over text whose backslashes all start escapes. Assumes nothing.
-use mathlib.Core.Path.{_≡_, refl, sym, ap, subst, _∙_}
-use mathlib.Core.Bool.{Bool, true, false, not, _&&_, _||_, false≢true}
+use mathlib.Core.Path.{_≡_, refl, sym, ap, _∙_}
+use mathlib.Core.Bool.{Bool, true, false, not, _&&_, false≢true}
 use mathlib.Core.List.{List, [], _∷_, _++_}
-use Prim.Native.Nat.{ℕ, zero, suc, _+_, _<_}
+use Prim.Native.Nat.{ℕ, zero, suc, _+_}
 use native.Mathlib.Nat.{zero-add, suc-add}
 use native.Mathlib.Omega.{arith}
-use lib.Dec.{eqb, ltb}
-use lib.ListN.{length, getD, replicate}
-use borrow.Author.Tests.{eqb-true, eqb-false, eq-eqb, ne-eqb, lt-ltb}
+use lib.Dec.{eqb}
+use lib.ListN.{length, replicate}
+use borrow.Author.Tests.{eqb-true, ne-eqb, lt-ltb}
 use Rattle.octets.specs.Pick.{pick}
 use Rattle.octets.specs.Scan.{gather}
-use Rattle.octets.proofs.Bools.{by, and-both}
+use Rattle.octets.proofs.Bools.{by}
 use Rattle.value_kinds.specs.Octets.{inner, escapee, backslash, comma, semicolon, holds}
 use Rattle.value_laws.specs.Words.{In, Escaped, ends, bare, bare-comma, bare-semicolon, escape}
 use Rattle.version3_text.specs.Renewed.{pairAt, small, passed, bareAt, anew, renewed, semicolonAt, semicolons}

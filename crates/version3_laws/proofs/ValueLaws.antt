@@ -1,10 +1,10 @@
 -- A value goes over exactly where the relations say so, and as what they say. Assumes nothing.
 use mathlib.Core.Path.{_≡_, refl, sym, ap, subst, _∙_}
-use mathlib.Core.Bool.{Bool, true, false, not, _&&_, _||_, false≢true, true≢false}
+use mathlib.Core.Bool.{Bool, true, false, not, _&&_, false≢true}
 use mathlib.Core.List.{List, [], _∷_, _++_, append-nil}
 use mathlib.Core.Logic.{_⊎_, inl, inr, _↔_}
 use mathlib.Core.Option.{Option, none, some}
-use Prim.Native.Nat.{ℕ, zero, suc, _+_, _-_, _<_, _≤_}
+use Prim.Native.Nat.{ℕ, _+_, _-_, _<_, _≤_}
 use native.Mathlib.Omega.{arith}
 use lib.Dec.{eqb, ltb, leb}
 use lib.ListN.{length, replicate}
@@ -14,7 +14,7 @@ use Rattle.octets.specs.Pick.{pick}
 use Rattle.octets.specs.Classes.{digit}
 use Rattle.octets.specs.Cases.{same}
 use Rattle.octets.specs.Counts.{allIn}
-use Rattle.octets.proofs.Bools.{by, and-both, or-none-left, or-none-right}
+use Rattle.octets.proofs.Bools.{by, and-both}
 use Rattle.property_table.specs.declared.Edition.the-variants.{First}
 use Rattle.property_table.specs.Rows.{rows, newer, allRows, rowAt, kindAt, framing, takesValue, ruleAt, kindNamed, valueKind, lineKind, valueName, calscaleName}
 use Rattle.line_parser.specs.Grammar.{Line, Each}
@@ -24,7 +24,7 @@ use Rattle.value_kinds.specs.Octets as classes
 use Rattle.value_kinds.specs.Kinds.{kindIn}
 use Rattle.value_kinds.specs.declared.Fault.{Fault}
 use Rattle.value_kinds.specs.declared.Fault.the-variants.{Fits, Breaks}
-use Rattle.value_laws.specs.Words.{In, All, Text, Texts, Semicolons, Components, Uri, Escaped, ends, bare, bare-comma, bare-semicolon, escape}
+use Rattle.value_laws.specs.Words.{In, All, Text, Texts, Semicolons, Components, Uri, Escaped, bare, bare-comma, bare-semicolon, escape}
 use Rattle.value_laws.proofs.Plain.{kind-1, kind-2, kind-4, kind-5, kind-6}
 use Rattle.card_line.specs.Parts.{rowOfLine, kindOfLine, paramValue}
 use Rattle.reader_grammar.specs.Values.{OfKind, anything, text as of-text, texts as of-texts, uri as of-uri, name as of-name, address as of-address, components as of-components}
@@ -35,17 +35,15 @@ use Rattle.version3_parameters.specs.declared.Way.{Way}
 use Rattle.version3_parameters.specs.declared.Way.the-variants.{Inward, Outward}
 use Rattle.version3_line.specs.Lines.{needed, parted, anewBy, lacking, filledBy}
 use Rattle.version3_judge.specs.Judge.{isFit, ofKind, short, fills, goesOver}
-use Rattle.version3_laws.specs.Says.{worded, Says, text, name, address, organization, other, written, padded}
+use Rattle.version3_laws.specs.Says.{worded, Says, text, name, address, organization, other}
 use Rattle.version3_laws.specs.Floats.{OldGeo, NewGeo}
 use Rattle.version3_laws.specs.Floats as places
 use Rattle.version3_laws.specs.Lines.{ValueIn, ValueOut}
 use Rattle.version3_laws.specs.Lines as lines
-use Rattle.version3_laws.proofs.TextLaws.{backslash-is, comma-is, semicolons-count, escaped-append, renewed-escaped, semicolons-escaped}
+use Rattle.version3_laws.proofs.TextLaws.{backslash-is, semicolons-count, escaped-append, renewed-escaped, semicolons-escaped}
 use Rattle.version3_laws.proofs.SaysLaws.{stands-text, components-text, units-text, text-components, text-units, text-stands, unworded, no-name, no-address, anew-law, filled-law}
 use Rattle.version3_laws.proofs.PlaceLaws.{InFloat, a-digit, a-dot, a-plus, a-minus, float-octets, old-to, old-from, made-new, new-only, new-to, new-from, made-old, old-only}
-
-clash : {A : Type 0} {b : Bool} → b ≡ true → b ≡ false → A
-clash p q = absurd (true≢false (sym p ∙ q))
+use Rattle.version3_laws.proofs.Small.{clash}
 
 -- ---- kinds
 

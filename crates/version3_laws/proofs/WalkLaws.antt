@@ -1,30 +1,28 @@
 -- The walk over the lines of an input says what stands before each line: nothing, a card that has begun, or a whole card. Assumes nothing.
 use mathlib.Core.Path.{_≡_, refl, sym, ap, subst, _∙_}
-use mathlib.Core.Bool.{Bool, true, false, false≢true}
 use mathlib.Core.List.{List, [], _∷_, _++_, map, append-nil, append-assoc, map-append}
 use mathlib.Core.Logic.{_⊎_, inl, inr}
 use Prim.Native.Nat.{ℕ, suc, _+_, _≤_}
 use native.Mathlib.Omega.{arith}
 use lib.Dec.{eqb}
-use lib.ListN.{length, length-append}
+use lib.ListN.{length}
 use lib.Seq.{append-snoc}
 use borrow.Author.Tests.{eqb-true, eqb-false, eq-eqb, ne-eqb}
 use Rattle.octets.proofs.Bools.{by}
 use Rattle.line_folds.specs.Folds.{unfolded}
-use Rattle.line_folds.specs.Places.{placeOf}
 use Rattle.line_parser.specs.Grammar.{Line, Each, render}
 use Rattle.property_table.specs.declared.Edition.the-variants.{First}
 use Rattle.card_line.specs.Parts.{rowOfLine}
 use Rattle.reader.specs.Outcome.{ended}
-use Rattle.reader_grammar.specs.Cards.{Readable, Begins, Ends, ofRow, counts, count, linesOf}
+use Rattle.reader_grammar.specs.Cards.{Readable, Begins, Ends, ofRow, count, linesOf}
 use Rattle.reader_grammar.specs.Refusals.{Reads}
 use Rattle.reader_grammar.proofs.Known.{count-append, each-last}
 use Rattle.reader_grammar.proofs.Walks.{start-next}
 use Rattle.version3_parameters.specs.declared.Way.{Way}
 use Rattle.version3_judge.specs.declared.Set.{Set}
 use Rattle.version3_judge.specs.declared.Step.{Step}
-use Rattle.version3_judge.specs.declared.Step.the-variants.{Next, Refused, Flawed}
-use Rattle.version3_judge.specs.Judge.{freshSet, numberOf, noted, judgeLine, onward, settled, judgeLines}
+use Rattle.version3_judge.specs.declared.Step.the-variants.{Next, Refused}
+use Rattle.version3_judge.specs.Judge.{freshSet, noted, onward, settled, judgeLines}
 use Rattle.version3_laws.specs.Lines.{GoesOver, VersionRead, versioned}
 use Rattle.version3_laws.specs.Cards.{Pairs, none, more, CardBy, card}
 use Rattle.version3_laws.specs.Refusals.{Before, nothing, begun, whole, Within, SoFar, no-line, in-card, after-card}

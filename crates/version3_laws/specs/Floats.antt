@@ -1,7 +1,7 @@
 -- The two forms of GEO: `a;b` in version 3, `geo:a,b` in version 4, where a and b are floats of RFC 6350, 4.6. Assumes nothing.
 use Prim.Native.Nat.{ℕ, _<_}
 use mathlib.Core.Path.{_≡_}
-use mathlib.Core.List.{List, [], _∷_, _++_}
+use mathlib.Core.List.{List, _∷_, _++_}
 use mathlib.Core.Logic.{_⊎_}
 use lib.ListN.{length}
 use Rattle.octets.specs.Ascii as ascii

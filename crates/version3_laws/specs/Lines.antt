@@ -1,10 +1,10 @@
 -- When a line of version 3 is taken in as a line of version 4, and when one of version 4 is given out as one of version 3. Assumes nothing.
 use Prim.Native.Nat.{ℕ}
 use mathlib.Core.Path.{_≡_}
-use mathlib.Core.List.{List, [], _∷_, _++_}
+use mathlib.Core.List.{List}
 use Rattle.numbers.specs.Properties as property
 use Rattle.octets.specs.Ascii.{octets}
-use Rattle.line_parser.specs.Grammar.{Param, Line}
+use Rattle.line_parser.specs.Grammar.{Line}
 use Rattle.property_table.specs.declared.Edition.the-variants.{First}
 use Rattle.card_line.specs.Parts.{rowOfLine, kindOfLine}
 use Rattle.reader_grammar.specs.Values.{OfKind, Four}
