@@ -5,7 +5,7 @@ use mathlib.Core.List.{List}
 use mathlib.Core.Logic.{_↔_}
 use lib.ListN.{take}
 use Rattle.octets.specs.Ascii.{octets}
-use Rattle.octets.specs.Room.{filled, refuse, fillBounded}
+use Rattle.octets.specs.Room.{filled, fillBounded}
 use Rattle.octets.specs.declared.rooms.Written.the-variants.{Wrote}
 use Rattle.line_parser.specs.Grammar.{Line, Each}
 use Rattle.reader.specs.Outcome.{judgeOf}
@@ -20,14 +20,16 @@ use Rattle.version3_laws.specs.Cards.{cardOctets, Takes, Gives}
 use Rattle.version3_laws.specs.Refusals.{RefusedIn, RefusedOut}
 use Rattle.version3_laws.specs.Keeps.{Keeps}
 use Rattle.version3_laws.specs.Examples.{oldCard, newCard, backCard}
+use Rattle.demands.specs.Demand1.{Filling}
 
 pub record Demand10 : Type 0 where
-  -- in: octets are written exactly where the input is a card that is taken in as them, and else it is refused exactly for a reason of the table
+  -- in: octets are written exactly where the input is a card that is taken in as them; a refusal is answered exactly for a reason of the table, and
+  -- leaves the room as it was
   pub takes : (i room : List ℕ) (n : ℕ) (after : List ℕ) → (takeOutcome i room ≡ filled (Wrote n) after) ↔ Takes i room n after
-  pub refuses-in : (i room : List ℕ) (n p : ℕ) → (takeOutcome i room ≡ refuse n p room) ↔ RefusedIn i room n p
+  pub refuses-in : (i room : List ℕ) → Filling (takeOutcome i room) room (RefusedIn i room)
   -- out: the same back
   pub gives : (i room : List ℕ) (n : ℕ) (after : List ℕ) → (giveOutcome i room ≡ filled (Wrote n) after) ↔ Gives i room n after
-  pub refuses-out : (i room : List ℕ) (n p : ℕ) → (giveOutcome i room ≡ refuse n p room) ↔ RefusedOut i room n p
+  pub refuses-out : (i room : List ℕ) → Filling (giveOutcome i room) room (RefusedOut i room)
   -- "the 4.0 reader accepts all that is taken in", as one card
   pub accepted : (i room after : List ℕ) (n : ℕ) → takeOutcome i room ≡ filled (Wrote n) after → (m : ℕ) × (judgeOf (take n after) ≡ Accepted 1 m)
   -- taken in and given out, it is refused for its length or for room at most, and keeps what its values say, filled components aside

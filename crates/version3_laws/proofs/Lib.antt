@@ -22,3 +22,4 @@ pub mod BackLaws
 pub mod KeptLaws
 pub mod MeaningLaws
 pub mod ExampleLaws
+pub mod SettledLaws
