@@ -3,12 +3,10 @@ use mathlib.Core.Path.{_≡_, refl, sym, ap, _∙_}
 use mathlib.Core.List.{List, [], _++_, append-nil, append-assoc}
 use Prim.Native.Nat.{ℕ, _+_, _-_, _<_, _≤_}
 use native.Mathlib.Omega.{arith}
-use lib.Dec.{eqb}
 use lib.ListN.{length, take, drop, length-append}
 use lib.Seq.{length-take-le}
 use borrow.Author.Tests.{eq-eqb, ne-eqb}
 use borrow.Rule.Slice.PartMut.{putMid}
-use Rattle.octets.specs.Pick.{pick}
 use Rattle.octets.specs.Room.{overlay}
 use Rattle.octets.proofs.Writes.{Written}
 use Rattle.line_unfolding.proofs.PutLaws.{put-part}

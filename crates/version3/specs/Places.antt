@@ -5,6 +5,7 @@ use mathlib.Core.Path.{_≡_}
 use mathlib.Core.List.{List, [], _++_}
 use lib.Dec.{eqb}
 use lib.ListN.{length, take}
+use Rattle.numbers.specs.Limits as limit
 use Rattle.octets.specs.Pick.{pick}
 use Rattle.octets.specs.Room.{filled, fillBounded}
 use Rattle.line_folds.specs.Logical.{logicalLines}
@@ -32,9 +33,9 @@ pub record Within (e : Ends) (first second others : List ℕ) : Type 0 where
   pub first-in : e .first ≤ length first
   pub second-in : e .second ≤ length second
   pub others-in : e .others ≤ length others
-  pub first-most : length first ≤ 16384
-  pub second-most : length second ≤ 16384
-  pub others-most : length others ≤ 16384
+  pub first-most : length first ≤ limit.octets
+  pub second-most : length second ≤ limit.octets
+  pub others-most : length others ≤ limit.octets
 
 -- these octets, one room after the other
 abbrev pub joinedBy : Ends → List ℕ → List ℕ → List ℕ → List ℕ

@@ -25,9 +25,9 @@ use version3_parameters::Way;
 const SHORT: usize = 1024;
 
 // The longest line for which there is room at first: of a short input, and of any.
-const SHORT_LINE: usize = 256;
+const SHORT_LINE: usize = 672;
 
-const LINE: usize = 1024;
+const LINE: usize = 2048;
 
 // Room for such a line as the other version has it, and for any line.
 const SHORT_FORM: usize = 3 * SHORT_LINE + 20;

@@ -166,7 +166,7 @@ fn is_short(steps: &Transitions, most: usize, value: &[u8]) -> bool
     version3_text::count_semicolons(value) < most
 }
 
-// Whether a value of version 3 is of its kind once its components are filled up.
+// Whether a value of version 3 is a name of at most five components, an address of at most seven, else of its kind.
 fn does_fill(steps: &Transitions, kind: usize, value: &[u8]) -> bool
     requires { ⌜ Scanner (now steps) ⌝ }
     requires { ⌜ kind < kinds.count ⌝ }
