@@ -1,11 +1,11 @@
 // The commands of the workshop's tool, over the reader, the folder, text, labels, the desk and the report.
-mod checking;
 mod reporting;
 mod usage;
 mod writing;
 mod wrong;
 
 ghost use Rattle.cabbook_output.specs.Ends.{Status};
+use cabbook_check::Manner;
 use cabbook_options::arguments;
 use cabbook_options::command;
 use cabbook_options::names;
@@ -20,7 +20,8 @@ use writing::Form;
 
 // What is done with the octets of a file.
 enum Command {
-    Check(Edition),
+    Check(Edition, Manner),
+    CheckAll(Edition, Manner),
     Show(Edition),
     Write(Form),
 }
@@ -30,7 +31,8 @@ fn apply(command: Command, path: &[u8], s: &[u8]) -> u8
     ensures { λ r. ⌜ Status r ⌝ }
 {
     match command {
-        Command::Check(edition) => checking::check(edition, path, s),
+        Command::Check(edition, manner) => cabbook_check::check(edition, manner, path, s),
+        Command::CheckAll(edition, manner) => cabbook_check::check_all(edition, manner, path, s),
         Command::Show(edition) => cabbook_show::show(edition, path, s),
         Command::Write(form) => writing::deliver(form, path, s),
     }
@@ -53,7 +55,7 @@ fn apply_to_file(command: Command, path: &[u8]) -> u8
 fn apply_to_argument(command: Command, i: usize) -> u8
     ensures { λ r. ⌜ Status r ⌝ }
 {
-    let mut path = io::buffer();
+    let mut path = io::large_buffer();
     let n = os::arg(i, &mut path);
     if os::errno() != 0 {
         os::fail(b"cabbook: a file's name");
@@ -115,6 +117,27 @@ fn style_of(w: Words) -> Style {
     Style::Raised
 }
 
+// What `check` prints, rows where nothing else is asked for.
+fn manner_of(w: Words) -> Manner {
+    if w.values[names::QUIET] == 1 {
+        return Manner::Quiet;
+    }
+    if w.values[names::JSON] == 1 {
+        return Manner::Json;
+    }
+    Manner::Rows
+}
+
+// Judges the files that are named, all their cards where that is asked for.
+fn check_files(w: Words, count: usize) -> u8
+    ensures { λ r. ⌜ Status r ⌝ }
+{
+    if w.values[names::ALL] == 1 {
+        return apply_to_all(Command::CheckAll(edition_of(w), manner_of(w)), w, count);
+    }
+    apply_to_all(Command::Check(edition_of(w), manner_of(w)), w, count)
+}
+
 // Runs a morning of uploads, and then prints the report of its files.
 fn run_morning(w: Words, count: usize) -> u8
     ensures { λ r. ⌜ Status r ⌝ }
@@ -150,7 +173,7 @@ fn run(w: Words, count: usize) -> u8
 {
     let command = w.command;
     match command {
-        command::CHECK => apply_to_all(Command::Check(edition_of(w)), w, count),
+        command::CHECK => check_files(w, count),
         command::SHOW => apply_to_all(Command::Show(edition_of(w)), w, count),
         command::FOLD => apply_to_all(
             Command::Write(Form::Folded(edition_of(w), style_of(w))),
@@ -177,6 +200,12 @@ pub fn start() -> u8
     }
     if wrong::print_wrong(w) {
         return status::FAILED;
+    }
+    if arguments::names_input_twice(w, count) {
+        return usage::print_usage(
+            b"- stands twice, and standard input is read once",
+            w.command,
+        );
     }
     run(w, count)
 }

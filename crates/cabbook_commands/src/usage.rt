@@ -69,8 +69,8 @@ fn put_line(room: &mut [u8], at: usize, command: usize) -> usize {
         command::CHECK => put_command(
             room,
             at,
-            b"cabbook check [--edition N] FILE..",
-            b"judge each file; a caret shows the octet",
+            b"cabbook check [--edition N] [--all] [--quiet] [--json] FILE..",
+            b"judge each file, or with --all each card; a caret shows the octet",
         ),
         command::SHOW => put_command(
             room,
