@@ -1,5 +1,5 @@
-// `check`: a row a file, and under each refusal the logical line that it is about; how large a file is that is too long; or an object of JSON; or nothing
-// but the status.
+// `check`: a row a file, and under each refusal the logical line that it is about; how large a file is that is too long; of a card of version 3, whether
+// `v3in` takes it in; or an object of JSON; or nothing but the status.
 mod json;
 
 ghost use Rattle.cabbook_output.specs.Ends.{Status};
@@ -32,7 +32,7 @@ fn print_accepted(path: &[u8], cards: usize, lines: usize) -> u8
     )
 }
 
-// Prints what is to be known of a refused file, of one that is too long its size, and answers the exit status.
+// Prints what is to be known of a refused file, of one that is too long its size, of one of version 3 whether it is taken in, and answers the exit status.
 fn print_refused(path: &[u8], s: &[u8], number: u32, place: usize) -> u8
     ensures { λ r. ⌜ Status r ⌝ }
 {
@@ -43,7 +43,10 @@ fn print_refused(path: &[u8], s: &[u8], number: u32, place: usize) -> u8
     if number == refusal::TOO_LONG {
         return cabbook_output::status_if(cabbook_sizes::print_size(path), status);
     }
-    status
+    if !cabbook_version3::is_version3(s, number, place) {
+        return status;
+    }
+    cabbook_version3::print_advice(path, s)
 }
 
 // Prints the verdict on a file with these octets in rows, and answers the exit status.

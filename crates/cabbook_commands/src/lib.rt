@@ -16,6 +16,7 @@ use label_carets::Rule;
 use numbers::limit;
 use program_files::Input;
 use property_table::Edition;
+use version3_parameters::Way;
 use writing::Form;
 
 // What is done with the octets of a file.
@@ -24,6 +25,7 @@ enum Command {
     CheckAll(Edition, Manner),
     Show(Edition),
     Write(Form),
+    Convert(Way),
 }
 
 // Does the command with a file's octets, and answers the exit status.
@@ -35,6 +37,7 @@ fn apply(command: Command, path: &[u8], s: &[u8]) -> u8
         Command::CheckAll(edition, manner) => cabbook_check::check_all(edition, manner, path, s),
         Command::Show(edition) => cabbook_show::show(edition, path, s),
         Command::Write(form) => writing::deliver(form, path, s),
+        Command::Convert(way) => cabbook_version3::convert(way, path, s),
     }
 }
 
@@ -180,6 +183,8 @@ fn run(w: Words, count: usize) -> u8
             w,
             count,
         ),
+        command::V3IN => apply_to_all(Command::Convert(Way::Inward), w, count),
+        command::V3OUT => apply_to_all(Command::Convert(Way::Outward), w, count),
         command::MORNING => run_morning(w, count),
         command::REPORT => reporting::report_files(w, count),
         _ => run_on_text(w, count),

@@ -100,7 +100,7 @@ fn print_files(w: Words) -> bool {
             }
             false
         }
-        command::SHOW | command::FOLD => {
+        command::SHOW | command::FOLD | command::V3IN | command::V3OUT => {
             if w.files != 1 {
                 usage::print_usage(b"this command takes one FILE", w.command);
                 return true;
