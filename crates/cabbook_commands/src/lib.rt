@@ -1,11 +1,11 @@
 // The commands of the workshop's tool, over the reader, the folder, text, labels, the desk and the report.
-mod checking;
 mod reporting;
 mod usage;
 mod writing;
 mod wrong;
 
 ghost use Rattle.cabbook_output.specs.Ends.{Status};
+use cabbook_check::Manner;
 use cabbook_options::arguments;
 use cabbook_options::command;
 use cabbook_options::names;
@@ -16,13 +16,16 @@ use label_carets::Rule;
 use numbers::limit;
 use program_files::Input;
 use property_table::Edition;
+use version3_parameters::Way;
 use writing::Form;
 
 // What is done with the octets of a file.
 enum Command {
-    Check(Edition),
+    Check(Edition, Manner),
+    CheckAll(Edition, Manner),
     Show(Edition),
     Write(Form),
+    Convert(Way),
 }
 
 // Does the command with a file's octets, and answers the exit status.
@@ -30,9 +33,11 @@ fn apply(command: Command, path: &[u8], s: &[u8]) -> u8
     ensures { λ r. ⌜ Status r ⌝ }
 {
     match command {
-        Command::Check(edition) => checking::check(edition, path, s),
+        Command::Check(edition, manner) => cabbook_check::check(edition, manner, path, s),
+        Command::CheckAll(edition, manner) => cabbook_check::check_all(edition, manner, path, s),
         Command::Show(edition) => cabbook_show::show(edition, path, s),
         Command::Write(form) => writing::deliver(form, path, s),
+        Command::Convert(way) => cabbook_version3::convert(way, path, s),
     }
 }
 
@@ -53,7 +58,7 @@ fn apply_to_file(command: Command, path: &[u8]) -> u8
 fn apply_to_argument(command: Command, i: usize) -> u8
     ensures { λ r. ⌜ Status r ⌝ }
 {
-    let mut path = io::buffer();
+    let mut path = io::large_buffer();
     let n = os::arg(i, &mut path);
     if os::errno() != 0 {
         os::fail(b"cabbook: a file's name");
@@ -115,6 +120,27 @@ fn style_of(w: Words) -> Style {
     Style::Raised
 }
 
+// What `check` prints, rows where nothing else is asked for.
+fn manner_of(w: Words) -> Manner {
+    if w.values[names::QUIET] == 1 {
+        return Manner::Quiet;
+    }
+    if w.values[names::JSON] == 1 {
+        return Manner::Json;
+    }
+    Manner::Rows
+}
+
+// Judges the files that are named, all their cards where that is asked for.
+fn check_files(w: Words, count: usize) -> u8
+    ensures { λ r. ⌜ Status r ⌝ }
+{
+    if w.values[names::ALL] == 1 {
+        return apply_to_all(Command::CheckAll(edition_of(w), manner_of(w)), w, count);
+    }
+    apply_to_all(Command::Check(edition_of(w), manner_of(w)), w, count)
+}
+
 // Runs a morning of uploads, and then prints the report of its files.
 fn run_morning(w: Words, count: usize) -> u8
     ensures { λ r. ⌜ Status r ⌝ }
@@ -150,13 +176,15 @@ fn run(w: Words, count: usize) -> u8
 {
     let command = w.command;
     match command {
-        command::CHECK => apply_to_all(Command::Check(edition_of(w)), w, count),
+        command::CHECK => check_files(w, count),
         command::SHOW => apply_to_all(Command::Show(edition_of(w)), w, count),
         command::FOLD => apply_to_all(
             Command::Write(Form::Folded(edition_of(w), style_of(w))),
             w,
             count,
         ),
+        command::V3IN => apply_to_all(Command::Convert(Way::Inward), w, count),
+        command::V3OUT => apply_to_all(Command::Convert(Way::Outward), w, count),
         command::MORNING => run_morning(w, count),
         command::REPORT => reporting::report_files(w, count),
         _ => run_on_text(w, count),
@@ -177,6 +205,12 @@ pub fn start() -> u8
     }
     if wrong::print_wrong(w) {
         return status::FAILED;
+    }
+    if arguments::names_input_twice(w, count) {
+        return usage::print_usage(
+            b"- stands twice, and standard input is read once",
+            w.command,
+        );
     }
     run(w, count)
 }

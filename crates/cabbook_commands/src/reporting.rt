@@ -25,14 +25,14 @@ struct Gathered {
 
 // Reads the file that argument i names, and says where that fails.
 fn read_argument(i: usize, room: &mut [u8]) -> Input {
-    let mut path = io::buffer();
+    let mut path = io::large_buffer();
     let n = os::arg(i, &mut path);
     program_files::read(&path[..n], room)
 }
 
 // Reads the file that argument i names; one that can't be opened was told before.
 fn read_again(i: usize, room: &mut [u8]) -> Input {
-    let mut path = io::buffer();
+    let mut path = io::large_buffer();
     let n = os::arg(i, &mut path);
     let fd = os::open_read(&path[..n]);
     if fd < 0 {

@@ -59,6 +59,18 @@ fn put_other_line(room: &mut [u8], at: usize, command: usize) -> usize {
             b"cabbook report [--bars] FILE..",
             b"the counts of the files' judgements",
         ),
+        command::V3IN => put_command(
+            room,
+            at,
+            b"cabbook v3in FILE",
+            b"a card of version 3.0 as one of version 4.0",
+        ),
+        command::V3OUT => put_command(
+            room,
+            at,
+            b"cabbook v3out FILE",
+            b"a card as one of version 3.0, for the older sets",
+        ),
         _ => put_command(room, at, b"cabbook help", b"this"),
     }
 }
@@ -69,8 +81,8 @@ fn put_line(room: &mut [u8], at: usize, command: usize) -> usize {
         command::CHECK => put_command(
             room,
             at,
-            b"cabbook check [--edition N] FILE..",
-            b"judge each file; a caret shows the octet",
+            b"cabbook check [--edition N] [--all] [--quiet] [--json] FILE..",
+            b"judge each file, or with --all each card; a caret shows the octet",
         ),
         command::SHOW => put_command(
             room,

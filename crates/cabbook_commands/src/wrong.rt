@@ -6,24 +6,34 @@ use cabbook_options::words;
 use cabbook_options::words::Words;
 
 // The options that a command takes, 0 for none; `--help` and `--version` stand with any.
-fn options_of(command: usize) -> [usize; 3] {
+fn options_of(command: usize) -> [usize; 4] {
     match command {
-        command::CHECK | command::SHOW => [names::EDITION, 0, 0],
-        command::FOLD => [names::EDITION, names::AS_READ, 0],
-        command::ENCODE | command::DECODE => [names::RFC6350, 0, 0],
-        command::MORNING => [names::CHUNK, names::TICK, names::SLOTS],
-        command::REPORT => [names::BARS, 0, 0],
-        _ => [0, 0, 0],
+        command::CHECK => [names::EDITION, names::ALL, names::QUIET, names::JSON],
+        command::SHOW => [names::EDITION, 0, 0, 0],
+        command::FOLD => [names::EDITION, names::AS_READ, 0, 0],
+        command::ENCODE | command::DECODE => [names::RFC6350, 0, 0, 0],
+        command::MORNING => [names::CHUNK, names::TICK, names::SLOTS, 0],
+        command::REPORT => [names::BARS, 0, 0, 0],
+        _ => [0, 0, 0, 0],
     }
 }
 
 // Whether an option is one of these.
-fn is_among(options: [usize; 3], option: usize) -> bool {
-    options[0] == option || options[1] == option || options[2] == option
+fn is_among(options: [usize; 4], option: usize) -> bool {
+    if options[0] == option {
+        return true;
+    }
+    if options[1] == option {
+        return true;
+    }
+    if options[2] == option {
+        return true;
+    }
+    options[3] == option
 }
 
 // Whether an option is set that is not among these.
-fn is_stray(w: Words, options: [usize; 3], option: usize) -> bool {
+fn is_stray(w: Words, options: [usize; 4], option: usize) -> bool {
     if option >= names::OPTIONS {
         return false;
     }
@@ -90,7 +100,7 @@ fn print_files(w: Words) -> bool {
             }
             false
         }
-        command::SHOW | command::FOLD => {
+        command::SHOW | command::FOLD | command::V3IN | command::V3OUT => {
             if w.files != 1 {
                 usage::print_usage(b"this command takes one FILE", w.command);
                 return true;

@@ -55,7 +55,9 @@ names =
     name 27 "decode" ∷
     name 28 "morning" ∷
     name 29 "report" ∷
-    name 30 "help" ∷
+    name 30 "v3in" ∷
+    name 31 "v3out" ∷
+    name 32 "help" ∷
     []
 
 -- more than the number of any option

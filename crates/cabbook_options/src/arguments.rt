@@ -3,6 +3,7 @@ ghost use Prim.Native.Nat.{_≤_};
 use crate::names;
 use crate::words;
 use crate::words::Words;
+use octets::cases::same_name;
 
 // What the arguments say, but for the program's own name.
 pub fn read(count: usize) -> Words {
@@ -61,4 +62,27 @@ pub fn first_file(w: Words, count: usize) -> usize {
         return count;
     }
     next_file(w.named_by + 1, w.dashes, count)
+}
+
+// Whether argument i is `-`, standard input.
+fn is_input(i: usize) -> bool {
+    let mut word = io::buffer();
+    let n = os::arg(i, &mut word);
+    same_name(&word[..n], b"-")
+}
+
+// Whether two of the files are standard input.
+pub fn names_input_twice(w: Words, count: usize) -> bool {
+    let mut seen = false;
+    let mut i = first_file(w, count);
+    while i < count {
+        if is_input(i) {
+            if seen {
+                return true;
+            }
+            seen = true;
+        }
+        i = next_file(i + 1, w.dashes, count);
+    }
+    false
 }

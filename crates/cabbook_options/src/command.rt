@@ -27,8 +27,14 @@ pub const MORNING: usize = 28;
 // `report`.
 pub const REPORT: usize = 29;
 
+// `v3in`.
+pub const V3IN: usize = 30;
+
+// `v3out`.
+pub const V3OUT: usize = 31;
+
 // `help`.
-pub const HELP: usize = 30;
+pub const HELP: usize = 32;
 
 // The first of them.
 pub const FIRST: usize = CHECK;

@@ -51,7 +51,7 @@ const HEAD: usize = 2;
 const EDITIONS: usize = 2;
 
 // The octets of the table.
-const SIZE: usize = 190;
+const SIZE: usize = 203;
 
 const NAMES: [u8; SIZE] = *b"\
     \x01\x09--edition\
@@ -76,7 +76,9 @@ const NAMES: [u8; SIZE] = *b"\
     \x1b\x06decode\
     \x1c\x07morning\
     \x1d\x06report\
-    \x1e\x04help";
+    \x1e\x04v3in\
+    \x1f\x05v3out\
+    \x20\x04help";
 
 // The table as a value.
 fn table() -> [u8; SIZE]

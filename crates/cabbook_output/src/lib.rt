@@ -32,6 +32,18 @@ fn refused_if(sent: bool) -> u8
     status_if(sent, status::REFUSED)
 }
 
+// Adds that a line ends with blanks, where it does, since they can't be seen.
+fn put_blanks(room: &mut [u8], at: usize, line: &[u8]) -> usize {
+    if line.len() == 0 {
+        return at;
+    }
+    let last = line[line.len() - 1];
+    if last == b' ' || last == b'\t' {
+        return program_output::put_all(room, at, b"    (blanks at the end of the line)\n");
+    }
+    at
+}
+
 // Adds the row of a file with these octets that is refused, and the logical line in which the place lies, with a caret.
 fn put_refusal(room: &mut [u8], path: &[u8], s: &[u8], number: u32, place: usize) -> usize {
     let row_end = cabbook_rows::rows::put_refused(room, 0, path, s, number, place);
@@ -40,7 +52,8 @@ fn put_refusal(room: &mut [u8], path: &[u8], s: &[u8], number: u32, place: usize
     }
     let line = cabbook_rows::under::offending(s, number, place);
     if line.len() > 0 {
-        return cabbook_rows::under::put_under(room, row_end, s, number, place);
+        let under_end = cabbook_rows::under::put_under(room, row_end, s, number, place);
+        return put_blanks(room, under_end, line);
     }
     if place < s.len() {
         return program_output::put_all(room, row_end, b"    (an empty line)\n");

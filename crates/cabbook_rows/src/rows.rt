@@ -42,7 +42,7 @@ pub fn column_of(s: &[u8], place: usize) -> usize
 }
 
 // Adds where a place lies in a file, as `FILE:LINE:COLUMN: `.
-fn put_where(room: &mut [u8], at: usize, path: &[u8], s: &[u8], place: usize) -> usize
+pub fn put_where(room: &mut [u8], at: usize, path: &[u8], s: &[u8], place: usize) -> usize
     ensures { λ r. ⌜ page r (now (room .exit)) ≡ added (location (now (path .entry)) (now (s .entry)) place) (page at (now (room .entry))) ⌝ }
 {
     let path_end = cabbook_visible::put_visible(room, at, path);

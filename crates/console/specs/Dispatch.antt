@@ -10,7 +10,7 @@ use Rattle.console_requests.specs.declared.Request.{Request}
 use Rattle.console_requests.specs.declared.Name.{Name}
 use Rattle.console_requests.specs.declared.Name.the-variants.{ToEntry, ToDesk, ToReport, Bad}
 use Rattle.console_requests.specs.declared.EntryCall.{EntryCall}
-use Rattle.console_requests.specs.declared.EntryCall.the-variants.{Judge, Read, Fold, Escape, Unescape, Encode, Decode, FoldIn, Offset, JudgeIn, ReadIn}
+use Rattle.console_requests.specs.declared.EntryCall.the-variants.{Judge, Read, Fold, Escape, Unescape, Encode, Decode, FoldIn, Offset, JudgeIn, ReadIn, TakeIn, GiveOut}
 use Rattle.console_requests.specs.declared.DeskCall.{DeskCall}
 use Rattle.console_requests.specs.declared.DeskCall.the-variants.{Desk, Open, Add, Check, Show, Held, Release, Pool, Next}
 use Rattle.console_requests.specs.declared.ReportCall.{ReportCall}
@@ -21,7 +21,7 @@ use Rattle.console_desk.specs.DeskAnswers.{State, WithPool, withPool, says, say
 use Rattle.report.specs.declared.Report.{Report as ReportValue}
 use Rattle.console_report.specs.ReportAnswers.{KeptState, kept, keptOf, freshAnswer, takeAnswer, printsAnswer, countAnswer}
 use Rattle.console_report.specs.declared.Kept.{Kept}
-use Rattle.console_entries.specs.declared.entries.Writer.the-variants.{Fold as toFold, Escape as toEscape, Unescape as toUnescape}
+use Rattle.console_entries.specs.declared.entries.Writer.the-variants.{Fold as toFold, Escape as toEscape, Unescape as toUnescape, TakeIn as toTakeIn, GiveOut as toGiveOut}
 use Rattle.console_desk.specs.declared.Change.the-variants.{Open as toOpen, Add as toAdd, Release as toRelease}
 use Rattle.console_desk.specs.declared.Look.the-variants.{Check as toCheck, Show as toShow, Held as toHeld}
 
@@ -38,6 +38,8 @@ entryText FoldIn n k m sent = foldAnswer n k m sent
 entryText Offset n k m sent = offsetAnswer sent
 entryText JudgeIn n k m sent = judgeInAnswer n sent
 entryText ReadIn n k m sent = readInAnswer n k m sent
+entryText TakeIn n k m sent = writeAnswer toTakeIn n sent
+entryText GiveOut n k m sent = writeAnswer toGiveOut n sent
 
 -- each request of the desk
 unfoldable pub deskTurn : DeskCall → ℕ → ℕ → List ℕ → State → List ℕ → WithPool

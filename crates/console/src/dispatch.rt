@@ -42,6 +42,8 @@ fn put_entry_answer(e: EntryCall, q: Request, sent: &[u8], out: &mut [u8], at: u
         EntryCall::Offset => entries::put_offset_answer(sent, out, at),
         EntryCall::JudgeIn => entries::put_judge_in_answer(n, sent, out, at),
         EntryCall::ReadIn => entries::put_read_in_answer(n, k, m, sent, out, at),
+        EntryCall::TakeIn => entries::put_write_answer(Writer::TakeIn, n, sent, out, at),
+        EntryCall::GiveOut => entries::put_write_answer(Writer::GiveOut, n, sent, out, at),
     }
 }
 

@@ -1,4 +1,4 @@
--- What the console answers to a request of reader, folder, text, labels or offsets. Assumes nothing.
+-- What the console answers to a request of reader, folder, text, labels, offsets or version 3. Assumes nothing.
 use Prim.Native.Nat.{ℕ, _+_, _-_, _*_, min}
 use mathlib.Core.List.{List, [], _++_}
 use lib.Dec.{ltb, eqb}
@@ -20,11 +20,12 @@ use Rattle.folder.specs.Outcome.{foldIn, foldOutcome}
 use Rattle.text.specs.Outcomes.{escapeOutcome, unescapeOutcome}
 use Rattle.label_carets.specs.declared.Rule.the-variants.{Rfc6350, Rfc6868}
 use Rattle.label.specs.Outcomes.{encodeOutcome, decodeOutcome}
+use Rattle.version3.specs.Outcome.{takeOutcome, giveOutcome}
 use Rattle.value_offsets.specs.Minutes.{minutesOf}
 use Rattle.console_answers.specs.Texts.{lineEnd, badLine, verdictText, offsetText, writtenText, octetsWord, joined, spaced, roomEnd}
 use Rattle.console_entries.specs.Rooms.{octetFill, mostRoom, octetRoom, numberRoom, all, bothKept}
 use Rattle.console_entries.specs.declared.entries.Writer.{Writer}
-use Rattle.console_entries.specs.declared.entries.Writer.the-variants.{Fold, Escape, Unescape, Encode, Decode, FoldIn}
+use Rattle.console_entries.specs.declared.entries.Writer.the-variants.{Fold, Escape, Unescape, Encode, Decode, FoldIn, TakeIn, GiveOut}
 
 -- more room than that is no request
 abbrev pub within : ℕ → List ℕ → List ℕ
@@ -98,7 +99,7 @@ readAnswer e r k i = within r (within k (readText e i (octetRoom r) (numberRoom 
 unfoldable pub readInAnswer : ℕ → ℕ → ℕ → List ℕ → List ℕ
 readInAnswer n r k i = inEdition n (λ e. readAnswer e r k i)
 
--- ---- fold, escape, unescape, encode, decode
+-- ---- fold, escape, unescape, encode, decode, v3-in, v3-out
 
 abbrev pub outcomeOf : Writer → List ℕ → List ℕ → Filled
 outcomeOf Fold i room = foldOutcome i room
@@ -107,6 +108,8 @@ outcomeOf Unescape i room = unescapeOutcome i room
 outcomeOf (Encode r) i room = encodeOutcome r i room
 outcomeOf (Decode r) i room = decodeOutcome r i room
 outcomeOf (FoldIn e s) i room = foldIn e s i room
+outcomeOf TakeIn i room = takeOutcome i room
+outcomeOf GiveOut i room = giveOutcome i room
 
 abbrev pub count : Written → ℕ
 count (Wrote n) = n

@@ -1,4 +1,4 @@
-// The calls of reader, folder, text, labels and offsets.
+// The calls of reader, folder, text, labels, offsets and version 3.
 ghost use mathlib.Core.Path.{_≡_};
 ghost use Prim.Native.Nat.{_+_, _≤_};
 ghost use Rattle.octets.specs.Room.{filled};
@@ -33,6 +33,8 @@ pub enum Writer {
     Encode(Rule),
     Decode(Rule),
     FoldIn(Edition, Style),
+    TakeIn,
+    GiveOut,
 }
 
 // Adds the answer to `judge OCTETS` in an edition.
@@ -209,6 +211,8 @@ fn call(entry: Writer, input: &[u8], room: &mut [u8]) -> Written
         Writer::Encode(rule) => label::encode(rule, input, room),
         Writer::Decode(rule) => label::decode(rule, input, room),
         Writer::FoldIn(edition, style) => folder::fold_styled(edition, style, input, room),
+        Writer::TakeIn => version3::take_in(input, room),
+        Writer::GiveOut => version3::give_out(input, room),
     }
 }
 

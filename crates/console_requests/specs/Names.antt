@@ -12,7 +12,7 @@ use Rattle.octets.specs.Tables.{TableOf}
 use Rattle.program_numbers.specs.Alike.{alike}
 use Rattle.console_requests.specs.declared.Name.{Name}
 use Rattle.console_requests.specs.declared.Name.the-variants.{ToEntry, ToDesk, ToReport, Bad}
-use Rattle.console_requests.specs.declared.EntryCall.the-variants.{Judge, Read, Fold, Escape, Unescape, Encode, Decode, FoldIn, Offset, JudgeIn, ReadIn}
+use Rattle.console_requests.specs.declared.EntryCall.the-variants.{Judge, Read, Fold, Escape, Unescape, Encode, Decode, FoldIn, Offset, JudgeIn, ReadIn, TakeIn, GiveOut}
 use Rattle.console_requests.specs.declared.DeskCall.the-variants.{Desk, Open, Add, Check, Show, Held, Release, Pool, Next}
 use Rattle.console_requests.specs.declared.ReportCall.the-variants.{Report, Take, Print, Count}
 
@@ -58,11 +58,13 @@ rows =
     row (ToReport Count) "count" 2 alone ∷
     row (ToEntry JudgeIn) "judge-in" 1 withOctets ∷
     row (ToEntry ReadIn) "read-in" 3 withOctets ∷
+    row (ToEntry TakeIn) "v3-in" 1 withOctets ∷
+    row (ToEntry GiveOut) "v3-out" 1 withOctets ∷
     []
 
 -- how many requests there are
 abbrev pub requests : ℕ
-requests = 24
+requests = 26
 
 -- the rows of the table: those of the requests, and a last one for none
 abbrev pub tableRows : ℕ

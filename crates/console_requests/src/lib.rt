@@ -23,6 +23,8 @@ pub enum EntryCall {
     Offset,
     JudgeIn,
     ReadIn,
+    TakeIn,
+    GiveOut,
 }
 
 // The requests of the desk.

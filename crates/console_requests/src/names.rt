@@ -24,7 +24,7 @@ const OCTETS: usize = 12;
 const TABLE: usize = ROW * (NO_REQUEST + 1);
 
 // The row of no request, after those of the requests.
-const NO_REQUEST: usize = 24;
+const NO_REQUEST: usize = 26;
 
 // Thirteen entries for each row, and a last row for no request: name, its length, how many numbers stand after it, 1 where octets do.
 const ROWS: [u8; TABLE] = *b"\
@@ -52,6 +52,8 @@ const ROWS: [u8; TABLE] = *b"\
     count.....\x05\x02\x00\
     judge-in..\x08\x01\x01\
     read-in...\x07\x03\x01\
+    v3-in.....\x05\x01\x01\
+    v3-out....\x06\x01\x01\
     ..........\x00\x00\x00";
 
 // The table as a value, which its users are lent.
@@ -141,6 +143,8 @@ pub fn name_at(row: usize) -> Name
         21 => Name::ToReport(ReportCall::Count),
         22 => Name::ToEntry(EntryCall::JudgeIn),
         23 => Name::ToEntry(EntryCall::ReadIn),
+        24 => Name::ToEntry(EntryCall::TakeIn),
+        25 => Name::ToEntry(EntryCall::GiveOut),
         _ => Name::Bad,
     }
 }

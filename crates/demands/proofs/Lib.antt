@@ -11,5 +11,6 @@ pub mod Labels
 pub mod Dates
 pub mod Octets
 pub mod Editions
+pub mod Versions
 pub mod Total
 pub mod Whole

@@ -12,6 +12,7 @@ use Rattle.demands.proofs.Exact.{demand2}
 use Rattle.demands.proofs.Labels.{labels}
 use Rattle.demands.proofs.Dates.{demand4}
 use Rattle.demands.proofs.Octets.{demand5}
+use Rattle.demands.proofs.Versions.{demand10}
 use Rattle.demands.proofs.Editions.{demand13}
 
 pub demands : Demands
@@ -24,6 +25,7 @@ demands =
       dated = demand4;
       named = demand5;
       watched = watched;
+      converted = demand10;
       extended = demand13;
       labels = labels;
       granted = grants;

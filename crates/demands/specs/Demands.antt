@@ -1,4 +1,4 @@
--- The three demands, dates, the exact octet, chunks, the newer edition, labels, what a granted call does, the claim of demand 3 of a program that makes the calls, the claims of the report,
+-- The three demands, dates, the exact octet, chunks, version 3 sets, the newer edition, labels, what a granted call does, the claim of demand 3 of a program that makes the calls, the claims of the report,
 -- the rows that a name is compared with, and the marked examples, side by side. Assumes nothing.
 use Prim.Native.Nat.{ℕ}
 use mathlib.Core.List.{List}
@@ -16,6 +16,7 @@ use Rattle.demands.specs.Demand2.{Demand2}
 use Rattle.demands.specs.Labels.{Labels}
 use Rattle.demands.specs.Demand4.{Demand4}
 use Rattle.demands.specs.Demand5.{Demand5}
+use Rattle.demands.specs.Demand10.{Demand10}
 use Rattle.demands.specs.Demand13.{Demand13}
 
 pub record Demands : Type 0 where
@@ -27,6 +28,7 @@ pub record Demands : Type 0 where
   pub dated : Demand4
   pub named : Demand5
   pub watched : Demand6
+  pub converted : Demand10
   pub extended : Demand13
   pub granted : Granted
   pub replays : Replays

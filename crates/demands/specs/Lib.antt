@@ -5,5 +5,6 @@ pub mod Demand2
 pub mod Labels
 pub mod Demand4
 pub mod Demand5
+pub mod Demand10
 pub mod Demand13
 pub mod Demands

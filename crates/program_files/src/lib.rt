@@ -3,12 +3,20 @@ ghost use Rattle.program_files.specs.Inputs.{fetched, descriptor};
 use libc::STDERR_FILENO;
 use libc::STDIN_FILENO;
 use octets::cases::same_name;
+use octets::slices::part;
+use program_output::put_all;
 
 // How many octets were read to the start of a room, or that this failed.
 pub enum Input {
     Octets(usize),
     Unread,
 }
+
+// More octets than the name of a file can have.
+const LONG: usize = 4096;
+
+// The octets that are shown of a longer one.
+const SHOWN: usize = 60;
 
 fn open(path: &[u8]) -> i32 {
     if same_name(path, b"-") {
@@ -17,9 +25,20 @@ fn open(path: &[u8]) -> i32 {
     os::open_read(path)
 }
 
+// Adds a file's name, and of a longer text its start.
+fn put_name(room: &mut [u8], path: &[u8]) -> usize {
+    if path.len() < LONG {
+        return cabbook_visible::put_visible(room, 0, path);
+    }
+    let start_end = cabbook_visible::put_visible(room, 0, part(path, 0, SHOWN));
+    put_all(room, start_end, b"...")
+}
+
 // Says why a file can't be read.
 fn complain(path: &[u8]) {
-    io::write_all(STDERR_FILENO, path);
+    let mut room = io::large_buffer();
+    let n = put_name(&mut room, path);
+    io::write_all(STDERR_FILENO, part(&room, 0, n));
     os::fail(b": can't be read");
 }
 
@@ -65,13 +84,30 @@ pub fn fetch(fd: i32, path: &[u8], room: &mut [u8]) -> Input
     Input::Octets(n)
 }
 
+// The descriptor with which a file was opened, or -1 after saying why it can't be read.
+fn told(path: &[u8], fd: i32) -> i32
+    ensures { λ r. ⌜ descriptor r ⌝ }
+{
+    if fd < 0 {
+        complain(path);
+        return -1;
+    }
+    fd
+}
+
+// Opens the file of that name, `-` for standard input, and answers its descriptor, or -1 after saying why it can't be read.
+pub fn open_named(path: &[u8]) -> i32
+    ensures { λ r. ⌜ descriptor r ⌝ }
+{
+    told(path, open(path))
+}
+
 // Reads the file of that name to the start of the room, or says why it can't be read.
 pub fn read(path: &[u8], room: &mut [u8]) -> Input
     ensures { λ r. ⌜ fetched r (now (room .entry)) (now (room .exit)) ⌝ }
 {
-    let fd = open(path);
+    let fd = open_named(path);
     if fd < 0 {
-        complain(path);
         return Input::Unread;
     }
     let got = fetch(fd, path, room);
@@ -83,14 +119,10 @@ pub fn read(path: &[u8], room: &mut [u8]) -> Input
 pub fn open_argument(i: usize) -> i32
     ensures { λ r. ⌜ descriptor r ⌝ }
 {
-    let mut path = io::buffer();
+    let mut path = io::large_buffer();
     let n = os::arg(i, &mut path);
     let fd = os::open_read(&path[..n]);
-    if fd < 0 {
-        complain(&path[..n]);
-        return -1;
-    }
-    fd
+    told(&path[..n], fd)
 }
 
 // Reads from the file that argument i names and that is open.

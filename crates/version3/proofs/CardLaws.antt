@@ -1,16 +1,15 @@
--- The lines of a card in their places: one turn of each loop, and how long they are together. Assumes nothing.
+-- The lines of a card in their places: one turn of the loop, and how long they are. Assumes nothing.
 use mathlib.Core.Path.{_≡_, refl, sym, ap, _∙_}
 use mathlib.Core.Bool.{Bool, true, false}
 use mathlib.Core.List.{List, [], _∷_, _++_, map, flatten, append-assoc}
-use Prim.Native.Nat.{ℕ, suc, _+_, _-_, _*_, _<_, _≤_}
+use Prim.Native.Nat.{ℕ, _+_, _-_, _*_, _<_, _≤_}
 use native.Mathlib.Omega.{arith}
 use lib.Dec.{eqb, ltb}
 use lib.ListN.{length, take, drop, length-append}
 use lib.Seq.{take-append-seam}
 use Rattle.octets.specs.Room.{overlay}
-use borrow.Author.Tests.{lt-ltb, le-ltb, ltb-true, ltb-false, eq-eqb, ne-eqb}
+use borrow.Author.Tests.{lt-ltb, le-ltb, ltb-false, eq-eqb, ne-eqb}
 use Rattle.octets.specs.Pick.{pick}
-use Rattle.octets.proofs.Bools.{by}
 use Rattle.utf8.specs.Characters.{allowed, firstBad}
 use Rattle.utf8.proofs.Chars.{bad-le}
 use Rattle.line_folds.specs.Folds.{lineLength, unfolded}
@@ -30,7 +29,8 @@ use Rattle.folder_line.proofs.PieceLaws.{rejoin}
 use Rattle.version3_parameters.specs.declared.Way.{Way}
 use Rattle.version3_line.specs.Lines.{writtenBy}
 use Rattle.version3_line.proofs.BoundLaws.{written-most}
-use Rattle.version3.specs.Card.{turnOfRow, turnBy, turnOf, clear, formOf, forms, arranged, cardText, measured, total}
+use Rattle.version3.specs.Card.{turnOfRow, turnBy, turnOf, clear, formOf, forms, arranged, cardText}
+use Rattle.version3.specs.Places.{placed, share}
 
 pub turn-first : (row : ℕ) → row ≡ 1 → 0 ≡ turnOfRow row
 unfolding turnOfRow
@@ -97,27 +97,21 @@ module _ (s : List ℕ) (at e : ℕ) (lt : at < length s) (he : e ≡ at + lineL
   unfolding logicalLines
   turn = ap (map unfolded) (lines-turn s at e lt he le)
 
-  pub total-turn : (w : Way) → total w (logicalLines (drop at s)) ≡ measured (formOf w (unfolded (take (e - at) (drop at s)))) + total w (logicalLines (drop (e + 2) s))
-  unfolding total
-  total-turn w = ap (total w) turn
-
-  pub forms-yes : (w : Way) (n : ℕ) → turnOf (unfolded (take (e - at) (drop at s))) ≡ n
-      → foldedLines (forms w n (logicalLines (drop at s))) ≡ folded (formOf w (unfolded (take (e - at) (drop at s)))) ++ foldedLines (forms w n (logicalLines (drop (e + 2) s)))
-  unfolding forms foldedLines
-  forms-yes w n q = ap (λ (ls : List (List ℕ)). foldedLines (forms w n ls)) turn ∙ rw (eq-eqb (turnOf (unfolded (take (e - at) (drop at s)))) n q)
-
-  pub forms-no : (w : Way) (n : ℕ) → (turnOf (unfolded (take (e - at) (drop at s))) ≡ n → ⊥)
-      → foldedLines (forms w n (logicalLines (drop at s))) ≡ foldedLines (forms w n (logicalLines (drop (e + 2) s)))
-  unfolding forms
-  forms-no w n q = ap (λ (ls : List (List ℕ)). foldedLines (forms w n ls)) turn ∙ rw (ne-eqb (turnOf (unfolded (take (e - at) (drop at s)))) n q)
+  -- a place gets its share of that line, and what it gets of the others
+  pub places-turn : (w : Way) (n : ℕ) → placed w n (logicalLines (drop at s))
+      ≡ share n (turnOf (unfolded (take (e - at) (drop at s)))) (folded (formOf w (unfolded (take (e - at) (drop at s))))) ++ placed w n (logicalLines (drop (e + 2) s))
+  unfolding forms foldedLines share
+  places-turn w n =
+      let l = unfolded (take (e - at) (drop at s)) in
+      ap (placed w n) turn ∙ go (formOf w l) (forms w n (logicalLines (drop (e + 2) s))) (eqb (turnOf l) n)
+    where
+      go : (x : List ℕ) (xs : List (List ℕ)) (t : Bool) → foldedLines (pick t (x ∷ xs) xs) ≡ pick t (folded x) [] ++ foldedLines xs
+      go x xs true = refl
+      go x xs false = refl
 
 pub none-left : (s : List ℕ) (at : ℕ) → length s ≤ at → logicalLines (drop at s) ≡ []
 unfolding logicalLines
 none-left s at h = ap (map unfolded) (lines-end s at h)
-
-pub total-none : (w : Way) → total w [] ≡ 0
-unfolding total
-total-none w = refl
 
 pub forms-none : (w : Way) (n : ℕ) → foldedLines (forms w n []) ≡ []
 unfolding forms foldedLines
@@ -144,90 +138,28 @@ joined-long [] = omega arith
 joined-long (p ∷ []) = omega (arith, length-append p [])
 joined-long (p ∷ q ∷ qs) = omega (arith, length-append p (flatten (q ∷ qs)), length-append p (13 ∷ 10 ∷ 32 ∷ joined (q ∷ qs)), joined-long (q ∷ qs))
 
-folded-long : (l : List ℕ) → length l ≤ length (folded l)
+pub folded-long : (l : List ℕ) → length l ≤ length (folded l)
 unfolding folded pieces flatten
 folded-long l =
     let ps = first l 75 ∷ later l 75 in
     omega (arith, ap length (rejoin l 75), length-append (first l 75) (flatten (later l 75)), joined-long ps, length-append (joined ps) (13 ∷ 10 ∷ []))
 
--- a count that is right up to 16,384, and never too high
-pub record Counts (t n : ℕ) : Type 0 where
-  pub less : t ≤ n
-  pub same : t ≤ 16384 → t ≡ n
-
-line-counts : (l : List ℕ) → Counts (measured l) (length (folded l))
-unfolding measured
-line-counts l = go (ltb 16384 (length l)) refl
-  where
-    go : (t : Bool) → ltb 16384 (length l) ≡ t → Counts (pick t (length l) (length (folded l))) (length (folded l))
-    go true e = let h = ltb-true 16384 (length l) e in record { less = folded-long l; same = λ k. absurd (omega arith) }
-    go false e = record { less = omega arith; same = λ k. refl }
-
-pub data Third : ℕ → Type 0 where
-  one : Third 0
-  two : Third 1
-  three : Third 2
-
-row-third : (row : ℕ) → Third (turnOfRow row)
+row-place : (row : ℕ) → turnOfRow row ≤ 2
 unfolding turnOfRow
-row-third row = go (eqb row 1) (eqb row 34)
+row-place row = go (eqb row 1) (eqb row 34)
   where
-    go : (a b : Bool) → Third (pick a 0 (pick b 1 2))
-    go true b = one
-    go false true = two
-    go false false = three
+    go : (a b : Bool) → pick a 0 (pick b 1 2) ≤ 2
+    go true b = omega arith
+    go false true = omega arith
+    go false false = omega arith
 
-turn-third : (l : List ℕ) → Third (turnOf l)
+pub turn-place : (l : List ℕ) → turnOf l ≤ 2
 unfolding turnOf
-turn-third l = go (parseLine l)
+turn-place l = go (parseLine l)
   where
-    go : (m : Parse Line) → Third (turnBy m)
-    go (got x k) = row-third (rowOfLine First x)
-    go (bad e) = three
-
--- how long the lines are that stand in each place
-abbrev size : Way → ℕ → List (List ℕ) → ℕ
-size w n ls = length (foldedLines (forms w n ls))
-
-size-more : (w : Way) (n : ℕ) (l : List ℕ) (ls : List (List ℕ)) → turnOf l ≡ n → size w n (l ∷ ls) ≡ length (folded (formOf w l)) + size w n ls
-unfolding forms foldedLines
-size-more w n l ls e = rw (eq-eqb (turnOf l) n e) (length-append (folded (formOf w l)) (foldedLines (forms w n ls)))
-
-size-same : (w : Way) (n : ℕ) (l : List ℕ) (ls : List (List ℕ)) → (turnOf l ≡ n → ⊥) → size w n (l ∷ ls) ≡ size w n ls
-unfolding forms
-size-same w n l ls e = rw (ne-eqb (turnOf l) n e)
-
-sizes : (w : Way) (l : List ℕ) (ls : List (List ℕ)) (t : ℕ) → turnOf l ≡ t → Third t
-    → size w 0 (l ∷ ls) + size w 1 (l ∷ ls) + size w 2 (l ∷ ls) ≡ length (folded (formOf w l)) + (size w 0 ls + size w 1 ls + size w 2 ls)
-sizes w l ls t e one = omega (arith, size-more w 0 l ls e, size-same w 1 l ls (λ q. omega (arith, e, q)), size-same w 2 l ls (λ q. omega (arith, e, q)))
-sizes w l ls t e two = omega (arith, size-same w 0 l ls (λ q. omega (arith, e, q)), size-more w 1 l ls e, size-same w 2 l ls (λ q. omega (arith, e, q)))
-sizes w l ls t e three = omega (arith, size-same w 0 l ls (λ q. omega (arith, e, q)), size-same w 1 l ls (λ q. omega (arith, e, q)), size-more w 2 l ls e)
-
-empty-size : (w : Way) (n : ℕ) → size w n [] ≡ 0
-empty-size w n = ap length (forms-none w n)
-
-all-counts : (w : Way) (ls : List (List ℕ)) → Counts (total w ls) (size w 0 ls + size w 1 ls + size w 2 ls)
-unfolding total
-all-counts w [] = let a = empty-size w 0 in let b = empty-size w 1 in let c = empty-size w 2 in record { less = omega (arith, a, b, c); same = λ k. omega (arith, a, b, c) }
-all-counts w (l ∷ ls) =
-    let s = sizes w l ls (turnOf l) refl (turn-third l) in
-    let a = line-counts (formOf w l) in
-    let b = all-counts w ls in
-    let z = total w ls in
-    record {
-      less = omega (arith, s, a .less, b .less);
-      same = λ k. omega (arith, s, a .same (omega (arith, k)), b .same (omega (arith, k)));
-    }
-
-pub card-counts : (w : Way) (i : List ℕ) → Counts (total w (logicalLines i)) (length (cardText w i))
-card-counts w i =
-    let ls = logicalLines i in
-    let c = all-counts w ls in
-    let f0 = foldedLines (forms w 0 ls) in
-    let f1 = foldedLines (forms w 1 ls) in
-    let f2 = foldedLines (forms w 2 ls) in
-    let n : length (cardText w i) ≡ size w 0 ls + size w 1 ls + size w 2 ls = ap length (card-places w i) ∙ omega (arith, length-append (f0 ++ f1) f2, length-append f0 f1) in
-    record { less = omega (arith, n, c .less); same = λ k. c .same k ∙ sym n }
+    go : (m : Parse Line) → turnBy m ≤ 2
+    go (got x k) = row-place (rowOfLine First x)
+    go (bad e) = omega arith
 
 -- what is clear of a text stands at the start of room to which the text was written
 pub clear-taken : (l d : List ℕ) → take (length (clear l)) (overlay l d) ≡ clear l
@@ -237,14 +169,6 @@ clear-taken l d = go (ltb (firstBad (allowed false) l) (length l))
     go : (t : Bool) → take (length (pick t [] l)) (overlay l d) ≡ pick t [] l
     go true = refl
     go false = take-append-seam l (drop (length l) d)
-
-pub measured-long : (l : List ℕ) → 16384 < length l → length l ≡ measured l
-unfolding measured
-measured-long l h = sym (rw (lt-ltb 16384 (length l) h))
-
-pub measured-short : (l : List ℕ) → length l ≤ 16384 → length (folded l) ≡ measured l
-unfolding measured
-measured-short l h = sym (rw (le-ltb 16384 (length l) h))
 
 pub form-of : (w : Way) (l : List ℕ) → clear (writtenBy w (parseLine l)) ≡ formOf w l
 unfolding formOf

@@ -1,11 +1,10 @@
 -- The lines of a card as the other version has them: BEGIN first, VERSION second, and then the others in their order. Assumes nothing.
-use Prim.Native.Nat.{ℕ, _+_}
+use Prim.Native.Nat.{ℕ}
 use mathlib.Core.Path.{_≡_}
 use mathlib.Core.Bool.{Bool, false}
 use mathlib.Core.List.{List, [], _∷_, _++_}
 use lib.Dec.{eqb, ltb}
 use lib.ListN.{length, take}
-use Rattle.numbers.specs.Limits as limit
 use Rattle.numbers.specs.Properties as property
 use Rattle.octets.specs.Pick.{pick}
 use Rattle.utf8.specs.Characters.{allowed, firstBad}
@@ -15,7 +14,7 @@ use Rattle.line_parser.specs.Grammar.{Line}
 use Rattle.line_parser.specs.Rule.{parseLine}
 use Rattle.property_table.specs.declared.Edition.the-variants.{First}
 use Rattle.card_line.specs.Parts.{rowOfLine}
-use Rattle.folder_line.specs.Pieces.{folded, foldedLines}
+use Rattle.folder_line.specs.Pieces.{foldedLines}
 use Rattle.version3_parameters.specs.declared.Way.{Way}
 use Rattle.version3_line.specs.Lines.{writtenBy}
 use Rattle.version3.specs.declared.sheet.Form.{Form}
@@ -50,14 +49,6 @@ arranged w ls = (forms w 0 ls ++ forms w 1 ls) ++ forms w 2 ls
 -- the card, each line folded
 unfoldable pub cardText : Way → List ℕ → List ℕ
 cardText w i = foldedLines (arranged w (logicalLines i))
-
--- how many octets a line has folded; a line over 16,384 octets is measured as it is
-unfoldable pub measured : List ℕ → ℕ
-measured l = pick (ltb limit.octets (length l)) (length l) (length (folded l))
-
-unfoldable pub total : Way → List (List ℕ) → ℕ
-total w [] = 0
-total w (l ∷ ls) = measured (formOf w l) + total w ls
 
 -- the form of the line l stands at the start of a room
 pub record Formed (w : Way) (l : List ℕ) (r : Form) (room : List ℕ) : Type 0 where

@@ -1,16 +1,16 @@
-// The lines of a card, each as the other version has it and folded: measured before they are written, BEGIN and VERSION first.
+// The lines of a card, each as the other version has it and folded: written to rooms of their places, BEGIN and VERSION first, and then joined.
 ghost use mathlib.Core.Path.{_≡_};
 ghost use mathlib.Core.Bool.{false};
 ghost use Prim.Native.Nat.{_+_, _*_, _≤_};
 ghost use lib.ListN.{length};
 ghost use Rattle.numbers.specs.Limits as limit;
-ghost use Rattle.octets.specs.Room.{filled, fillBounded, overlay};
+ghost use Rattle.octets.specs.Room.{filled, fillBounded};
 ghost use Rattle.octets.specs.Classes.{Classes};
 ghost use Rattle.line_folds.specs.Folds.{unfolded};
-ghost use Rattle.line_folds.specs.Logical.{logicalLines};
 ghost use Rattle.property_table.specs.Rows.{Lists};
-ghost use Rattle.folder_line.specs.Pieces.{foldedLines, Clean};
-ghost use Rattle.version3.specs.Card.{turnOfRow, clear, forms, cardText, measured, total, Formed};
+ghost use Rattle.folder_line.specs.Pieces.{folded, Clean};
+ghost use Rattle.version3.specs.Card.{turnOfRow, clear, cardText, Formed};
+ghost use Rattle.version3.specs.Places.{Within, joinedBy, AddedBy, PlacedBy, SheetBy, TriedBy, Attempt};
 use card_line::LineParts;
 use numbers::limit;
 use numbers::property;
@@ -21,13 +21,26 @@ use property_table::Edition;
 use property_table::rows::PropertyTable;
 use version3_parameters::Way;
 
-// An input of at most so many octets is written with less room for a line, since that room is made at each call.
+// An input of at most so many octets is written with less room, since that room is made at each call.
 const SHORT: usize = 1024;
 
-// Room for a line of such an input as the other version has it, and of any input.
-const SHORT_FORM: usize = 3 * SHORT + 20;
+// The longest line for which there is room at first: of a short input, and of any.
+const SHORT_LINE: usize = 672;
 
-const FORM: usize = 3 * limit::OCTETS + 20;
+const LINE: usize = 2048;
+
+// Room for such a line as the other version has it, and for any line.
+const SHORT_FORM: usize = 3 * SHORT_LINE + 20;
+
+const FORM: usize = 3 * LINE + 20;
+
+const LONG_FORM: usize = 3 * limit::OCTETS + 20;
+
+// Room for the lines of the first place, and for those of the second.
+const HEAD: usize = 64;
+
+// Room for the other lines of a short input.
+const SHORT_CARD: usize = 2048;
 
 // The places of lines in a card: BEGIN first, VERSION second, then all others.
 const FIRST: usize = 0;
@@ -111,128 +124,287 @@ fn form_span(
     form_line(way, t, rows, &scratch[..n], d)
 }
 
-// How many octets a line has when it is folded; a line of over 16,384 octets is measured as it is.
-fn line_length(s: &[u8]) -> usize
-    requires { ⌜ Clean (now s) ⌝ }
-    ensures { λ r. ⌜ (r ≡ measured (now (s .entry))) × (r ≤ 4 * length (now (s .entry)) + 2) ⌝ }
-{
-    if limit::OCTETS < s.len() {
-        return s.len();
-    }
-    folder_line::cutting::measure(s)
+// Where a line that was written to a room ends there, or that it does not fit.
+pub enum Added {
+    Upto(usize),
+    Over,
 }
 
-// How many octets the card has, or more than 16,384.
-fn card_length(
+// How many octets were written to the rooms of the three places.
+pub struct Ends {
+    pub first: usize,
+    pub second: usize,
+    pub others: usize,
+}
+
+// How many octets were written to the rooms of the three places, or that some room is too small.
+pub enum Sheet {
+    Placed(Ends),
+    Cramped,
+}
+
+// What was answered and written, or that some room is too small for trying.
+pub enum Tried {
+    Done(Written),
+    Cramped,
+}
+
+// Writes the line l folded to the room, behind its first w octets.
+fn add_line(l: &[u8], w: usize, room: &mut [u8]) -> Added
+    requires { ⌜ Clean (now l) × (w ≤ length (now room)) × (length (now room) ≤ limit.octets) ⌝ }
+    ensures { λ r. ⌜ AddedBy (folded (now (l .entry))) w (now (room .entry)) (now (room .exit)) r ⌝ }
+{
+    if limit::OCTETS < l.len() {
+        return Added::Over;
+    }
+    let n = folder_line::cutting::measure(l);
+    if room.len() - w < n {
+        return Added::Over;
+    }
+    let m = folder_line::folding::fold_line(l, &mut room[w..]);
+    Added::Upto(w + m)
+}
+
+// Writes the line l folded to the room of its place.
+fn place_line(
+    turn: usize,
+    l: &[u8],
+    e: Ends,
+    first: &mut [u8],
+    second: &mut [u8],
+    others: &mut [u8],
+) -> Sheet
+    requires { ⌜ Clean (now l) × (turn ≤ 2) × Within e (now first) (now second) (now others) ⌝ }
+    ensures { λ r. ⌜ PlacedBy turn (folded (now (l .entry))) e (now (first .entry)) (now (second .entry)) (now (others .entry)) (now (first .exit)) (now (second .exit)) (now (others .exit)) r ⌝ }
+{
+    if turn == FIRST {
+        return match add_line(l, e.first, first) {
+            Added::Upto(n) => Sheet::Placed(Ends {
+                first: n,
+                second: e.second,
+                others: e.others,
+            }),
+            Added::Over => Sheet::Cramped,
+        };
+    }
+    if turn == SECOND {
+        return match add_line(l, e.second, second) {
+            Added::Upto(n) => Sheet::Placed(Ends {
+                first: e.first,
+                second: n,
+                others: e.others,
+            }),
+            Added::Over => Sheet::Cramped,
+        };
+    }
+    match add_line(l, e.others, others) {
+        Added::Upto(n) => Sheet::Placed(Ends {
+            first: e.first,
+            second: e.second,
+            others: n,
+        }),
+        Added::Over => Sheet::Cramped,
+    }
+}
+
+// Writes the lines of a card, each of at most so many octets, to the rooms of their places.
+fn place_lines(
     way: Way,
     t: &ClassTable,
     rows: &PropertyTable,
     s: &[u8],
+    most: usize,
     scratch: &mut [u8],
     form: &mut [u8],
-) -> usize
+    first: &mut [u8],
+    second: &mut [u8],
+    others: &mut [u8],
+) -> Sheet
     requires { ⌜ Classes (now t) × Lists (now rows) ⌝ }
-    requires { ⌜ (length (now s) ≤ limit.octets) × (length (now s) ≤ length (now scratch)) × (3 * length (now s) + 20 ≤ length (now form)) ⌝ }
-    ensures { λ r. ⌜ r ≡ total way (logicalLines (now (s .entry))) ⌝ }
+    requires { ⌜ (length (now s) ≤ limit.octets) × (most ≤ length (now scratch)) × (3 * most + 20 ≤ length (now form)) ⌝ }
+    requires { ⌜ (length (now first) ≤ limit.octets) × (length (now second) ≤ limit.octets) × (length (now others) ≤ limit.octets) ⌝ }
+    ensures { λ r. ⌜ SheetBy way (now (s .entry)) most (now (first .exit)) (now (second .exit)) (now (others .exit)) r ⌝ }
 {
     let mut at: usize = 0;
-    let mut n: usize = 0;
+    let mut e = Ends {
+        first: 0,
+        second: 0,
+        others: 0,
+    };
     while at < s.len() {
         let span = line_folds::spans::line_at(s, at);
         let end = span.end;
         let folds = span.cr != end;
+        if most < end - at {
+            return Sheet::Cramped;
+        }
         let f = form_span(way, t, rows, &s[at..end], folds, scratch, form);
         let length = f.length;
-        n += line_length(&form[..length]);
-        at = end + 2;
-    }
-    n
-}
-
-// Writes the lines of one place to the start of d, and answers how many octets that are.
-fn write_turn(
-    turn: usize,
-    way: Way,
-    t: &ClassTable,
-    rows: &PropertyTable,
-    s: &[u8],
-    scratch: &mut [u8],
-    form: &mut [u8],
-    d: &mut [u8],
-) -> usize
-    requires { ⌜ Classes (now t) × Lists (now rows) ⌝ }
-    requires { ⌜ (length (now s) ≤ limit.octets) × (length (now s) ≤ length (now scratch)) × (3 * length (now s) + 20 ≤ length (now form)) ⌝ }
-    requires { ⌜ (length (foldedLines (forms way turn (logicalLines (now s)))) ≤ length (now d)) × (length (foldedLines (forms way turn (logicalLines (now s)))) ≤ limit.octets) ⌝ }
-    ensures { λ r. ⌜ (r ≡ length (foldedLines (forms way turn (logicalLines (now (s .entry)))))) × (now (d .exit) ≡ overlay (foldedLines (forms way turn (logicalLines (now (s .entry))))) (now (d .entry))) ⌝ }
-{
-    let mut at: usize = 0;
-    let mut w: usize = 0;
-    while at < s.len() {
-        let span = line_folds::spans::line_at(s, at);
-        let end = span.end;
-        let folds = span.cr != end;
-        let f = form_span(way, t, rows, &s[at..end], folds, scratch, form);
-        if f.turn == turn {
-            let length = f.length;
-            w += folder_line::folding::fold_line(&form[..length], &mut d[w..]);
-            at = end + 2;
-        } else {
-            at = end + 2;
+        let placed = place_line(f.turn, &form[..length], e, first, second, others);
+        match placed {
+            Sheet::Placed(next) => {
+                e = next;
+                at = end + 2;
+            }
+            Sheet::Cramped => {
+                return Sheet::Cramped;
+            }
         }
     }
-    w
+    Sheet::Placed(e)
 }
 
-// Writes the lines of a card in their places, with room for a line, unfolded and as the other version has it.
-fn write_places(
-    way: Way,
-    t: &ClassTable,
-    rows: &PropertyTable,
-    s: &[u8],
-    scratch: &mut [u8],
-    form: &mut [u8],
-    out: &mut [u8],
-) -> usize
-    requires { ⌜ Classes (now t) × Lists (now rows) ⌝ }
-    requires { ⌜ (length (now s) ≤ limit.octets) × (length (now s) ≤ length (now scratch)) × (3 * length (now s) + 20 ≤ length (now form)) ⌝ }
-    requires { ⌜ (length (cardText way (now s)) ≤ length (now out)) × (length (cardText way (now s)) ≤ limit.octets) ⌝ }
-    ensures { λ r. ⌜ (r ≡ length (cardText way (now (s .entry)))) × (now (out .exit) ≡ overlay (cardText way (now (s .entry))) (now (out .entry))) ⌝ }
+// Writes what stands in the three places one after the other: 16 where that is over 16,384 octets, 15 where out is too small for it, else the
+// octets written.
+fn join(e: Ends, first: &[u8], second: &[u8], others: &[u8], out: &mut [u8]) -> Written
+    requires { ⌜ Within e (now first) (now second) (now others) ⌝ }
+    ensures { λ r. ⌜ filled r (now (out .exit)) ≡ fillBounded (joinedBy e (now (first .entry)) (now (second .entry)) (now (others .entry))) (now (out .entry)) ⌝ }
 {
-    let a = write_turn(FIRST, way, t, rows, s, scratch, form, out);
-    let b = write_turn(SECOND, way, t, rows, s, scratch, form, &mut out[a..]);
+    let a = e.first;
+    let b = e.second;
+    let c = e.others;
     let start = a + b;
-    let c = write_turn(OTHERS, way, t, rows, s, scratch, form, &mut out[start..]);
-    start + c
-}
-
-// Writes the card: 16 where it has over 16,384 octets, 15 where out is too small for it, else the octets written.
-fn write_in(way: Way, s: &[u8], scratch: &mut [u8], form: &mut [u8], out: &mut [u8]) -> Written
-    requires { ⌜ (length (now s) ≤ limit.octets) × (length (now s) ≤ length (now scratch)) × (3 * length (now s) + 20 ≤ length (now form)) ⌝ }
-    ensures { λ r. ⌜ filled r (now (out .exit)) ≡ fillBounded (cardText way (now (s .entry))) (now (out .entry)) ⌝ }
-{
-    let t = octets::classes::table();
-    let rows = property_table::table();
-    let n = card_length(way, &t, &rows, s, scratch, form);
+    let n = start + c;
     if limit::OCTETS < n {
         return Written::Refused(refusal::FORM_TOO_LONG, limit::OCTETS);
     }
     if out.len() < n {
         return Written::Refused(refusal::ROOM, n);
     }
-    Written::Wrote(write_places(way, &t, &rows, s, scratch, form, out))
+    octets::copying::copy_in(out, &first[..a]);
+    octets::copying::copy_in(&mut out[a..], &second[..b]);
+    octets::copying::copy_in(&mut out[start..], &others[..c]);
+    Written::Wrote(n)
 }
 
-// The same, with room for a line of its own.
+// Writes the card with rooms for its places, and for a line of at most so many octets.
+fn write_in(
+    way: Way,
+    s: &[u8],
+    most: usize,
+    scratch: &mut [u8],
+    form: &mut [u8],
+    first: &mut [u8],
+    second: &mut [u8],
+    others: &mut [u8],
+    out: &mut [u8],
+) -> Tried
+    requires { ⌜ (length (now s) ≤ limit.octets) × (most ≤ length (now scratch)) × (3 * most + 20 ≤ length (now form)) ⌝ }
+    requires { ⌜ (length (now first) ≤ limit.octets) × (length (now second) ≤ limit.octets) × (length (now others) ≤ limit.octets) ⌝ }
+    ensures { λ r. ⌜ TriedBy way (now (s .entry)) most (length (now (first .entry))) (length (now (second .entry))) (length (now (others .entry))) (now (out .entry)) (now (out .exit)) r ⌝ }
+{
+    let t = octets::classes::table();
+    let rows = property_table::table();
+    match place_lines(
+        way,
+        &t,
+        &rows,
+        s,
+        most,
+        scratch,
+        form,
+        first,
+        second,
+        others,
+    ) {
+        Sheet::Placed(e) => Tried::Done(join(e, first, second, others, out)),
+        Sheet::Cramped => Tried::Cramped,
+    }
+}
+
+// The same with little room, for a short input.
+fn write_short(way: Way, s: &[u8], out: &mut [u8]) -> Tried
+    requires { ⌜ length (now s) ≤ limit.octets ⌝ }
+    ensures { λ r. ⌜ Attempt way (now (s .entry)) (now (out .entry)) (now (out .exit)) r ⌝ }
+{
+    let mut scratch = [0u8; SHORT_LINE];
+    let mut form = [0u8; SHORT_FORM];
+    let mut first = [0u8; HEAD];
+    let mut second = [0u8; HEAD];
+    let mut others = [0u8; SHORT_CARD];
+    write_in(
+        way,
+        s,
+        SHORT_LINE,
+        &mut scratch,
+        &mut form,
+        &mut first,
+        &mut second,
+        &mut others,
+        out,
+    )
+}
+
+// The same with room for all but long lines.
+fn write_usual(way: Way, s: &[u8], out: &mut [u8]) -> Tried
+    requires { ⌜ length (now s) ≤ limit.octets ⌝ }
+    ensures { λ r. ⌜ Attempt way (now (s .entry)) (now (out .entry)) (now (out .exit)) r ⌝ }
+{
+    let mut scratch = [0u8; LINE];
+    let mut form = [0u8; FORM];
+    let mut first = [0u8; HEAD];
+    let mut second = [0u8; HEAD];
+    let mut others = [0u8; limit::OCTETS];
+    write_in(
+        way,
+        s,
+        LINE,
+        &mut scratch,
+        &mut form,
+        &mut first,
+        &mut second,
+        &mut others,
+        out,
+    )
+}
+
+// The same with room for every line.
+fn write_all(way: Way, s: &[u8], out: &mut [u8]) -> Written
+    requires { ⌜ length (now s) ≤ limit.octets ⌝ }
+    ensures { λ r. ⌜ filled r (now (out .exit)) ≡ fillBounded (cardText way (now (s .entry))) (now (out .entry)) ⌝ }
+{
+    let mut scratch = [0u8; limit::OCTETS];
+    let mut form = [0u8; LONG_FORM];
+    let mut first = [0u8; limit::OCTETS];
+    let mut second = [0u8; limit::OCTETS];
+    let mut others = [0u8; limit::OCTETS];
+    match write_in(
+        way,
+        s,
+        limit::OCTETS,
+        &mut scratch,
+        &mut form,
+        &mut first,
+        &mut second,
+        &mut others,
+        out,
+    ) {
+        Tried::Done(w) => w,
+        Tried::Cramped => Written::Refused(refusal::FORM_TOO_LONG, limit::OCTETS),
+    }
+}
+
+// Writes a card with room for all but long lines, and else with room for every line.
+fn write_long(way: Way, s: &[u8], out: &mut [u8]) -> Written
+    requires { ⌜ length (now s) ≤ limit.octets ⌝ }
+    ensures { λ r. ⌜ filled r (now (out .exit)) ≡ fillBounded (cardText way (now (s .entry))) (now (out .entry)) ⌝ }
+{
+    match write_usual(way, s, out) {
+        Tried::Done(w) => w,
+        Tried::Cramped => write_all(way, s, out),
+    }
+}
+
+// Writes the card: 16 where it has over 16,384 octets, 15 where out is too small for it, else the octets written.
 pub fn write_card(way: Way, s: &[u8], out: &mut [u8]) -> Written
     requires { ⌜ length (now s) ≤ limit.octets ⌝ }
     ensures { λ r. ⌜ filled r (now (out .exit)) ≡ fillBounded (cardText way (now (s .entry))) (now (out .entry)) ⌝ }
 {
-    if s.len() <= SHORT {
-        let mut scratch = [0u8; SHORT];
-        let mut form = [0u8; SHORT_FORM];
-        return write_in(way, s, &mut scratch, &mut form, out);
+    if SHORT < s.len() {
+        return write_long(way, s, out);
     }
-    let mut scratch = [0u8; limit::OCTETS];
-    let mut form = [0u8; FORM];
-    write_in(way, s, &mut scratch, &mut form, out)
+    match write_short(way, s, out) {
+        Tried::Done(w) => w,
+        Tried::Cramped => write_long(way, s, out),
+    }
 }

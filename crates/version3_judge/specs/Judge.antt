@@ -72,7 +72,7 @@ ofKind k v = isFit (kindIn First k v)
 unfoldable pub short : ℕ → List ℕ → Bool
 short n v = ofKind kinds.texts v && ltb (length (semicolons v)) n
 
--- of its kind once its components are filled up
+-- a name of at most five components, an address of at most seven, else of its kind
 unfoldable pub fills : ℕ → List ℕ → Bool
 fills k v = pick (eqb k kinds.name) (short 5 v) (pick (eqb k kinds.address) (short 7 v) (ofKind k v))
 

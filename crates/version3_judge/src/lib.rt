@@ -166,7 +166,7 @@ fn is_short(steps: &Transitions, most: usize, value: &[u8]) -> bool
     version3_text::count_semicolons(value) < most
 }
 
-// Whether a value of version 3 is of its kind once its components are filled up.
+// Whether a value of version 3 is a name of at most five components, an address of at most seven, else of its kind.
 fn does_fill(steps: &Transitions, kind: usize, value: &[u8]) -> bool
     requires { ⌜ Scanner (now steps) ⌝ }
     requires { ⌜ kind < kinds.count ⌝ }
@@ -434,20 +434,26 @@ fn settle(step: Step, s: &[u8], at: usize) -> Step
     Step::Refused(number, at + place)
 }
 
-// Judges the lines one after the other, up to the first refusal.
-pub fn walk(way: Way, t: &ClassTable, rows: &PropertyTable, steps: &Transitions, s: &[u8]) -> Step
+// Judges the lines one after the other, up to the first refusal, with a scratch that holds each.
+fn walk_in(
+    way: Way,
+    t: &ClassTable,
+    rows: &PropertyTable,
+    steps: &Transitions,
+    s: &[u8],
+    scratch: &mut [u8],
+) -> Step
     requires { ⌜ Tables (now t) (now rows) (now steps) ⌝ }
-    requires { ⌜ length (now s) ≤ limit.octets ⌝ }
+    requires { ⌜ (length (now s) ≤ length (now scratch)) × (length (now scratch) ≤ limit.octets) ⌝ }
     ensures { λ r. ⌜ r ≡ judgeLines way (rawLines (now (s .entry))) 0 freshSet ⌝ }
 {
-    let mut scratch = [0u8; limit::OCTETS];
     let mut c = fresh();
     let mut at: usize = 0;
     while at < s.len() {
         let span = line_folds::spans::line_at(s, at);
         let end = span.end;
         let folds = span.cr != end;
-        let j = judge_span(way, t, rows, steps, &s[at..end], folds, &mut scratch, at, c);
+        let j = judge_span(way, t, rows, steps, &s[at..end], folds, scratch, at, c);
         let Step::Next(next) = j else {
             return settle(j, &s[at..end], at);
         };
@@ -455,4 +461,21 @@ pub fn walk(way: Way, t: &ClassTable, rows: &PropertyTable, steps: &Transitions,
         at = end + 2;
     }
     Step::Next(c)
+}
+
+// An input of at most so many octets is judged with a scratch of as many, since the scratch is made at each call.
+const SHORT: usize = 1024;
+
+// Judges the lines one after the other, up to the first refusal.
+pub fn walk(way: Way, t: &ClassTable, rows: &PropertyTable, steps: &Transitions, s: &[u8]) -> Step
+    requires { ⌜ Tables (now t) (now rows) (now steps) ⌝ }
+    requires { ⌜ length (now s) ≤ limit.octets ⌝ }
+    ensures { λ r. ⌜ r ≡ judgeLines way (rawLines (now (s .entry))) 0 freshSet ⌝ }
+{
+    if s.len() <= SHORT {
+        let mut scratch = [0u8; SHORT];
+        return walk_in(way, t, rows, steps, s, &mut scratch);
+    }
+    let mut scratch = [0u8; limit::OCTETS];
+    walk_in(way, t, rows, steps, s, &mut scratch)
 }

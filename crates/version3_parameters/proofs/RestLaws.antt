@@ -13,7 +13,10 @@ use Rattle.octets.proofs.Bools.{clash}
 use Rattle.line_parser.specs.Parse.{Parse, got, bad, hd}
 use Rattle.line_parser.specs.Grammar.{Value, plain, inQuotes, Param, Line, Each, GoodValue, GoodParam, WellFormed, led, valueText, paramText, groupText, front, render, nameEnd}
 use Rattle.line_parser.specs.Rule.{value, param, parseLine}
-use Rattle.line_parser.proofs.Steps.{look}
+use Rattle.line_parser.specs.declared.rule.Part.{Part}
+use Rattle.line_parser.specs.declared.rule.Part.the-variants.{Upto}
+use Rattle.line_parser.specs.Places.{place}
+use Rattle.line_parser.proofs.Steps.{look, place-upto}
 use Rattle.line_parameters.proofs.Sound.{line-sound, param-sound}
 use Rattle.line_parameters.proofs.Complete.{AfterValue, comma, AfterParam, semicolon, colon, value-complete, param-complete}
 use Rattle.card_line.specs.Parts.{Accepted}
@@ -106,6 +109,15 @@ pub data Values (s : List ℕ) (end : ℕ) : ℕ → List Value → Type 0 where
   none : Values s end (end + 1) []
   more : {at : ℕ} {v : Value} {vs : List Value} → drop at s ≡ (valueText v ++ led 44 valueText vs) ++ drop end s → at + length (valueText v ++ led 44 valueText vs) ≡ end
       → GoodValue v → Each GoodValue vs → Values s end at (v ∷ vs)
+
+-- where reading it ends
+pub next-upto : {s : List ℕ} {at : ℕ} {ps : List Param} (n : Next s at ps) {r : Part} {e : ℕ} → r ≡ place (at + 1) (param (drop (at + 1) s)) → r ≡ Upto e
+    → e ≡ at + 1 + length (paramText (n .first))
+next-upto {s} {at} n h q =
+    place-upto (at + 1) (param (drop (at + 1) s)) h q (λ p k g i.
+    let e : got p k ≡ got (n .first) (length (paramText (n .first))) = sym g ∙ n .read in
+    let j : k ≡ length (paramText (n .first)) = cc in
+    i ∙ ap (λ (m : ℕ). at + 1 + m) j)
 
 -- the next value, and what is left behind it and its comma
 pub record NextValue (s : List ℕ) (end at : ℕ) (vs : List Value) : Type 0 where

@@ -13,11 +13,11 @@ use lib.Dec.{ltb}
 use Rattle.line_parser.specs.Parse.{got, bad}
 use Rattle.line_parser.specs.Grammar.{Param, paramText}
 use Rattle.line_parser.specs.Rule.{param}
-use Rattle.line_parser.proofs.Steps.{place-upto, place-fault}
+use Rattle.line_parser.proofs.Steps.{place-fault}
 use Rattle.line_parser.proofs.ParseLaws.{bad-got}
 use Rattle.version3_parameters.specs.Params.{prefsFit}
 use Rattle.version3_parameters.specs.Places.{ParamAt, namedBy, lawfulBy, paramsOf}
-use Rattle.version3_parameters.proofs.RestLaws.{Rest, rest-start, rest-inside, rest-none, Next, rest-next, next-at}
+use Rattle.version3_parameters.proofs.RestLaws.{Rest, rest-start, rest-inside, rest-none, Next, rest-next, next-upto, next-at}
 use Rattle.version3_parameters.proofs.EachLaws.{fitting, fit-start, fit-end, fit-not, fit-yes, fit-other}
 use Rattle.version3_parameters.proofs.do_prefs_fit.Statement.{statement}
 use Rattle.version3_parameters.proofs.do_prefs_fit.Tie as tie
@@ -47,11 +47,7 @@ module _ (c : tie.After-known-told Inv-loop μ-loop) where
   next = rest-next (L .loop .inv .1) (L .loop .inv .2) (c .before .before .before .before .if1 .left)
 
   ends : c .before .p .given .0 .0 ≡ L .loop .at + 1 + length (paramText (next .first))
-  ends =
-      place-upto (L .loop .at + 1) (param (drop (L .loop .at + 1) S)) (c .before .before .before .read-param .ensures) (c .before .p .given .1) (λ p k q h.
-      let e : got p k ≡ got (next .first) (length (paramText (next .first))) = sym q ∙ next .read in
-      let i : k ≡ length (paramText (next .first)) = cc in
-      h ∙ ap (λ (j : ℕ). L .loop .at + 1 + j) i)
+  ends = next-upto next (c .before .before .before .read-param .ensures) (c .before .p .given .1)
 
 -- src/lib.rt:280:5
 loop-holds : tie.Need-loop-holds Inv-loop μ-loop

@@ -14,11 +14,11 @@ use Rattle.line_unfolding.proofs.PutLaws.{put-part}
 use Rattle.line_parser.specs.Parse.{got, bad}
 use Rattle.line_parser.specs.Grammar.{Param, paramText}
 use Rattle.line_parser.specs.Rule.{param}
-use Rattle.line_parser.proofs.Steps.{place-upto, place-fault}
+use Rattle.line_parser.proofs.Steps.{place-fault}
 use Rattle.line_parser.proofs.ParseLaws.{bad-got}
 use Rattle.version3_parameters.specs.Params.{changed, prefers, changedAll, anyPrefers, paramsText}
 use Rattle.version3_parameters.specs.Places.{ParamAt, textBy, prefersBy, paramsOf, Puts}
-use Rattle.version3_parameters.proofs.RestLaws.{Rest, rest-start, rest-inside, rest-none, Next, rest-next, next-at}
+use Rattle.version3_parameters.proofs.RestLaws.{Rest, rest-start, rest-inside, rest-none, Next, rest-next, next-upto, next-at}
 use Rattle.version3_parameters.proofs.EachLaws.{each-next, said-next, each-none, said-none}
 use Rattle.version3_parameters.proofs.put_each.Statement.{statement}
 use Rattle.version3_parameters.proofs.put_each.Tie as tie
@@ -48,11 +48,7 @@ module _ (c : tie.After-known-told Inv-loop μ-loop) where
   next = rest-next (L .loop .inv .0) (L .loop .inv .1) (c .before .before .before .before .if1 .left)
 
   ends : c .before .p .given .0 .0 ≡ L .loop .at + 1 + length (paramText (next .first))
-  ends =
-      place-upto (L .loop .at + 1) (param (drop (L .loop .at + 1) S)) (c .before .before .before .read-param .ensures) (c .before .p .given .1) (λ p k q h.
-      let e : got p k ≡ got (next .first) (length (paramText (next .first))) = sym q ∙ next .read in
-      let i : k ≡ length (paramText (next .first)) = cc in
-      h ∙ ap (λ (j : ℕ). L .loop .at + 1 + j) i)
+  ends = next-upto next (c .before .before .before .read-param .ensures) (c .before .p .given .1)
 
   fits : L .loop .w + length (paramsText (changed (L .before .before .before .args .way) (next .first))) ≤ length (L .loop .d)
   fits =

@@ -10,7 +10,7 @@ abbrev Inv-loop : tie.InvT-loop
 Inv-loop room₀ at next₀ command₀ room next command = length room ≡ length room₀
 
 abbrev μ-loop : tie.MeasureT-loop
-μ-loop room₀ at next₀ command₀ room next command = 31 - command
+μ-loop room₀ at next₀ command₀ room next command = 64 - command
 
 loop-holds : tie.Need-loop-holds Inv-loop μ-loop
 loop-holds c = search needs

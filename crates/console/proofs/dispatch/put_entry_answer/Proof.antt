@@ -70,6 +70,18 @@ enum-told-11 c = search needs
 put-read-in-answer-requires : tie.Need-put-read-in-answer-requires
 put-read-in-answer-requires c κs = search needs
 
+enum-told-12 : tie.Need-enum-told-12
+enum-told-12 c = search needs
+
+put-write-answer-requires-4 : tie.Need-put-write-answer-requires-4
+put-write-answer-requires-4 c κs = search needs
+
+enum-told-13 : tie.Need-enum-told-13
+enum-told-13 c = search needs
+
+put-write-answer-requires-5 : tie.Need-put-write-answer-requires-5
+put-write-answer-requires-5 c κs = search needs
+
 same-length : tie.Need-same-length
 same-length c = search needs
 
@@ -147,6 +159,20 @@ returns-11 : tie.Need-returns-11
 unfolding entryText
 returns-11 c = rw (c .before .before .before .before .enum-told11 .given .1) (c .before .before .put-read-in-answer .ensures)
 
+same-length-12 : tie.Need-same-length-12
+same-length-12 c = search needs
+
+returns-12 : tie.Need-returns-12
+unfolding entryText
+returns-12 c = rw (c .before .before .before .before .enum-told12 .given .1) (c .before .before .put-write-answer4 .ensures)
+
+same-length-13 : tie.Need-same-length-13
+same-length-13 c = search needs
+
+returns-13 : tie.Need-returns-13
+unfolding entryText
+returns-13 c = rw (c .before .before .before .before .enum-told13 .given .1) (c .before .before .put-write-answer5 .ensures)
+
 pub put-entry-answer-spec : {M : Type 1} → statement M
 put-entry-answer-spec =
     tie.close
@@ -173,6 +199,10 @@ put-entry-answer-spec =
     put-judge-in-answer-requires
     enum-told-11
     put-read-in-answer-requires
+    enum-told-12
+    put-write-answer-requires-4
+    enum-told-13
+    put-write-answer-requires-5
     same-length
     returns
     same-length-2
@@ -194,4 +224,8 @@ put-entry-answer-spec =
     same-length-10
     returns-10
     same-length-11
-    returns-11)
+    returns-11
+    same-length-12
+    returns-12
+    same-length-13
+    returns-13)

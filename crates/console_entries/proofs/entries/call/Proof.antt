@@ -39,6 +39,18 @@ enum-known-entry-3 c = search needs
 fold-styled-requires : tie.Need-fold-styled-requires
 fold-styled-requires c κs = search needs
 
+enum-told-4 : tie.Need-enum-told-4
+enum-told-4 c = search needs
+
+take-in-requires : tie.Need-take-in-requires
+take-in-requires c κs = search needs
+
+enum-told-5 : tie.Need-enum-told-5
+enum-told-5 c = search needs
+
+give-out-requires : tie.Need-give-out-requires
+give-out-requires c κs = search needs
+
 same-length : tie.Need-same-length
 same-length c = search needs
 
@@ -75,6 +87,18 @@ same-length-6 c = search needs
 returns-6 : tie.Need-returns-6
 returns-6 c = rw (c .before .before .before .before .before .entry3 .given .1) (c .before .before .fold-styled .ensures)
 
+same-length-7 : tie.Need-same-length-7
+same-length-7 c = search needs
+
+returns-7 : tie.Need-returns-7
+returns-7 c = rw (c .before .before .before .before .enum-told4 .given .1) (c .before .before .take-in .ensures)
+
+same-length-8 : tie.Need-same-length-8
+same-length-8 c = search needs
+
+returns-8 : tie.Need-returns-8
+returns-8 c = rw (c .before .before .before .before .enum-told5 .given .1) (c .before .before .give-out .ensures)
+
 pub call-spec : {M : Type 1} → statement M
 call-spec =
     tie.close
@@ -91,6 +115,10 @@ call-spec =
     decode-requires
     enum-known-entry-3
     fold-styled-requires
+    enum-told-4
+    take-in-requires
+    enum-told-5
+    give-out-requires
     same-length
     returns
     same-length-2
@@ -102,4 +130,8 @@ call-spec =
     same-length-5
     returns-5
     same-length-6
-    returns-6)
+    returns-6
+    same-length-7
+    returns-7
+    same-length-8
+    returns-8)

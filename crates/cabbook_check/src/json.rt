@@ -1,0 +1,92 @@
+// What `check` found as an object of JSON, one a line.
+ghost use Rattle.cabbook_output.specs.Ends.{Status};
+use cabbook_messages::sentences::put_amount;
+use cabbook_tables::status;
+use libc::STDOUT_FILENO;
+use octets::slices::part;
+use program_output::put;
+use program_output::put_all;
+
+// Adds an octet of a text between quote marks.
+fn put_octet(room: &mut [u8], at: usize, octet: u8) -> usize {
+    if octet == b'\t' {
+        return put_all(room, at, b"\\t");
+    }
+    if octet == b'"' {
+        return put_all(room, at, b"\\\"");
+    }
+    if octet == b'\\' {
+        return put_all(room, at, b"\\\\");
+    }
+    put(room, at, octet)
+}
+
+// Adds a text that has no controls but tabs between quote marks.
+fn put_quoted(room: &mut [u8], at: usize, text: &[u8]) -> usize {
+    let mut next = put(room, at, b'"');
+    let mut i: usize = 0;
+    while i < text.len() {
+        next = put_octet(room, next, text[i]);
+        i += 1;
+    }
+    put(room, next, b'"')
+}
+
+// Adds the start of a file's object: its name, made visible.
+fn put_file(room: &mut [u8], path: &[u8]) -> usize {
+    let mut shown = io::large_buffer();
+    let n = cabbook_visible::put_visible(&mut shown, 0, path);
+    let start = put_all(room, 0, b"{\"file\":");
+    put_quoted(room, start, part(&shown, 0, n))
+}
+
+// Prints the object of a file with so many cards and lines, and answers the exit status.
+pub(crate) fn print_accepted(path: &[u8], cards: usize, lines: usize) -> u8
+    ensures { λ r. ⌜ Status r ⌝ }
+{
+    let mut room = io::large_buffer();
+    let file = put_file(&mut room, path);
+    let verdict = put_all(&mut room, file, b",\"accepted\":true,\"cards\":");
+    let count = put_amount(&mut room, verdict, cards, b",\"lines\":");
+    let n = put_amount(&mut room, count, lines, b"}\n");
+    cabbook_output::status_if(
+        cabbook_output::send(STDOUT_FILENO, &room, n),
+        status::ACCEPTED,
+    )
+}
+
+// Adds where a file is refused: the octet, the line and the column.
+fn put_place(room: &mut [u8], at: usize, s: &[u8], place: usize) -> usize {
+    let octet = put_amount(room, at, place, b",\"line\":");
+    let line = put_amount(
+        room,
+        octet,
+        cabbook_rows::rows::line_of(s, place),
+        b",\"column\":",
+    );
+    put_amount(
+        room,
+        line,
+        cabbook_rows::rows::column_of(s, place),
+        b",\"words\":",
+    )
+}
+
+// Prints the object of a refusal of a file with these octets, and answers the exit status.
+pub(crate) fn print_refused(path: &[u8], s: &[u8], number: u32, place: usize) -> u8
+    ensures { λ r. ⌜ Status r ⌝ }
+{
+    let mut words = io::buffer();
+    let k = cabbook_rows::faults::put_why(&mut words, 0, s, number, place);
+    let mut room = io::large_buffer();
+    let file = put_file(&mut room, path);
+    let verdict = put_all(&mut room, file, b",\"accepted\":false,\"refusal\":");
+    let refusal = put_amount(&mut room, verdict, number as usize, b",\"octet\":");
+    let octet = put_place(&mut room, refusal, s, place);
+    let why = put_quoted(&mut room, octet, part(&words, 0, k));
+    let n = put_all(&mut room, why, b"}\n");
+    cabbook_output::status_if(
+        cabbook_output::send(STDOUT_FILENO, &room, n),
+        status::REFUSED,
+    )
+}

@@ -1,0 +1,25 @@
+-- The laws of cards that are taken in and given out. Assumes nothing.
+pub mod Small
+pub mod TextLaws
+pub mod SaysLaws
+pub mod ParamLaws
+pub mod PlaceLaws
+pub mod ValueLaws
+pub mod FairLaws
+pub mod LineLaws
+pub mod NewLines
+pub mod JudgeLaws
+pub mod ReasonLaws
+pub mod WalkLaws
+pub mod CardLaws
+pub mod RunLaws
+pub mod AnswerLaws
+pub mod TakeLaws
+pub mod SourceLaws
+pub mod GiveLaws
+pub mod AcceptLaws
+pub mod BackLaws
+pub mod KeptLaws
+pub mod MeaningLaws
+pub mod ExampleLaws
+pub mod SettledLaws
