@@ -1,0 +1,6 @@
+-- The words of REFERENCE, Two edits of one card. Assumes nothing.
+pub mod Lists
+pub mod Pids
+pub mod Sources
+pub mod Plans
+pub mod Sides
