@@ -1,0 +1,8 @@
+-- The laws of this crate. Assumes nothing.
+pub mod Members
+pub mod NumberLaws
+pub mod PidLists
+pub mod MarkLaws
+pub mod RoomLaws
+pub mod StandLaws
+pub mod RowLaws
