@@ -6,3 +6,4 @@ pub mod MarkLaws
 pub mod RoomLaws
 pub mod StandLaws
 pub mod RowLaws
+pub mod SourceLaws

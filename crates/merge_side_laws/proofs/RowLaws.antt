@@ -94,7 +94,7 @@ module _ (es : List Source) (e : Source) where
 
 -- ---- a card's own row
 
-abbrev SourceOf : ℕ → Line → List Source
+abbrev pub SourceOf : ℕ → Line → List Source
 SourceOf w x = pick (eqb (rowOfLine First x) 32) (sourceIn (x .value) (w + length (front x)) ∷ []) []
 
 line-put : (c rs : List ℕ) (i w : ℕ) (x : Line) → Stands c rs i w x → (es : List Source) → withLine (rowOf es) c rs i ≡ rowOf (es ++ SourceOf w x)
