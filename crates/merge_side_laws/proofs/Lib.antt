@@ -7,3 +7,5 @@ pub mod RoomLaws
 pub mod StandLaws
 pub mod RowLaws
 pub mod SourceLaws
+pub mod ReadLaws
+pub mod SideLaws

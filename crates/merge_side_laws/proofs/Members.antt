@@ -49,3 +49,15 @@ module _ {A : Type 0} where
   get-member [] i d h = absurd (omega arith)
   get-member (x ∷ xs) zero d h = here
   get-member (x ∷ xs) (suc i) d h = there (get-member xs i d (omega arith))
+
+  pub member-get : {x : A} {xs : List A} → Member x xs → (d : A) → (i : ℕ) × (i < length xs) × (getD xs i d ≡ x)
+  member-get here d = (0, omega arith, refl)
+  member-get (there h) d =
+      let r = member-get h d in
+      (suc (r .0), omega (arith, r .1), r .2)
+
+  pub member-at : {x : A} {xs : List A} → Member x xs → (i : ℕ) × At xs i x
+  member-at here = (0, first)
+  member-at (there h) =
+      let r = member-at h in
+      (suc (r .0), later (r .1))

@@ -154,7 +154,7 @@ digit-semicolon : isDigit 59 ≡ false
 unfolding isDigit
 digit-semicolon = refl
 
-narrow : (n : ℕ) → n ≤ 4294967295 → narrowed n ≡ n
+pub narrow : (n : ℕ) → n ≤ 4294967295 → narrowed n ≡ n
 unfolding narrowed
 narrow n h = rw (le-ltb 4294967295 n h)
 
@@ -251,3 +251,56 @@ sources-count w (x ∷ xs) =
     length-append (SourceOf w x) (linesSources (w + length (render x) + 2) xs)
     ∙ counted (eqb (rowOfLine First x) 32) (sourceIn (x .value) (w + length (front x))) (length (linesSources (w + length (render x) + 2) xs))
     ∙ ap (cards.counts (eqb (rowOfLine First x) 32)) (sources-count (w + length (render x) + 2) xs)
+
+-- the line of a source, and the source of a line
+pub record SourceLine (xs : List Line) (e : Source) : Type 0 where
+  pub line : Line
+  pub member : Member line xs
+  pub number : ℕ
+  pub address : List ℕ
+  pub maps : Maps line number address
+  pub number-is : e .number ≡ capped number
+
+source-later : (x : Line) (xs : List Line) (e : Source) → SourceLine xs e → SourceLine (x ∷ xs) e
+source-later x xs e r =
+    record { line = r .line; member = there (r .member); number = r .number; address = r .address; maps = r .maps; number-is = r .number-is }
+
+pub record LineSource (n : ℕ) (es : List Source) : Type 0 where
+  pub source : Source
+  pub member : Member source es
+  pub number-is : source .number ≡ capped n
+
+module _ (c rs : List ℕ) (short : length c ≤ 4294967295) where
+  here-number : (i w : ℕ) (x : Line) (n : ℕ) (u : List ℕ) → Stands c rs i w x → Maps x n u → sourceIn (x .value) (w + length (front x)) .number ≡ capped n
+  here-number i w x n u s t = ap (λ (e : Source). e .number) (source-law x n u w t (omega (arith, s .inside)))
+
+  pub source-line : {i w : ℕ} {xs : List Line} → AllStand c rs i w xs → AllMap xs → (e : Source) → Member e (linesSources w xs) → SourceLine xs e
+  unfolding linesSources
+  source-line none maps e h = member-none h refl
+  source-line (more {i = i} {w = w} {x = x} {xs = xs} s ss) maps e h =
+      by (eqb (rowOfLine First x) 32)
+      (λ t. go (eqb-true (rowOfLine First x) 32 t) (source-line ss (λ y m. maps y (there m)) e) (member-cases (rw t at h)))
+      (λ t. source-later x xs e (source-line ss (λ y m. maps y (there m)) e (rw t at h)))
+    where
+      go : rowOfLine First x ≡ 32 → (Member e (linesSources (w + length (render x) + 2) xs) → SourceLine xs e)
+          → (e ≡ sourceIn (x .value) (w + length (front x))) ⊎ Member e (linesSources (w + length (render x) + 2) xs) → SourceLine (x ∷ xs) e
+      go t f (inl q) =
+          let g = maps x here t in
+          record {
+            line = x;
+            member = here;
+            number = g .number;
+            address = g .address;
+            maps = g .maps;
+            number-is = ap (λ (y : Source). y .number) q ∙ here-number i w x (g .number) (g .address) s (g .maps);
+          }
+      go t f (inr m) = source-later x xs e (f m)
+
+  pub line-source : {i w : ℕ} {x : Line} {xs : List Line} → AllStand c rs i w xs → Member x xs → (n : ℕ) (u : List ℕ) → Maps x n u → LineSource n (linesSources w xs)
+  unfolding linesSources
+  line-source (more {i = i} {w = w} {x = x} {xs = xs} s ss) here n u t =
+      rw (eq-eqb (rowOfLine First x) 32 (t .row))
+      (record { source = sourceIn (x .value) (w + length (front x)); member = here; number-is = here-number i w x n u s t })
+  line-source (more {w = w} {x = x} {xs = xs} s ss) (there h) n u t =
+      let r = line-source ss h n u t in
+      record { source = r .source; member = member-right (SourceOf w x) (r .member); number-is = r .number-is }
