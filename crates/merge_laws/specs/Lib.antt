@@ -1,0 +1,1 @@
+-- What the laws of this crate speak of. Assumes nothing.
