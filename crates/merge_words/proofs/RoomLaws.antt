@@ -15,8 +15,8 @@ use Rattle.octets.proofs.Bools.{by, clash}
 use Rattle.merge_pids.specs.Marks.{Mark, Marked, marked, write, putMark, putAll}
 use Rattle.merge_sides.specs.Marks.{overFrom, overMarks}
 use Rattle.merge_partners.specs.Keys.{numberAt}
 use Rattle.merge_words.specs.Lists.{Member, here, there, At, first, later}
-use Rattle.merge_side_laws.proofs.Members.{member-none, member-cases, at-below}
+use Rattle.merge_words.proofs.Members.{member-none, member-cases, at-below}
 
 -- the numbers of marks one after the other
 unfoldable pub flat : List Mark → List ℕ

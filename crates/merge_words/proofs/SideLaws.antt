@@ -29,22 +29,22 @@ use Rattle.merge_sides.specs.Sources.{narrowed, overEntries}
 use Rattle.merge_sides.specs.Marks.{lineMarks, marksFrom, overMarks}
 use Rattle.merge_partners.specs.Keys.{numberAt}
 use Rattle.merge.specs.Sides.{Side, side, readOf, marksOf, rowIn, overSide, isOver}
 use Rattle.merge_words.specs.Lists.{Member, here, there, At, first, later}
 use Rattle.merge_words.specs.Pids.{PidOf}
 use Rattle.merge_words.specs.Sources.{Maps, RowOf, Over}
 use Rattle.merge_words.specs.Sources as over
 use Rattle.merge_words.specs.Sides.{capped, MarkOf, MarksOf, Held, SideOf, Sides}
-use Rattle.merge_side_laws.specs.Lists.{paramsPids, linesPids, linesSources}
-use Rattle.merge_side_laws.specs.Stands.{Stands, AllStand, none, more}
-use Rattle.merge_side_laws.proofs.Members.{at-member, at-below, member-get, member-at}
-use Rattle.merge_side_laws.proofs.NumberLaws.{capped-over, over-capped}
-use Rattle.merge_side_laws.proofs.PidLists.{line-marks}
-use Rattle.merge_side_laws.proofs.MarkLaws.{marks-each, marks-every, marks-few}
-use Rattle.merge_side_laws.proofs.RoomLaws.{flat, put-all, number-at, over-in, over-marks, High, high-line, high-first, high-source, HighIn, over-some, over-none}
-use Rattle.merge_side_laws.proofs.StandLaws.{records-stand}
-use Rattle.merge_side_laws.proofs.RowLaws.{own-row, rows-true, rows-same, over-row, under-row}
-use Rattle.merge_side_laws.proofs.SourceLaws.{narrow, AllMap, AllLow, cards-map, row-only, row-is, row-held, sources-count, source-line, line-source}
-use Rattle.merge_side_laws.proofs.ReadLaws.{ended-short, lines-few, read-of, read-copy, read-answer}
+use Rattle.merge_words.specs.ByLines.{paramsPids, linesPids, linesSources}
+use Rattle.merge_words.specs.Stands.{Stands, AllStand, none, more}
+use Rattle.merge_words.proofs.Members.{at-member, at-below, member-get, member-at}
+use Rattle.merge_words.proofs.NumberLaws.{capped-over, over-capped}
+use Rattle.merge_words.proofs.PidLists.{line-marks}
+use Rattle.merge_words.proofs.MarkLaws.{marks-each, marks-every, marks-few}
+use Rattle.merge_words.proofs.RoomLaws.{flat, put-all, number-at, over-in, over-marks, High, high-line, high-first, high-source, HighIn, over-some, over-none}
+use Rattle.merge_words.proofs.StandLaws.{records-stand}
+use Rattle.merge_words.proofs.RowLaws.{own-row, rows-true, rows-same, over-row, under-row}
+use Rattle.merge_words.proofs.SourceLaws.{narrow, AllMap, AllLow, cards-map, row-only, row-is, row-held, sources-count, source-line, line-source}
+use Rattle.merge_words.proofs.ReadLaws.{ended-short, lines-few, read-of, read-copy, read-answer}
 
 -- ---- the marks of lines that stand in a copy
 

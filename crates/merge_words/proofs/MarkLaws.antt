@@ -16,12 +16,12 @@ use Rattle.merge_pids.specs.Numbers.{pidOf}
 use Rattle.merge_pids.specs.Marks.{Mark, mark, pidName, valueMarks}
 use Rattle.merge_pids.specs.declared.Pid.{Pid}
 use Rattle.merge_pids.specs.declared.Pid.the-variants.{Marks, Nothing}
 use Rattle.merge_words.specs.Lists.{Member, here, there, At, first, later}
 use Rattle.merge_words.specs.Pids.{PidText, PidOf, pid}
 use Rattle.merge_words.specs.Sides.{capped, MarkOf}
-use Rattle.merge_side_laws.specs.Lists.{valuesPids, paramsPids, linesPids}
-use Rattle.merge_side_laws.proofs.Members.{member-none, member-cases, member-left, member-right, member-append}
-use Rattle.merge_side_laws.proofs.NumberLaws.{pid-complete, PidIn, pid-sound, pid-long}
+use Rattle.merge_words.specs.ByLines.{valuesPids, paramsPids, linesPids}
+use Rattle.merge_words.proofs.Members.{member-none, member-cases, member-left, member-right, member-append}
+use Rattle.merge_words.proofs.NumberLaws.{pid-complete, PidIn, pid-sound, pid-long}
 
 -- ---- each mark is a PID's
 

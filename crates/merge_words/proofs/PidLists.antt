@@ -18,7 +18,7 @@ use Rattle.line_parser.proofs.PartLaws.{word-taken, head-count}
 use Rattle.line_parameters.specs.First.{valueOctets}
 use Rattle.merge_pids.specs.Numbers.{pidOf}
 use Rattle.merge_pids.specs.Marks.{Mark, pidName, valueMarks, bodyAt, widthAt, valuesMarks, namedMarks, paramMarks, paramsMarks}
-use Rattle.merge_side_laws.specs.Lists.{valuesPids, paramsPids}
+use Rattle.merge_words.specs.ByLines.{valuesPids, paramsPids}
 
 -- the octets of a value that was read, and how many it takes
 value-body : (l : List ℕ) (v : Value) (k : ℕ) → value l ≡ got v k → (bodyAt l ≡ valueOctets v) × (widthAt l ≡ k)

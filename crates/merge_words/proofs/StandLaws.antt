@@ -19,8 +19,8 @@ use Rattle.reader_grammar.specs.Cards.{Readable}
 use Rattle.reader_grammar.specs.Records.{Tells, Records, none, more}
 use Rattle.merge_sides.specs.Lines.{fieldAt, nameStartAt, nameAt, valueAt}
 use Rattle.merge_sides.specs.Marks.{behindName}
-use Rattle.merge_side_laws.specs.Stands.{Stands, AllStand}
-use Rattle.merge_side_laws.specs.Stands as stand
+use Rattle.merge_words.specs.Stands.{Stands, AllStand}
+use Rattle.merge_words.specs.Stands as stand
 
 -- ---- parts of a copy
 

@@ -30,18 +30,18 @@ use Rattle.merge_sources.specs.declared.Source.{Source}
 use Rattle.merge_pids.specs.Numbers.{digits}
 use Rattle.merge_sides.specs.Sources.{narrowed, sourceIn}
 use Rattle.merge_partners.specs.Keys.{uriOf}
 use Rattle.merge_words.specs.Lists.{Member, here, there}
 use Rattle.merge_words.specs.Pids.{decimal, Number}
 use Rattle.merge_words.specs.Sources.{Maps, RowOf}
 use Rattle.merge_words.specs.Sources as sources
 use Rattle.merge_words.specs.Sides.{capped, Held}
 use Rattle.merge_words.specs.Sides as sides
-use Rattle.merge_side_laws.specs.Lists.{linesSources}
-use Rattle.merge_side_laws.specs.Stands.{Stands, AllStand, none, more}
-use Rattle.merge_side_laws.proofs.Members.{member-none, member-cases, member-append, member-left, member-right}
-use Rattle.merge_side_laws.proofs.NumberLaws.{capped-low, digits-law}
-use Rattle.merge_side_laws.proofs.StandLaws.{tail-at}
-use Rattle.merge_side_laws.proofs.RowLaws.{SourceOf, same-source}
+use Rattle.merge_words.specs.ByLines.{linesSources}
+use Rattle.merge_words.specs.Stands.{Stands, AllStand, none, more}
+use Rattle.merge_words.proofs.Members.{member-none, member-cases, member-append, member-left, member-right}
+use Rattle.merge_words.proofs.NumberLaws.{capped-low, digits-law}
+use Rattle.merge_words.proofs.StandLaws.{tail-at}
+use Rattle.merge_words.proofs.RowLaws.{SourceOf, same-source}
 
 -- ---- the value of a CLIENTPIDMAP line
 

@@ -1,4 +1,4 @@
--- The laws of this crate. Assumes nothing.
+-- The laws that tie the words to what reading a card leaves. Assumes nothing.
 pub mod Members
 pub mod NumberLaws
 pub mod PidLists

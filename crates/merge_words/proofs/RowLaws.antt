@@ -18,10 +18,10 @@ use Rattle.merge_sources.specs.Row.{put, filled, entriesFrom, rowOf, sameEntry,
 use Rattle.merge_sources.specs.declared.Source.{Source}
 use Rattle.merge_sources.specs.declared.Row.{Row}
 use Rattle.merge_sides.specs.Sources.{sourceIn, sourceAt, withSource, withLine, withLines, ownRow, overEntries}
 use Rattle.merge_words.specs.Lists.{Member}
-use Rattle.merge_side_laws.specs.Lists.{linesSources}
-use Rattle.merge_side_laws.specs.Stands.{Stands, AllStand, none, more}
-use Rattle.merge_side_laws.proofs.Members.{get-member}
+use Rattle.merge_words.specs.ByLines.{linesSources}
+use Rattle.merge_words.specs.Stands.{Stands, AllStand, none, more}
+use Rattle.merge_words.proofs.Members.{get-member}
 
 -- ---- the entries of a row
 

@@ -1,0 +1,7 @@
+-- The laws of this crate. Assumes nothing.
+pub mod Lists
+pub mod Partners
+pub mod Joining
+pub mod Walks
+pub mod Entering
+pub mod Lines
