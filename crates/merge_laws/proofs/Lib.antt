@@ -8,3 +8,4 @@ pub mod Lines
 pub mod Sources
 pub mod Keys
 pub mod Demanded
+pub mod Passing
