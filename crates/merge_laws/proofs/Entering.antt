@@ -50,9 +50,11 @@ module _ (ca ra : List ℕ) (na : ℕ) (cb rb : List ℕ) (nb : ℕ) where
         let d = pick-ok (ltb (q .left) 4096) _ p t (c .1) in
         let e = pick-ok (ltb (q .right) 4096) _ p t (d .1) in
         let f = pick-ok (eqb (getD p (q .left) 0) 0) _ p t (e .1) in
-        let g = pick-ok (eqb (getD t (q .right) 0) 0) _ p t (f .1) in
-        (record { left = ltb-true (q .left) na (b .0); right = ltb-true (q .right) nb (c .0); few = ltb-true (q .left) 4096 (d .0); few-too = ltb-true (q .right) 4096 (e .0); property = a .0 },
-        eqb-true (getD p (q .left) 0) 0 (f .0), eqb-true (getD t (q .right) 0) 0 (g .0))
+        let g = pick-ok (eqb (getD t (q .right) 0) 0) _ p t (f .1) in (
+          record { left = ltb-true (q .left) na (b .0); right = ltb-true (q .right) nb (c .0); few = ltb-true (q .left) 4096 (d .0); few-too = ltb-true (q .right) 4096 (e .0); property = a .0 },
+          eqb-true (getD p (q .left) 0) 0 (f .0),
+          eqb-true (getD t (q .right) 0) 0 (g .0),
+        )
 
     step-new : Fits q → getD p (q .left) 0 ≡ 0 → getD t (q .right) 0 ≡ 0 → Step ≡ joined true P T
     unfolding enterStep enterTo
@@ -83,9 +85,10 @@ module _ (ca ra : List ℕ) (na : ℕ) (cb rb : List ℕ) (nb : ℕ) where
 
     fresh-put : Away q qs → (r : Pair) → Member r qs → (getD (P p t q) (r .left) 0 ≡ getD p (r .left) 0) × (getD (T p t q) (r .right) 0 ≡ getD t (r .right) 0)
     fresh-put a r m =
-        let z = a r m in
-        (put-other p (q .left) (q .right + 1) (free .low) (free .none) (r .left) (λ e. z .0 (sym e)),
-        put-other t (q .right) (q .left + 1) (free .low-too) (free .none-too) (r .right) (λ e. z .1 (sym e)))
+        let z = a r m in (
+          put-other p (q .left) (q .right + 1) (free .low) (free .none) (r .left) (λ e. z .0 (sym e)),
+          put-other t (q .right) (q .left + 1) (free .low-too) (free .none-too) (r .right) (λ e. z .1 (sym e)),
+        )
 
     fresh-cons : Away q qs → Fresh qs (P p t q) (T p t q) → Fresh (q ∷ qs) p t
     fresh-cons a f r m = go (member-cons m)

@@ -109,6 +109,7 @@ done-new q qs p t s f d =
     here-too : (i j : ℕ) → ((i ≡ q .left) × (q .right + 1 ≡ j + 1)) ⊎ (getD p i 0 ≡ j + 1) → Member (pair i j) (q ∷ qs) ⊎ (getD p i 0 ≡ j + 1)
     here-too i j (inl (e, g)) = inl (head-is q qs i j (sym e) (omega arith))
     here-too i j (inr e) = inr e
+
     go : (i j : ℕ) → Member (pair i j) qs ⊎ (getD (set p (q .left) (q .right + 1)) i 0 ≡ j + 1) → Member (pair i j) (q ∷ qs) ⊎ (getD p i 0 ≡ j + 1)
     go i j (inl m) = inl (there m)
     go i j (inr e) = here-too i j (put-only p (q .left) (q .right + 1) (f .low) (f .none) i j e)

@@ -4,3 +4,5 @@ pub mod Pids
 pub mod Sources
 pub mod Plans
 pub mod Sides
+pub mod ByLines
+pub mod Stands
