@@ -5,3 +5,7 @@ pub mod Joining
 pub mod Walks
 pub mod Entering
 pub mod Lines
+pub mod Sources
+pub mod Keys
+pub mod Demanded
+pub mod Passing

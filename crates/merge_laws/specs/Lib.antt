@@ -1,1 +1,2 @@
 -- What the laws of this crate speak of. Assumes nothing.
+pub mod Demand11
