@@ -31,8 +31,8 @@ use Rattle.merge_words.specs.Lists.Member.{here, there}
 use Rattle.merge_words.specs.Pids.{PidOf}
 use Rattle.merge_words.specs.Sources.{Leads, Over}
 use Rattle.merge_words.specs.Sources.Over.{entries, first as over-first, source as over-source}
-use Rattle.merge_words.specs.Plans.{SameProperty, Shares, Demanded}
-use Rattle.merge_words.specs.Plans.Demanded.{shared, alone}
+use Rattle.merge_laws.specs.Plans.{SameProperty, Shares, Demanded}
+use Rattle.merge_laws.specs.Plans.Demanded.{shared, alone}
 use Rattle.merge_words.specs.Sides.{capped, MarkOf, MarksOf, Held, SideOf}
 use Rattle.merge_laws.proofs.Lists.{at-low, at-some, at-same, at-member, member-at, member-cons, member-none, in-left, in-right, in-either}
 use Rattle.merge_laws.proofs.Lines.{same-property, Leading, leading-at, leading-row, only-leads, one-leads, side-count, side-line}
@@ -389,17 +389,20 @@ module _ (X Y : Side) (xs ys : List Line) (sx : SideOf X xs) (sy : SideOf Y ys) 
       key-x (a .place) ∙ ap (λ (p : ℕ). keyBy (classBy (rowOf m) CX (numberAt FX (a .place) 2)) p) (a .first) ∙ ap (λ (t : ℕ). keyBy (classBy (rowOf m) CX t) (sh .first)) (a .source) in
       let ky : keyAt FY (rowOf n) CY (b .place) ≡ keyBy (classBy (rowOf n) CY (sh .other)) (sh .first) =
       key-y (b .place) ∙ ap (λ (p : ℕ). keyBy (classBy (rowOf n) CY (numberAt FY (b .place) 2)) p) (b .first) ∙ ap (λ (t : ℕ). keyBy (classBy (rowOf n) CY t) (sh .first)) (b .source) in
-      let prop : sameProperty (X .copy) (X .records) i (Y .copy) (Y .records) j ≡ true = same-property X Y xs ys sx sy i j x y hx hy .1 w in
-      (a .place, a .below, record {
-        lead = λ e. g .0 (sym kx ∙ e);
-        place = b .place;
-        below = omega (arith, b .below, keys-length FY (rowOf n) CY KY few-y);
-        same = keys-at FY (rowOf n) CY KY few-y (b .place) (b .below) ∙ ky ∙ g .1 ∙ sym kx;
-        property =
-            ap (λ (k : ℕ). sameProperty (X .copy) (X .records) k (Y .copy) (Y .records) (numberAt FY (b .place) 0)) (a .line)
-            ∙ ap (λ (k : ℕ). sameProperty (X .copy) (X .records) i (Y .copy) (Y .records) k) (b .line) ∙ prop;
-        is = ap (λ (k : ℕ). pair k j) (sym (a .line)) ∙ ap (pair (numberAt FX (a .place) 0)) (sym (b .line));
-      })
+      let prop : sameProperty (X .copy) (X .records) i (Y .copy) (Y .records) j ≡ true = same-property X Y xs ys sx sy i j x y hx hy .1 w in (
+        a .place,
+        a .below,
+        record {
+          lead = λ e. g .0 (sym kx ∙ e);
+          place = b .place;
+          below = omega (arith, b .below, keys-length FY (rowOf n) CY KY few-y);
+          same = keys-at FY (rowOf n) CY KY few-y (b .place) (b .below) ∙ ky ∙ g .1 ∙ sym kx;
+          property =
+              ap (λ (k : ℕ). sameProperty (X .copy) (X .records) k (Y .copy) (Y .records) (numberAt FY (b .place) 0)) (a .line)
+              ∙ ap (λ (k : ℕ). sameProperty (X .copy) (X .records) i (Y .copy) (Y .records) k) (b .line) ∙ prop;
+          is = ap (λ (k : ℕ). pair k j) (sym (a .line)) ∙ ap (pair (numberAt FX (a .place) 0)) (sym (b .line));
+        },
+      )
 
   demanded-lone : (i j : ℕ) (x y : Line) → At xs i x → At ys j y → single (rowOfLine First x) ≡ true → rowOfLine First x ≡ rowOfLine First y
       → linesOf First (rowOfLine First x) xs ≡ 1 → linesOf First (rowOfLine First y) ys ≡ 1 → Lone (X .records) (X .lines) (Y .records) (Y .lines) (pair i j)

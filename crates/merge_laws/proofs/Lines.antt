@@ -21,9 +21,9 @@ use Rattle.merge_partners.specs.Pairs.{sameUids}
 use Rattle.merge.specs.Sides.{Side}
 use Rattle.merge_words.specs.Lists.{Member, At}
 use Rattle.merge_words.specs.Lists.At.{first, later}
-use Rattle.merge_words.specs.Plans.{SameProperty, FirstUid}
-use Rattle.merge_words.specs.Plans.SameProperty.{listed, unlisted}
-use Rattle.merge_words.specs.Plans.FirstUid.{uid, past}
+use Rattle.merge_laws.specs.Plans.{SameProperty, FirstUid}
+use Rattle.merge_laws.specs.Plans.SameProperty.{listed, unlisted}
+use Rattle.merge_laws.specs.Plans.FirstUid.{uid, past}
 use Rattle.merge_words.specs.Sides.{SideOf}
 use Rattle.merge_laws.proofs.Lists.{at-low, at-same}
 

@@ -109,3 +109,11 @@ rises-cons p ps a o m n q r first first d = absurd (omega arith)
 rises-cons p ps a o m n q r first (later k) d = a r (at-member k)
 rises-cons p ps a o m n q r (later h) first d = absurd (omega arith)
 rises-cons p ps a o m n q r (later {i = i} h) (later {i = j} k) d = o i j q r h k (omega arith)
+
+pub rises-head : (p : Pair) (ps : List Pair) → Rises (p ∷ ps) → (r : Pair) → Member r ps → p .left < r .left
+rises-head p ps o r h =
+    let k = member-at h in
+    o 0 (suc (k .0)) p r first (later (k .1)) (omega arith)
+
+pub rises-tail : (p : Pair) (ps : List Pair) → Rises (p ∷ ps) → Rises ps
+rises-tail p ps o m n q r h k d = o (suc m) (suc n) q r (later h) (later k) (omega arith)

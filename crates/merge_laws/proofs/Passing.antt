@@ -20,9 +20,9 @@ use Rattle.merge.specs.Plans.{flatten, enterAll, coversFrom}
 use Rattle.merge.specs.Sides.{Side, marksOf}
 use Rattle.merge_words.specs.Lists.{Member, At}
 use Rattle.merge_words.specs.Sources.{Over}
-use Rattle.merge_words.specs.Plans.{SameProperty, Demanded, FirstUid, Passes}
-use Rattle.merge_words.specs.Plans.SameProperty.{listed}
-use Rattle.merge_words.specs.Plans.Demanded.{shared, alone}
+use Rattle.merge_laws.specs.Plans.{SameProperty, Demanded, FirstUid, Passes}
+use Rattle.merge_laws.specs.Plans.SameProperty.{listed}
+use Rattle.merge_laws.specs.Plans.Demanded.{shared, alone}
 use Rattle.merge_words.specs.Sides.{Held, SideOf}
 use Rattle.merge_laws.proofs.Lists.{at-low, at-some, at-same, member-at, Once}
 use Rattle.merge_laws.proofs.Partners.{Two, Done}

@@ -17,7 +17,7 @@ use Rattle.merge.specs.Outcome.{planned, planOutcome, checkOutcome}
 use Rattle.merge.specs.declared.Paired.the-variants.{Pairs, Refused}
 use Rattle.merge_words.specs.Lists.{Member, At}
 use Rattle.merge_words.specs.Sources.{RowOf, Over}
-use Rattle.merge_words.specs.Plans.{Demanded, Passes}
+use Rattle.merge_laws.specs.Plans.{Demanded, Passes}
 
 -- both inputs are accepted
 pub record Both (i j : List ℕ) : Type 0 where
