@@ -193,7 +193,7 @@ module _ (c rs : List ℕ) (short : length c ≤ 4294967295) where
   row-only (sources.entry {w = w} {x = x} {xs = xs} {m = m} {e = e} {uri = u} t p l r) (more s ss) low =
       let q : sourceIn (x .value) (w + length (front x)) ≡ e =
       source-law x (e .number) u w t (omega (arith, s .inside))
-      ∙ same-source (source (capped (e .number)) (w + length (render x) - length u) (length u)) e (capped-low (e .number) (low x here (e .number) u t)) (sym p) (sym l) in
+      ∙ same-source (source (capped (e .number)) (w + length (render x) - length u) (length u)) e (capped-low (e .number) (low x here (e .number) u t)) (omega (arith, p)) (omega (arith, l)) in
       let ih = row-only r ss (λ y h. low y (there h)) in
       rw (eq-eqb (rowOfLine First x) 32 (t .row), q) (ap (λ (es : List Source). e ∷ es) ih)
 
