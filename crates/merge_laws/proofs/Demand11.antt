@@ -1,9 +1,8 @@
 -- Demand 11, by what there is to say of any two inputs and rows. Assumes nothing.
 use mathlib.Core.Path.{_≡_, refl, sym, ap, subst, _∙_}
-use mathlib.Core.Bool.{Bool, true, false}
-use mathlib.Core.List.{List, [], _∷_, _++_}
+use mathlib.Core.List.{List, [], _∷_}
 use mathlib.Core.Logic.{_⊎_, inl, inr}
-use Prim.Native.Nat.{ℕ, _+_, _*_, _/_, _<_, _≤_}
+use Prim.Native.Nat.{ℕ, _*_, _/_, _<_, _≤_}
 use native.Mathlib.Omega.{arith}
 use lib.Dec.{ltb}
 use lib.ListN.{length, take, drop}
@@ -23,10 +22,10 @@ use Rattle.merge.specs.declared.Paired.the-variants.{Pairs, Refused}
 use Rattle.merge.proofs.WriteLaws.{flatten-length}
 use Rattle.merge_words.specs.Lists.{Member}
 use Rattle.merge_words.specs.Lists.Member.{here, there}
-use Rattle.merge_laws.specs.Plans.{Passes}
 use Rattle.merge_laws.specs.Demand11.{Both, TooMuch, WrongRow, Ready, Passing, Proposed, Judged, Demand11}
 use Rattle.merge_laws.specs.Demand11.Judged.{first, second}
-use Rattle.merge_laws.proofs.Lists.{member-cons, member-none, Rises, rises-head, rises-tail}
+use Rattle.merge_words.proofs.Members.{member-cases, member-none}
+use Rattle.merge_laws.proofs.Lists.{Rises, rises-head, rises-tail}
 use Rattle.merge_laws.proofs.Pairing.{Refuses, judged-refuses, over-refuses, row-refuses, Fate, fate, View, view}
 use Rattle.merge_laws.proofs.Pairing.Fate.{none, some}
 use Rattle.merge_laws.proofs.Pairing.View.{judged, over, wrong, ready}
@@ -36,7 +35,7 @@ abbrev Sub : List Pair → List Pair → Type 0
 Sub ps qs = (q : Pair) → Member q ps → Member q qs
 
 heads-equal : (p q : Pair) (ps qs : List Pair) → Rises (p ∷ ps) → Rises (q ∷ qs) → Sub (p ∷ ps) (q ∷ qs) → Sub (q ∷ qs) (p ∷ ps) → p ≡ q
-heads-equal p q ps qs f g a b = go (member-cons (a p here)) (member-cons (b q here))
+heads-equal p q ps qs f g a b = go (member-cases (a p here)) (member-cases (b q here))
   where
     go : (p ≡ q) ⊎ Member p qs → (q ≡ p) ⊎ Member q ps → p ≡ q
     go (inl e) h = e
@@ -44,7 +43,7 @@ heads-equal p q ps qs f g a b = go (member-cons (a p here)) (member-cons (b q he
     go (inr h) (inr k) = absurd (omega (arith, rises-head q qs g p h, rises-head p ps f q k))
 
 tails-sub : (p : Pair) (ps qs : List Pair) → Rises (p ∷ ps) → Sub (p ∷ ps) (p ∷ qs) → Sub ps qs
-tails-sub p ps qs f a r h = go (member-cons (a r (there h)))
+tails-sub p ps qs f a r h = go (member-cases (a r (there h)))
   where
     go : (r ≡ p) ⊎ Member r qs → Member r qs
     go (inl e) = absurd (omega (arith, rises-head p ps f r h, ap (λ (z : Pair). z .left) e))
@@ -52,8 +51,8 @@ tails-sub p ps qs f a r h = go (member-cons (a r (there h)))
 
 rises-equal : (ps qs : List Pair) → Rises ps → Rises qs → Sub ps qs → Sub qs ps → ps ≡ qs
 rises-equal [] [] f g a b = refl
-rises-equal [] (q ∷ qs) f g a b = absurd (member-none (b q here))
-rises-equal (p ∷ ps) [] f g a b = absurd (member-none (a p here))
+rises-equal [] (q ∷ qs) f g a b = member-none (b q here) refl
+rises-equal (p ∷ ps) [] f g a b = member-none (a p here) refl
 rises-equal (p ∷ ps) (q ∷ qs) f g a b =
     let e : p ≡ q = heads-equal p q ps qs f g a b in
     let a′ : Sub (p ∷ ps) (p ∷ qs) = subst (λ (z : Pair). Sub (p ∷ ps) (z ∷ qs)) (sym e) a in

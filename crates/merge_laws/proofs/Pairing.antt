@@ -23,19 +23,17 @@ use Rattle.merge_sources.specs.declared.Source.{Source}
 use Rattle.merge_partners.specs.Pairs.{Pair, Joined, pairsFrom}
 use Rattle.merge.specs.Plans.{flatten, coversFrom}
 use Rattle.merge.specs.Sides.{Side, side, readOf, rowIn, isOver, Settled, settled, pairsOf, settleOf}
-use Rattle.merge.specs.Outcome.{Planned, planned, writeOf, planRows, planOutcome, planIn, judgeOf as checkBy, checkRows, checkOutcome}
-use Rattle.merge.specs.declared.Paired.{Paired}
+use Rattle.merge.specs.Outcome.{planned, writeOf, planRows, planOutcome, planIn, judgeOf as checkBy, checkRows, checkOutcome}
 use Rattle.merge.specs.declared.Paired.the-variants.{Pairs, Refused}
 use Rattle.merge.proofs.SettleLaws.{first-over, second-over, first-row, second-row, no-uids, settle-pairs}
 use Rattle.merge_words.specs.Sources.{RowOf, Over}
-use Rattle.merge_words.specs.Sides.{Held, SideOf, Sides}
+use Rattle.merge_words.specs.Sides.{Held, SideOf}
 use Rattle.merge_words.proofs.SideLaws.{sides-law}
-use Rattle.merge_laws.specs.Plans.{Passes}
-use Rattle.merge_laws.specs.Demand11.{Both, TooMuch, WrongRow, Ready, Passing, Proposed, Judged, Demand11}
+use Rattle.merge_laws.specs.Demand11.{Both, TooMuch, WrongRow, Ready, Passing, Proposed, Judged}
 use Rattle.merge_laws.specs.Demand11.Judged.{first, second}
 use Rattle.merge_laws.proofs.Walks.{from-rises}
 use Rattle.merge_laws.proofs.Lines.{Uids, uids-words, words-uids}
-use Rattle.merge_laws.proofs.Passing.{Zeros, Join, Enter, Plan, plan-demanded, demanded-plan, plan-passes, entered-passes, passes-joined, passes-entered, passes-covers}
+use Rattle.merge_laws.proofs.Passing.{Zeros, Join, Enter, plan-demanded, demanded-plan, plan-passes, entered-passes, passes-joined, passes-entered, passes-covers}
 
 -- a refusal of both, whatever the plan and the room
 pub record Refuses (i j : List ℕ) (m n : List Source) (a p : ℕ) : Type 0 where
@@ -86,6 +84,10 @@ module _ (i j : List ℕ) (m n : List Source) (b : Both i j) where
         plan = λ out. plan-both out ∙ ap (λ (s : Settled). writeOf s out) e;
       }
 
+  neither : isOver X (rowOf m) ≡ false → isOver Y (rowOf n) ≡ false → TooMuch b m n → ⊥
+  neither e f (inl x) = false≢true (sym e ∙ sx .over m .1 x)
+  neither e f (inr y) = false≢true (sym f ∙ sy .over n .1 y)
+
   -- 71
   pub over-refuses : TooMuch b m n → Refuses i j m n 71 0
   over-refuses o =
@@ -95,10 +97,6 @@ module _ (i j : List ℕ) (m n : List Source) (b : Both i j) where
       by (isOver Y (rowOf n))
       (λ f. settled-refuses 71 0 Zeros (second-over X Y (rowOf m) (rowOf n) Zeros e f))
       (λ f. absurd (neither e f o)))
-    where
-      neither : isOver X (rowOf m) ≡ false → isOver Y (rowOf n) ≡ false → TooMuch b m n → ⊥
-      neither e f (inl x) = false≢true (sym e ∙ sx .over m .1 x)
-      neither e f (inr y) = false≢true (sym f ∙ sy .over n .1 y)
 
   pub over-or : TooMuch b m n ⊎ (TooMuch b m n → ⊥)
   over-or =
@@ -108,10 +106,6 @@ module _ (i j : List ℕ) (m n : List Source) (b : Both i j) where
       by (isOver Y (rowOf n))
       (λ f. inl (inr (sy .over n .0 f)))
       (λ f. inr (neither e f)))
-    where
-      neither : isOver X (rowOf m) ≡ false → isOver Y (rowOf n) ≡ false → TooMuch b m n → ⊥
-      neither e f (inl x) = false≢true (sym e ∙ sx .over m .1 x)
-      neither e f (inr y) = false≢true (sym f ∙ sy .over n .1 y)
 
   module _ (within : TooMuch b m n → ⊥) where
     in-x : isOver X (rowOf m) ≡ false

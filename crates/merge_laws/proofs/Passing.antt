@@ -1,9 +1,9 @@
 -- A plan passes exactly where its pairs can be entered and cover the demanded ones; none does where these can't be joined; else they alone do. Assumes nothing.
-use mathlib.Core.Path.{_≡_, refl, sym, ap, subst, _∙_}
-use mathlib.Core.Bool.{Bool, true, false, false≢true}
-use mathlib.Core.List.{List, [], _∷_}
+use mathlib.Core.Path.{_≡_, refl, sym, ap, subst}
+use mathlib.Core.Bool.{true, false≢true}
+use mathlib.Core.List.{List}
 use mathlib.Core.Logic.{_⊎_, inl, inr}
-use Prim.Native.Nat.{ℕ, zero, suc, _+_, _/_, _<_, _≤_}
+use Prim.Native.Nat.{ℕ, _+_, _/_, _<_, _≤_}
 use native.Mathlib.Omega.{arith}
 use lib.Dec.{eqb, ltb}
 use lib.ListN.{length, getD, replicate, length-replicate, getD-replicate, List·getD-eq-default}
@@ -11,11 +11,11 @@ use borrow.Author.Tests.{ltb-true, ltb-false, eqb-true, eqb-false}
 use Rattle.octets.proofs.Bools.{by}
 use Rattle.line_parser.specs.Grammar.{Line}
 use Rattle.property_table.specs.declared.Edition.the-variants.{First}
-use Rattle.property_table.specs.Rows.{single, rowAt, isOnce}
+use Rattle.property_table.specs.Rows.{single, rowAt}
 use Rattle.card_line.specs.Parts.{rowOfLine}
 use Rattle.merge_sources.specs.Row.{rowOf}
 use Rattle.merge_sources.specs.declared.Source.{Source}
-use Rattle.merge_partners.specs.Pairs.{Pair, pair, Joined, joined, joinAll, firstOf, demandedPairs, pairsFrom}
+use Rattle.merge_partners.specs.Pairs.{Pair, pair, Joined, joined, joinAll, demandedPairs, pairsFrom}
 use Rattle.merge.specs.Plans.{flatten, enterAll, coversFrom}
 use Rattle.merge.specs.Sides.{Side, marksOf}
 use Rattle.merge_words.specs.Lists.{Member, At}
@@ -24,11 +24,12 @@ use Rattle.merge_laws.specs.Plans.{SameProperty, Demanded, FirstUid, Pas
 use Rattle.merge_laws.specs.Plans.SameProperty.{listed}
 use Rattle.merge_laws.specs.Plans.Demanded.{shared, alone}
 use Rattle.merge_words.specs.Sides.{Held, SideOf}
-use Rattle.merge_laws.proofs.Lists.{at-low, at-some, at-same, member-at, Once}
-use Rattle.merge_laws.proofs.Partners.{Two, Done}
-use Rattle.merge_laws.proofs.Joining.{Sound, joined-all, Apart, done-apart, Low, Half, apart-joins}
-use Rattle.merge_laws.proofs.Walks.{Of, from-member, member-from, from-rises, from-once, covers-true, covers-all}
-use Rattle.merge_laws.proofs.Entering.{Fits, Entered, entered-all, enter-each, enter-even}
+use Rattle.merge_words.proofs.Members.{at-below, member-at}
+use Rattle.merge_laws.proofs.Lists.{at-some, at-same}
+use Rattle.merge_laws.proofs.Partners.{Done}
+use Rattle.merge_laws.proofs.Joining.{Sound, joined-all, Apart, Low, apart-joins}
+use Rattle.merge_laws.proofs.Walks.{from-member, member-from, from-once, covers-true, covers-all}
+use Rattle.merge_laws.proofs.Entering.{Fits, entered-all, enter-each, enter-even}
 use Rattle.merge_laws.proofs.Lines.{same-property}
 use Rattle.merge_laws.proofs.Demanded.{pairs-demanded, demanded-pairs}
 
@@ -94,7 +95,7 @@ module _ (X Y : Side) (xs ys : List Line) (sx : SideOf X xs) (sy : SideOf Y ys) 
   lines-low : (i j : ℕ) → Demanded xs ys i j → (i < 4096) × (j < 4096)
   lines-low i j d =
       let l = demanded-lines xs ys i j d in
-      (omega (arith, at-low (l .at), sx .few), omega (arith, at-low (l .at-too), sy .few))
+      (omega (arith, at-below (l .at), sx .few), omega (arith, at-below (l .at-too), sy .few))
 
   module _ (ok : Join .ok ≡ true) where
     done : Done All Zeros Join
@@ -177,7 +178,7 @@ module _ (X Y : Side) (xs ys : List Line) (sx : SideOf X xs) (sy : SideOf Y ys) 
           uid-second = g;
           pairs = Plan ok;
           flat = refl;
-          lines = λ q h. let l = demanded-lines xs ys (q .left) (q .right) (plan-demanded ok q h) in (at-low (l .at), at-low (l .at-too));
+          lines = λ q h. let l = demanded-lines xs ys (q .left) (q .right) (plan-demanded ok q h) in (at-below (l .at), at-below (l .at-too));
           once = from-once (Join .first) (Join .second) (done ok .two) 4096 0;
           property = λ q x y h a b. same q x y a b (demanded-lines xs ys (q .left) (q .right) (plan-demanded ok q h));
           demanded = demanded-plan ok;

@@ -7,7 +7,6 @@ use mathlib.Core.Logic.{_⊎_, _↔_}
 use lib.ListN.{length, take}
 use Rattle.numbers.specs.Refusals as refusal
 use Rattle.octets.specs.Room.{overlay}
-use Rattle.line_parser.specs.Grammar.{Line}
 use Rattle.reader_grammar.specs.Inputs.{InputOf}
 use Rattle.reader_grammar.specs.Refusals.{RefusedBy, Judging}
 use Rattle.merge_sources.specs.declared.Source.{Source}
