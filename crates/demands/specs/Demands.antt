@@ -28,7 +28,7 @@ pub record Demands : Type 0 where
   pub dated : Demand4
   pub named : Demand5
   pub watched : Demand6
-  pub merged : Demand11
+  pub paired : Demand11
   pub extended : Demand13
   pub granted : Granted
   pub replays : Replays
