@@ -1,14 +1,14 @@
 -- The demanded pairs that are computed are the demanded pairs. Assumes nothing.
 use mathlib.Core.Path.{_≡_, refl, sym, ap, subst, _∙_}
-use mathlib.Core.Bool.{Bool, true, false, false≢true, true≢false}
+use mathlib.Core.Bool.{Bool, true, false}
 use mathlib.Core.List.{List, [], _∷_, _++_}
 use mathlib.Core.Logic.{_⊎_, inl, inr}
 use Prim.Native.Nat.{ℕ, zero, suc, _+_, _/_, _<_, _≤_, min}
 use native.Mathlib.Omega.{arith}
 use lib.Dec.{eqb, ltb}
-use lib.ListN.{length, getD, take, replicate, length-take, length-replicate}
+use lib.ListN.{length, getD, replicate, length-take, length-replicate}
 use lib.Seq.{getD-take}
-use borrow.Author.Tests.{ltb-true, ltb-false, lt-ltb, le-ltb, eqb-true, eqb-false, eq-eqb, ne-eqb}
+use borrow.Author.Tests.{ltb-true, ltb-false, eqb-true, eqb-false, eq-eqb, ne-eqb}
 use Rattle.octets.specs.Pick.{pick}
 use Rattle.octets.proofs.Bools.{by}
 use Rattle.line_parser.specs.Grammar.{Line}
@@ -21,22 +21,24 @@ use Rattle.reader_grammar.proofs.Flags.{once-some}
 use Rattle.merge_sources.specs.Row.{rowOf}
 use Rattle.merge_sources.specs.declared.Source.{Source}
 use Rattle.merge_sources.specs.declared.Row.{Row}
-use Rattle.merge_pids.specs.Marks.{Mark, mark}
+use Rattle.merge_pids.specs.Marks.{mark}
 use Rattle.merge_sides.specs.Lines.{sameProperty, firstLine, countLines}
 use Rattle.merge_partners.specs.Keys.{setsFrom, classesOf, classBy, noKey, keyBy, keyOf, numberAt, keyAt}
 use Rattle.merge_partners.specs.Pairs.{Pair, pair, hitPair, keyPair, hitPairs, markPairs, sharedPairs, rowPairs, singlePairs, keysOf, demandedPairs}
-use Rattle.merge.specs.Sides.{Side, marksOf, isOver}
+use Rattle.merge.specs.Sides.{Side, marksOf}
 use Rattle.merge_words.specs.Lists.{Member, At}
 use Rattle.merge_words.specs.Lists.Member.{here, there}
 use Rattle.merge_words.specs.Pids.{PidOf}
-use Rattle.merge_words.specs.Sources.{Leads, Over}
+use Rattle.merge_words.specs.Sources.{Over}
 use Rattle.merge_words.specs.Sources.Over.{entries, first as over-first, source as over-source}
-use Rattle.merge_words.specs.Plans.{SameProperty, Shares, Demanded}
-use Rattle.merge_words.specs.Plans.Demanded.{shared, alone}
-use Rattle.merge_words.specs.Sides.{capped, MarkOf, MarksOf, Held, SideOf}
-use Rattle.merge_laws.proofs.Lists.{at-low, at-some, at-same, at-member, member-at, member-cons, member-none, in-left, in-right, in-either}
-use Rattle.merge_laws.proofs.Lines.{same-property, Leading, leading-at, leading-row, only-leads, one-leads, side-count, side-line}
-use Rattle.merge_laws.proofs.Keys.{sets-at, sets-length, Global, keys-global, global-keys}
+use Rattle.merge_laws.specs.Plans.{SameProperty, Shares, Demanded}
+use Rattle.merge_laws.specs.Plans.Demanded.{shared, alone}
+use Rattle.merge_words.specs.Sides.{capped, MarkOf, Held, SideOf}
+use Rattle.merge_words.proofs.NumberLaws.{capped-low}
+use Rattle.merge_words.proofs.Members.{at-below, at-member, member-at, member-cases, member-none, member-left, member-right, member-append}
+use Rattle.merge_laws.proofs.Lists.{at-some}
+use Rattle.merge_laws.proofs.Lines.{same-property, leading-at, leading-row, only-leads, one-leads, side-count, side-line}
+use Rattle.merge_laws.proofs.Keys.{sets-at, sets-length, keys-global, global-keys}
 
 -- lists one after the other, from k on
 walk : (ℕ → List Pair) → ℕ → ℕ → List Pair
@@ -52,8 +54,8 @@ pub record Within (f : ℕ → List Pair) (k n : ℕ) (q : Pair) : Type 0 where
 module _ (f : ℕ → List Pair) (q : Pair) where
   walk-in : (n k : ℕ) → Member q (walk f k n) → Within f k n q
   unfolding walk
-  walk-in zero k m = absurd (member-none m)
-  walk-in (suc n) k m = go (in-either (f k) (walk f (k + 1) n) m) (walk-in n (k + 1))
+  walk-in zero k m = member-none m refl
+  walk-in (suc n) k m = go (member-append (f k) (walk f (k + 1) n) m) (walk-in n (k + 1))
     where
       go : Member q (f k) ⊎ Member q (walk f (k + 1) n) → (Member q (walk f (k + 1) n) → Within f (k + 1) n q) → Within f k (suc n) q
       go (inl h) r = record { place = k; from = omega arith; below = omega arith; has = h }
@@ -66,25 +68,25 @@ module _ (f : ℕ → List Pair) (q : Pair) where
   in-walk zero k w = absurd (omega (arith, w .from, w .below))
   in-walk (suc n) k w =
       by (eqb k (w .place))
-      (λ e. in-left (walk f (k + 1) n) (subst (λ (j : ℕ). Member q (f j)) (sym (eqb-true k (w .place) e)) (w .has)))
+      (λ e. member-left (subst (λ (j : ℕ). Member q (f j)) (sym (eqb-true k (w .place) e)) (w .has)) (walk f (k + 1) n))
       (λ e.
       let d = eqb-false k (w .place) e in
-      in-right (f k) (in-walk n (k + 1) (record { place = w .place; from = omega (arith, w .from, d); below = omega (arith, w .below); has = w .has })))
+      member-right (f k) (in-walk n (k + 1) (record { place = w .place; from = omega (arith, w .from, d); below = omega (arith, w .below); has = w .has })))
 
 pick-some : (b : Bool) (l : List Pair) (q : Pair) → Member q (pick b l []) → (b ≡ true) × Member q l
 pick-some true l q m = (refl, m)
-pick-some false l q m = absurd (member-none m)
+pick-some false l q m = member-none m refl
 
 pick-left : (b : Bool) (l : List Pair) (q : Pair) → Member q (pick b [] l) → (b ≡ false) × Member q l
-pick-left true l q m = absurd (member-none m)
+pick-left true l q m = member-none m refl
 pick-left false l q m = (refl, m)
 
 only-one : (q r : Pair) → Member q (r ∷ []) → q ≡ r
-only-one q r m = go (member-cons m)
+only-one q r m = go (member-cases m)
   where
     go : (q ≡ r) ⊎ Member q [] → q ≡ r
     go (inl e) = e
-    go (inr n) = absurd (member-none n)
+    go (inr n) = member-none n refl
 
 -- a hit of a mark of the first card among the keys of the second
 module _ (ca ra : List ℕ) (i key : ℕ) (cb rb marks keys : List ℕ) where
@@ -232,9 +234,6 @@ module _ (s : Side) (xs : List Line) (so : SideOf s xs) (m : List Source) (insid
   source-low : {x : Line} {p q : ℕ} → Member x xs → PidOf x p q → q ≤ 65535
   source-low {q = q} h g = by (ltb 65535 q) (λ e. absurd (inside (over-source h g (ltb-true 65535 q e)))) (λ e. ltb-false 65535 q e)
 
-  capped-is : (n : ℕ) → n ≤ 65535 → capped n ≡ n
-  capped-is n h = rw (le-ltb 65535 n h)
-
   -- the mark k is of a line
   pub record MarkAt (k : ℕ) : Type 0 where
     pub line : Line
@@ -247,9 +246,9 @@ module _ (s : Side) (xs : List Line) (so : SideOf s xs) (m : List Source) (insid
       let o : MarkOf xs (z .0) = so .marked .each (z .0) (at-member (z .1)) in
       let a : numberAt Room k 0 ≡ z .0 .line = so .marked .lines k (z .0) (z .1) in
       let b : numberAt Room k 1 ≡ o .first =
-      so .marked .firsts k (z .0) (z .1) ∙ o .first-is ∙ capped-is (o .first) (first-low (at-member (o .at)) (o .pid)) in
+      so .marked .firsts k (z .0) (z .1) ∙ o .first-is ∙ capped-low (o .first) (first-low (at-member (o .at)) (o .pid)) in
       let c : numberAt Room k 2 ≡ o .source =
-      so .marked .sources k (z .0) (z .1) ∙ o .source-is ∙ capped-is (o .source) (source-low (at-member (o .at)) (o .pid)) in
+      so .marked .sources k (z .0) (z .1) ∙ o .source-is ∙ capped-low (o .source) (source-low (at-member (o .at)) (o .pid)) in
       record {
         line = o .line;
         at = subst (λ (i : ℕ). At xs i (o .line)) (sym a) (o .at);
@@ -271,10 +270,10 @@ module _ (s : Side) (xs : List Line) (so : SideOf s xs) (m : List Source) (insid
       let a = first-low (at-member h) g in
       record {
         place = z .0;
-        below = omega (arith, at-low (z .1), so .marked .many);
+        below = omega (arith, at-below (z .1), so .marked .many);
         line = so .marked .lines (z .0) (mark i (capped p) (capped q)) (z .1);
-        first = so .marked .firsts (z .0) (mark i (capped p) (capped q)) (z .1) ∙ capped-is p a;
-        source = so .marked .sources (z .0) (mark i (capped p) (capped q)) (z .1) ∙ capped-is q (source-low (at-member h) g);
+        first = so .marked .firsts (z .0) (mark i (capped p) (capped q)) (z .1) ∙ capped-low p a;
+        source = so .marked .sources (z .0) (mark i (capped p) (capped q)) (z .1) ∙ capped-low q (source-low (at-member h) g);
         low = a;
       }
 
@@ -370,7 +369,7 @@ module _ (X Y : Side) (xs ys : List Line) (sx : SideOf X xs) (sy : SideOf Y ys) 
   -- a computed pair is demanded,
   pub pairs-demanded : (q : Pair) → Member q All → Demanded xs ys (q .left) (q .right)
   unfolding demandedPairs
-  pairs-demanded q h = go (in-either (sharedPairs (X .copy) (X .records) FX (rowOf m) CX (Y .copy) (Y .records) FY Keys 0 KX) (singlePairs (X .records) (X .lines) (Y .records) (Y .lines) 0 39) h)
+  pairs-demanded q h = go (member-append (sharedPairs (X .copy) (X .records) FX (rowOf m) CX (Y .copy) (Y .records) FY Keys 0 KX) (singlePairs (X .records) (X .lines) (Y .records) (Y .lines) 0 39) h)
     where
       go : Member q (sharedPairs (X .copy) (X .records) FX (rowOf m) CX (Y .copy) (Y .records) FY Keys 0 KX) ⊎ Member q (singlePairs (X .records) (X .lines) (Y .records) (Y .lines) 0 39)
           → Demanded xs ys (q .left) (q .right)
@@ -425,8 +424,8 @@ module _ (X Y : Side) (xs ys : List Line) (sx : SideOf X xs) (sy : SideOf Y ys) 
   unfolding demandedPairs
   demanded-pairs i j (shared {x = x} {y = y} hx hy w sh) =
       let z = demanded-hit i j x y hx hy w sh in
-      in-left (singlePairs (X .records) (X .lines) (Y .records) (Y .lines) 0 39)
-      (in-shared (X .copy) (X .records) FX (rowOf m) CX (Y .copy) (Y .records) FY Keys (pair i j) KX (z .0) (z .1) (z .2))
+      member-left (in-shared (X .copy) (X .records) FX (rowOf m) CX (Y .copy) (Y .records) FY Keys (pair i j) KX (z .0) (z .1) (z .2))
+      (singlePairs (X .records) (X .lines) (Y .records) (Y .lines) 0 39)
   demanded-pairs i j (alone {x = x} {y = y} hx hy s e cx cy) =
-      in-right (sharedPairs (X .copy) (X .records) FX (rowOf m) CX (Y .copy) (Y .records) FY Keys 0 KX)
+      member-right (sharedPairs (X .copy) (X .records) FX (rowOf m) CX (Y .copy) (Y .records) FY Keys 0 KX)
       (in-single (X .records) (X .lines) (Y .records) (Y .lines) (pair i j) (demanded-lone i j x y hx hy s e cx cy))

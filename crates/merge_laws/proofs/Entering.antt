@@ -3,10 +3,10 @@ use mathlib.Core.Path.{_≡_, refl, sym, ap, subst, _∙_}
 use mathlib.Core.Bool.{Bool, true, false, false≢true}
 use mathlib.Core.List.{List, [], _∷_}
 use mathlib.Core.Logic.{_⊎_, inl, inr}
-use Prim.Native.Nat.{ℕ, zero, suc, _+_, _-_, _<_, _≤_}
+use Prim.Native.Nat.{ℕ, _+_, _<_}
 use native.Mathlib.Omega.{arith}
 use lib.Dec.{eqb, ltb}
-use lib.ListN.{length, getD, set}
+use lib.ListN.{getD, set}
 use borrow.Author.Tests.{ltb-true, lt-ltb, eqb-true, eq-eqb}
 use Rattle.octets.proofs.Bools.{by}
 use Rattle.merge_sides.specs.Lines.{sameProperty}
@@ -15,7 +15,8 @@ use Rattle.merge.specs.Plans.{flatten, enterTo, enterStep, enterAll}
 use Rattle.merge.proofs.EnterLaws.{enter-stopped}
 use Rattle.merge_words.specs.Lists.{Member}
 use Rattle.merge_words.specs.Lists.Member.{here, there}
-use Rattle.merge_laws.proofs.Lists.{member-cons, member-none, Once, Away, once-none, once-cons, once-head, once-tail}
+use Rattle.merge_words.proofs.Members.{member-cases, member-none}
+use Rattle.merge_laws.proofs.Lists.{Once, Away, once-none, once-cons, once-head, once-tail}
 use Rattle.merge_laws.proofs.Partners.{put-new, put-other, Free, Done, done-none, done-new}
 use Rattle.merge_laws.proofs.Joining.{pick-ok, Sound, free-of, sound-new}
 
@@ -91,7 +92,7 @@ module _ (ca ra : List ℕ) (na : ℕ) (cb rb : List ℕ) (nb : ℕ) where
         )
 
     fresh-cons : Away q qs → Fresh qs (P p t q) (T p t q) → Fresh (q ∷ qs) p t
-    fresh-cons a f r m = go (member-cons m)
+    fresh-cons a f r m = go (member-cases m)
       where
         go : (r ≡ q) ⊎ Member r qs → (getD p (r .left) 0 ≡ 0) × (getD t (r .right) 0 ≡ 0)
         go (inl e) = subst (λ (z : Pair). (getD p (z .left) 0 ≡ 0) × (getD t (z .right) 0 ≡ 0)) (sym e) (free .none, free .none-too)
@@ -105,7 +106,7 @@ module _ (ca ra : List ℕ) (na : ℕ) (cb rb : List ℕ) (nb : ℕ) where
         (z .0 ∙ f r (there m) .0, z .1 ∙ f r (there m) .1)
 
     each-cons : Fits q → Each qs → Each (q ∷ qs)
-    each-cons f e r m = go (member-cons m)
+    each-cons f e r m = go (member-cases m)
       where
         go : (r ≡ q) ⊎ Member r qs → Fits r
         go (inl g) = subst Fits (sym g) f
@@ -140,7 +141,7 @@ module _ (ca ra : List ℕ) (na : ℕ) (cb rb : List ℕ) (nb : ℕ) where
 
   pub entered-all : (qs : List Pair) (p t : List ℕ) → Sound p t → All (joined true p t) (flatten qs) .ok ≡ true → Entered qs p t (All (joined true p t) (flatten qs))
   unfolding enterAll flatten
-  entered-all [] p t s e = record { done = done-none p t (s .two); each = λ q m. absurd (member-none m); once = once-none; fresh = λ q m. absurd (member-none m) }
+  entered-all [] p t s e = record { done = done-none p t (s .two); each = λ q m. member-none m refl; once = once-none; fresh = λ q m. member-none m refl }
   entered-all (q ∷ qs) p t s e = entered-step q qs p t s (entered-all qs) e
 
   -- pairs that may stand in a plan are entered

@@ -1,27 +1,26 @@
 -- Two keys are equal exactly where the first numbers are and the source numbers lead to one URI. Assumes nothing.
 use mathlib.Core.Path.{_≡_, refl, sym, ap, subst, _∙_}
-use mathlib.Core.Bool.{Bool, true, false, false≢true}
-use mathlib.Core.List.{List, [], _∷_, _++_}
-use Prim.Native.Nat.{ℕ, zero, suc, _+_, _*_, _<_, _≤_, min}
+use mathlib.Core.Bool.{true, false≢true}
+use mathlib.Core.List.{List}
+use Prim.Native.Nat.{ℕ, zero, suc, _+_, _*_, _<_, _≤_}
 use native.Mathlib.Omega.{arith}
 use lib.Dec.{eqb, ltb}
-use lib.ListN.{length, getD, set, take, replicate, length-set, length-replicate, length-take}
-use lib.Seq.{getD-set-same, getD-set-other, getD-take}
+use lib.ListN.{length, getD, set, replicate, length-set}
+use lib.Seq.{getD-set-same, getD-set-other}
 use borrow.Author.Tests.{ltb-true, ltb-false, lt-ltb, le-ltb, eqb-true, eqb-false}
-use Rattle.octets.specs.Pick.{pick}
-use Rattle.octets.proofs.Bools.{by, clash}
+use Rattle.octets.proofs.Bools.{by}
 use Rattle.line_parser.specs.Grammar.{Line}
-use Rattle.merge_sources.specs.Row.{none, rowOf, least, firstIn}
+use Rattle.merge_sources.specs.Row.{none, rowOf, firstIn}
 use Rattle.merge_sources.specs.declared.Source.{Source}
 use Rattle.merge_sources.specs.declared.Row.{Row}
 use Rattle.merge_sources.specs.declared.Found.{Found}
 use Rattle.merge_sources.specs.declared.Found.the-variants.{At, Nothing}
 use Rattle.merge_sides.specs.Lines.{sameOctets}
-use Rattle.merge_partners.specs.Keys.{setsFrom, uriOf, classFrom, classOf, classAt, classesOf, classIn, classBy, noKey, keyBy}
+use Rattle.merge_partners.specs.Keys.{setsFrom, uriOf, classFrom, classOf, classAt, classesOf, classBy, noKey, keyBy}
 use Rattle.merge_words.specs.Sources.{Leads}
 use Rattle.merge_words.specs.Sides.{Held}
 use Rattle.merge_laws.proofs.Lines.{octets-equal, octets-same}
-use Rattle.merge_laws.proofs.Sources.{Rowed, FoundAt, leads-found, LeadsAt, found-leads, row-entries, row-count, least-is}
+use Rattle.merge_laws.proofs.Sources.{leads-found, found-leads, row-entries, row-count, least-is}
 
 -- elements that became what f says
 module _ (f : ℕ → ℕ) where

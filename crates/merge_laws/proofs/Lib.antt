@@ -9,3 +9,5 @@ pub mod Sources
 pub mod Keys
 pub mod Demanded
 pub mod Passing
+pub mod Pairing
+pub mod Demand11

@@ -8,24 +8,24 @@ use native.Mathlib.Omega.{arith}
 use lib.Dec.{eqb, ltb}
 use lib.ListN.{length, getD}
 use lib.Seq.{ext-getD}
-use borrow.Author.Tests.{ltb-true, ltb-false, lt-ltb, le-ltb, eqb-true, eqb-false, eq-eqb, ne-eqb}
+use borrow.Author.Tests.{ltb-true, lt-ltb, eqb-true, eqb-false, eq-eqb, ne-eqb}
 use Rattle.octets.specs.Pick.{pick}
 use Rattle.octets.specs.Cases.{same}
 use Rattle.octets.proofs.Bools.{by}
 use Rattle.line_parser.specs.Grammar.{Line}
 use Rattle.property_table.specs.declared.Edition.the-variants.{First}
 use Rattle.card_line.specs.Parts.{rowOfLine}
-use Rattle.reader_grammar.specs.Cards.{counts, count, ofRow, linesOf}
-use Rattle.merge_sides.specs.Lines.{fieldAt, nameAt, valueAt, sameFrom, sameOctets, sameProperty, firstLine, one, countLines}
+use Rattle.reader_grammar.specs.Cards.{counts, count, linesOf}
+use Rattle.merge_sides.specs.Lines.{fieldAt, valueAt, sameFrom, sameOctets, sameProperty, firstLine, one, countLines}
 use Rattle.merge_partners.specs.Pairs.{sameUids}
 use Rattle.merge.specs.Sides.{Side}
-use Rattle.merge_words.specs.Lists.{Member, At}
+use Rattle.merge_words.specs.Lists.{At}
 use Rattle.merge_words.specs.Lists.At.{first, later}
-use Rattle.merge_words.specs.Plans.{SameProperty, FirstUid}
-use Rattle.merge_words.specs.Plans.SameProperty.{listed, unlisted}
-use Rattle.merge_words.specs.Plans.FirstUid.{uid, past}
+use Rattle.merge_laws.specs.Plans.{SameProperty, FirstUid}
+use Rattle.merge_laws.specs.Plans.SameProperty.{listed, unlisted}
+use Rattle.merge_laws.specs.Plans.FirstUid.{uid, past}
 use Rattle.merge_words.specs.Sides.{SideOf}
-use Rattle.merge_laws.proofs.Lists.{at-low, at-same}
+use Rattle.merge_words.proofs.Members.{at-below}
 
 pub pick-and : (a b : Bool) → pick a b false ≡ true → (a ≡ true) × (b ≡ true)
 pick-and true b e = (refl, e)
@@ -188,7 +188,7 @@ module _ (s : Side) (xs : List Line) (so : SideOf s xs) where
       at-line (s .records) row xs 0 tells (omega (arith, h, so .count, ap (firstLine (s .records) row 0) (so .count)))
 
   pub side-low : (n : ℕ) (x : Line) → At xs n x → n < s .lines
-  side-low n x h = omega (arith, at-low h, so .count)
+  side-low n x h = omega (arith, at-below h, so .count)
 
 -- both cards have a UID line and the first ones have the same value
 module _ (X Y : Side) (xs ys : List Line) (sx : SideOf X xs) (sy : SideOf Y ys) where

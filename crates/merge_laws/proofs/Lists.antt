@@ -1,20 +1,16 @@
 -- Places and members of lists. Assumes nothing.
 use mathlib.Core.Path.{_≡_, refl, sym, ap, subst, _∙_}
-use mathlib.Core.List.{List, [], _∷_, _++_}
-use mathlib.Core.Logic.{_⊎_, inl, inr}
-use Prim.Native.Nat.{ℕ, zero, suc, _+_, _<_, _≤_}
+use mathlib.Core.List.{List, [], _∷_}
+use Prim.Native.Nat.{ℕ, zero, suc, _<_}
 use native.Mathlib.Omega.{arith}
 use lib.ListN.{length}
 use Rattle.merge_partners.specs.Pairs.{Pair, pair}
 use Rattle.merge_words.specs.Lists.{Member, At}
-use Rattle.merge_words.specs.Lists.Member.{here, there}
+use Rattle.merge_words.specs.Lists.Member.{here}
 use Rattle.merge_words.specs.Lists.At.{first, later}
+use Rattle.merge_words.proofs.Members.{at-member, member-at, at-below}
 
 module _ {A : Type 0} where
-  pub at-low : {xs : List A} {i : ℕ} {x : A} → At xs i x → i < length xs
-  at-low first = omega arith
-  at-low (later h) = omega (arith, at-low h)
-
   pub at-some : (xs : List A) (i : ℕ) → i < length xs → (x : A) × At xs i x
   at-some [] i h = absurd (omega arith)
   at-some (x ∷ xs) zero h = (x, first)
@@ -25,44 +21,6 @@ module _ {A : Type 0} where
   pub at-same : {xs : List A} {i : ℕ} {x y : A} → At xs i x → At xs i y → x ≡ y
   at-same first first = refl
   at-same (later h) (later k) = at-same h k
-
-  pub at-member : {xs : List A} {i : ℕ} {x : A} → At xs i x → Member x xs
-  at-member first = here
-  at-member (later h) = there (at-member h)
-
-  pub member-at : {xs : List A} {x : A} → Member x xs → (i : ℕ) × At xs i x
-  member-at here = (0, first)
-  member-at (there h) =
-      let r = member-at h in
-      (suc (r .0), later (r .1))
-
-  pub member-cons : {a x : A} {xs : List A} → Member a (x ∷ xs) → (a ≡ x) ⊎ Member a xs
-  member-cons here = inl refl
-  member-cons (there h) = inr h
-
-  some-length : {a : A} {xs : List A} → Member a xs → 1 ≤ length xs
-  some-length here = omega arith
-  some-length (there h) = omega arith
-
-  pub member-none : {a : A} → Member a [] → ⊥
-  member-none h = omega (arith, some-length h)
-
-  pub in-left : {a : A} {xs : List A} (ys : List A) → Member a xs → Member a (xs ++ ys)
-  in-left ys here = here
-  in-left ys (there h) = there (in-left ys h)
-
-  pub in-right : {a : A} (xs : List A) {ys : List A} → Member a ys → Member a (xs ++ ys)
-  in-right [] h = h
-  in-right (x ∷ xs) h = there (in-right xs h)
-
-  pub in-either : {a : A} (xs ys : List A) → Member a (xs ++ ys) → Member a xs ⊎ Member a ys
-  in-either [] ys h = inr h
-  in-either (x ∷ xs) ys here = inl here
-  in-either {a} (x ∷ xs) ys (there h) = next (in-either xs ys h)
-    where
-      next : Member a xs ⊎ Member a ys → Member a (x ∷ xs) ⊎ Member a ys
-      next (inl m) = inl (there m)
-      next (inr m) = inr m
 
 pub pair-is : (q : Pair) (i j : ℕ) → q .left ≡ i → q .right ≡ j → q ≡ pair i j
 pair-is q i j e f = ap (λ (a : ℕ). pair a (q .right)) e ∙ ap (pair i) f
@@ -79,7 +37,7 @@ abbrev pub Away : Pair → List Pair → Type 0
 Away q ps = (r : Pair) → Member r ps → (q .left ≡ r .left → ⊥) × (q .right ≡ r .right → ⊥)
 
 pub once-none : Once []
-once-none m n q r h k d = absurd (omega (arith, at-low h))
+once-none m n q r h k d = absurd (omega (arith, at-below h))
 
 pub once-cons : (p : Pair) (ps : List Pair) → Away p ps → Once ps → Once (p ∷ ps)
 once-cons p ps a o m n q r first first d = absurd (d refl)
@@ -102,10 +60,18 @@ abbrev pub Rises : List Pair → Type 0
 Rises ps = (m n : ℕ) (q r : Pair) → At ps m q → At ps n r → m < n → q .left < r .left
 
 pub rises-none : Rises []
-rises-none m n q r h k d = absurd (omega (arith, at-low h))
+rises-none m n q r h k d = absurd (omega (arith, at-below h))
 
 pub rises-cons : (p : Pair) (ps : List Pair) → ((r : Pair) → Member r ps → p .left < r .left) → Rises ps → Rises (p ∷ ps)
 rises-cons p ps a o m n q r first first d = absurd (omega arith)
 rises-cons p ps a o m n q r first (later k) d = a r (at-member k)
 rises-cons p ps a o m n q r (later h) first d = absurd (omega arith)
 rises-cons p ps a o m n q r (later {i = i} h) (later {i = j} k) d = o i j q r h k (omega arith)
+
+pub rises-head : (p : Pair) (ps : List Pair) → Rises (p ∷ ps) → (r : Pair) → Member r ps → p .left < r .left
+rises-head p ps o r h =
+    let k = member-at h in
+    o 0 (suc (k .0)) p r first (later (k .1)) (omega arith)
+
+pub rises-tail : (p : Pair) (ps : List Pair) → Rises (p ∷ ps) → Rises ps
+rises-tail p ps o m n q r h k d = o (suc m) (suc n) q r (later h) (later k) (omega arith)

@@ -1,9 +1,9 @@
 -- Lists of partners, counted from 1, 0 for none: two lists that agree, and one pair more. Assumes nothing.
 use mathlib.Core.Path.{_≡_, refl, sym, ap, subst, _∙_}
-use mathlib.Core.Bool.{Bool, true, false}
+use mathlib.Core.Bool.{true}
 use mathlib.Core.List.{List, [], _∷_}
-use mathlib.Core.Logic.{_⊎_, inl, inr, _↔_}
-use Prim.Native.Nat.{ℕ, zero, suc, _+_, _<_, _≤_}
+use mathlib.Core.Logic.{_⊎_, inl, inr}
+use Prim.Native.Nat.{ℕ, _+_, _<_}
 use native.Mathlib.Omega.{arith}
 use lib.Dec.{eqb}
 use lib.ListN.{length, getD, set}
@@ -12,8 +12,9 @@ use borrow.Author.Tests.{eqb-true, eqb-false}
 use Rattle.octets.proofs.Bools.{by}
 use Rattle.merge_partners.specs.Pairs.{Pair, pair, Joined, joined}
 use Rattle.merge_words.specs.Lists.{Member}
-use Rattle.merge_words.specs.Lists.Member.{here, there}
-use Rattle.merge_laws.proofs.Lists.{member-cons, member-none, head-is}
+use Rattle.merge_words.specs.Lists.Member.{there}
+use Rattle.merge_words.proofs.Members.{member-cases, member-none}
+use Rattle.merge_laws.proofs.Lists.{head-is}
 
 -- a number put where there is none
 module _ (l : List ℕ) (i v : ℕ) (low : i < length l) (free : getD l i 0 ≡ 0) where
@@ -72,11 +73,11 @@ pub record Done (qs : List Pair) (p : List ℕ) (s : Joined) : Type 0 where
   pub only : (i j : ℕ) → getD (s .first) i 0 ≡ j + 1 → Member (pair i j) qs ⊎ (getD p i 0 ≡ j + 1)
 
 pub done-none : (p t : List ℕ) → Two p t → Done [] p (joined true p t)
-done-none p t two = record { two = two; took = λ i j m. absurd (member-none m); kept = λ i j e. e; only = λ i j e. inr e }
+done-none p t two = record { two = two; took = λ i j m. member-none m refl; kept = λ i j e. e; only = λ i j e. inr e }
 
 took-cons : (q : Pair) (qs : List Pair) (s : Joined) → getD (s .first) (q .left) 0 ≡ q .right + 1 → ((i j : ℕ) → Member (pair i j) qs → getD (s .first) i 0 ≡ j + 1)
     → (i j : ℕ) → Member (pair i j) (q ∷ qs) → getD (s .first) i 0 ≡ j + 1
-took-cons q qs s h f i j m = go (member-cons m)
+took-cons q qs s h f i j m = go (member-cases m)
   where
     go : (pair i j ≡ q) ⊎ Member (pair i j) qs → getD (s .first) i 0 ≡ j + 1
     go (inl e) = subst (λ (z : Pair). getD (s .first) (z .left) 0 ≡ z .right + 1) (sym e) h

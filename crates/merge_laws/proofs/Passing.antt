@@ -1,9 +1,9 @@
 -- A plan passes exactly where its pairs can be entered and cover the demanded ones; none does where these can't be joined; else they alone do. Assumes nothing.
-use mathlib.Core.Path.{_≡_, refl, sym, ap, subst, _∙_}
-use mathlib.Core.Bool.{Bool, true, false, false≢true}
-use mathlib.Core.List.{List, [], _∷_}
+use mathlib.Core.Path.{_≡_, refl, sym, ap, subst}
+use mathlib.Core.Bool.{true, false≢true}
+use mathlib.Core.List.{List}
 use mathlib.Core.Logic.{_⊎_, inl, inr}
-use Prim.Native.Nat.{ℕ, zero, suc, _+_, _/_, _<_, _≤_}
+use Prim.Native.Nat.{ℕ, _+_, _/_, _<_, _≤_}
 use native.Mathlib.Omega.{arith}
 use lib.Dec.{eqb, ltb}
 use lib.ListN.{length, getD, replicate, length-replicate, getD-replicate, List·getD-eq-default}
@@ -11,24 +11,25 @@ use borrow.Author.Tests.{ltb-true, ltb-false, eqb-true, eqb-false}
 use Rattle.octets.proofs.Bools.{by}
 use Rattle.line_parser.specs.Grammar.{Line}
 use Rattle.property_table.specs.declared.Edition.the-variants.{First}
-use Rattle.property_table.specs.Rows.{single, rowAt, isOnce}
+use Rattle.property_table.specs.Rows.{single, rowAt}
 use Rattle.card_line.specs.Parts.{rowOfLine}
 use Rattle.merge_sources.specs.Row.{rowOf}
 use Rattle.merge_sources.specs.declared.Source.{Source}
-use Rattle.merge_partners.specs.Pairs.{Pair, pair, Joined, joined, joinAll, firstOf, demandedPairs, pairsFrom}
+use Rattle.merge_partners.specs.Pairs.{Pair, pair, Joined, joined, joinAll, demandedPairs, pairsFrom}
 use Rattle.merge.specs.Plans.{flatten, enterAll, coversFrom}
 use Rattle.merge.specs.Sides.{Side, marksOf}
 use Rattle.merge_words.specs.Lists.{Member, At}
 use Rattle.merge_words.specs.Sources.{Over}
-use Rattle.merge_words.specs.Plans.{SameProperty, Demanded, FirstUid, Passes}
-use Rattle.merge_words.specs.Plans.SameProperty.{listed}
-use Rattle.merge_words.specs.Plans.Demanded.{shared, alone}
+use Rattle.merge_laws.specs.Plans.{SameProperty, Demanded, FirstUid, Passes}
+use Rattle.merge_laws.specs.Plans.SameProperty.{listed}
+use Rattle.merge_laws.specs.Plans.Demanded.{shared, alone}
 use Rattle.merge_words.specs.Sides.{Held, SideOf}
-use Rattle.merge_laws.proofs.Lists.{at-low, at-some, at-same, member-at, Once}
-use Rattle.merge_laws.proofs.Partners.{Two, Done}
-use Rattle.merge_laws.proofs.Joining.{Sound, joined-all, Apart, done-apart, Low, Half, apart-joins}
-use Rattle.merge_laws.proofs.Walks.{Of, from-member, member-from, from-rises, from-once, covers-true, covers-all}
-use Rattle.merge_laws.proofs.Entering.{Fits, Entered, entered-all, enter-each, enter-even}
+use Rattle.merge_words.proofs.Members.{at-below, member-at}
+use Rattle.merge_laws.proofs.Lists.{at-some, at-same}
+use Rattle.merge_laws.proofs.Partners.{Done}
+use Rattle.merge_laws.proofs.Joining.{Sound, joined-all, Apart, Low, apart-joins}
+use Rattle.merge_laws.proofs.Walks.{from-member, member-from, from-once, covers-true, covers-all}
+use Rattle.merge_laws.proofs.Entering.{Fits, entered-all, enter-each, enter-even}
 use Rattle.merge_laws.proofs.Lines.{same-property}
 use Rattle.merge_laws.proofs.Demanded.{pairs-demanded, demanded-pairs}
 
@@ -94,7 +95,7 @@ module _ (X Y : Side) (xs ys : List Line) (sx : SideOf X xs) (sy : SideOf Y ys) 
   lines-low : (i j : ℕ) → Demanded xs ys i j → (i < 4096) × (j < 4096)
   lines-low i j d =
       let l = demanded-lines xs ys i j d in
-      (omega (arith, at-low (l .at), sx .few), omega (arith, at-low (l .at-too), sy .few))
+      (omega (arith, at-below (l .at), sx .few), omega (arith, at-below (l .at-too), sy .few))
 
   module _ (ok : Join .ok ≡ true) where
     done : Done All Zeros Join
@@ -118,52 +119,6 @@ module _ (X Y : Side) (xs ys : List Line) (sx : SideOf X xs) (sy : SideOf Y ys) 
 
     pub demanded-plan : (i j : ℕ) → Demanded xs ys i j → Member (pair i j) Plan
     demanded-plan i j d = member-from (Join .first) 4096 0 (pair i j) (record { from = omega arith; below = omega (arith, lines-low i j d); has = demanded-partner i j d })
-
-    -- the demanded pairs alone pass
-    pub plan-passes : (u : List ℕ) → FirstUid xs u → FirstUid ys u → Passes xs ys (flatten Plan)
-    plan-passes u f g =
-        record {
-          value = u;
-          uid-first = f;
-          uid-second = g;
-          pairs = Plan;
-          flat = refl;
-          lines = λ q h. let l = demanded-lines xs ys (q .left) (q .right) (plan-demanded q h) in (at-low (l .at), at-low (l .at-too));
-          once = from-once (Join .first) (Join .second) (done .two) 4096 0;
-          property = λ q x y h a b. same q x y a b (demanded-lines xs ys (q .left) (q .right) (plan-demanded q h));
-          demanded = demanded-plan;
-        }
-      where
-        same : (q : Pair) (x y : Line) → At xs (q .left) x → At ys (q .right) y → Lines xs ys (q .left) (q .right) → SameProperty x y
-        same q x y a b l = subst (λ (z : Line). SameProperty z y) (at-same (l .at) a) (subst (SameProperty (l .x)) (at-same (l .at-too) b) (l .property))
-
-    -- a plan that is entered and covers the demanded pairs passes
-    module _ (plan : List ℕ) (u : List ℕ) (f : FirstUid xs u) (g : FirstUid ys u) (can : Enter plan .ok ≡ true) (covers : coversFrom (Join .first) (Enter plan .first) 0 4096 ≡ true) where
-      passes-by : (qs : List Pair) → plan ≡ flatten qs → Passes xs ys plan
-      passes-by qs e =
-          let ok-too : Enter (flatten qs) .ok ≡ true = subst (λ (l : List ℕ). Enter l .ok ≡ true) e can in
-          let en = entered-all (X .copy) (X .records) (X .lines) (Y .copy) (Y .records) (Y .lines) qs Zeros Zeros zeros-sound ok-too in
-          let has : coversFrom (Join .first) (Enter (flatten qs) .first) 0 4096 ≡ true = subst (λ (l : List ℕ). coversFrom (Join .first) (Enter l .first) 0 4096 ≡ true) e covers in
-          record {
-            value = u;
-            uid-first = f;
-            uid-second = g;
-            pairs = qs;
-            flat = e;
-            lines = λ q h. let z = en .each q h in (omega (arith, z .left, sx .count), omega (arith, z .right, sy .count));
-            once = en .once;
-            property = λ q x y h a b. same-property X Y xs ys sx sy (q .left) (q .right) x y a b .0 (en .each q h .property);
-            demanded = λ i j d. only i j (en .done .only i j (covers-true (Join .first) (Enter (flatten qs) .first) 4096 0 has i (omega arith) (omega (arith, lines-low i j d)) j (demanded-partner i j d)));
-          }
-        where
-          only : (i j : ℕ) → Member (pair i j) qs ⊎ (getD Zeros i 0 ≡ j + 1) → Member (pair i j) qs
-          only i j (inl h) = h
-          only i j (inr h) = zero-not i j h
-
-      pub entered-passes : Passes xs ys plan
-      entered-passes =
-          let z = enter-even (X .copy) (X .records) (X .lines) (Y .copy) (Y .records) (Y .lines) plan (joined true Zeros Zeros) can in
-          passes-by (z .0) (z .1)
 
   -- where a plan passes, the demanded pairs can be joined,
   module _ (plan : List ℕ) (pass : Passes xs ys plan) where
@@ -212,3 +167,50 @@ module _ (X Y : Side) (xs ys : List Line) (sx : SideOf X xs) (sy : SideOf Y ys) 
         let en = entered-all (X .copy) (X .records) (X .lines) (Y .copy) (Y .records) (Y .lines) (pass .pairs) Zeros Zeros zeros-sound entered-pairs in
         let all = covers-all (Join .first) (Enter (flatten (pass .pairs)) .first) (λ i j e. en .done .took i j (pass .demanded i j (partner-demanded passes-joined i j e))) 4096 0 in
         subst (λ (l : List ℕ). coversFrom (Join .first) (Enter l .first) 0 4096 ≡ true) (sym (pass .flat)) all
+
+  module _ (ok : Join .ok ≡ true) where
+    -- the demanded pairs alone pass
+    pub plan-passes : (u : List ℕ) → FirstUid xs u → FirstUid ys u → Passes xs ys (flatten (Plan ok))
+    plan-passes u f g =
+        record {
+          value = u;
+          uid-first = f;
+          uid-second = g;
+          pairs = Plan ok;
+          flat = refl;
+          lines = λ q h. let l = demanded-lines xs ys (q .left) (q .right) (plan-demanded ok q h) in (at-below (l .at), at-below (l .at-too));
+          once = from-once (Join .first) (Join .second) (done ok .two) 4096 0;
+          property = λ q x y h a b. same q x y a b (demanded-lines xs ys (q .left) (q .right) (plan-demanded ok q h));
+          demanded = demanded-plan ok;
+        }
+      where
+        same : (q : Pair) (x y : Line) → At xs (q .left) x → At ys (q .right) y → Lines xs ys (q .left) (q .right) → SameProperty x y
+        same q x y a b l = subst (λ (z : Line). SameProperty z y) (at-same (l .at) a) (subst (SameProperty (l .x)) (at-same (l .at-too) b) (l .property))
+
+    -- a plan that is entered and covers the demanded pairs passes
+    module _ (plan : List ℕ) (u : List ℕ) (f : FirstUid xs u) (g : FirstUid ys u) (can : Enter plan .ok ≡ true) (covers : coversFrom (Join .first) (Enter plan .first) 0 4096 ≡ true) where
+      passes-by : (qs : List Pair) → plan ≡ flatten qs → Passes xs ys plan
+      passes-by qs e =
+          let ok-too : Enter (flatten qs) .ok ≡ true = subst (λ (l : List ℕ). Enter l .ok ≡ true) e can in
+          let en = entered-all (X .copy) (X .records) (X .lines) (Y .copy) (Y .records) (Y .lines) qs Zeros Zeros zeros-sound ok-too in
+          let has : coversFrom (Join .first) (Enter (flatten qs) .first) 0 4096 ≡ true = subst (λ (l : List ℕ). coversFrom (Join .first) (Enter l .first) 0 4096 ≡ true) e covers in
+          record {
+            value = u;
+            uid-first = f;
+            uid-second = g;
+            pairs = qs;
+            flat = e;
+            lines = λ q h. let z = en .each q h in (omega (arith, z .left, sx .count), omega (arith, z .right, sy .count));
+            once = en .once;
+            property = λ q x y h a b. same-property X Y xs ys sx sy (q .left) (q .right) x y a b .0 (en .each q h .property);
+            demanded = λ i j d. only i j (en .done .only i j (covers-true (Join .first) (Enter (flatten qs) .first) 4096 0 has i (omega arith) (omega (arith, lines-low i j d)) j (demanded-partner ok i j d)));
+          }
+        where
+          only : (i j : ℕ) → Member (pair i j) qs ⊎ (getD Zeros i 0 ≡ j + 1) → Member (pair i j) qs
+          only i j (inl h) = h
+          only i j (inr h) = zero-not i j h
+
+      pub entered-passes : Passes xs ys plan
+      entered-passes =
+          let z = enter-even (X .copy) (X .records) (X .lines) (Y .copy) (Y .records) (Y .lines) plan (joined true Zeros Zeros) can in
+          passes-by (z .0) (z .1)

@@ -1,6 +1,6 @@
 -- The URI that a source number leads to, by a row of a card's own sources. Assumes nothing.
 use mathlib.Core.Path.{_≡_, refl, sym, ap, subst, _∙_}
-use mathlib.Core.Bool.{Bool, true, false, false≢true}
+use mathlib.Core.Bool.{true, false≢true}
 use mathlib.Core.List.{List, [], _∷_, _++_}
 use Prim.Native.Nat.{ℕ, zero, suc, _+_, _<_, _≤_}
 use native.Mathlib.Omega.{arith}
@@ -12,8 +12,7 @@ use Rattle.octets.proofs.Bools.{by, clash}
 use Rattle.line_parser.specs.Grammar.{Line, Each, Is}
 use Rattle.merge_sources.specs.Row.{none, entriesFrom, rowOf, least, firstIn}
 use Rattle.merge_sources.specs.declared.Source.{Source}
-use Rattle.merge_sources.specs.declared.Found.{Found}
-use Rattle.merge_sources.specs.declared.Found.the-variants.{At, Nothing}
+use Rattle.merge_sources.specs.declared.Found.the-variants.{At}
 use Rattle.merge_partners.specs.Keys.{uriOf}
 use Rattle.merge_words.specs.Pids.{decimal}
 use Rattle.merge_words.specs.Sources.{Maps, Leads}

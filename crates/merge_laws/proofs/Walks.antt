@@ -1,20 +1,20 @@
 -- The pairs of a list of partners, in line order, and partners that another list has too. Assumes nothing.
 use mathlib.Core.Path.{_≡_, refl, sym, ap, subst, _∙_}
-use mathlib.Core.Bool.{Bool, true, false, false≢true}
-use mathlib.Core.List.{List, [], _∷_}
+use mathlib.Core.Bool.{true, false, false≢true}
+use mathlib.Core.List.{List}
 use mathlib.Core.Logic.{_⊎_, inl, inr}
 use Prim.Native.Nat.{ℕ, zero, suc, _+_, _-_, _<_, _≤_}
 use native.Mathlib.Omega.{arith}
 use lib.Dec.{eqb, ltb}
-use lib.ListN.{length, getD}
+use lib.ListN.{getD}
 use borrow.Author.Tests.{ltb-true, ltb-false, eqb-true, eqb-false, eq-eqb, ne-eqb}
-use Rattle.octets.specs.Pick.{pick}
 use Rattle.octets.proofs.Bools.{by}
 use Rattle.merge_partners.specs.Pairs.{Pair, pair, pairsFrom}
 use Rattle.merge.specs.Plans.{isKept, coversFrom}
-use Rattle.merge_words.specs.Lists.{Member, At}
-use Rattle.merge_words.specs.Lists.Member.{here, there}
-use Rattle.merge_laws.proofs.Lists.{member-cons, member-none, head-is, at-member, Once, Rises, rises-none, rises-cons}
+use Rattle.merge_words.specs.Lists.{Member}
+use Rattle.merge_words.specs.Lists.Member.{there}
+use Rattle.merge_words.proofs.Members.{member-cases, member-none, at-member}
+use Rattle.merge_laws.proofs.Lists.{head-is, Once, Rises, rises-none, rises-cons}
 use Rattle.merge_laws.proofs.Partners.{Two}
 use Rattle.merge_laws.proofs.Joining.{ne-zero}
 
@@ -30,11 +30,11 @@ module _ (p : List ℕ) where
 
   pub from-member : (k i : ℕ) (q : Pair) → Member q (pairsFrom p i k) → Of p i k q
   unfolding pairsFrom
-  from-member zero i q m = absurd (member-none m)
+  from-member zero i q m = member-none m refl
   from-member (suc k) i q m =
       by (eqb (getD p i 0) 0)
       (λ e. later i k q (from-member k (i + 1) q (rw e at m)))
-      (λ e. head e (member-cons (rw e at m)) (from-member k (i + 1) q))
+      (λ e. head e (member-cases (rw e at m)) (from-member k (i + 1) q))
     where
       head : eqb (getD p i 0) 0 ≡ false → (q ≡ pair i (getD p i 0 - 1)) ⊎ Member q (pairsFrom p (i + 1) k) → (Member q (pairsFrom p (i + 1) k) → Of p (i + 1) k q) → Of p i (suc k) q
       head e (inl g) f =

@@ -7,7 +7,6 @@ use mathlib.Core.Logic.{_⊎_, _↔_}
 use lib.ListN.{length, take}
 use Rattle.numbers.specs.Refusals as refusal
 use Rattle.octets.specs.Room.{overlay}
-use Rattle.line_parser.specs.Grammar.{Line}
 use Rattle.reader_grammar.specs.Inputs.{InputOf}
 use Rattle.reader_grammar.specs.Refusals.{RefusedBy, Judging}
 use Rattle.merge_sources.specs.declared.Source.{Source}
@@ -17,7 +16,7 @@ use Rattle.merge.specs.Outcome.{planned, planOutcome, checkOutcome}
 use Rattle.merge.specs.declared.Paired.the-variants.{Pairs, Refused}
 use Rattle.merge_words.specs.Lists.{Member, At}
 use Rattle.merge_words.specs.Sources.{RowOf, Over}
-use Rattle.merge_words.specs.Plans.{Demanded, Passes}
+use Rattle.merge_laws.specs.Plans.{Demanded, Passes}
 
 -- both inputs are accepted
 pub record Both (i j : List ℕ) : Type 0 where

@@ -2,7 +2,6 @@
 pub mod Lists
 pub mod Pids
 pub mod Sources
-pub mod Plans
 pub mod Sides
 pub mod ByLines
 pub mod Stands
