@@ -1,15 +1,14 @@
 -- A number by its digits, and the two numbers of a PID value. Assumes nothing.
-use mathlib.Core.Path.{_≡_, refl, sym, ap, subst, _∙_}
-use mathlib.Core.Bool.{Bool, true, false}
+use mathlib.Core.Path.{_≡_, refl, sym, ap, _∙_}
+use mathlib.Core.Bool.{false}
 use mathlib.Core.List.{List, [], _∷_, _++_}
-use Prim.Native.Nat.{ℕ, zero, suc, _+_, _-_, _*_, _<_, _≤_}
+use Prim.Native.Nat.{ℕ, suc, _+_, _-_, _*_, _<_, _≤_}
 use native.Mathlib.Numerals.{add-one}
 use native.Mathlib.Omega.{arith}
 use lib.Dec.{eqb, ltb}
-use lib.ListN.{length, take, drop, getD, length-append, length-drop, List·getD-eq-default}
+use lib.ListN.{length, take, drop, getD, length-append, List·getD-eq-default}
 use lib.Seq.{length-take-le, take-all, take-append-seam, drop-append-add, getD-append-seam, split-at}
 use borrow.Author.Tests.{ltb-true, ltb-false, lt-ltb, le-ltb, eqb-true, eqb-false}
-use Rattle.octets.specs.Pick.{pick}
 use Rattle.octets.specs.Classes.{run, digit}
 use Rattle.octets.proofs.Bools.{by, clash}
 use Rattle.line_parser.specs.Grammar.{Each, Is}
@@ -17,10 +16,9 @@ use Rattle.line_parser.proofs.PartLaws.{run-le}
 use Rattle.line_parameters.proofs.Complete.{run-append}
 use Rattle.line_parameters.proofs.Sound.{run-each}
 use Rattle.merge_pids.specs.Numbers.{withDigit, digits, pidOf}
-use Rattle.merge_pids.specs.declared.Pid.{Pid}
 use Rattle.merge_pids.specs.declared.Pid.the-variants.{Marks, Nothing}
 use Rattle.merge_pids.proofs.NumberLaws.{pid-none, pid-no-dot, pid-dot, after-none, after-more, after-all}
-use Rattle.merge_words.specs.Pids.{decimal, Number, PidText}
+use Rattle.merge_words.specs.Pids.{decimal, PidText}
 use Rattle.merge_words.specs.Sides.{capped}
 
 -- ---- 65,536 for any larger number

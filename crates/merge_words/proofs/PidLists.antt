@@ -1,7 +1,6 @@
 -- The walk over a line's octets finds the marks of its parameters. Assumes nothing.
-use mathlib.Core.Path.{_≡_, refl, sym, ap, _∙_}
-use mathlib.Core.Bool.{Bool, true, false}
-use mathlib.Core.List.{List, [], _∷_, _++_}
+use mathlib.Core.Path.{_≡_, sym}
+use mathlib.Core.List.{List, [], _∷_}
 use Prim.Native.Nat.{ℕ, zero, suc, _+_, _≤_}
 use native.Mathlib.Omega.{arith}
 use lib.Dec.{eqb}
@@ -10,14 +9,13 @@ use lib.Seq.{drop-drop}
 use Rattle.octets.specs.Pick.{pick}
 use Rattle.octets.specs.Cases.{same}
 use Rattle.octets.specs.Classes.{run, named, quoted, bare}
-use Rattle.line_parser.specs.Parse.{Parse, got, bad, next, guard, hd, many}
+use Rattle.line_parser.specs.Parse.{got, hd, many}
 use Rattle.line_parser.specs.Grammar.{Value, plain, inQuotes, Param, Line, nameEnd}
 use Rattle.line_parser.specs.Rule.{closing, value, Values, ends, isColon, orEnd, word, moreValues, values, param, params, head, parseLine}
 use Rattle.line_parser.proofs.ParseLaws.{bad-got, guard-inv, pick-inv, next-inv}
 use Rattle.line_parser.proofs.PartLaws.{word-taken, head-count}
 use Rattle.line_parameters.specs.First.{valueOctets}
-use Rattle.merge_pids.specs.Numbers.{pidOf}
-use Rattle.merge_pids.specs.Marks.{Mark, pidName, valueMarks, bodyAt, widthAt, valuesMarks, namedMarks, paramMarks, paramsMarks}
+use Rattle.merge_pids.specs.Marks.{pidName, bodyAt, widthAt, valuesMarks, namedMarks, paramsMarks}
 use Rattle.merge_words.specs.ByLines.{valuesPids, paramsPids}
 
 -- the octets of a value that was read, and how many it takes

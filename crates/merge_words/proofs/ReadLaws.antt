@@ -1,13 +1,13 @@
 -- An accepted card fits the rooms: its copy, its records and its marks. Assumes nothing.
 use mathlib.Core.Path.{_≡_, refl, sym, ap, _∙_}
 use mathlib.Core.List.{List, [], _∷_, _++_, map}
-use Prim.Native.Nat.{ℕ, _+_, _*_, _≤_}
+use Prim.Native.Nat.{ℕ, _*_, _≤_}
 use native.Mathlib.Omega.{arith}
 use lib.ListN.{length, drop, replicate, length-append, length-drop, length-replicate}
 use Rattle.octets.specs.Room.{overlay}
 use Rattle.line_parser.specs.Grammar.{Line, Each, WellFormed, led, paramText, groupText, front, render}
 use Rattle.property_table.specs.declared.Edition.the-variants.{First}
-use Rattle.reader.specs.Outcome.{judgeIn, judgeOf, ended, copyOf, recordsIn, Taken, took, readIn}
+use Rattle.reader.specs.Outcome.{judgeOf, ended, copyOf, recordsIn, Taken, took, readIn}
 use Rattle.reader.specs.declared.Verdict.{Verdict}
 use Rattle.reader.specs.declared.Verdict.the-variants.{Accepted, Refused}
 use Rattle.reader.proofs.ReadLaws.{read-refused, read-written}

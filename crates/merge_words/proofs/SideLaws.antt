@@ -3,7 +3,7 @@ use mathlib.Core.Path.{_≡_, refl, sym, ap, subst, _∙_}
 use mathlib.Core.Bool.{Bool, true, false}
 use mathlib.Core.List.{List, [], _∷_, _++_, map}
 use mathlib.Core.Logic.{_↔_}
-use Prim.Native.Nat.{ℕ, zero, suc, _+_, _*_, _/_, _<_, _≤_}
+use Prim.Native.Nat.{ℕ, suc, _+_, _*_, _/_, _<_, _≤_}
 use native.Mathlib.Nat.{mul-div-cancel}
 use native.Mathlib.Omega.{arith}
 use lib.Dec.{eqb, ltb}
@@ -12,10 +12,9 @@ use borrow.Author.Tests.{ltb-true, ltb-false, eqb-true, eqb-false}
 use Rattle.octets.specs.Pick.{pick}
 use Rattle.octets.specs.Room.{overlay}
 use Rattle.octets.proofs.Bools.{by, clash}
-use Rattle.line_parser.specs.Grammar.{Param, Line, Each, render}
+use Rattle.line_parser.specs.Grammar.{Param, Line, render}
 use Rattle.line_parameters.proofs.Complete.{line-complete}
 use Rattle.property_table.specs.declared.Edition.the-variants.{First}
-use Rattle.card_line.specs.Parts.{rowOfLine}
 use Rattle.reader.specs.Outcome.{ended, copyOf, recordsIn, Taken}
 use Rattle.reader_grammar.specs.Inputs.{InputOf}
 use Rattle.reader_grammar.proofs.RecordLaws.{records-law}
@@ -24,23 +23,22 @@ use Rattle.merge_sources.specs.Row.{entriesFrom, rowOf, sameRow}
 use Rattle.merge_sources.specs.declared.Source.{Source}
 use Rattle.merge_sources.specs.declared.Row.{Row}
 use Rattle.merge_pids.specs.Marks.{Mark, mark, Marked, marked, putAll}
-use Rattle.merge_sides.specs.Lines.{fieldAt, nameAt, valueAt}
-use Rattle.merge_sides.specs.Sources.{narrowed, overEntries}
-use Rattle.merge_sides.specs.Marks.{lineMarks, marksFrom, overMarks}
+use Rattle.merge_sides.specs.Sources.{overEntries}
+use Rattle.merge_sides.specs.Marks.{lineMarks, marksFrom}
 use Rattle.merge_partners.specs.Keys.{numberAt}
 use Rattle.merge.specs.Sides.{Side, side, readOf, marksOf, rowIn, overSide, isOver}
-use Rattle.merge_words.specs.Lists.{Member, here, there, At, first, later}
+use Rattle.merge_words.specs.Lists.{Member, At, first, later}
 use Rattle.merge_words.specs.Pids.{PidOf}
-use Rattle.merge_words.specs.Sources.{Maps, RowOf, Over}
+use Rattle.merge_words.specs.Sources.{RowOf, Over}
 use Rattle.merge_words.specs.Sources as over
-use Rattle.merge_words.specs.Sides.{capped, MarkOf, MarksOf, Held, SideOf, Sides}
+use Rattle.merge_words.specs.Sides.{capped, MarkOf, MarksOf, SideOf, Sides}
 use Rattle.merge_words.specs.ByLines.{paramsPids, linesPids, linesSources}
 use Rattle.merge_words.specs.Stands.{Stands, AllStand, none, more}
 use Rattle.merge_words.proofs.Members.{at-member, at-below, member-get, member-at}
 use Rattle.merge_words.proofs.NumberLaws.{capped-over, over-capped}
 use Rattle.merge_words.proofs.PidLists.{line-marks}
 use Rattle.merge_words.proofs.MarkLaws.{marks-each, marks-every, marks-few}
-use Rattle.merge_words.proofs.RoomLaws.{flat, put-all, number-at, over-in, over-marks, High, high-line, high-first, high-source, HighIn, over-some, over-none}
+use Rattle.merge_words.proofs.RoomLaws.{flat, put-all, number-at, over-in, over-marks, High, high-line, high-first, high-source, over-some, over-none}
 use Rattle.merge_words.proofs.StandLaws.{records-stand}
 use Rattle.merge_words.proofs.RowLaws.{own-row, rows-true, rows-same, over-row, under-row}
 use Rattle.merge_words.proofs.SourceLaws.{narrow, AllMap, AllLow, cards-map, row-only, row-is, row-held, sources-count, source-line, line-source}

@@ -4,10 +4,10 @@ use mathlib.Core.Bool.{Bool, true, false}
 use mathlib.Core.List.{List, [], _∷_, _++_, append-assoc}
 use mathlib.Core.Logic.{_⊎_, inl, inr}
 use mathlib.Core.Option.{Option}
-use Prim.Native.Nat.{ℕ, zero, suc, _+_, _-_, _<_, _≤_}
+use Prim.Native.Nat.{ℕ, suc, _+_, _-_, _≤_}
 use native.Mathlib.Omega.{arith}
-use lib.Dec.{eqb, ltb}
-use lib.ListN.{length, take, getD, length-append}
+use lib.Dec.{eqb}
+use lib.ListN.{length, take, length-append}
 use lib.Seq.{take-append-seam}
 use borrow.Author.Tests.{lt-ltb, le-ltb, eqb-true, eqb-false, eq-eqb, ne-eqb}
 use Rattle.octets.specs.Pick.{pick}
@@ -25,20 +25,19 @@ use Rattle.card_line.specs.Parts.{paramValue, rowOfLine, kindOfLine}
 use Rattle.reader_grammar.specs.Values.{OfKind, anything, text, texts, uri, name, address, components, gender, pidmap, date, timestamp, offset}
 use Rattle.reader_grammar.specs.Cards as cards
 use Rattle.reader_grammar.specs.Cards.{Begins, Versions, Ends, Inside, Body, CardLines, card, Cards, count, linesOf}
-use Rattle.merge_sources.specs.Row as row
 use Rattle.merge_sources.specs.declared.Source.{Source}
 use Rattle.merge_pids.specs.Numbers.{digits}
 use Rattle.merge_sides.specs.Sources.{narrowed, sourceIn}
 use Rattle.merge_partners.specs.Keys.{uriOf}
 use Rattle.merge_words.specs.Lists.{Member, here, there}
-use Rattle.merge_words.specs.Pids.{decimal, Number}
+use Rattle.merge_words.specs.Pids.{decimal}
 use Rattle.merge_words.specs.Sources.{Maps, RowOf}
 use Rattle.merge_words.specs.Sources as sources
 use Rattle.merge_words.specs.Sides.{capped, Held}
 use Rattle.merge_words.specs.Sides as sides
 use Rattle.merge_words.specs.ByLines.{linesSources}
 use Rattle.merge_words.specs.Stands.{Stands, AllStand, none, more}
-use Rattle.merge_words.proofs.Members.{member-none, member-cases, member-append, member-left, member-right}
+use Rattle.merge_words.proofs.Members.{member-none, member-cases, member-append, member-right}
 use Rattle.merge_words.proofs.NumberLaws.{capped-low, digits-law}
 use Rattle.merge_words.proofs.StandLaws.{tail-at}
 use Rattle.merge_words.proofs.RowLaws.{SourceOf, same-source}

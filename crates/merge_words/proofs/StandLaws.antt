@@ -2,13 +2,12 @@
 use mathlib.Core.Path.{_≡_, refl, sym, ap, _∙_}
 use mathlib.Core.Bool.{false}
 use mathlib.Core.List.{List, [], _∷_, _++_, append-assoc}
-use Prim.Native.Nat.{ℕ, zero, suc, _+_, _-_, _*_, _<_, _≤_}
+use Prim.Native.Nat.{ℕ, suc, _+_, _-_, _*_, _<_, _≤_}
 use native.Mathlib.Omega.{arith}
 use lib.Dec.{eqb}
 use lib.ListN.{length, take, drop, getD, length-append, length-take, length-drop}
 use lib.Seq.{length-take-le, take-add, drop-drop, drop-at, drop-append-seam, getD-append-add}
-use borrow.Author.Tests.{le-ltb, eq-eqb, ne-eqb, eqb-true, eqb-false}
-use Rattle.octets.specs.Pick.{pick}
+use borrow.Author.Tests.{le-ltb, ne-eqb}
 use Rattle.octets.specs.Slices.{part}
 use Rattle.octets.proofs.Bools.{by}
 use Rattle.line_parser.specs.Grammar.{Line, Each, WellFormed, led, paramText, groupText, front, render, nameEnd}
