@@ -69,15 +69,15 @@ module _ (i j : List ℕ) (m n : List Source) (b : Both i j) where
   abbrev Settle : Settled
   Settle = settleOf X Y (rowOf m) (rowOf n) Zeros
 
-  check-both : (plan : List ℕ) → checkOutcome i j m n plan ≡ checkBy Settle X Y plan
+  pub check-both : (plan : List ℕ) → checkOutcome i j m n plan ≡ checkBy Settle X Y plan
   unfolding checkOutcome checkRows
   check-both plan = rw (accepted (b .first), accepted (b .second))
 
-  plan-both : (out : List ℕ) → planOutcome i j m n out ≡ writeOf Settle out
+  pub plan-both : (out : List ℕ) → planOutcome i j m n out ≡ writeOf Settle out
   unfolding planOutcome planRows
   plan-both out = rw (accepted (b .first), accepted (b .second))
 
-  settled-refuses : (a p : ℕ) (q : List ℕ) → Settle ≡ settled (Refused a p) q → Refuses i j m n a p
+  pub settled-refuses : (a p : ℕ) (q : List ℕ) → Settle ≡ settled (Refused a p) q → Refuses i j m n a p
   settled-refuses a p q e =
       record {
         check = λ plan. check-both plan ∙ ap (λ (s : Settled). checkBy s X Y plan) e;
