@@ -71,6 +71,12 @@ fn put_other_line(room: &mut [u8], at: usize, command: usize) -> usize {
             b"cabbook v3out FILE",
             b"a card as one of version 3.0, for the older sets",
         ),
+        command::WATCH => put_command(
+            room,
+            at,
+            b"cabbook watch [--chunk N] FILE..",
+            b"judge each file while it arrives, N octets at a time",
+        ),
         _ => put_command(room, at, b"cabbook help", b"this"),
     }
 }

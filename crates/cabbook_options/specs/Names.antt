@@ -57,7 +57,8 @@ names =
     name 29 "report" ∷
     name 30 "v3in" ∷
     name 31 "v3out" ∷
-    name 32 "help" ∷
+    name 32 "watch" ∷
+    name 33 "help" ∷
     []
 
 -- more than the number of any option

@@ -33,8 +33,11 @@ pub const V3IN: usize = 30;
 // `v3out`.
 pub const V3OUT: usize = 31;
 
+// `watch`.
+pub const WATCH: usize = 32;
+
 // `help`.
-pub const HELP: usize = 32;
+pub const HELP: usize = 33;
 
 // The first of them.
 pub const FIRST: usize = CHECK;
