@@ -101,6 +101,13 @@ fn print_files(w: Words) -> bool {
             }
             false
         }
+        command::MERGE => {
+            if w.files != 2 {
+                usage::print_usage(b"this command takes two FILEs", w.command);
+                return true;
+            }
+            false
+        }
         command::SHOW | command::FOLD | command::V3IN | command::V3OUT => {
             if w.files != 1 {
                 usage::print_usage(b"this command takes one FILE", w.command);

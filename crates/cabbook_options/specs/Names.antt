@@ -58,7 +58,8 @@ names =
     name 30 "v3in" ∷
     name 31 "v3out" ∷
     name 32 "watch" ∷
-    name 33 "help" ∷
+    name 33 "merge" ∷
+    name 34 "help" ∷
     []
 
 -- more than the number of any option
