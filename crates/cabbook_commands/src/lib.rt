@@ -156,6 +156,29 @@ fn run_morning(w: Words, count: usize) -> u8
     reporting::print_after(w, count, status)
 }
 
+// Judges the files that are named while they arrive.
+fn run_watch(w: Words, count: usize) -> u8
+    ensures { λ r. ⌜ Status r ⌝ }
+{
+    cabbook_watch::watch_files(
+        arguments::first_file(w, count),
+        w.dashes,
+        count,
+        w.values[names::CHUNK],
+    )
+}
+
+// Merges the two files that are named.
+fn run_merge(w: Words, count: usize) -> u8
+    ensures { λ r. ⌜ Status r ⌝ }
+{
+    let i = arguments::first_file(w, count);
+    if i >= count {
+        return status::FAILED;
+    }
+    cabbook_merge::merge_arguments(i, arguments::next_file(i + 1, w.dashes, count))
+}
+
 // Runs the command on texts that is named, or the help.
 fn run_on_text(w: Words, count: usize) -> u8
     ensures { λ r. ⌜ Status r ⌝ }
@@ -186,6 +209,8 @@ fn run(w: Words, count: usize) -> u8
         command::V3IN => apply_to_all(Command::Convert(Way::Inward), w, count),
         command::V3OUT => apply_to_all(Command::Convert(Way::Outward), w, count),
         command::MORNING => run_morning(w, count),
+        command::WATCH => run_watch(w, count),
+        command::MERGE => run_merge(w, count),
         command::REPORT => reporting::report_files(w, count),
         _ => run_on_text(w, count),
     }

@@ -71,6 +71,18 @@ fn put_other_line(room: &mut [u8], at: usize, command: usize) -> usize {
             b"cabbook v3out FILE",
             b"a card as one of version 3.0, for the older sets",
         ),
+        command::WATCH => put_command(
+            room,
+            at,
+            b"cabbook watch [--chunk N] FILE..",
+            b"judge each file while it arrives, N octets at a time",
+        ),
+        command::MERGE => put_command(
+            room,
+            at,
+            b"cabbook merge FILE FILE",
+            b"two edits of one card side by side, by their PIDs",
+        ),
         _ => put_command(room, at, b"cabbook help", b"this"),
     }
 }

@@ -13,6 +13,7 @@ fn options_of(command: usize) -> [usize; 4] {
         command::FOLD => [names::EDITION, names::AS_READ, 0, 0],
         command::ENCODE | command::DECODE => [names::RFC6350, 0, 0, 0],
         command::MORNING => [names::CHUNK, names::TICK, names::SLOTS, 0],
+        command::WATCH => [names::CHUNK, 0, 0, 0],
         command::REPORT => [names::BARS, 0, 0, 0],
         _ => [0, 0, 0, 0],
     }
@@ -93,9 +94,16 @@ fn print_fault(w: Words) {
 fn print_files(w: Words) -> bool {
     let command = w.command;
     match command {
-        command::CHECK | command::MORNING | command::REPORT => {
+        command::CHECK | command::MORNING | command::REPORT | command::WATCH => {
             if w.files == 0 {
                 usage::print_usage(b"this command needs a FILE", w.command);
+                return true;
+            }
+            false
+        }
+        command::MERGE => {
+            if w.files != 2 {
+                usage::print_usage(b"this command takes two FILEs", w.command);
                 return true;
             }
             false

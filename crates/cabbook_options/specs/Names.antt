@@ -57,7 +57,9 @@ names =
     name 29 "report" ∷
     name 30 "v3in" ∷
     name 31 "v3out" ∷
-    name 32 "help" ∷
+    name 32 "watch" ∷
+    name 33 "merge" ∷
+    name 34 "help" ∷
     []
 
 -- more than the number of any option

@@ -116,7 +116,7 @@ filed w =
     record {
       command = w .command;
       «named_by» = w .«named_by»;
-      files = pick (ltb (w .files) 2) (w .files + 1) (w .files);
+      files = pick (ltb (w .files) 3) (w .files + 1) (w .files);
       dashes = w .dashes;
       waits = w .waits;
       fault = w .fault;

@@ -33,8 +33,14 @@ pub const V3IN: usize = 30;
 // `v3out`.
 pub const V3OUT: usize = 31;
 
+// `watch`.
+pub const WATCH: usize = 32;
+
+// `merge`.
+pub const MERGE: usize = 33;
+
 // `help`.
-pub const HELP: usize = 32;
+pub const HELP: usize = 34;
 
 // The first of them.
 pub const FIRST: usize = CHECK;

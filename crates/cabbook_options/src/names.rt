@@ -51,7 +51,7 @@ const HEAD: usize = 2;
 const EDITIONS: usize = 2;
 
 // The octets of the table.
-const SIZE: usize = 203;
+const SIZE: usize = 217;
 
 const NAMES: [u8; SIZE] = *b"\
     \x01\x09--edition\
@@ -78,7 +78,9 @@ const NAMES: [u8; SIZE] = *b"\
     \x1d\x06report\
     \x1e\x04v3in\
     \x1f\x05v3out\
-    \x20\x04help";
+    \x20\x05watch\
+    \x21\x05merge\
+    \x22\x04help";
 
 // The table as a value.
 fn table() -> [u8; SIZE]

@@ -20,8 +20,8 @@ pub const NO_VALUE: usize = 3;
 // An option's number is none that it takes.
 pub const NO_NUMBER: usize = 4;
 
-// As many files as are told apart from one.
-const MANY: usize = 2;
+// As many files as are told apart from two.
+const MANY: usize = 3;
 
 // What words say so far: the command's number and the argument that names it, both 0 before it; how many files are named, as far as they are counted; the argument
 // that ends the options, 0 where none does; the option that waits for its number, 0 where none does; what is wrong, 0 where nothing is, and the argument; and

@@ -8,19 +8,22 @@ use Rattle.octets.specs.Slices.{part}
 use Rattle.console_requests.specs.Requests.{Requested, requestOf}
 use Rattle.console_requests.specs.declared.Request.{Request}
 use Rattle.console_requests.specs.declared.Name.{Name}
-use Rattle.console_requests.specs.declared.Name.the-variants.{ToEntry, ToDesk, ToReport, Bad}
+use Rattle.console_requests.specs.declared.Name.the-variants.{ToEntry, ToDesk, ToReport, ToMerge, Bad}
 use Rattle.console_requests.specs.declared.EntryCall.{EntryCall}
 use Rattle.console_requests.specs.declared.EntryCall.the-variants.{Judge, Read, Fold, Escape, Unescape, Encode, Decode, FoldIn, Offset, JudgeIn, ReadIn, TakeIn, GiveOut}
 use Rattle.console_requests.specs.declared.DeskCall.{DeskCall}
 use Rattle.console_requests.specs.declared.DeskCall.the-variants.{Desk, Open, Add, Check, Show, Held, Release, Pool, Next}
 use Rattle.console_requests.specs.declared.ReportCall.{ReportCall}
 use Rattle.console_requests.specs.declared.ReportCall.the-variants.{Report, Take, Print, Count}
+use Rattle.console_requests.specs.declared.MergeCall.{MergeCall}
+use Rattle.console_requests.specs.declared.MergeCall.the-variants.{Plan, CheckPlan}
 use Rattle.property_table.specs.declared.Edition.the-variants.{First}
 use Rattle.console_entries.specs.Entries.{judgeAnswer, judgeInAnswer, offsetAnswer, readAnswer, readInAnswer, writeAnswer, encodeAnswer, decodeAnswer, foldAnswer}
 use Rattle.console_desk.specs.DeskAnswers.{State, WithPool, withPool, says, saysBad, deskAnswer, nextAnswer, changeAnswer, lookAnswer, poolAnswer}
 use Rattle.report.specs.declared.Report.{Report as ReportValue}
 use Rattle.console_report.specs.ReportAnswers.{KeptState, kept, keptOf, freshAnswer, takeAnswer, printsAnswer, countAnswer}
 use Rattle.console_report.specs.declared.Kept.{Kept}
+use Rattle.console_merge.specs.MergeAnswers.{planAnswer, checkAnswer}
 use Rattle.console_entries.specs.declared.entries.Writer.the-variants.{Fold as toFold, Escape as toEscape, Unescape as toUnescape, TakeIn as toTakeIn, GiveOut as toGiveOut}
 use Rattle.console_desk.specs.declared.Change.the-variants.{Open as toOpen, Add as toAdd, Release as toRelease}
 use Rattle.console_desk.specs.declared.Look.the-variants.{Check as toCheck, Show as toShow, Held as toHeld}
@@ -60,6 +63,11 @@ reportTurn Take n k sent s = takeAnswer sent s
 reportTurn Print n k sent s = printsAnswer n s
 reportTurn Count n k sent s = countAnswer n k s
 
+-- each request of two edits, with its number and the octets that it sends
+unfoldable pub mergeText : MergeCall → ℕ → List ℕ → List ℕ
+mergeText Plan n sent = planAnswer n sent
+mergeText CheckPlan n sent = checkAnswer sent
+
 -- desk, output and report, and the pool
 pub record Whole : Type 0 where
   pub kept : KeptState
@@ -88,6 +96,7 @@ unfoldable pub answerAny : Name → ℕ → ℕ → ℕ → List ℕ → Whole �
 answerAny (ToEntry e) n k m sent w = saying (says (entryText e n k m sent) (w .kept .state)) w
 answerAny (ToDesk d) n k m sent w = beside (deskTurn d n k sent (w .kept .state) (w .pool)) (w .kept .report)
 answerAny (ToReport r) n k m sent w = whole (reportTurn r n k sent (w .kept)) (w .pool)
+answerAny (ToMerge e) n k m sent w = saying (says (mergeText e n sent) (w .kept .state)) w
 answerAny Bad n k m sent w = saysNone w
 
 abbrev pub answerTo : Request → List ℕ → Whole → Whole

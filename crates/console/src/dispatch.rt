@@ -3,7 +3,7 @@ ghost use mathlib.Core.Path.{_≡_};
 ghost use Rattle.console_desk.specs.DeskAnswers.{stateOf, withPool};
 ghost use Rattle.program_output.specs.Pages.{page, added};
 ghost use Rattle.console_report.specs.ReportAnswers.{keptOf};
-ghost use Rattle.console.specs.Dispatch.{entryText, deskTurn, reportTurn, wholeOf, answerTo, answerIn, answerLine};
+ghost use Rattle.console.specs.Dispatch.{entryText, deskTurn, reportTurn, mergeText, wholeOf, answerTo, answerIn, answerLine};
 use console_desk::Change;
 use console_desk::Console;
 use console_desk::Look;
@@ -12,6 +12,7 @@ use console_entries::entries::Writer;
 use console_report::Kept;
 use console_requests::DeskCall;
 use console_requests::EntryCall;
+use console_requests::MergeCall;
 use console_requests::Name;
 use console_requests::ReportCall;
 use console_requests::Request;
@@ -85,6 +86,16 @@ fn answer_report(r: ReportCall, q: Request, k: Kept, sent: &[u8], out: &mut [u8]
     }
 }
 
+// Adds the answer to a request of two edits.
+fn put_merge_answer(m: MergeCall, q: Request, sent: &[u8], out: &mut [u8], at: usize) -> usize
+    ensures { λ r. ⌜ page r (now (out .exit)) ≡ added (mergeText m (q .first) (now (sent .entry))) (page at (now (out .entry))) ⌝ }
+{
+    match m {
+        MergeCall::Plan => console_merge::put_plan_answer(q.first, sent, out, at),
+        MergeCall::CheckPlan => console_merge::put_check_answer(sent, out, at),
+    }
+}
+
 // Answers a request.
 fn answer_request(q: Request, k: Kept, sent: &[u8], pool: &mut [u8], out: &mut [u8]) -> Kept
     ensures { λ r. ⌜ wholeOf r (now (out .exit)) (now (pool .exit)) ≡ answerTo q (now (sent .entry)) (wholeOf k (now (out .entry)) (now (pool .entry))) ⌝ }
@@ -98,6 +109,10 @@ fn answer_request(q: Request, k: Kept, sent: &[u8], pool: &mut [u8], out: &mut [
         }
         Name::ToDesk(d) => k.with_console(answer_desk(d, q, c, sent, pool, out)),
         Name::ToReport(r) => answer_report(r, q, k, sent, out),
+        Name::ToMerge(m) => {
+            let at = put_merge_answer(m, q, sent, out, c.at);
+            k.with_console(c.with_output(at))
+        }
         Name::Bad => k.with_console(c.answer_bad(out)),
     }
 }

@@ -48,11 +48,18 @@ pub enum ReportCall {
     Count,
 }
 
+// The requests of two edits of one card.
+pub enum MergeCall {
+    Plan,
+    CheckPlan,
+}
+
 // The requests, and what a line has that is none.
 pub enum Name {
     ToEntry(EntryCall),
     ToDesk(DeskCall),
     ToReport(ReportCall),
+    ToMerge(MergeCall),
     Bad,
 }
 

@@ -4,6 +4,7 @@ ghost use Prim.Native.Nat.{_<_, _≤_};
 ghost use Rattle.console_requests.specs.Names.{Lists, rowAt, fits, rowOf, tableRows, mostNumbers};
 use crate::DeskCall;
 use crate::EntryCall;
+use crate::MergeCall;
 use crate::Name;
 use crate::ReportCall;
 use octets::indices::wide;
@@ -24,7 +25,7 @@ const OCTETS: usize = 12;
 const TABLE: usize = ROW * (NO_REQUEST + 1);
 
 // The row of no request, after those of the requests.
-const NO_REQUEST: usize = 26;
+const NO_REQUEST: usize = 28;
 
 // Thirteen entries for each row, and a last row for no request: name, its length, how many numbers stand after it, 1 where octets do.
 const ROWS: [u8; TABLE] = *b"\
@@ -54,6 +55,8 @@ const ROWS: [u8; TABLE] = *b"\
     read-in...\x07\x03\x01\
     v3-in.....\x05\x01\x01\
     v3-out....\x06\x01\x01\
+    plan......\x04\x01\x01\
+    check-plan\x0a\x00\x01\
     ..........\x00\x00\x00";
 
 // The table as a value, which its users are lent.
@@ -145,6 +148,8 @@ pub fn name_at(row: usize) -> Name
         23 => Name::ToEntry(EntryCall::ReadIn),
         24 => Name::ToEntry(EntryCall::TakeIn),
         25 => Name::ToEntry(EntryCall::GiveOut),
+        26 => Name::ToMerge(MergeCall::Plan),
+        27 => Name::ToMerge(MergeCall::CheckPlan),
         _ => Name::Bad,
     }
 }

@@ -62,15 +62,15 @@ use Rattle.demands.proofs.Tested.{sameNumbers, sameAnswers, allHold, te
 
 -- ---- what the examples compute by: to unfold a name of this part is to unfold what its own line names
 
-by-octets : Unit {0}
+unfoldable pub by-octets : Unit {0}
 unfolding ascii.octets letters.lower letters.same classes.letter classes.digit classes.hyphen classes.valued classes.quoted classes.bare classes.named classes.run
 by-octets = tt
 
-by-scans : Unit {0}
+unfoldable pub by-scans : Unit {0}
 unfolding scans.scan scans.gather room.fill room.fillBounded
 by-scans = tt
 
-by-characters : Unit {0}
+unfoldable pub by-characters : Unit {0}
 unfolding characters.lengthBy characters.second characters.tail characters.rest characters.charLength characters.allowed characters.unit characters.firstBad
 by-characters = tt
 
@@ -82,47 +82,47 @@ by-escapes : Unit {0}
 unfolding unescaped.code unescaped.meant unescaped.escapeAt unescaped.textStep unescaped.firstFault unescaped.passed unescaped.standing unescaped.unescaped
 by-escapes = tt
 
-by-folds : Unit {0}
+unfoldable pub by-folds : Unit {0}
 unfolding folds.foldAt folds.lineStep folds.lineLength folds.passed folds.kept folds.unfolded places.keptFrom places.placeOf logical.linesBy logical.rawLines logical.logicalLines
 by-folds = tt
 
-by-lines : Unit {0}
+unfoldable pub by-lines : Unit {0}
 unfolding lone.loneStep lone.firstLone lone.endsCrLf grammar.groupText grammar.nameEnd parse.many parameters.firstNamed parameters.valueOctets
 by-lines = tt
 
-by-rule : Unit {0}
+unfoldable pub by-rule : Unit {0}
 unfolding rule.word rule.closing rule.value rule.ends rule.moreValues rule.values rule.param rule.head rule.isColon rule.params rule.parseLine
 by-rule = tt
 
-by-kinds : Unit {0}
+unfoldable pub by-kinds : Unit {0}
 unfolding kinds.text kinds.texts kinds.uri kinds.component kinds.parts kinds.upTo kinds.spread kinds.components kinds.gender kinds.pidmap kinds.shapeIn kinds.vcard kinds.version
 by-kinds = tt
 
-by-dates : Unit {0}
+unfoldable pub by-dates : Unit {0}
 unfolding dates.fours dates.others dates.year dates.months dates.month dates.day28 dates.day29 dates.day30 dates.day31 dates.hour dates.minute dates.second dates.lastMinute dates.offset dates.zoned dates.pastMinute dates.pastHour dates.clock dates.lastSecond dates.time dates.timed dates.leapDate dates.commonDate dates.noYear dates.dateAndOrTime dates.fullTime dates.leapFull dates.commonFull dates.timestamp
 by-dates = tt
 
-by-shapes : Unit {0}
+unfoldable pub by-shapes : Unit {0}
 unfolding kinds.lineShape kinds.valueIn sets.among sets.holds shapes.nullable shapes.dead shapes.chain shapes.isNever shapes.fork shapes.derivative shapes.faultFrom
 by-shapes = tt
 
-by-table : Unit {0}
+unfoldable pub by-table : Unit {0}
 unfolding table.rows table.newer table.allRows table.search table.rowOf table.rowAt table.kindAt table.takesValue table.ruleAt table.kindNamed table.says table.valueKind table.dateKind table.zoneKind table.lineKind table.framing table.isGroup table.marks table.onceAt table.single
 by-table = tt
 
-by-cards : Unit {0}
+unfoldable pub by-cards : Unit {0}
 unfolding content.paramValue content.altidOf content.rowOfLine content.kindOfLine content.linePartsOf card.inOrder card.flagOf card.onceFlag card.isSeen card.phaseAfter card.closed
 by-cards = tt
 
-by-tags : Unit {0}
+unfoldable pub by-tags : Unit {0}
 unfolding card.equal card.sameTag card.tagOf card.tagged card.secondInstance card.lineCard card.noted
 by-tags = tt
 
-by-judge : Unit {0}
+unfoldable pub by-judge : Unit {0}
 unfolding judge.laden judge.entered judge.judgeParts judge.judgeLine walk.judgeLines records.recordBy records.recordOf records.recordsFrom
 by-judge = tt
 
-by-reader : Unit {0}
+unfoldable pub by-reader : Unit {0}
 unfolding reader.verdictOf reader.judgeIn reader.ended reader.copyOf reader.recordsIn reader.writeOutcome reader.outcomeBy reader.readIn
 by-reader = tt
 

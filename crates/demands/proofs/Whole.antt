@@ -5,6 +5,7 @@ use Rattle.desk_laws.proofs.Granted.{grants}
 use Rattle.replay_laws.proofs.Replays.{replays}
 use Rattle.report_laws.proofs.Reports.{reports}
 use Rattle.watch_laws.proofs.Cuttings.{watched}
+use Rattle.merge_laws.proofs.Demand11.{demand11}
 use Rattle.demands.specs.Demands.{Demands}
 use Rattle.demands.proofs.Examples.{examples}
 use Rattle.demands.proofs.Total.{demand1}
@@ -26,6 +27,7 @@ demands =
       named = demand5;
       watched = watched;
       converted = demand10;
+      paired = demand11;
       extended = demand13;
       labels = labels;
       granted = grants;

@@ -1,5 +1,6 @@
--- The three demands, dates, the exact octet, chunks, version 3 sets, the newer edition, labels, what a granted call does, the claim of demand 3 of a program that makes the calls, the claims of the report,
--- the rows that a name is compared with, and the marked examples, side by side. Assumes nothing.
+-- The three demands, dates, the exact octet, chunks, version 3 sets, two edits of one card, the newer edition, labels, what a granted call does, the claim of
+-- demand 3 of a program that makes the calls, the claims of the report, the rows that a name is compared with, and the marked examples, side by side. Assumes
+-- nothing.
 use Prim.Native.Nat.{ℕ}
 use mathlib.Core.List.{List}
 use Rattle.line_parser.specs.Grammar.{Each}
@@ -10,6 +11,7 @@ use Rattle.desk_laws.specs.Granted.{Granted}
 use Rattle.replay_laws.specs.Replays.{Replays}
 use Rattle.report_laws.specs.Reports.{Reports}
 use Rattle.watch_laws.specs.Cuttings.{Demand6}
+use Rattle.merge_laws.specs.Demand11.{Demand11}
 use Rattle.demands.specs.Examples.{Holds, marked}
 use Rattle.demands.specs.Demand1.{Demand1}
 use Rattle.demands.specs.Demand2.{Demand2}
@@ -29,6 +31,7 @@ pub record Demands : Type 0 where
   pub named : Demand5
   pub watched : Demand6
   pub converted : Demand10
+  pub paired : Demand11
   pub extended : Demand13
   pub granted : Granted
   pub replays : Replays

@@ -1,3 +1,4 @@
 -- The laws that the proofs of `merge_partners` cite. Assumes nothing.
 pub mod JoinLaws
 pub mod WalkLaws
+pub mod LookLaws

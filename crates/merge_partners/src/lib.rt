@@ -8,9 +8,9 @@ ghost use Rattle.numbers.specs.Limits as limit;
 ghost use Rattle.numbers.specs.Properties as property;
 ghost use Rattle.property_table.specs.Rows.{Lists};
 ghost use Rattle.merge_pids.specs.Marks.{markLength};
-ghost use Rattle.merge_sides.specs.Lines.{one};
+ghost use Rattle.merge_sides.specs.Lines.{one, sameProperty};
 ghost use Rattle.merge_partners.specs.Keys.{setsFrom, uriOf, classOf, classesOf, classBy, keyOf, numberAt, keyAt, countKeys};
-ghost use Rattle.merge_partners.specs.Pairs.{joined, joinTo, joinAll, hitPair, keyPair, hitPairs, markPairs, sharedPairs, rowPairs, singlePairs, joinedFirst, firstOf, demandedPairs, pairsFrom, sameUids};
+ghost use Rattle.merge_partners.specs.Pairs.{joined, joinTo, joinAll, Known, keyPairBy, keyPair, hitPairs, markPairs, sharedPairs, rowPairs, singlePairs, joinedFirst, firstOf, demandedPairs, pairsFrom, sameUids};
 use merge_sources::Found;
 use merge_sources::Row;
 use merge_sources::Source;
@@ -28,6 +28,15 @@ pub type Classes = [usize; limit::SOURCES];
 
 // The key of a mark that leads nowhere.
 const NO_KEY: u32 = 4294967295;
+
+// A line of the second card that was looked at, and whether it has the property of the line at hand, so that long names are compared once.
+struct Alike {
+    line: usize,
+    same: bool,
+}
+
+// The line before any was looked at.
+const NO_LINE: usize = 4294967296;
 
 // The numbers of a mark: its line, the PID's first number and its source number.
 const LINE: usize = 0;
@@ -198,27 +207,24 @@ fn join(p: &mut Partners, t: &mut Partners, i: usize, j: usize) -> bool
     true
 }
 
-// Joins line i with line j where they have one property.
-fn join_hit(
-    ca: &[u8],
-    ra: &[u32],
-    i: usize,
-    cb: &[u8],
-    rb: &[u32],
-    j: usize,
-    p: &mut Partners,
-    t: &mut Partners,
-) -> bool
-    ensures { λ r. ⌜ joined r (now (p .exit)) (now (t .exit)) ≡ joinAll (joined true (now (p .entry)) (now (t .entry))) (hitPair (now (ca .entry)) (now (ra .entry)) i (now (cb .entry)) (now (rb .entry)) j) ⌝ }
+// Looks at line j of the second card, unless it is the one that was looked at last.
+fn look(ca: &[u8], ra: &[u32], i: usize, cb: &[u8], rb: &[u32], j: usize, last: Alike) -> Alike
+    requires { ⌜ j < limit.word ⌝ }
+    requires { ⌜ Known (now ca) (now ra) i (now cb) (now rb) last ⌝ }
+    ensures { λ r. ⌜ r .line ≡ j ⌝ }
+    ensures { λ r. ⌜ r .same ≡ sameProperty (now (ca .entry)) (now (ra .entry)) i (now (cb .entry)) (now (rb .entry)) j ⌝ }
 {
-    if !merge_sides::same_property(ca, ra, i, cb, rb, j) {
-        return true;
+    if j == last.line {
+        return last;
     }
-    join(p, t, i, j)
+    Alike {
+        line: j,
+        same: merge_sides::same_property(ca, ra, i, cb, rb, j),
+    }
 }
 
-// Joins line i with the line of the second card's mark k where it has its property and the mark has the key.
-fn join_at(
+// Looks at the line of the second card's mark k where the mark has the key.
+fn look_at(
     ca: &[u8],
     ra: &[u32],
     i: usize,
@@ -228,17 +234,42 @@ fn join_at(
     marks: &[u32],
     keys: &[u32],
     k: usize,
+    last: Alike,
+) -> Alike
+    requires { ⌜ k < length (now keys) ⌝ }
+    requires { ⌜ Known (now ca) (now ra) i (now cb) (now rb) last ⌝ }
+    ensures { λ r. ⌜ Known (now (ca .entry)) (now (ra .entry)) i (now (cb .entry)) (now (rb .entry)) r ⌝ }
+    ensures { λ r. ⌜ keyPairBy (r .same) i key (now (marks .entry)) (now (keys .entry)) k ≡ keyPair (now (ca .entry)) (now (ra .entry)) i key (now (cb .entry)) (now (rb .entry)) (now (marks .entry)) (now (keys .entry)) k ⌝ }
+{
+    if keys[k] != key {
+        return last;
+    }
+    let j = wide_number(number_of(marks, k, LINE));
+    look(ca, ra, i, cb, rb, j, last)
+}
+
+// Joins line i with the line of the second card's mark k where the mark has the key and the lines have one property.
+fn join_at(
+    i: usize,
+    key: u32,
+    marks: &[u32],
+    keys: &[u32],
+    k: usize,
+    same: bool,
     p: &mut Partners,
     t: &mut Partners,
 ) -> bool
     requires { ⌜ k < length (now keys) ⌝ }
-    ensures { λ r. ⌜ joined r (now (p .exit)) (now (t .exit)) ≡ joinAll (joined true (now (p .entry)) (now (t .entry))) (keyPair (now (ca .entry)) (now (ra .entry)) i key (now (cb .entry)) (now (rb .entry)) (now (marks .entry)) (now (keys .entry)) k) ⌝ }
+    ensures { λ r. ⌜ joined r (now (p .exit)) (now (t .exit)) ≡ joinAll (joined true (now (p .entry)) (now (t .entry))) (keyPairBy same i key (now (marks .entry)) (now (keys .entry)) k) ⌝ }
 {
     if keys[k] != key {
         return true;
     }
+    if !same {
+        return true;
+    }
     let j = wide_number(number_of(marks, k, LINE));
-    join_hit(ca, ra, i, cb, rb, j, p, t)
+    join(p, t, i, j)
 }
 
 // Joins line i with each line of the second card that has its property and a mark of the key.
@@ -256,9 +287,15 @@ fn join_hits(
 ) -> bool
     ensures { λ r. ⌜ joined r (now (p .exit)) (now (t .exit)) ≡ joinAll (joined true (now (p .entry)) (now (t .entry))) (hitPairs (now (ca .entry)) (now (ra .entry)) i key (now (cb .entry)) (now (rb .entry)) (now (marks .entry)) (now (keys .entry)) 0 (length (now (keys .entry)))) ⌝ }
 {
+    let mut last = Alike {
+        line: NO_LINE,
+        same: false,
+    };
     let mut k: usize = 0;
     while k < keys.len() {
-        if !join_at(ca, ra, i, key, cb, rb, marks, keys, k, p, t) {
+        last = look_at(ca, ra, i, key, cb, rb, marks, keys, k, last);
+        let same = last.same;
+        if !join_at(i, key, marks, keys, k, same, p, t) {
             return false;
         }
         k += 1;

@@ -37,14 +37,26 @@ enum-known-name-3 c = search needs
 answer-report-requires : tie.Need-answer-report-requires
 answer-report-requires c κs = search needs
 
+enum-known-name-4 : tie.Need-enum-known-name-4
+enum-known-name-4 c = search needs
+
+put-merge-answer-requires : tie.Need-put-merge-answer-requires
+put-merge-answer-requires c κs = search needs
+
+with-output-requires-2 : tie.Need-with-output-requires-2
+with-output-requires-2 c κs = search needs
+
+with-console-requires-3 : tie.Need-with-console-requires-3
+with-console-requires-3 c κs = search needs
+
 enum-told : tie.Need-enum-told
 enum-told c = search needs
 
 answer-bad-requires : tie.Need-answer-bad-requires
 answer-bad-requires c κs = search needs
 
-with-console-requires-3 : tie.Need-with-console-requires-3
-with-console-requires-3 c κs = search needs
+with-console-requires-4 : tie.Need-with-console-requires-4
+with-console-requires-4 c κs = search needs
 
 same-length : tie.Need-same-length
 same-length c = search needs
@@ -88,10 +100,22 @@ same-length-5 c = search needs
 returns-4 : tie.Need-returns-4
 unfolding answerAny
 returns-4 c =
+    let a = c .before .before .before .before .before .before .before .before .before .before .before .before .before .args in
+    let d = c .before .before .before .before .put-merge-answer in
+    rw (c .before .before .before .before .before .before .before .name4 .given .1)
+    (ap (λ (x : Kept). wholeOf x (d .last .1 .1 .1 .0) (now (a .pool))) (c .with-console3 .ensures)
+    ∙ ap (λ (x : WithPool). beside x (a .k .report)) (said (a .k .console) (now (a .pool)) (now (a .out)) _ (c .before .with-output2 .ensures) (d .ensures)))
+
+same-length-6 : tie.Need-same-length-6
+same-length-6 c = search needs
+
+returns-5 : tie.Need-returns-5
+unfolding answerAny
+returns-5 c =
     let a = c .before .before .before .before .before .before .before .before .before .before .before .args in
     let d = c .before .before .before .answer-bad in
     rw (c .before .before .before .before .before .enum-told .given .1)
-    (ap (λ (x : Kept). wholeOf x (d .last .1 .0) (now (a .pool))) (c .with-console3 .ensures)
+    (ap (λ (x : Kept). wholeOf x (d .last .1 .0) (now (a .pool))) (c .with-console4 .ensures)
     ∙ ap (λ (x : State). whole (kept x (a .k .report)) (now (a .pool))) (d .ensures))
 
 pub answer-request-spec : {M : Type 1} → statement M
@@ -107,9 +131,13 @@ answer-request-spec =
     with-console-requires-2
     enum-known-name-3
     answer-report-requires
+    enum-known-name-4
+    put-merge-answer-requires
+    with-output-requires-2
+    with-console-requires-3
     enum-told
     answer-bad-requires
-    with-console-requires-3
+    with-console-requires-4
     same-length
     returns
     same-length-2
@@ -118,4 +146,6 @@ answer-request-spec =
     same-length-4
     returns-3
     same-length-5
-    returns-4)
+    returns-4
+    same-length-6
+    returns-5)

@@ -1,0 +1,2 @@
+-- The definitions that the contracts of `console_merge` cite. Assumes nothing.
+pub mod MergeAnswers

@@ -1,0 +1,2 @@
+-- The examples, proved. Assumes nothing.
+pub mod Examples
