@@ -6,7 +6,8 @@ use native.Mathlib.Omega.{arith}
 use lib.ListN.{length}
 use Rattle.reader.specs.Outcome.{judgeOf}
 use Rattle.watch.specs.Octets.{known, used, bufferAfter}
-use Rattle.watch.specs.State.{freshWatch, claims, Stands, After, Reached, ChunkOf, EndOf}
+use Rattle.watch.specs.State.{freshWatch, claims, Stands, After, Reached}
+use Rattle.watch.specs.Outcome.{ChunkOf, EndOf}
 use Rattle.watch.specs.declared.Watch.{Watch}
 use Rattle.watch.specs.declared.Arrived.{Arrived}
 use Rattle.watch.specs.declared.Arrived.the-variants.{Next as goesOn}

@@ -13,7 +13,8 @@ use Rattle.reader.specs.Outcome.{judgeOf, ended}
 use Rattle.reader.specs.declared.Verdict.{Verdict}
 use Rattle.watch_lines.specs.Parting.{endedLines, openLine}
 use Rattle.watch.specs.Octets.{judged, altidOctets, known, bufferAfter}
-use Rattle.watch.specs.State.{freshWatch, claims, After, ChunkOf, EndOf}
+use Rattle.watch.specs.State.{freshWatch, claims, After}
+use Rattle.watch.specs.Outcome.{ChunkOf, EndOf}
 use Rattle.watch.specs.declared.Watch.{Watch}
 use Rattle.watch.specs.declared.Arrived.the-variants.{Next as goesOn}
 use Rattle.watch_laws.specs.Altids.{Ended, altidsAfter, bufferWith}

@@ -85,7 +85,7 @@ pub fn judge_lines(
             };
         }
         let folded = span.cr != end;
-        let to = c.used + (end - at);
+        let to = c.used + (end + 2 - at);
         let j = take_line(
             t,
             rows,
