@@ -1,4 +1,4 @@
-// For the benchmark alone: escape, labels, read, the reader of chunks, take of a report and the desk's calls, for C to time; a refusal is its number alone.
+// For the benchmark alone: escape, labels, read, take of a report and the desk's calls, for C to time; a refusal is its number alone.
 use desk::Answer;
 use desk::Desk;
 use label_carets::Rule;
@@ -14,7 +14,7 @@ ghost use Prim.Native.Nat.{_+_};
 ghost use lib.ListN.{getD};
 ghost use Rattle.numbers.specs.Counts as places;
 ghost use Rattle.numbers.specs.Properties as property;
-ghost use Rattle.reader.specs.Outcome.{readIn, judgeOf};
+ghost use Rattle.reader.specs.Outcome.{readIn};
 ghost use Rattle.property_table.specs.declared.Edition.the-variants.{First};
 ghost use Rattle.report.specs.Steps.{freshReport, takeStep};
 ghost use Rattle.text.specs.Outcomes.{escapeOutcome};
@@ -24,23 +24,12 @@ ghost use Rattle.firmware_bench.specs.Answers.{number, writtenNumber, ve
 ghost use Rattle.firmware_bench.specs.Calls.{served};
 
 mod calls;
-mod chunks;
 
 // Packs a refusal's number above all counts.
 fn pack_refusal(n: u32) -> u64
     ensures { λ r. ⌜ r ≡ number n ⌝ }
 {
     (n as u64) * limit::WORD
-}
-
-// Packs a verdict: the count of cards, or the refusal.
-fn pack_verdict(v: Verdict) -> u64
-    ensures { λ r. ⌜ r ≡ verdictNumber v ⌝ }
-{
-    match v {
-        Verdict::Accepted(cards, _) => cards as u64,
-        Verdict::Refused(n, _) => pack_refusal(n),
-    }
 }
 
 // Escapes a text: the count of octets written, or the refusal; the room is as escaping leaves it.
@@ -90,18 +79,10 @@ pub extern "C" fn timed_read(input: &[u8], copy: &mut [u8], records: &mut [u32])
     ensures { λ _. ⌜ now (records .exit) ≡ readIn First (now (input .entry)) (now (copy .entry)) (now (records .entry)) .records ⌝ }
 {
     let v = reader::read(Edition::First, input, copy, records);
-    pack_verdict(v)
-}
-
-// Feeds an input to the reader of chunks, `size` octets at a time, and ends it: the count of cards, or the refusal, as the reader has it for the whole input.
-#[no_mangle]
-pub extern "C" fn timed_watch(input: &[u8], size: usize) -> u64
-    ensures { λ r. ⌜ r ≡ verdictNumber (judgeOf (now (input .entry))) ⌝ }
-{
-    let mut buffer = [0u8; limit::OCTETS];
-    let w = chunks::feed(input, size, &mut buffer);
-    let v = w.end(&buffer);
-    pack_verdict(v)
+    match v {
+        Verdict::Accepted(cards, _) => cards as u64,
+        Verdict::Refused(n, _) => pack_refusal(n),
+    }
 }
 
 // Takes the judgement of an input into a fresh report, and answers how many BEGIN lines it then has.

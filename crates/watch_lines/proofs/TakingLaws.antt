@@ -1,19 +1,21 @@
 -- One line judged with the buffer, and the lines one after the other. Assumes nothing.
 use mathlib.Core.Path.{_≡_, refl, sym, ap, subst, _∙_}
-use mathlib.Core.Bool.{Bool, true, false, false≢true}
+use mathlib.Core.Bool.{Bool, true, false, not, false≢true}
 use mathlib.Core.List.{List, [], _∷_, _++_, append-assoc}
 use Prim.Native.Nat.{ℕ, zero, suc, _+_, _-_, _<_, _≤_}
 use native.Mathlib.Omega.{arith}
 use lib.Dec.{eqb, ltb}
 use lib.ListN.{length, take, drop, replicate, length-drop, length-append, length-replicate}
-use lib.Seq.{length-take-le, take-at, take-take, drop-drop}
+use lib.Seq.{length-take-le, take-at, take-take, take-length, drop-drop}
 use denote.Enum.Declared.{tagOf}
 use types.Run.{OneOf, miss}
+use Rattle.octets.specs.Classes.{run}
 use Rattle.octets.specs.Pick.{pick}
 use Rattle.octets.specs.Room.{overlay}
 use Rattle.octets.proofs.Bools.{by}
-use borrow.Author.Tests.{lt-ltb, le-ltb}
-use Rattle.line_folds.specs.Folds.{lineLength, unfolded}
+use borrow.Author.Tests.{lt-ltb, le-ltb, eqb-true, not-false}
+use Rattle.line_folds.specs.Folds.{lineLength, unfolded, notCr}
+use Rattle.line_folds.proofs.QuickLaws.{no-fold}
 use Rattle.line_folds.proofs.SpanLaws.{part-length}
 use Rattle.property_table.specs.declared.Edition.the-variants.{First}
 use Rattle.card_state.specs.State.{Card, Step, Next, Refused, Flawed}
@@ -407,3 +409,10 @@ joined-front line x rest line′ n e l =
 -- a line that was joined, without its CR LF
 pub joined-line : (line x : List ℕ) (n : ℕ) → take n line ≡ x → take (n - 2) line ≡ take (n - 2) x
 joined-line line x n e = sym (take-take (n - 2) n line (omega arith)) ∙ ap (take (n - 2)) e
+
+-- a line that goes on to its end without a CR has no fold
+pub whole-line : (s : List ℕ) (cr n : ℕ) → length s ≡ n → cr ≡ 0 + run notCr (drop 0 s) → not (eqb cr n) ≡ false → unfolded s ≡ s
+whole-line s cr n size e h =
+    let q : cr ≡ n = eqb-true cr n (not-false _ h) in
+    let t : take cr s ≡ s = ap (λ (m : ℕ). take m s) (q ∙ sym size) ∙ take-length s in
+    subst (λ (x : List ℕ). unfolded x ≡ x) t (no-fold s cr (omega (arith, e)))

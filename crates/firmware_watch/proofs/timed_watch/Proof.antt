@@ -1,10 +1,10 @@
--- `firmware_bench::timed_watch` meets its contract. Assumes nothing.
+-- `firmware_watch::timed_watch` meets its contract. Assumes nothing.
 use mathlib.Core.Path.{ap, _∙_}
 use native.Mathlib.Omega.{arith}
-use Rattle.firmware_bench.specs.Answers.{verdictNumber}
+use Rattle.firmware_watch.specs.Answers.{verdictNumber}
 use borrow.Author.Needs.{needs}
-use Rattle.firmware_bench.proofs.timed_watch.Statement.{statement}
-use Rattle.firmware_bench.proofs.timed_watch.Tie as tie
+use Rattle.firmware_watch.proofs.timed_watch.Statement.{statement}
+use Rattle.firmware_watch.proofs.timed_watch.Tie as tie
 
 slice-aggregate-feed : tie.Need-slice-aggregate-feed
 slice-aggregate-feed c = search needs

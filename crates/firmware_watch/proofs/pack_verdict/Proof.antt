@@ -1,9 +1,9 @@
--- `firmware_bench::pack_verdict` meets its contract. Assumes nothing.
+-- `firmware_watch::pack_verdict` meets its contract. Assumes nothing.
 use mathlib.Core.Path.{sym, ap, _∙_}
-use Rattle.firmware_bench.specs.Answers.{verdictNumber}
+use Rattle.firmware_watch.specs.Answers.{verdictNumber}
 use borrow.Author.Needs.{needs}
-use Rattle.firmware_bench.proofs.pack_verdict.Statement.{statement}
-use Rattle.firmware_bench.proofs.pack_verdict.Tie as tie
+use Rattle.firmware_watch.proofs.pack_verdict.Statement.{statement}
+use Rattle.firmware_watch.proofs.pack_verdict.Tie as tie
 
 enum-known-v : tie.Need-enum-known-v
 enum-known-v c = search needs

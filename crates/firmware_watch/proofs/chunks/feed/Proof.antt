@@ -1,4 +1,4 @@
--- `firmware_bench::chunks::feed` meets its contract. Assumes nothing.
+-- `firmware_watch::chunks::feed` meets its contract. Assumes nothing.
 use mathlib.Core.Path.{_≡_, refl, sym, ap, subst, _∙_}
 use mathlib.Core.List.{List, [], _∷_, _++_}
 use Prim.Native.Nat.{ℕ, _+_, _-_, _<_, _≤_}
@@ -15,8 +15,8 @@ use Rattle.watch.proofs.ReachLaws.{fresh-stands}
 use Rattle.watch.proofs.Arrived.{the-type}
 use denote.Enum.Declared.{tagOf}
 use types.Run.{OneOf, miss}
-use Rattle.firmware_bench.proofs.chunks.feed.Statement.{statement}
-use Rattle.firmware_bench.proofs.chunks.feed.Tie as tie
+use Rattle.firmware_watch.proofs.chunks.feed.Statement.{statement}
+use Rattle.firmware_watch.proofs.chunks.feed.Tie as tie
 
 -- a chunk moves from the octets up to `at` to those up to `to`
 moved : (w v : Watch) (b d i : List ℕ) (at to : ℕ) (r : Arrived) → Reached w b (take at i) → length b ≡ 16384 → ChunkOf w b (take (to - at) (drop at i)) r d → r ≡ goesOn v → at ≤ to
