@@ -4,7 +4,7 @@ use mathlib.Core.List.{List, [], _∷_, _++_}
 use Prim.Native.Nat.{ℕ, _+_, _-_, _<_, _≤_}
 use native.Mathlib.Omega.{arith}
 use lib.Dec.{eqb, ltb, leb}
-use lib.ListN.{length, take, drop, replicate, length-drop, length-append}
+use lib.ListN.{length, take, drop, replicate, length-drop, length-append, take-append-drop}
 use lib.Seq.{length-take-le, take-append-le, take-take}
 use borrow.Author.Tests.{eq-eqb, ne-eqb, lt-ltb, le-ltb, le-leb, lt-leb}
 use denote.Enum.Declared.{tagOf}
@@ -17,18 +17,20 @@ use Rattle.card_state.specs.declared.Card.{Card as Kept}
 use Rattle.card_state.specs.declared.Step.{Step as KeptStep}
 use Rattle.card_state.specs.declared.Step.the-variants.{Next as next, Refused as refused, Flawed as flawed}
 use Rattle.card_state.proofs.Step.{the-type}
-use Rattle.card_state.proofs.KeptLaws.{card-front}
+use Rattle.card_state.proofs.KeptLaws.{card-front, none-lie}
 use Rattle.desk_pool.specs.Pools.{patch}
 use Rattle.reader.specs.Outcome.{verdictOf}
 use Rattle.reader.specs.declared.Verdict.{Verdict}
 use Rattle.reader.specs.declared.Verdict.the-variants.{Refused as Judged}
 use Rattle.reader_walk.specs.Walk.{settled, judgeLines}
-use Rattle.watch_arrivals.specs.Arrivals.{tailFrom, loneFrom, nextFrom}
+use Rattle.watch_arrivals.specs.Arrivals.{tailStep, tailFrom, loneFrom, nextFrom}
+use Rattle.watch_arrivals.proofs.ArrivalLaws.{tail-append, tail-short, next-tail}
 use Rattle.watch_lines.specs.Parting.{endedLines, openLine}
 use Rattle.watch_lines.specs.Values.{valuesFrom, buffersFrom}
 use Rattle.watch_lines.specs.Taking.{kept, judgement, Took, Within, Went}
+use Rattle.watch_lines.proofs.RunLaws.{open-law}
 use Rattle.watch_lines.proofs.TakingLaws.{judged-next, values-next, buffers-next, judged-stop, buffers-stop, stopped-never}
-use Rattle.watch.specs.State.{quietState, openState, stoppedState, claims}
+use Rattle.watch.specs.State.{quietState, openState, stoppedState, claims, Sound}
 use Rattle.watch.specs.Outcome.{View, viewOf, quietView, openView, Came, came, count, cleared, joinedLine, newLines, afterLines, linesCame, octetsCame, chunkCame, begun, Comes, lastLine, endCame}
 use Rattle.watch.specs.declared.Watch.{Watch}
 
@@ -40,8 +42,17 @@ quiet-view : (known fault place n tail : ℕ) (b : List ℕ) → viewOf (quietSt
 unfolding viewOf cardOf placesOf tagAt
 quiet-view known fault place n tail b = refl
 
-pub quiet-comes : (known fault place n tail : ℕ) (r : Watch) (b : List ℕ) (o : Came) → r ≡ quietState known fault place n tail → o ≡ came (quietView known fault place n tail) b → Comes r b o
-quiet-comes known fault place n tail r b o e f = record {
+-- and it can be worked with
+pub quiet-sound : (known fault place n tail : ℕ) → n ≤ 16384 → tail ≤ n → ((known ≡ 1 → ⊥) → tail ≤ 0) → Sound (quietState known fault place n tail)
+quiet-sound known fault place n tail h g l = record {
+  counts = record { short = omega (arith, h); tail = omega (arith, g); line = l };
+  card = record { lies = none-lie; used = omega arith; cards = omega arith; lines = omega arith };
+}
+
+pub quiet-comes : (known fault place n tail : ℕ) (r : Watch) (b : List ℕ) (o : Came) → Sound (quietState known fault place n tail) → r ≡ quietState known fault place n tail
+    → o ≡ came (quietView known fault place n tail) b → Comes r b o
+quiet-comes known fault place n tail r b o s e f = record {
+  sound = subst Sound (sym e) s;
   view = ap (λ (w : Watch). viewOf w b) e ∙ quiet-view known fault place n tail b ∙ sym (ap (λ (x : Came). x .view) f);
   buffer = sym (ap (λ (x : Came). x .buffer) f);
 }
@@ -53,8 +64,23 @@ card-put c b x n l h g =
     let m : length (take n b) ≡ n = length-take-le n b g in
     card-front c (take n b ++ overlay x (drop n b)) b l (take-append-le (c .used) (take n b) (overlay x (drop n b)) (omega (arith, m, h)) ∙ take-take (c .used) n b h)
 
+-- after CR LF octets end as they do by themselves
+tail-two : (l : List ℕ) → 0 < length l → tailFrom 2 l ≡ tailFrom 0 l
+unfolding tailFrom tailStep
+tail-two [] h = absurd (omega arith)
+tail-two (x ∷ xs) h = refl
+
+-- where a line ends, the tail is no longer than the line that is open then
+open-tail : (t : ℕ) (c : List ℕ) → nextFrom t c < length c → tailFrom t c ≤ length (openLine (drop (nextFrom t c) c))
+open-tail t c h =
+    let k = nextFrom t c in
+    let m = drop k c in
+    let e : tailFrom t c ≡ tailFrom 0 m =
+    ap (tailFrom t) (sym (take-append-drop k c)) ∙ tail-append t (take k c) m ∙ ap (λ (u : ℕ). tailFrom u m) (next-tail t c h) ∙ tail-two m (rw (length-drop k c) (omega arith)) in
+    omega (arith, e, open-law m .tail, tail-short 0 (openLine m))
+
 -- a chunk c with which lines end, the first before its octet k
-module _ (w : Watch) (b c : List ℕ) (k : ℕ) (win : Within (w .card) (w .start)) (room : w .start + w .«open» + length c ≤ 16384) (full : length b ≡ 16384)
+module _ (w : Watch) (b c : List ℕ) (k : ℕ) (k-is : k ≡ nextFrom (w .tail) c) (low-tail : w .tail ≤ w .«open») (win : Within (w .card) (w .start)) (room : w .start + w .«open» + length c ≤ 16384) (full : length b ≡ 16384)
     (two : 2 ≤ w .«open» + k) (inside : k < length c) where
   abbrev line : List ℕ
   line = joinedLine w b (take k c)
@@ -101,11 +127,14 @@ module _ (w : Watch) (b c : List ℕ) (k : ℕ) (win : Within (w .card) (w .star
         ∙ ap (λ (y : ℕ). afterLines x y t a d l) (sym n-is)
         ∙ ap (λ (y : ℕ). afterLines x n y a d l) (sym tail-is)
 
+    stopped-sound : (m p : ℕ) → Sound (quietState 1 m p n tail)
+    stopped-sound m p = quiet-sound 1 m p n tail (omega (arith, n-is, room)) (omega (arith, n-is, tail-is, tail-short (w .tail) c, low-tail)) (λ e. absurd (e refl))
+
     stopped-comes : (r : KeptStep) → Stopped r → (a d : List ℕ) → linesCame w b c k ≡ afterLines (stepOf d r) n tail a d (openLine (drop k c)) → Comes (stoppedState r n tail) d (linesCame w b c k)
     unfolding stepOf
     stopped-comes (next f) h a d e = absurd (miss (1 ∷ 2 ∷ []) 0 tt h)
-    stopped-comes (refused m p) h a d e = quiet-comes 1 m p n tail (stoppedState (refused m p) n tail) d (linesCame w b c k) refl e
-    stopped-comes (flawed m o) h a d e = quiet-comes 1 m o n tail (stoppedState (flawed m o) n tail) d (linesCame w b c k) refl e
+    stopped-comes (refused m p) h a d e = quiet-comes 1 m p n tail (stoppedState (refused m p) n tail) d (linesCame w b c k) (stopped-sound m p) refl e
+    stopped-comes (flawed m o) h a d e = quiet-comes 1 m o n tail (stoppedState (flawed m o) n tail) d (linesCame w b c k) (stopped-sound m o) refl e
 
     -- the first line was refused
     pub comes-refused : (r : KeptStep) → Stopped r → (b₁ : List ℕ) → Took (w .card) line b b₁ (w .start) to r → Comes (stoppedState r n tail) b₁ (linesCame w b c k)
@@ -153,7 +182,15 @@ module _ (w : Watch) (b c : List ℕ) (k : ℕ) (win : Within (w .card) (w .star
           ∙ ap (λ (m : ℕ). came (openView (n - length l) (length l) tail m (cardOf f b₂)) (patch b₂ m l)) (sym (g .sized f e)) in
           let fits : f .used ≤ length b₂ = omega (arith, rest .1 .used, full₂, room, left, length-drop k c, low, high) in
           let same : cardOf f b₃ ≡ cardOf f b₂ = ap (cardOf f) laid ∙ card-put f b₂ l (f .used) (rest .1 .lies) (omega arith) fits in
+          let place : w .start + w .«open» + k + (length (drop k c) - length l) ≡ w .start + w .«open» + at = omega (arith, left, length-drop k c, low, high) in
+          let short : tail ≤ length c - at =
+          subst (λ (m : ℕ). tail ≤ m) (sym (ap length (rest .0)) ∙ left)
+          (subst (λ (m : ℕ). tail ≤ length (openLine (drop m c))) (sym k-is) (omega (arith, tail-is, open-tail (w .tail) c (omega (arith, k-is, inside))))) in
           record {
+            sound = record {
+              counts = record { short = omega (arith, room, high); tail = omega (arith, short); line = λ q. short };
+              card = subst (Within f) place (rest .1);
+            };
             view =
                 ap (λ (x : ℕ). openView x (length c - at) tail (f .used) (cardOf f b₃)) (sym p)
                 ∙ ap (λ (x : ℕ). openView (n - length l) x tail (f .used) (cardOf f b₃)) (sym left)
@@ -176,12 +213,14 @@ module _ (w : Watch) (b c : List ℕ) where
   unfolding octetsCame
   open-comes h = rw (le-ltb (nextFrom (w .tail) c) (length c) h)
 
-  pub octets-open : length c ≤ nextFrom (w .tail) c → Lies (w .card) → claims w ≤ length b → (tail : ℕ) → tail ≡ tailFrom (w .tail) c
+  pub octets-open : length c ≤ nextFrom (w .tail) c → Within (w .card) (w .start) → w .tail ≤ w .«open» → w .start + w .«open» + length c ≤ 16384 → claims w ≤ length b → (tail : ℕ) → tail ≡ tailFrom (w .tail) c
       → (r : Watch) → r ≡ openState (w .start) (w .«open» + length c) tail (w .card) → (d : List ℕ) → d ≡ patch b (claims w) c → Comes r d (octetsCame w b c)
   unfolding viewOf
-  octets-open h lies fits tail e r f d laid =
-      let same : cardOf (w .card) d ≡ cardOf (w .card) b = ap (cardOf (w .card)) laid ∙ card-put (w .card) b c (claims w) lies (omega arith) fits in
+  octets-open h win low room fits tail e r f d laid =
+      let same : cardOf (w .card) d ≡ cardOf (w .card) b = ap (cardOf (w .card)) laid ∙ card-put (w .card) b c (claims w) (win .lies) (omega arith) fits in
+      let short : tail ≤ w .«open» + length c = omega (arith, e, tail-short (w .tail) c, low) in
       record {
+        sound = subst Sound (sym f) (record { counts = record { short = omega (arith, room); tail = omega (arith, short); line = λ q. short }; card = win });
         view =
             ap (λ (x : Watch). viewOf x d) f
             ∙ ap (λ (x : ℕ). openView (w .start) (w .«open» + length c) x (w .card .used) (cardOf (w .card) d)) e
@@ -191,9 +230,9 @@ module _ (w : Watch) (b c : List ℕ) where
       }
 
   -- the cases of a chunk
-  pub chunk-stays : w .known ≡ 3 → Comes w b (chunkCame w b c)
+  pub chunk-stays : w .known ≡ 3 → Sound w → Comes w b (chunkCame w b c)
   unfolding chunkCame
-  chunk-stays h = let t = eq-eqb (w .known) 3 h in record { view = rw t; buffer = rw t }
+  chunk-stays h s = let t = eq-eqb (w .known) 3 h in record { view = rw t; buffer = rw t; sound = s }
 
   pub chunk-over : (w .known ≡ 3 → ⊥) → 16384 < count w + length c → chunkCame w b c ≡ came (quietView 3 1 16384 16384 0) (cleared w b)
   unfolding chunkCame

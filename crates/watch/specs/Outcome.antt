@@ -114,10 +114,11 @@ chunkCame w b c =
 unfoldable pub begun : Watch → List ℕ → List ℕ
 begun w b = pick (eqb (count w) 0) (patch b 0 (replicate limit.octets 0)) b
 
--- a state and its buffer are what came
+-- a state and its buffer are what came, and the state can be worked with
 pub record Comes (w : Watch) (b : List ℕ) (o : Came) : Type 0 where
   pub view : viewOf w b ≡ o .view
   pub buffer : b ≡ o .buffer
+  pub sound : Sound w
 
 -- the open line at the end of the input, without its CR LF
 abbrev pub lastLine : Watch → List ℕ → List ℕ

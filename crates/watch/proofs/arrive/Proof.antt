@@ -3,12 +3,12 @@ use native.Mathlib.Omega.{arith}
 use mathlib.Core.Path.{_≡_, refl, sym, ap, subst, _∙_}
 use mathlib.Core.List.{_++_}
 use Prim.Native.Nat.{_+_, _-_}
-use Rattle.watch_arrivals.proofs.ArrivalLaws.{lone-le, lone-least}
+use Rattle.watch_arrivals.proofs.ArrivalLaws.{lone-le, lone-least, tail-short}
 use Rattle.watch.specs.declared.Watch.{Watch}
 use Rattle.watch.specs.State.{After}
 use Rattle.watch.proofs.FaultLaws.{stays-over, gets-over, stays-broken, gets-broken, stays-faulty, lives, cleared}
 use Rattle.watch.specs.Outcome.{Comes, came, quietView}
-use Rattle.watch.proofs.OutcomeLaws.{quiet-comes, chunk-stays, chunk-over, chunk-broken, chunk-breaks, chunk-faulty, chunk-octets, cleared-is, broken-same, faulty-same}
+use Rattle.watch.proofs.OutcomeLaws.{quiet-sound, quiet-comes, chunk-stays, chunk-over, chunk-broken, chunk-breaks, chunk-faulty, chunk-octets, cleared-is, broken-same, faulty-same}
 use borrow.Author.Needs.{needs}
 use Rattle.watch.proofs.arrive.Statement.{statement}
 use Rattle.watch.proofs.arrive.Tie as tie
@@ -16,7 +16,7 @@ use Rattle.watch.proofs.arrive.Tie as tie
 returns : tie.Need-returns
 returns c = (
   λ i s e. stays-over (c .before .before .before .before .args .w) (c .before .before .before .before .args .buffer .now) i (c .before .before .before .before .args .chunk .now) (c .if1 .taken) s e,
-  chunk-stays (c .before .before .before .before .args .w) (c .before .before .before .before .args .buffer .now) (c .before .before .before .before .args .chunk .now) (c .if1 .taken),
+  chunk-stays (c .before .before .before .before .args .w) (c .before .before .before .before .args .buffer .now) (c .before .before .before .before .args .chunk .now) (c .if1 .taken) (c .before .before .before .before .pre .0),
 )
 
 add-before : tie.Need-add-before
@@ -44,7 +44,7 @@ returns-2 c =
       λ i s e. subst (λ (x : Watch). After x (c .before .before .before .clear .last .0) (i ++ a .chunk .now)) (sym (c .too-long .ensures))
           (gets-over (a .w) (a .buffer .now) i (a .chunk .now) (c .before .before .before .before .before .before .before .before .if1 .left) s (omega (arith, c .before .before .before .before .before .if2 .taken, p .0 .counts .short)) (c .before .before .before .clear .last .0)
           (cleared (a .w) (a .buffer .now) i (c .before .before .before .clear .last .0) e s (omega (arith, p .0 .card .used, p .0 .counts .short)) (c .before .before .before .clear .ensures))),
-      quiet-comes _ _ _ _ _ (c .too-long .result) (c .before .before .before .clear .last .0) _ (c .too-long .ensures) (chunk-over (a .w) (a .buffer .now) (a .chunk .now) (c .before .before .before .before .before .before .before .before .if1 .left) (omega (arith, c .before .before .before .before .before .if2 .taken, p .0 .counts .short)) ∙ ap (came (quietView 3 1 16384 16384 0)) (cleared-is (a .w) (a .buffer .now) (c .before .before .before .clear .last .0) (c .before .before .before .clear .ensures))),
+      quiet-comes _ _ _ _ _ (c .too-long .result) (c .before .before .before .clear .last .0) _ (quiet-sound _ _ _ _ _ (omega arith) (omega arith) (λ n. omega arith)) (c .too-long .ensures) (chunk-over (a .w) (a .buffer .now) (a .chunk .now) (c .before .before .before .before .before .before .before .before .if1 .left) (omega (arith, c .before .before .before .before .before .if2 .taken, p .0 .counts .short)) ∙ ap (came (quietView 3 1 16384 16384 0)) (cleared-is (a .w) (a .buffer .now) (c .before .before .before .clear .last .0) (c .before .before .before .clear .ensures))),
     )
 
 add-n : tie.Need-add-n
@@ -59,7 +59,7 @@ returns-3 c =
     let p = c .before .before .before .before .before .before .before .before .before .before .pre in (
       λ i s e. subst (λ (x : Watch). After x (a .buffer .now) (i ++ a .chunk .now)) (sym (c .faulty .ensures))
           (stays-broken (a .w) (a .buffer .now) i (a .chunk .now) (c .before .if3 .taken) s e _ refl (omega (arith, c .before .before .before .if2 .left, p .0 .counts .short))),
-      quiet-comes _ _ _ _ _ (c .faulty .result) (a .buffer .now) _ (c .faulty .ensures) (chunk-broken (a .w) (a .buffer .now) (a .chunk .now) (c .before .before .before .before .before .before .if1 .left) (omega (arith, c .before .before .before .if2 .left, p .0 .counts .short)) (c .before .if3 .taken)),
+      quiet-comes _ _ _ _ _ (c .faulty .result) (a .buffer .now) _ (quiet-sound _ _ _ _ _ (omega (arith, c .before .before .before .if2 .left, p .0 .counts .short)) (omega arith) (λ n. omega arith)) (c .faulty .ensures) (chunk-broken (a .w) (a .buffer .now) (a .chunk .now) (c .before .before .before .before .before .before .if1 .left) (omega (arith, c .before .before .before .if2 .left, p .0 .counts .short)) (c .before .if3 .taken)),
     )
 
 first-break-requires : tie.Need-first-break-requires
@@ -90,7 +90,7 @@ returns-4 c =
           (gets-broken (a .w) (a .buffer .now) i (a .chunk .now) (c .before .before .before .before .before .before .before .before .before .before .before .before .if1 .left) (c .before .before .before .before .before .before .before .if3 .left) s _ _ refl (omega (arith, c .before .before .before .before .before .before .before .before .before .if2 .left, p .0 .counts .short)) (omega (arith, f, c .before .before .before .before .before .if4 .taken))
           (omega (arith, f, lone-least (a .w .tail) (a .chunk .now), p .0 .counts .tail)) (c .before .before .before .clear2 .last .0)
           (cleared (a .w) (a .buffer .now) i (c .before .before .before .clear2 .last .0) e s (omega (arith, p .0 .card .used, p .0 .counts .short)) (c .before .before .before .clear2 .ensures))),
-      quiet-comes _ _ _ _ _ (c .faulty2 .result) (c .before .before .before .clear2 .last .0) _ (c .faulty2 .ensures) (chunk-breaks (a .w) (a .buffer .now) (a .chunk .now) (c .before .before .before .before .before .before .before .before .before .before .before .before .if1 .left) (omega (arith, c .before .before .before .before .before .before .before .before .before .if2 .left, p .0 .counts .short)) (c .before .before .before .before .before .before .before .if3 .left) (omega (arith, f, c .before .before .before .before .before .if4 .taken)) ∙ broken-same (a .w) (a .buffer .now) (a .chunk .now) _ f (c .before .before .before .clear2 .last .0) (c .before .before .before .clear2 .ensures)),
+      quiet-comes _ _ _ _ _ (c .faulty2 .result) (c .before .before .before .clear2 .last .0) _ (quiet-sound _ _ _ _ _ (omega (arith, c .before .before .before .before .before .before .before .before .before .if2 .left, p .0 .counts .short)) (omega arith) (λ n. omega arith)) (c .faulty2 .ensures) (chunk-breaks (a .w) (a .buffer .now) (a .chunk .now) (c .before .before .before .before .before .before .before .before .before .before .before .before .if1 .left) (omega (arith, c .before .before .before .before .before .before .before .before .before .if2 .left, p .0 .counts .short)) (c .before .before .before .before .before .before .before .if3 .left) (omega (arith, f, c .before .before .before .before .before .if4 .taken)) ∙ broken-same (a .w) (a .buffer .now) (a .chunk .now) _ f (c .before .before .before .clear2 .last .0) (c .before .before .before .clear2 .ensures)),
     )
 
 tail-after-requires : tie.Need-tail-after-requires
@@ -105,7 +105,7 @@ returns-5 c =
     let p = c .before .before .before .before .before .before .before .before .before .before .before .before .before .before .before .pre in (
       λ i s e. subst (λ (x : Watch). After x (a .buffer .now) (i ++ a .chunk .now)) (sym (c .faulty3 .ensures))
           (stays-faulty (a .w) (a .buffer .now) i (a .chunk .now) (c .before .before .if5 .taken) s e _ (c .before .tail-after .result) refl (omega (arith, c .before .before .before .before .before .before .before .before .if2 .left, p .0 .counts .short)) (omega (arith, c .before .before .before .before .before .first-break .ensures, c .before .before .before .before .if4 .left)) (c .before .tail-after .ensures)),
-      quiet-comes _ _ _ _ _ (c .faulty3 .result) (a .buffer .now) _ (c .faulty3 .ensures) (chunk-faulty (a .w) (a .buffer .now) (a .chunk .now) (c .before .before .before .before .before .before .before .before .before .before .before .if1 .left) (omega (arith, c .before .before .before .before .before .before .before .before .if2 .left, p .0 .counts .short)) (c .before .before .before .before .before .before .if3 .left) (omega (arith, c .before .before .before .before .before .first-break .ensures, c .before .before .before .before .if4 .left)) (c .before .before .if5 .taken) ∙ faulty-same (a .w) (a .buffer .now) (a .chunk .now) (c .before .tail-after .result) (c .before .tail-after .ensures)),
+      quiet-comes _ _ _ _ _ (c .faulty3 .result) (a .buffer .now) _ (quiet-sound _ _ _ _ _ (omega (arith, c .before .before .before .before .before .before .before .before .if2 .left, p .0 .counts .short)) (omega (arith, c .before .tail-after .ensures, tail-short (a .w .tail) (a .chunk .now), p .0 .counts .tail)) (λ n. absurd (n refl))) (c .faulty3 .ensures) (chunk-faulty (a .w) (a .buffer .now) (a .chunk .now) (c .before .before .before .before .before .before .before .before .before .before .before .if1 .left) (omega (arith, c .before .before .before .before .before .before .before .before .if2 .left, p .0 .counts .short)) (c .before .before .before .before .before .before .if3 .left) (omega (arith, c .before .before .before .before .before .first-break .ensures, c .before .before .before .before .if4 .left)) (c .before .before .if5 .taken) ∙ faulty-same (a .w) (a .buffer .now) (a .chunk .now) (c .before .tail-after .result) (c .before .tail-after .ensures)),
     )
 
 take-octets-requires : tie.Need-take-octets-requires

@@ -74,7 +74,7 @@ returns c =
           (after-refused (a .w) (a .buffer .now) i (a .chunk .now) l h (p .1 .0 .1) (p .1 .1 .1) (a .next) (p .1 .1 .0 .0) (p .1 .1 .0 .1) (p .0 .1)
           (j .result) (c .before .match .keys2) (j .last .1 .1 .1 .0) (j .ensures) _ (a .tail) refl e),
       λ e. subst (λ (x : Watch). Comes x (j .last .1 .1 .1 .0) (linesCame (a .w) (a .buffer .now) (a .chunk .now) (a .next))) (sym (c .stopped .ensures))
-          (comes-refused (a .w) (a .buffer .now) (a .chunk .now) (a .next) (p .0 .0 .card) (p .1 .0 .1) (p .0 .1) (omega (arith, two, p .1 .0 .0, p .1 .1 .0 .0)) (p .1 .1 .0 .1) _ (a .tail) refl e
+          (comes-refused (a .w) (a .buffer .now) (a .chunk .now) (a .next) (p .1 .1 .0 .0) (p .1 .0 .0) (p .0 .0 .card) (p .1 .0 .1) (p .0 .1) (omega (arith, two, p .1 .0 .0, p .1 .1 .0 .0)) (p .1 .1 .0 .1) _ (a .tail) refl e
           (j .result) (c .before .match .keys2) (j .last .1 .1 .1 .0) (j .ensures)),
     )
 
@@ -120,7 +120,7 @@ returns-2 c =
           (after-later (a .w) (a .buffer .now) i (a .chunk .now) l h (p .1 .0 .1) (p .1 .1 .1) (a .next) (p .1 .1 .0 .0) (p .1 .1 .0 .1) (p .0 .1) d b t (omega (arith, win .used, p .1 .0 .1, p .1 .1 .0 .1, j, p .0 .1))
           (g .result .step) (g .last .1 .1 .1 .1 .1 .0) (g .result .at) (g .ensures .0) (g .ensures .1 .0) (g .ensures .1 .1) (c .before .match2 .keys2) _ (a .tail) refl e),
       λ e. subst (λ (x : Watch). Comes x (g .last .1 .1 .1 .1 .1 .0) (linesCame (a .w) (a .buffer .now) (a .chunk .now) (a .next))) (sym (c .stopped2 .ensures))
-          (comes-later (a .w) (a .buffer .now) (a .chunk .now) (a .next) (p .0 .0 .card) (p .1 .0 .1) (p .0 .1) (omega (arith, two, p .1 .0 .0, p .1 .1 .0 .0)) (p .1 .1 .0 .1) _ (a .tail) refl e
+          (comes-later (a .w) (a .buffer .now) (a .chunk .now) (a .next) (p .1 .1 .0 .0) (p .1 .0 .0) (p .0 .0 .card) (p .1 .0 .1) (p .0 .1) (omega (arith, two, p .1 .0 .0, p .1 .1 .0 .0)) (p .1 .1 .0 .1) _ (a .tail) refl e
           d b t (g .result .step) (g .last .1 .1 .1 .1 .1 .0) (g .result .at) (g .ensures .0) (c .before .match2 .keys2)),
     )
 
@@ -171,7 +171,7 @@ returns-3 c =
           (g .result .step) (g .last .1 .1 .1 .1 .1 .0) (g .result .at) (g .ensures .0) (g .ensures .1 .0) (g .ensures .1 .1) (c .before .before .before .before .before .before .last .given .0 .0) (c .before .before .before .before .before .before .last .given .1) (a .tail) e (c .before .before .append .last .0)
           put,
       λ e.
-          comes-kept (a .w) (a .buffer .now) (a .chunk .now) (a .next) (p .0 .0 .card) (p .1 .0 .1) (p .0 .1) (omega (arith, two, p .1 .0 .0, p .1 .1 .0 .0)) (p .1 .1 .0 .1) _ (a .tail) refl e
+          comes-kept (a .w) (a .buffer .now) (a .chunk .now) (a .next) (p .1 .1 .0 .0) (p .1 .0 .0) (p .0 .0 .card) (p .1 .0 .1) (p .0 .1) (omega (arith, two, p .1 .0 .0, p .1 .1 .0 .0)) (p .1 .1 .0 .1) _ (a .tail) refl e
           d b t (g .result .step) (g .last .1 .1 .1 .1 .1 .0) (g .result .at) (g .ensures .0) f (c .before .before .before .before .before .before .last .given .1) (g .ensures .1 .0) (g .ensures .1 .1) (omega (arith, g, j, p .0 .1)) (c .before .before .append .last .0) put,
     )
 

@@ -41,7 +41,7 @@ returns-2 c =
     let p = c .before .before .before .before .before .before .before .before .before .pre in (
       λ i l h. subst (λ (x : Watch). After x (c .before .before .go-on .last .1 .0) (i ++ a .chunk .now)) (sym (c .before .before .go-on .ensures .0))
           (after-open (a .w) (a .buffer .now) i (a .chunk .now) l h (p .1 .0 .1) (p .1 .1) (omega (arith, c .before .before .before .before .if1 .left, c .before .before .before .before .before .next-line .ensures)) (c .before .before .before .before .before .before .tail-after .result) (c .before .before .before .before .before .before .tail-after .ensures) (c .before .before .go-on .last .1 .0) (c .before .before .go-on .ensures .1)),
-      octets-open (a .w) (a .buffer .now) (a .chunk .now) (omega (arith, c .before .before .before .before .if1 .left, c .before .before .before .before .before .next-line .ensures)) (p .0 .0 .card .lies) (omega (arith, p .0 .0 .card .used, p .0 .0 .counts .short, p .0 .1)) (c .before .before .before .before .before .before .tail-after .result) (c .before .before .before .before .before .before .tail-after .ensures) (c .before .before .go-on .result) (c .before .before .go-on .ensures .0) (c .before .before .go-on .last .1 .0) (c .before .before .go-on .ensures .1),
+      octets-open (a .w) (a .buffer .now) (a .chunk .now) (omega (arith, c .before .before .before .before .if1 .left, c .before .before .before .before .before .next-line .ensures)) (p .0 .0 .card) (p .1 .0 .0) (p .1 .0 .1) (omega (arith, p .0 .0 .card .used, p .0 .0 .counts .short, p .0 .1)) (c .before .before .before .before .before .before .tail-after .result) (c .before .before .before .before .before .before .tail-after .ensures) (c .before .before .go-on .result) (c .before .before .go-on .ensures .0) (c .before .before .go-on .last .1 .0) (c .before .before .go-on .ensures .1),
     )
 
 pub take-octets-spec : {M : Type 1} → statement M
