@@ -13,7 +13,8 @@ ghost use Rattle.reader.specs.Outcome.{judgeOf};
 ghost use Rattle.watch_arrivals.specs.Arrivals.{afterOther, tailFrom, loneFrom, nextFrom};
 ghost use Rattle.watch_lines.specs.Taking.{Within};
 ghost use Rattle.watch.specs.Octets.{bufferAfter};
-ghost use Rattle.watch.specs.State.{isOver, quietState, openState, stoppedState, freshWatch, claims, Counts, Sound, Live, Stands, After, Reached, ChunkOf, EndOf};
+ghost use Rattle.watch.specs.State.{isOver, quietState, openState, stoppedState, freshWatch, claims, Counts, Sound, Live, Stands, After, Reached};
+ghost use Rattle.watch.specs.Outcome.{Comes, linesCame, octetsCame, chunkCame, endCame, ChunkOf, EndOf};
 use card_state::Card;
 use card_state::Step;
 use card_state::tags::Tags;
@@ -221,6 +222,7 @@ fn take_lines(w: Watch, buffer: &mut [u8], chunk: &[u8], next: usize, tail: u32)
     requires { ⌜ (next ≡ nextFrom (w .tail) (now chunk)) × (next < length (now chunk)) ⌝ }
     requires { ⌜ loneFrom (w .tail) (now chunk) ≡ length (now chunk) + 1 ⌝ }
     ensures { λ r. ⌜ ((i : List ℕ) → Live w (now (buffer .entry)) i → now (buffer .entry) ≡ bufferAfter i → tail ≡ tailFrom (w .tail) (now (chunk .entry)) → After r (now (buffer .exit)) (i ++ now (chunk .entry))) ⌝ }
+    ensures { λ r. ⌜ (tail ≡ tailFrom (w .tail) (now (chunk .entry)) → Comes r (now (buffer .exit)) (linesCame w (now (buffer .entry)) (now (chunk .entry)) next)) ⌝ }
 {
     let c = w.card;
     let base = w.start + w.open;
@@ -265,6 +267,7 @@ fn take_octets(w: Watch, buffer: &mut [u8], chunk: &[u8]) -> Watch
     requires { ⌜ (w .tail ≤ w .«open») × (w .start + w .«open» + length (now chunk) ≤ limit.octets) ⌝ }
     requires { ⌜ loneFrom (w .tail) (now chunk) ≡ length (now chunk) + 1 ⌝ }
     ensures { λ r. ⌜ ((i : List ℕ) → Live w (now (buffer .entry)) i → now (buffer .entry) ≡ bufferAfter i → After r (now (buffer .exit)) (i ++ now (chunk .entry))) ⌝ }
+    ensures { λ r. ⌜ Comes r (now (buffer .exit)) (octetsCame w (now (buffer .entry)) (now (chunk .entry))) ⌝ }
 {
     let tail = watch_arrivals::tail_after(w.tail, chunk);
     let next = watch_arrivals::next_line(w.tail, chunk);
@@ -278,6 +281,7 @@ fn take_octets(w: Watch, buffer: &mut [u8], chunk: &[u8]) -> Watch
 fn arrive(w: Watch, buffer: &mut [u8], chunk: &[u8]) -> Watch
     requires { ⌜ Sound w × (length (now buffer) ≡ limit.octets) ⌝ }
     ensures { λ r. ⌜ ((i : List ℕ) → Stands w (now (buffer .entry)) i → now (buffer .entry) ≡ bufferAfter i → After r (now (buffer .exit)) (i ++ now (chunk .entry))) ⌝ }
+    ensures { λ r. ⌜ Comes r (now (buffer .exit)) (chunkCame w (now (buffer .entry)) (now (chunk .entry))) ⌝ }
 {
     if w.known == TOO_LONG {
         return w;
@@ -314,6 +318,7 @@ fn arrive(w: Watch, buffer: &mut [u8], chunk: &[u8]) -> Watch
 fn conclude(w: Watch, buffer: &[u8]) -> Verdict
     requires { ⌜ Sound w × (length (now buffer) ≡ limit.octets) ⌝ }
     ensures { λ r. ⌜ ((i : List ℕ) → Reached w (now (buffer .entry)) i → r ≡ judgeOf i) ⌝ }
+    ensures { λ r. ⌜ r ≡ endCame w (now (buffer .entry)) ⌝ }
 {
     let n = w.start + w.open;
     if w.known == TOO_LONG {

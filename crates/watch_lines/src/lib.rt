@@ -52,7 +52,7 @@ fn take_line(
         return reader_walk::settle(j, s, at);
     };
     watch_buffer::clear(buffer, next.used, to);
-    Step::Next(next)
+    j
 }
 
 // Judges the lines of a chunk that have ended, from `from` on; the chunk starts at `base` in the input.
@@ -85,7 +85,7 @@ pub fn judge_lines(
             };
         }
         let folded = span.cr != end;
-        let to = c.used + (end - at);
+        let to = c.used + (end + 2 - at);
         let j = take_line(
             t,
             rows,
@@ -110,7 +110,7 @@ pub fn judge_lines(
 }
 
 // A line of at most so many octets with its CR LF is joined in as many, since the room is made at each call.
-const SHORT: usize = 1024;
+const SHORT: usize = 256;
 
 // Joins the open line, as it stands in the buffer behind the first `used` octets, with the octets that end it.
 fn join(line: &mut [u8], buffer: &[u8], used: usize, open: usize, rest: &[u8])
@@ -144,7 +144,9 @@ fn judge_joined(
     let n = open + rest.len();
     join(line, buffer, used, open, rest);
     let end = n - 2;
-    take_line(t, rows, steps, &line[..end], true, buffer, used + n, at, c)
+    let s = &line[..end];
+    let cr = line_folds::hops::next_cr(s, 0);
+    take_line(t, rows, steps, s, cr != end, buffer, used + n, at, c)
 }
 
 // Judges the open line, which starts at `at` in the input, with the octets of a chunk that end it.
@@ -192,7 +194,15 @@ pub fn judge_last(
     let mut scratch = [0u8; limit::OCTETS];
     octets::copying::copy_in(&mut scratch, &buffer[..used]);
     let end = used + open - 2;
-    let s = &buffer[used..end];
-    let j = reader_walk::judge_span(t, rows, steps, Edition::First, s, true, &mut scratch, at, c);
-    reader_walk::settle(j, s, at)
+    take_line(
+        t,
+        rows,
+        steps,
+        &buffer[used..end],
+        true,
+        &mut scratch,
+        used + open,
+        at,
+        c,
+    )
 }

@@ -13,6 +13,8 @@ use Rattle.watch_lines.specs.Taking.{Took}
 use Rattle.watch.specs.declared.Watch.{Watch}
 use Rattle.watch.specs.State.{After}
 use Rattle.watch.proofs.ArriveLaws.{joined-within, after-refused, after-later, after-kept}
+use Rattle.watch.specs.Outcome.{Comes, linesCame}
+use Rattle.watch.proofs.OutcomeLaws.{comes-refused, comes-later, comes-kept}
 use borrow.Author.Needs.{needs}
 use Rattle.watch.proofs.take_lines.Statement.{statement}
 use Rattle.watch.proofs.take_lines.Tie as tie
@@ -67,9 +69,14 @@ returns c =
     let a = c .before .before .before .before .before .before .before .before .before .before .before .before .before .before .before .before .before .args in
     let p = c .before .before .before .before .before .before .before .before .before .before .before .before .before .before .before .before .before .pre in
     let j = c .before .before .before .before .judge-open in
-    λ i l h e. subst (λ (x : Watch). After x (j .last .1 .1 .1 .0) (i ++ a .chunk .now)) (sym (c .stopped .ensures))
-    (after-refused (a .w) (a .buffer .now) i (a .chunk .now) l h (p .1 .0 .1) (p .1 .1 .1) (a .next) (p .1 .1 .0 .0) (p .1 .1 .0 .1) (p .0 .1)
-    (j .result) (c .before .match .keys2) (j .last .1 .1 .1 .0) (j .ensures) _ (a .tail) refl e)
+    let two = next-two-least (a .w .tail) (a .chunk .now) (subst (λ (k : ℕ). k < length (a .chunk .now)) (p .1 .1 .0 .0) (p .1 .1 .0 .1)) in (
+      λ i l h e. subst (λ (x : Watch). After x (j .last .1 .1 .1 .0) (i ++ a .chunk .now)) (sym (c .stopped .ensures))
+          (after-refused (a .w) (a .buffer .now) i (a .chunk .now) l h (p .1 .0 .1) (p .1 .1 .1) (a .next) (p .1 .1 .0 .0) (p .1 .1 .0 .1) (p .0 .1)
+          (j .result) (c .before .match .keys2) (j .last .1 .1 .1 .0) (j .ensures) _ (a .tail) refl e),
+      λ e. subst (λ (x : Watch). Comes x (j .last .1 .1 .1 .0) (linesCame (a .w) (a .buffer .now) (a .chunk .now) (a .next))) (sym (c .stopped .ensures))
+          (comes-refused (a .w) (a .buffer .now) (a .chunk .now) (a .next) (p .1 .1 .0 .0) (p .1 .0 .0) (p .0 .0 .card) (p .1 .0 .1) (p .0 .1) (omega (arith, two, p .1 .0 .0, p .1 .1 .0 .0)) (p .1 .1 .0 .1) _ (a .tail) refl e
+          (j .result) (c .before .match .keys2) (j .last .1 .1 .1 .0) (j .ensures)),
+    )
 
 judge-lines-requires : tie.Need-judge-lines-requires
 judge-lines-requires c κs =
@@ -108,10 +115,14 @@ returns-2 c =
     let d = c .before .before .before .before .before .before .before .before .before .before .j .given .0 .0 in
     let t = subst (λ (x : KeptStep). Took (a .w .card) (take (a .w .«open» + length (take (a .next) (a .chunk .now)) - 2) (take (a .w .«open») (drop (a .w .card .used) (a .buffer .now)) ++ take (a .next) (a .chunk .now))) (a .buffer .now) b (a .w .start) (a .w .card .used + (a .w .«open» + length (take (a .next) (a .chunk .now)))) x) (c .before .before .before .before .before .before .before .before .before .before .j .given .1) (j .ensures) in
     let two = next-two-least (a .w .tail) (a .chunk .now) (subst (λ (k : ℕ). k < length (a .chunk .now)) (p .1 .1 .0 .0) (p .1 .1 .0 .1)) in
-    let win = joined-within (a .w) (a .buffer .now) (a .chunk .now) b (a .next) _ d (p .0 .0 .card) (omega (arith, p .1 .1 .0 .1)) (omega (arith, two, p .1 .0 .0, p .1 .1 .0 .0)) (omega (arith, p .0 .0 .card .used, p .1 .0 .1, p .0 .1)) t in
-    λ i l h e. subst (λ (x : Watch). After x (g .last .1 .1 .1 .1 .1 .0) (i ++ a .chunk .now)) (sym (c .stopped2 .ensures))
-    (after-later (a .w) (a .buffer .now) i (a .chunk .now) l h (p .1 .0 .1) (p .1 .1 .1) (a .next) (p .1 .1 .0 .0) (p .1 .1 .0 .1) (p .0 .1) d b t (omega (arith, win .used, p .1 .0 .1, p .1 .1 .0 .1, j, p .0 .1))
-    (g .result .step) (g .last .1 .1 .1 .1 .1 .0) (g .result .at) (g .ensures .0) (g .ensures .1 .0) (g .ensures .1 .1) (c .before .match2 .keys2) _ (a .tail) refl e)
+    let win = joined-within (a .w) (a .buffer .now) (a .chunk .now) b (a .next) _ d (p .0 .0 .card) (omega (arith, p .1 .1 .0 .1)) (omega (arith, two, p .1 .0 .0, p .1 .1 .0 .0)) (omega (arith, p .0 .0 .card .used, p .1 .0 .1, p .0 .1)) t in (
+      λ i l h e. subst (λ (x : Watch). After x (g .last .1 .1 .1 .1 .1 .0) (i ++ a .chunk .now)) (sym (c .stopped2 .ensures))
+          (after-later (a .w) (a .buffer .now) i (a .chunk .now) l h (p .1 .0 .1) (p .1 .1 .1) (a .next) (p .1 .1 .0 .0) (p .1 .1 .0 .1) (p .0 .1) d b t (omega (arith, win .used, p .1 .0 .1, p .1 .1 .0 .1, j, p .0 .1))
+          (g .result .step) (g .last .1 .1 .1 .1 .1 .0) (g .result .at) (g .ensures .0) (g .ensures .1 .0) (g .ensures .1 .1) (c .before .match2 .keys2) _ (a .tail) refl e),
+      λ e. subst (λ (x : Watch). Comes x (g .last .1 .1 .1 .1 .1 .0) (linesCame (a .w) (a .buffer .now) (a .chunk .now) (a .next))) (sym (c .stopped2 .ensures))
+          (comes-later (a .w) (a .buffer .now) (a .chunk .now) (a .next) (p .1 .1 .0 .0) (p .1 .0 .0) (p .0 .0 .card) (p .1 .0 .1) (p .0 .1) (omega (arith, two, p .1 .0 .0, p .1 .1 .0 .0)) (p .1 .1 .0 .1) _ (a .tail) refl e
+          d b t (g .result .step) (g .last .1 .1 .1 .1 .1 .0) (g .result .at) (g .ensures .0) (c .before .match2 .keys2)),
+    )
 
 sub-append : tie.Need-sub-append
 sub-append c = search needs
@@ -153,10 +164,16 @@ returns-3 c =
     let t = subst (λ (x : KeptStep). Took (a .w .card) (take (a .w .«open» + length (take (a .next) (a .chunk .now)) - 2) (take (a .w .«open») (drop (a .w .card .used) (a .buffer .now)) ++ take (a .next) (a .chunk .now))) (a .buffer .now) b (a .w .start) (a .w .card .used + (a .w .«open» + length (take (a .next) (a .chunk .now)))) x) (c .before .before .before .before .before .before .before .before .before .before .before .before .before .before .before .before .j .given .1) (j .ensures) in
     let two = next-two-least (a .w .tail) (a .chunk .now) (subst (λ (k : ℕ). k < length (a .chunk .now)) (p .1 .1 .0 .0) (p .1 .1 .0 .1)) in
     let win = joined-within (a .w) (a .buffer .now) (a .chunk .now) b (a .next) _ d (p .0 .0 .card) (omega (arith, p .1 .1 .0 .1)) (omega (arith, two, p .1 .0 .0, p .1 .1 .0 .0)) (omega (arith, p .0 .0 .card .used, p .1 .0 .1, p .0 .1)) t in
-    λ i l h e.
-    after-kept (a .w) (a .buffer .now) i (a .chunk .now) l h (p .1 .0 .1) (p .1 .1 .1) (a .next) (p .1 .1 .0 .0) (p .1 .1 .0 .1) (p .0 .1) d b t (omega (arith, win .used, p .1 .0 .1, p .1 .1 .0 .1, j, p .0 .1))
-    (g .result .step) (g .last .1 .1 .1 .1 .1 .0) (g .result .at) (g .ensures .0) (g .ensures .1 .0) (g .ensures .1 .1) (c .before .before .before .before .before .before .last .given .0 .0) (c .before .before .before .before .before .before .last .given .1) (a .tail) e (c .before .before .append .last .0)
-    (subst (λ (x : List ℕ). c .before .before .append .last .0 ≡ patch (g .last .1 .1 .1 .1 .1 .0) (c .before .before .before .before .before .before .last .given .0 .0 .used) x) (rest (g .result .at) (a .chunk .now)) (c .before .before .append .ensures))
+    let f = c .before .before .before .before .before .before .last .given .0 .0 in
+    let put = subst (λ (x : List ℕ). c .before .before .append .last .0 ≡ patch (g .last .1 .1 .1 .1 .1 .0) (f .used) x) (rest (g .result .at) (a .chunk .now)) (c .before .before .append .ensures) in (
+      λ i l h e.
+          after-kept (a .w) (a .buffer .now) i (a .chunk .now) l h (p .1 .0 .1) (p .1 .1 .1) (a .next) (p .1 .1 .0 .0) (p .1 .1 .0 .1) (p .0 .1) d b t (omega (arith, win .used, p .1 .0 .1, p .1 .1 .0 .1, j, p .0 .1))
+          (g .result .step) (g .last .1 .1 .1 .1 .1 .0) (g .result .at) (g .ensures .0) (g .ensures .1 .0) (g .ensures .1 .1) (c .before .before .before .before .before .before .last .given .0 .0) (c .before .before .before .before .before .before .last .given .1) (a .tail) e (c .before .before .append .last .0)
+          put,
+      λ e.
+          comes-kept (a .w) (a .buffer .now) (a .chunk .now) (a .next) (p .1 .1 .0 .0) (p .1 .0 .0) (p .0 .0 .card) (p .1 .0 .1) (p .0 .1) (omega (arith, two, p .1 .0 .0, p .1 .1 .0 .0)) (p .1 .1 .0 .1) _ (a .tail) refl e
+          d b t (g .result .step) (g .last .1 .1 .1 .1 .1 .0) (g .result .at) (g .ensures .0) f (c .before .before .before .before .before .before .last .given .1) (g .ensures .1 .0) (g .ensures .1 .1) (omega (arith, g, j, p .0 .1)) (c .before .before .append .last .0) put,
+    )
 
 pub take-lines-spec : {M : Type 1} → statement M
 take-lines-spec =
