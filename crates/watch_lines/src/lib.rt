@@ -18,7 +18,6 @@ use numbers::limit;
 use octets::classes::ClassTable;
 use property_table::Edition;
 use property_table::rows::PropertyTable;
-use value_automaton::states::Transitions;
 
 // What the ended lines of a chunk make of the card, and where the line after them starts in the chunk.
 pub struct Walked {
@@ -31,7 +30,7 @@ pub struct Walked {
 fn take_line(
     t: &ClassTable,
     rows: &PropertyTable,
-    steps: &Transitions,
+    steps: &[u8],
     s: &[u8],
     folded: bool,
     buffer: &mut [u8],
@@ -59,7 +58,7 @@ fn take_line(
 pub fn judge_lines(
     t: &ClassTable,
     rows: &PropertyTable,
-    steps: &Transitions,
+    steps: &[u8],
     chunk: &[u8],
     from: usize,
     buffer: &mut [u8],
@@ -125,7 +124,7 @@ fn join(line: &mut [u8], buffer: &[u8], used: usize, open: usize, rest: &[u8])
 fn judge_joined(
     t: &ClassTable,
     rows: &PropertyTable,
-    steps: &Transitions,
+    steps: &[u8],
     line: &mut [u8],
     buffer: &mut [u8],
     open: usize,
@@ -153,7 +152,7 @@ fn judge_joined(
 pub fn judge_open(
     t: &ClassTable,
     rows: &PropertyTable,
-    steps: &Transitions,
+    steps: &[u8],
     buffer: &mut [u8],
     open: usize,
     rest: &[u8],
@@ -179,7 +178,7 @@ pub fn judge_open(
 pub fn judge_last(
     t: &ClassTable,
     rows: &PropertyTable,
-    steps: &Transitions,
+    steps: &[u8],
     buffer: &[u8],
     open: usize,
     at: usize,

@@ -25,8 +25,8 @@ slice-reshare-prefix-s c = search needs
 
 slice-aggregate-s : tie.Need-slice-aggregate-s
 slice-aggregate-s c =
-    let a = c .before .before .before .before .before .before .before .before .before .args in
-    sym (length-take-le (a .«open» + length (a .rest .now) - 2) (c .before .before .before .join .last .0) (omega (arith, c .before .before .before .join, c .before .before .before .before .before .before .before .before .before .pre .1 .1 .1 .1)))
+    let a = c .before .before .before .before .before .before .before .before .before .before .args in
+    sym (length-take-le (a .«open» + length (a .rest .now) - 2) (c .before .before .before .join .last .0) (omega (arith, c .before .before .before .join, c .before .before .before .before .before .before .before .before .before .before .pre .1 .1 .1 .1)))
 
 next-cr-requires : tie.Need-next-cr-requires
 next-cr-requires c κs = search needs
@@ -36,8 +36,8 @@ add-take-line c = search needs
 
 take-line-requires : tie.Need-take-line-requires
 take-line-requires c κs =
-    let a = c .before .before .before .before .before .before .before .before .before .before .before .args in
-    let z = c .before .before .before .before .before .before .before .before .before .before .before .pre in
+    let a = c .before .before .before .before .before .before .before .before .before .before .before .before .args in
+    let z = c .before .before .before .before .before .before .before .before .before .before .before .before .pre in
     let s = take (a .«open» + length (a .rest .now) - 2) (c .before .before .before .before .before .join .last .0) in
     let n : length s ≡ a .«open» + length (a .rest .now) - 2 =
     length-take-le (a .«open» + length (a .rest .now) - 2) (c .before .before .before .before .before .join .last .0) (omega (arith, c .before .before .before .before .before .join, z .1 .1 .1 .1)) in (
@@ -59,7 +59,7 @@ same-length-2 c = search needs
 
 returns : tie.Need-returns
 returns c =
-    let a = c .before .before .before .before .before .before .before .before .before .before .before .before .before .before .args in
+    let a = c .before .before .before .before .before .before .before .before .before .before .before .before .before .before .before .args in
     let j = c .before .before .take-line in
     subst (λ (x : List ℕ). Took (a .c) x (a .buffer .now) (j .last .1 .1 .1 .1 .1 .0) (a .at) (a .c .used + (a .«open» + length (a .rest .now))) (j .result))
     (joined-line (c .before .before .before .before .before .before .before .before .join .last .0) (take (a .«open») (drop (a .c .used) (a .buffer .now)) ++ a .rest .now) (a .«open» + length (a .rest .now)) (c .before .before .before .before .before .before .before .before .join .ensures)) (j .ensures)

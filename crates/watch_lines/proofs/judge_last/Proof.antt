@@ -21,11 +21,11 @@ slice-aggregate-copy-in c = search needs
 
 slice-aggregate-copy-in-2 : tie.Need-slice-aggregate-copy-in-2
 slice-aggregate-copy-in-2 c =
-    sym (length-take-le (c .before .before .before .args .c .used) (c .before .before .before .args .buffer .now) (omega (arith, c .before .before .before .pre .1 .1)))
+    sym (length-take-le (c .before .before .before .before .args .c .used) (c .before .before .before .before .args .buffer .now) (omega (arith, c .before .before .before .before .pre .1 .1)))
 
 copy-in-requires : tie.Need-copy-in-requires
 copy-in-requires c κs =
-    rw (length-take-le (c .before .before .before .args .c .used) (c .before .before .before .args .buffer .now) (omega (arith, c .before .before .before .pre .1 .1))) (omega (arith, c .before .before .before .pre .1 .1))
+    rw (length-take-le (c .before .before .before .before .args .c .used) (c .before .before .before .before .args .buffer .now) (omega (arith, c .before .before .before .before .pre .1 .1))) (omega (arith, c .before .before .before .before .pre .1 .1))
 
 add-end : tie.Need-add-end
 add-end c = search needs
@@ -50,8 +50,8 @@ add-take-line c = search needs
 
 take-line-requires : tie.Need-take-line-requires
 take-line-requires c κs =
-    let a = c .before .before .before .before .before .before .before .args in
-    let z = c .before .before .before .before .before .before .before .pre in
+    let a = c .before .before .before .before .before .before .before .before .args in
+    let z = c .before .before .before .before .before .before .before .before .pre in
     let k = c .before .before .before .copy-in in
     let n : length (take (a .c .used + a .«open» - 2 - a .c .used) (drop (a .c .used) (a .buffer .now))) ≤ a .«open» - 2 = rw length-take (omega arith) in (
       z .0,
@@ -66,8 +66,8 @@ take-line-requires c κs =
 
 returns : tie.Need-returns
 returns c =
-    let a = c .before .before .before .before .before .before .before .before .before .args in
-    let z = c .before .before .before .before .before .before .before .before .before .pre in
+    let a = c .before .before .before .before .before .before .before .before .before .before .args in
+    let z = c .before .before .before .before .before .before .before .before .before .before .pre in
     let j = c .before .take-line in
     let k = c .before .before .before .before .before .copy-in in
     let u = a .c .used in
