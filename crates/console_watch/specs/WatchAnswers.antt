@@ -10,7 +10,8 @@ use Rattle.octets.specs.Pick.{pick}
 use Rattle.octets.specs.Room.{overlay}
 use Rattle.program_numbers.specs.Alike.{alike}
 use Rattle.reader.specs.declared.Verdict.{Verdict}
-use Rattle.watch.specs.State.{freshWatch, ChunkOf, EndOf}
+use Rattle.watch.specs.State.{freshWatch}
+use Rattle.watch.specs.Outcome.{ChunkOf, EndOf}
 use Rattle.watch.specs.declared.Watch.{Watch}
 use Rattle.watch.specs.declared.Arrived.{Arrived}
 use Rattle.watch.specs.declared.Arrived.the-variants.{Next, Refused}
