@@ -66,6 +66,11 @@ static const struct row {
     {TAKE, "book", LIMIT},
     {TAKE, "dense", LIMIT},
     {TAKE, "damaged", LIMIT},
+    {WATCH_1024, "book", LIMIT},
+    {WATCH_64, "book", LIMIT},
+    {WATCH_1, "book", LIMIT},
+    {WATCH_1, "book", 1024},
+    {WATCH_1024, "damaged", LIMIT},
     {MEMCPY, "book", LIMIT},
 };
 #define ROWS LENGTH(rows)
@@ -112,6 +117,7 @@ static void make_jobs(const char *folder) {
         if (row->routine == READ && strcmp(row->input, "damaged") != 0) jobs[r][EVCARD] = (struct job){.run = evcard_read, .what = &inputs[r]};
         for (size_t who = PLAIN; who <= TUNED; who++)
             if (jobs[r][who].run) compare(jobs[r][UNIT].run, jobs[r][who].run, &inputs[r], row->input);
+        if (row->routine >= WATCH_1024 && row->routine <= WATCH_1) compare(jobs[r][UNIT].run, judged_number, &inputs[r], row->input);
     }
     for (size_t r = 0; r < DESK_ROWS; r++) {
         const struct desk_row *row = &desk_rows[r];
@@ -185,17 +191,48 @@ static double rate(const struct input *in, const struct job *job) { return job->
 static double times(size_t r, enum who who) { return jobs[r][who].run ? rate(&inputs[r], &jobs[r][UNIT]) / rate(&inputs[r], &jobs[r][who]) : 0; }
 
 static void print_rows(void) {
-    printf("| Routine  | Input    | Octets | Unit MB/s | Plain C   | Tuned C   | / plain   | / tuned   | EVCard    | Unit inst | Plain     | Tuned     |\n");
+    printf("| Routine   | Input    | Octets | Unit MB/s | Plain C   | Tuned C   | / plain   | / tuned   | EVCard    | Unit inst | Plain     | Tuned     |\n");
     printf("|---|---|---|---|---|---|---|---|---|---|---|---|\n");
     for (size_t r = 0; r < ROWS; r++) {
         const struct input *in = &inputs[r];
-        printf("| %-8s | %-8s | %6zu |", routine_names[rows[r].routine], in->name, in->length);
+        printf("| %-9s | %-8s | %6zu |", routine_names[rows[r].routine], in->name, in->length);
         for (size_t who = UNIT; who <= TUNED; who++) cell(rate(in, &jobs[r][who]), 0);
         for (size_t who = PLAIN; who <= TUNED; who++) cell(times(r, who), 2);
         cell(rate(in, &jobs[r][EVCARD]), 1);
         for (size_t who = UNIT; who <= TUNED; who++) cell(row_counts[r][who] / repeats(r) / in->length, 1);
         printf("\n");
     }
+}
+
+/* The row of a routine on the book, or on its first octets. */
+static size_t row_of(enum routine routine, size_t octets) {
+    size_t r = 0;
+    while (rows[r].routine != routine || strcmp(rows[r].input, "book") != 0 || rows[r].most != octets) r++;
+    return r;
+}
+
+/* The marks of the reader of chunks: its rate as times judge's, and the time of one-octet chunks for 16 times the input. */
+static void print_marks(void) {
+    static const struct {
+        enum routine routine;
+        double least;
+    } marks[] = {{WATCH_1024, 0.7}, {WATCH_64, 0.3}};
+    size_t judge = row_of(JUDGE, LIMIT), all = row_of(WATCH_1, LIMIT), part = row_of(WATCH_1, 1024);
+    printf("\n| Chunks on the book              | Ratio     | Mark           | By inst   |\n");
+    printf("|---|---|---|---|\n");
+    for (size_t m = 0; m < LENGTH(marks); m++) {
+        size_t r = row_of(marks[m].routine, LIMIT);
+        printf("| %-9s rate / judge's         |", routine_names[marks[m].routine]);
+        cell(jobs[judge][UNIT].seconds / jobs[r][UNIT].seconds, 2);
+        printf(" at least %.1f   |", marks[m].least);
+        cell(row_counts[judge][UNIT] / row_counts[r][UNIT], 2);
+        printf("\n");
+    }
+    printf("| watch1, 16 times the octets     |");
+    cell(jobs[all][UNIT].seconds / jobs[part][UNIT].seconds, 1);
+    printf(" at most 20     |");
+    cell(row_counts[all][UNIT] / row_counts[part][UNIT], 1);
+    printf("\n");
 }
 
 static void print_desk(void) {
@@ -284,6 +321,7 @@ int main(int argc, char **argv) {
         read_times(argv[3]);
         read_counts(argv[4]);
         print_rows();
+        print_marks();
         print_desk();
         return 0;
     }

@@ -1,14 +1,15 @@
 -- What the console answers to a line, and what it keeps then. Assumes nothing.
 use Prim.Native.Nat.{ℕ}
+use mathlib.Core.Path.{_≡_}
+use mathlib.Core.Bool.{Bool, true, false}
 use mathlib.Core.List.{List}
 use lib.Dec.{ltb}
 use lib.ListN.{length, replicate}
-use Rattle.octets.specs.Pick.{pick}
 use Rattle.octets.specs.Slices.{part}
 use Rattle.console_requests.specs.Requests.{Requested, requestOf}
 use Rattle.console_requests.specs.declared.Request.{Request}
 use Rattle.console_requests.specs.declared.Name.{Name}
-use Rattle.console_requests.specs.declared.Name.the-variants.{ToEntry, ToDesk, ToReport, ToMerge, Bad}
+use Rattle.console_requests.specs.declared.Name.the-variants.{ToEntry, ToDesk, ToReport, ToMerge, ToWatch, Bad}
 use Rattle.console_requests.specs.declared.EntryCall.{EntryCall}
 use Rattle.console_requests.specs.declared.EntryCall.the-variants.{Judge, Read, Fold, Escape, Unescape, Encode, Decode, FoldIn, Offset, JudgeIn, ReadIn, TakeIn, GiveOut}
 use Rattle.console_requests.specs.declared.DeskCall.{DeskCall}
@@ -17,13 +18,15 @@ use Rattle.console_requests.specs.declared.ReportCall.{ReportCall}
 use Rattle.console_requests.specs.declared.ReportCall.the-variants.{Report, Take, Print, Count}
 use Rattle.console_requests.specs.declared.MergeCall.{MergeCall}
 use Rattle.console_requests.specs.declared.MergeCall.the-variants.{Plan, CheckPlan}
+use Rattle.console_requests.specs.declared.WatchCall.{WatchCall}
+use Rattle.console_requests.specs.declared.WatchCall.the-variants.{Begin, Chunk, End, Buffer, Claim}
 use Rattle.property_table.specs.declared.Edition.the-variants.{First}
 use Rattle.console_entries.specs.Entries.{judgeAnswer, judgeInAnswer, offsetAnswer, readAnswer, readInAnswer, writeAnswer, encodeAnswer, decodeAnswer, foldAnswer}
-use Rattle.console_desk.specs.DeskAnswers.{State, WithPool, withPool, says, saysBad, deskAnswer, nextAnswer, changeAnswer, lookAnswer, poolAnswer}
-use Rattle.report.specs.declared.Report.{Report as ReportValue}
-use Rattle.console_report.specs.ReportAnswers.{KeptState, kept, keptOf, freshAnswer, takeAnswer, printsAnswer, countAnswer}
-use Rattle.console_report.specs.declared.Kept.{Kept}
+use Rattle.console_desk.specs.DeskAnswers.{State, WithPool, withPool, deskAnswer, nextAnswer, changeAnswer, lookAnswer, poolAnswer}
+use Rattle.console_report.specs.ReportAnswers.{KeptState, kept, freshAnswer, takeAnswer, printsAnswer, countAnswer}
 use Rattle.console_merge.specs.MergeAnswers.{planAnswer, checkAnswer}
+use Rattle.console_watch.specs.WatchAnswers.{Watching, WithBuffer, watching, watchingOf, withBuffer, saysAll, saysBad, beginAnswer, bufferAnswer, claimAnswer, ChunkTurn, EndTurn}
+use Rattle.console_watch.specs.declared.Session.{Session}
 use Rattle.console_entries.specs.declared.entries.Writer.the-variants.{Fold as toFold, Escape as toEscape, Unescape as toUnescape, TakeIn as toTakeIn, GiveOut as toGiveOut}
 use Rattle.console_desk.specs.declared.Change.the-variants.{Open as toOpen, Add as toAdd, Release as toRelease}
 use Rattle.console_desk.specs.declared.Look.the-variants.{Check as toCheck, Show as toShow, Held as toHeld}
@@ -68,46 +71,59 @@ unfoldable pub mergeText : MergeCall → ℕ → List ℕ → List ℕ
 mergeText Plan n sent = planAnswer n sent
 mergeText CheckPlan n sent = checkAnswer sent
 
--- desk, output and report, and the pool
-pub record Whole : Type 0 where
-  pub kept : KeptState
+-- each request of the reader of chunks, by what is kept before and after
+unfoldable pub WatchTurn : WatchCall → ℕ → ℕ → List ℕ → WithBuffer → WithBuffer → Type 0
+WatchTurn Begin n k sent x y = y ≡ beginAnswer n (x .state) (x .buffer)
+WatchTurn Chunk n k sent x y = ChunkTurn sent x y
+WatchTurn End n k sent x y = EndTurn (x .state) (x .buffer) (y .state) × (y .buffer ≡ x .buffer)
+WatchTurn Buffer n k sent x y = y ≡ withBuffer (bufferAnswer n k (x .state) (x .buffer)) (x .buffer)
+WatchTurn Claim n k sent x y = y ≡ withBuffer (claimAnswer n (x .state)) (x .buffer)
+
+-- all that is kept: desk, output, report and the reader of chunks, its buffer, and the pool
+pub record Everything : Type 0 where
+  pub watched : WithBuffer
   pub pool : List ℕ
 
-abbrev pub whole : KeptState → List ℕ → Whole
-whole k pool = record { kept = k; pool = pool }
+abbrev pub everything : Watching → List ℕ → List ℕ → Everything
+everything t b pool = record { watched = withBuffer t b; pool = pool }
 
-abbrev pub wholeOf : Kept → List ℕ → List ℕ → Whole
-wholeOf k out pool = whole (keptOf k out) pool
+abbrev pub allOf : Session → List ℕ → List ℕ → List ℕ → Everything
+allOf s out b pool = everything (watchingOf s out) b pool
+
+-- a text is added to the output, and all else stays
+abbrev pub saying : List ℕ → Everything → Everything
+saying text x = everything (saysAll text (x .watched .state)) (x .watched .buffer) (x .pool)
+
+-- the answer to what is no request
+abbrev pub sayingBad : Everything → Everything
+sayingBad x = everything (saysBad (x .watched .state)) (x .watched .buffer) (x .pool)
+
+-- desk, output and report, and the pool, are these, and all else stays
+abbrev pub keeping : KeptState → List ℕ → Everything → Everything
+keeping k pool x = everything (watching k (x .watched .state .watch) (x .watched .state .size)) (x .watched .buffer) pool
 
 -- what the desk's side leaves, and the report as it was
-abbrev pub beside : WithPool → ReportValue → Whole
-beside x r = whole (kept (x .state) r) (x .pool)
+abbrev pub beside : WithPool → Everything → Everything
+beside p x = keeping (kept (p .state) (x .watched .state .kept .report)) (p .pool) x
 
--- the output is added to, and all else stays
-abbrev pub saying : State → Whole → Whole
-saying t w = whole (kept t (w .kept .report)) (w .pool)
+-- each request by whom it is for, by what is kept before and after
+unfoldable pub AnswerAny : Name → ℕ → ℕ → ℕ → List ℕ → Everything → Everything → Type 0
+AnswerAny (ToEntry e) n k m sent x y = y ≡ saying (entryText e n k m sent) x
+AnswerAny (ToDesk d) n k m sent x y = y ≡ beside (deskTurn d n k sent (x .watched .state .kept .state) (x .pool)) x
+AnswerAny (ToReport r) n k m sent x y = y ≡ keeping (reportTurn r n k sent (x .watched .state .kept)) (x .pool) x
+AnswerAny (ToMerge e) n k m sent x y = y ≡ saying (mergeText e n sent) x
+AnswerAny (ToWatch w) n k m sent x y = WatchTurn w n k sent (x .watched) (y .watched) × (y .pool ≡ x .pool)
+AnswerAny Bad n k m sent x y = y ≡ sayingBad x
 
--- a line that is no request
-abbrev pub saysNone : Whole → Whole
-saysNone w = saying (saysBad (w .kept .state)) w
-
--- each request by whom it is for
-unfoldable pub answerAny : Name → ℕ → ℕ → ℕ → List ℕ → Whole → Whole
-answerAny (ToEntry e) n k m sent w = saying (says (entryText e n k m sent) (w .kept .state)) w
-answerAny (ToDesk d) n k m sent w = beside (deskTurn d n k sent (w .kept .state) (w .pool)) (w .kept .report)
-answerAny (ToReport r) n k m sent w = whole (reportTurn r n k sent (w .kept)) (w .pool)
-answerAny (ToMerge e) n k m sent w = saying (says (mergeText e n sent) (w .kept .state)) w
-answerAny Bad n k m sent w = saysNone w
-
-abbrev pub answerTo : Request → List ℕ → Whole → Whole
-answerTo q sent w = answerAny (q .name) (q .first) (q .second) (q .third) sent w
+abbrev pub AnswerTo : Request → List ℕ → Everything → Everything → Type 0
+AnswerTo q sent x y = AnswerAny (q .name) (q .first) (q .second) (q .third) sent x y
 
 -- the octets that a request sends stand at the front of the room
-abbrev pub answerFrom : Requested → Whole → Whole
-answerFrom x w = answerTo (x .request) (part (x .room) 0 (x .request .count)) w
+abbrev pub AnswerFrom : Requested → Everything → Everything → Type 0
+AnswerFrom r x y = AnswerTo (r .request) (part (r .room) 0 (r .request .count)) x y
 
-unfoldable pub answerIn : List ℕ → List ℕ → Whole → Whole
-answerIn line room w = answerFrom (requestOf line room) w
+unfoldable pub AnswerIn : List ℕ → List ℕ → Everything → Everything → Type 0
+AnswerIn line room x y = AnswerFrom (requestOf line room) x y
 
 -- the most octets of a line, its LF and a CR before it not counted
 abbrev pub mostLine : ℕ
@@ -117,7 +133,10 @@ mostLine = 140000
 abbrev pub mostSent : ℕ
 mostSent = 70000
 
+abbrev pub either : Bool → Type 0 → Type 0 → Type 0
+either true p q = p
+either false p q = q
+
 -- a longer line is no request
-unfoldable pub answerLine : List ℕ → Whole → Whole
-answerLine line w =
-    pick (ltb mostLine (length line)) (saysNone w) (answerIn line (replicate mostSent 0) w)
+unfoldable pub AnswerLine : List ℕ → Everything → Everything → Type 0
+AnswerLine line x y = either (ltb mostLine (length line)) (y ≡ sayingBad x) (AnswerIn line (replicate mostSent 0) x y)

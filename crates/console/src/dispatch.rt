@@ -3,7 +3,8 @@ ghost use mathlib.Core.Path.{_≡_};
 ghost use Rattle.console_desk.specs.DeskAnswers.{stateOf, withPool};
 ghost use Rattle.program_output.specs.Pages.{page, added};
 ghost use Rattle.console_report.specs.ReportAnswers.{keptOf};
-ghost use Rattle.console.specs.Dispatch.{entryText, deskTurn, reportTurn, mergeText, wholeOf, answerTo, answerIn, answerLine};
+ghost use Rattle.console_watch.specs.WatchAnswers.{watchingOf, withBuffer};
+ghost use Rattle.console.specs.Dispatch.{entryText, deskTurn, reportTurn, mergeText, WatchTurn, allOf, AnswerTo, AnswerIn, AnswerLine};
 use console_desk::Change;
 use console_desk::Console;
 use console_desk::Look;
@@ -16,6 +17,8 @@ use console_requests::MergeCall;
 use console_requests::Name;
 use console_requests::ReportCall;
 use console_requests::Request;
+use console_requests::WatchCall;
+use console_watch::Session;
 use property_table::Edition;
 
 // The most octets of a line, its LF and a CR before it not counted.
@@ -96,43 +99,93 @@ fn put_merge_answer(m: MergeCall, q: Request, sent: &[u8], out: &mut [u8], at: u
     }
 }
 
-// Answers a request.
-fn answer_request(q: Request, k: Kept, sent: &[u8], pool: &mut [u8], out: &mut [u8]) -> Kept
-    ensures { λ r. ⌜ wholeOf r (now (out .exit)) (now (pool .exit)) ≡ answerTo q (now (sent .entry)) (wholeOf k (now (out .entry)) (now (pool .entry))) ⌝ }
+// Answers a request of the reader of chunks.
+fn answer_watch(
+    w: WatchCall,
+    q: Request,
+    s: Session,
+    sent: &[u8],
+    buffer: &mut [u8],
+    out: &mut [u8],
+) -> Session
+    ensures { λ r. ⌜ WatchTurn w (q .first) (q .second) (now (sent .entry)) (withBuffer (watchingOf s (now (out .entry))) (now (buffer .entry))) (withBuffer (watchingOf r (now (out .exit))) (now (buffer .exit))) ⌝ }
 {
+    let n = q.first;
+    let k = q.second;
+    match w {
+        WatchCall::Begin => console_watch::answer_begin(s, n, buffer, out),
+        WatchCall::Chunk => console_watch::answer_chunk(s, sent, buffer, out),
+        WatchCall::End => console_watch::answer_end(s, buffer, out),
+        WatchCall::Buffer => console_watch::answer_buffer(s, n, k, buffer, out),
+        WatchCall::Claim => console_watch::answer_claim(s, n, out),
+    }
+}
+
+// Answers a request.
+fn answer_request(
+    q: Request,
+    s: Session,
+    sent: &[u8],
+    pool: &mut [u8],
+    buffer: &mut [u8],
+    out: &mut [u8],
+) -> Session
+    ensures { λ r. ⌜ AnswerTo q (now (sent .entry)) (allOf s (now (out .entry)) (now (buffer .entry)) (now (pool .entry))) (allOf r (now (out .exit)) (now (buffer .exit)) (now (pool .exit))) ⌝ }
+{
+    let k = s.kept;
     let c = k.console;
     let name = q.name;
     match name {
         Name::ToEntry(e) => {
             let at = put_entry_answer(e, q, sent, out, c.at);
-            k.with_console(c.with_output(at))
+            s.with_output(at)
         }
-        Name::ToDesk(d) => k.with_console(answer_desk(d, q, c, sent, pool, out)),
-        Name::ToReport(r) => answer_report(r, q, k, sent, out),
+        Name::ToDesk(d) => s.with_kept(k.with_console(answer_desk(d, q, c, sent, pool, out))),
+        Name::ToReport(r) => s.with_kept(answer_report(r, q, k, sent, out)),
         Name::ToMerge(m) => {
             let at = put_merge_answer(m, q, sent, out, c.at);
-            k.with_console(c.with_output(at))
+            s.with_output(at)
         }
-        Name::Bad => k.with_console(c.answer_bad(out)),
+        Name::ToWatch(w) => answer_watch(w, q, s, sent, buffer, out),
+        Name::Bad => s.answer_bad(out),
     }
 }
 
 // Answers a line, with room for the octets that it sends.
-fn answer_in(k: Kept, line: &[u8], room: &mut [u8], pool: &mut [u8], out: &mut [u8]) -> Kept
-    ensures { λ r. ⌜ wholeOf r (now (out .exit)) (now (pool .exit)) ≡ answerIn (now (line .entry)) (now (room .entry)) (wholeOf k (now (out .entry)) (now (pool .entry))) ⌝ }
+fn answer_in(
+    s: Session,
+    line: &[u8],
+    room: &mut [u8],
+    pool: &mut [u8],
+    buffer: &mut [u8],
+    out: &mut [u8],
+) -> Session
+    ensures { λ r. ⌜ AnswerIn (now (line .entry)) (now (room .entry)) (allOf s (now (out .entry)) (now (buffer .entry)) (now (pool .entry))) (allOf r (now (out .exit)) (now (buffer .exit)) (now (pool .exit))) ⌝ }
 {
     let q = console_requests::request_of(line, room);
-    answer_request(q, k, octets::slices::part(room, 0, q.count), pool, out)
+    answer_request(
+        q,
+        s,
+        octets::slices::part(room, 0, q.count),
+        pool,
+        buffer,
+        out,
+    )
 }
 
 // Answers a line without its end.
-pub fn answer_line(k: Kept, line: &[u8], pool: &mut [u8], out: &mut [u8]) -> Kept
-    ensures { λ r. ⌜ wholeOf r (now (out .exit)) (now (pool .exit)) ≡ answerLine (now (line .entry)) (wholeOf k (now (out .entry)) (now (pool .entry))) ⌝ }
+pub fn answer_line(
+    s: Session,
+    line: &[u8],
+    pool: &mut [u8],
+    buffer: &mut [u8],
+    out: &mut [u8],
+) -> Session
+    ensures { λ r. ⌜ AnswerLine (now (line .entry)) (allOf s (now (out .entry)) (now (buffer .entry)) (now (pool .entry))) (allOf r (now (out .exit)) (now (buffer .exit)) (now (pool .exit))) ⌝ }
 {
     if line.len() > LINE {
-        let c = k.console;
-        return k.with_console(c.answer_bad(out));
+        return s.answer_bad(out);
     }
     let mut room = [0u8; OCTETS];
-    answer_in(k, line, &mut room, pool, out)
+    answer_in(s, line, &mut room, pool, buffer, out)
 }

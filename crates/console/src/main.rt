@@ -2,7 +2,7 @@
 mod dispatch;
 mod input;
 
-use console_report::Kept;
+use console_watch::Session;
 use input::Input;
 use input::Line;
 use libc::STDIN_FILENO;
@@ -25,31 +25,40 @@ fn send(out: &[u8], at: usize) -> usize {
 }
 
 // Makes room for an answer: what waits is sent on where there is less.
-fn make_room(k: Kept, out: &[u8]) -> Kept {
+fn make_room(s: Session, out: &[u8]) -> Session {
+    let k = s.kept;
     let c = k.console;
     let at = c.at;
     if at > out.len() {
-        return k.with_console(c.with_output(0));
+        return s.with_output(0);
     }
     if out.len() - at < ANSWER {
-        return k.with_console(c.with_output(send(out, at)));
+        return s.with_output(send(out, at));
     }
-    k
+    s
 }
 
 // Answers a line, or one that is too long; where there is no line the output is sent on.
-fn answer(k: Kept, line: Line, long: bool, buffer: &[u8], pool: &mut [u8], out: &mut [u8]) -> Kept {
+fn answer(
+    s: Session,
+    line: Line,
+    long: bool,
+    buffer: &[u8],
+    pool: &mut [u8],
+    watched: &mut [u8],
+    out: &mut [u8],
+) -> Session {
     if !line.found {
+        let k = s.kept;
         let c = k.console;
-        return k.with_console(c.with_output(send(out, c.at)));
+        return s.with_output(send(out, c.at));
     }
-    let ready = make_room(k, out);
+    let ready = make_room(s, out);
     if long {
-        let c = ready.console;
-        return ready.with_console(c.answer_bad(out));
+        return ready.answer_bad(out);
     }
     let text = console_words::without_cr(octets::slices::part(buffer, line.from, line.to));
-    dispatch::answer_line(ready, text, pool, out)
+    dispatch::answer_line(ready, text, pool, watched, out)
 }
 
 // Moves the octets from `from` up to `to` to the front, and answers how many they are.
@@ -108,14 +117,15 @@ fn advance(buffer: &mut [u8], i: Input, line: Line) -> Input {
 }
 
 // Answers line after line; the count of turns only shows that this ends.
-fn serve(buffer: &mut [u8], pool: &mut [u8], out: &mut [u8]) {
+fn serve(buffer: &mut [u8], pool: &mut [u8], watched: &mut [u8], out: &mut [u8]) {
     let mut i = Input::new();
-    let mut k = Kept::new();
+    let mut s = Session::new();
     let mut turns = u64::MAX;
     while turns > 0 {
         let line = input::line_of(buffer, i);
-        k = answer(k, line, i.long, buffer, pool, out);
+        s = answer(s, line, i.long, buffer, pool, watched, out);
         if line.last {
+            let k = s.kept;
             let c = k.console;
             send(out, c.at);
             return;
@@ -129,6 +139,7 @@ fn serve(buffer: &mut [u8], pool: &mut [u8], out: &mut [u8]) {
 fn main() {
     let mut buffer = [0u8; INPUT];
     let mut pool = [0u8; limit::POOL];
+    let mut watched = [0u8; console_watch::BUFFER];
     let mut out = [0u8; OUTPUT];
-    serve(&mut buffer, &mut pool, &mut out);
+    serve(&mut buffer, &mut pool, &mut watched, &mut out);
 }

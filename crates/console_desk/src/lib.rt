@@ -6,7 +6,7 @@ ghost use lib.ListN.{length};
 ghost use Rattle.numbers.specs.Limits as limit;
 ghost use Rattle.desk.specs.Steps.{turned};
 ghost use Rattle.program_output.specs.Pages.{page, added};
-ghost use Rattle.console_desk.specs.DeskAnswers.{stateOf, withPool, first, moved, endsLine, callable, ticked, lies, saysBad, afterTurn, deskAnswer, nextAnswer, changeOf, changeAnswer, lookText, lookAnswer, poolAnswer};
+ghost use Rattle.console_desk.specs.DeskAnswers.{stateOf, withPool, first, moved, endsLine, callable, ticked, lies, saysBad, afterTurn, deskAnswer, nextAnswer, changeOf, changeAnswer, lookText, lookAnswer, partOf, poolAnswer};
 use console_entries::rooms;
 use desk::Desk;
 use desk::Turn;
@@ -215,14 +215,21 @@ fn lies_inside(from: usize, count: usize, lent: &[u8]) -> bool
     count <= lent.len() - from
 }
 
-// Answers `pool FROM COUNT`, which is no entry: that part of the pool that is lent.
-pub fn answer_pool(c: Console, from: usize, count: usize, pool: &[u8], out: &mut [u8]) -> Console
-    ensures { λ r. ⌜ stateOf r (now (out .exit)) ≡ poolAnswer from count (stateOf c (now (out .entry))) (now (pool .entry)) ⌝ }
+// Answers with so many octets from a place on, where they lie in those that are lent.
+pub fn answer_part(c: Console, from: usize, count: usize, lent: &[u8], out: &mut [u8]) -> Console
+    ensures { λ r. ⌜ stateOf r (now (out .exit)) ≡ partOf from count (stateOf c (now (out .entry))) (now (lent .entry)) ⌝ }
 {
-    let lent = octets::slices::part(pool, 0, c.size);
     if lies_inside(from, count, lent) {
         let end = console_answers::hex::put_octets(out, c.at, &lent[from..from + count]);
         return c.end_line(out, end);
     }
     c.answer_bad(out)
+}
+
+// Answers `pool FROM COUNT`, which is no entry: that part of the pool that is lent.
+pub fn answer_pool(c: Console, from: usize, count: usize, pool: &[u8], out: &mut [u8]) -> Console
+    ensures { λ r. ⌜ stateOf r (now (out .exit)) ≡ poolAnswer from count (stateOf c (now (out .entry))) (now (pool .entry)) ⌝ }
+{
+    let lent = octets::slices::part(pool, 0, c.size);
+    answer_part(c, from, count, lent, out)
 }

@@ -20,7 +20,7 @@ use Rattle.console_requests.proofs.RequestLaws.{no-octets}
 use Rattle.console_requests.specs.Names.{Row, rows, noRow, fits, search, rowOf}
 use Rattle.console_requests.specs.Requests.{numberAt, octetsAt, makeRequest, whole, requestOf}
 use Rattle.console_requests.specs.declared.Name.{Name}
-use Rattle.console_requests.specs.declared.Name.the-variants.{ToEntry, ToDesk, ToReport, ToMerge, Bad}
+use Rattle.console_requests.specs.declared.Name.the-variants.{ToEntry, ToDesk, ToReport, ToMerge, ToWatch, Bad}
 
 -- bad octets leave the room as it was
 short-room : (t : Bool) (xs room out : List ℕ) → pick t (taken NoOctets room) (taken (Are (length xs)) out) .answer ≡ NoOctets
@@ -58,6 +58,7 @@ named (ToEntry e) = true
 named (ToDesk d) = true
 named (ToReport r) = true
 named (ToMerge r) = true
+named (ToWatch r) = true
 named Bad = false
 
 all-named : List Row → Bool

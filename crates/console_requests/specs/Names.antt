@@ -11,11 +11,12 @@ use Rattle.octets.specs.Ascii.{octets}
 use Rattle.octets.specs.Tables.{TableOf}
 use Rattle.program_numbers.specs.Alike.{alike}
 use Rattle.console_requests.specs.declared.Name.{Name}
-use Rattle.console_requests.specs.declared.Name.the-variants.{ToEntry, ToDesk, ToReport, ToMerge, Bad}
+use Rattle.console_requests.specs.declared.Name.the-variants.{ToEntry, ToDesk, ToReport, ToMerge, ToWatch, Bad}
 use Rattle.console_requests.specs.declared.EntryCall.the-variants.{Judge, Read, Fold, Escape, Unescape, Encode, Decode, FoldIn, Offset, JudgeIn, ReadIn, TakeIn, GiveOut}
 use Rattle.console_requests.specs.declared.DeskCall.the-variants.{Desk, Open, Add, Check, Show, Held, Release, Pool, Next}
 use Rattle.console_requests.specs.declared.ReportCall.the-variants.{Report, Take, Print, Count}
 use Rattle.console_requests.specs.declared.MergeCall.the-variants.{Plan, CheckPlan}
+use Rattle.console_requests.specs.declared.WatchCall.the-variants.{Begin, Chunk, End, Buffer, Claim}
 
 pub record Row : Type 0 where
   pub name : Name
@@ -63,11 +64,16 @@ rows =
     row (ToEntry GiveOut) "v3-out" 1 withOctets ∷
     row (ToMerge Plan) "plan" 1 withOctets ∷
     row (ToMerge CheckPlan) "check-plan" 0 withOctets ∷
+    row (ToWatch Begin) "begin" 1 alone ∷
+    row (ToWatch Chunk) "chunk" 0 withOctets ∷
+    row (ToWatch End) "end" 0 alone ∷
+    row (ToWatch Buffer) "buffer" 2 alone ∷
+    row (ToWatch Claim) "claim" 1 alone ∷
     []
 
 -- how many requests there are
 abbrev pub requests : ℕ
-requests = 28
+requests = 33
 
 -- the rows of the table: those of the requests, and a last one for none
 abbrev pub tableRows : ℕ

@@ -54,12 +54,22 @@ pub enum MergeCall {
     CheckPlan,
 }
 
+// The requests of the reader of chunks.
+pub enum WatchCall {
+    Begin,
+    Chunk,
+    End,
+    Buffer,
+    Claim,
+}
+
 // The requests, and what a line has that is none.
 pub enum Name {
     ToEntry(EntryCall),
     ToDesk(DeskCall),
     ToReport(ReportCall),
     ToMerge(MergeCall),
+    ToWatch(WatchCall),
     Bad,
 }
 

@@ -7,6 +7,7 @@ use crate::EntryCall;
 use crate::MergeCall;
 use crate::Name;
 use crate::ReportCall;
+use crate::WatchCall;
 use octets::indices::wide;
 
 // The entries of a row.
@@ -25,7 +26,7 @@ const OCTETS: usize = 12;
 const TABLE: usize = ROW * (NO_REQUEST + 1);
 
 // The row of no request, after those of the requests.
-const NO_REQUEST: usize = 28;
+const NO_REQUEST: usize = 33;
 
 // Thirteen entries for each row, and a last row for no request: name, its length, how many numbers stand after it, 1 where octets do.
 const ROWS: [u8; TABLE] = *b"\
@@ -57,6 +58,11 @@ const ROWS: [u8; TABLE] = *b"\
     v3-out....\x06\x01\x01\
     plan......\x04\x01\x01\
     check-plan\x0a\x00\x01\
+    begin.....\x05\x01\x00\
+    chunk.....\x05\x00\x01\
+    end.......\x03\x00\x00\
+    buffer....\x06\x02\x00\
+    claim.....\x05\x01\x00\
     ..........\x00\x00\x00";
 
 // The table as a value, which its users are lent.
@@ -117,6 +123,21 @@ pub fn row_of(t: &[u8], word: &[u8], after: usize) -> usize
     row
 }
 
+// The request of a row from that of `begin` on.
+fn watch_name_at(row: usize) -> Name
+    requires { ⌜ 28 ≤ row ⌝ }
+    ensures { λ r. ⌜ r ≡ rowAt row .name ⌝ }
+{
+    match row {
+        28 => Name::ToWatch(WatchCall::Begin),
+        29 => Name::ToWatch(WatchCall::Chunk),
+        30 => Name::ToWatch(WatchCall::End),
+        31 => Name::ToWatch(WatchCall::Buffer),
+        32 => Name::ToWatch(WatchCall::Claim),
+        _ => Name::Bad,
+    }
+}
+
 // The request of a row.
 pub fn name_at(row: usize) -> Name
     ensures { λ r. ⌜ r ≡ rowAt row .name ⌝ }
@@ -150,6 +171,6 @@ pub fn name_at(row: usize) -> Name
         25 => Name::ToEntry(EntryCall::GiveOut),
         26 => Name::ToMerge(MergeCall::Plan),
         27 => Name::ToMerge(MergeCall::CheckPlan),
-        _ => Name::Bad,
+        _ => watch_name_at(row),
     }
 }

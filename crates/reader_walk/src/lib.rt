@@ -22,7 +22,6 @@ use numbers::limit;
 use octets::classes::ClassTable;
 use property_table::Edition;
 use property_table::rows::PropertyTable;
-use value_automaton::states::Transitions;
 
 // Unfolds a line that has a fold behind the first `used` octets, and answers how many octets it wrote.
 fn lay_behind(s: &[u8], folded: bool, scratch: &mut [u8], used: usize) -> usize
@@ -87,7 +86,7 @@ fn keep_part(s: &[u8], folded: bool, scratch: &mut [u8], used: usize, from: usiz
 
 // Judges the logical line s, which starts at `at` in the input: as it is where it has no fold, else unfolded; and keeps what is to be kept of it.
 // It is lent the scanner's table, or no octets.
-fn judge_raw(
+pub fn judge_span(
     t: &ClassTable,
     rows: &PropertyTable,
     steps: &[u8],
@@ -113,28 +112,6 @@ fn judge_raw(
     let to = j.to;
     keep_part(s, folded, scratch, used, from, to);
     j.step
-}
-
-// Judges the logical line s, which starts at `at` in the input, with the scanner's table.
-pub fn judge_span(
-    t: &ClassTable,
-    rows: &PropertyTable,
-    steps: &Transitions,
-    edition: Edition,
-    s: &[u8],
-    folded: bool,
-    scratch: &mut [u8],
-    at: usize,
-    c: Card,
-) -> Step
-    requires { ⌜ Tables (now t) (now rows) (now steps) ⌝ }
-    requires { ⌜ Counted (c .cards) (c .lines) ⌝ }
-    requires { ⌜ Roomy c (now s) (now scratch) ⌝ }
-    requires { ⌜ (folded ≡ false → unfolded (now s) ≡ now s) ⌝ }
-    ensures { λ r. ⌜ stepOf (now (scratch .exit)) r ≡ judgeLine edition (cardOf c (now (scratch .entry))) at (unfolded (now (s .entry))) ⌝ }
-    ensures { λ r. ⌜ Holds (c .used + length (now (s .entry))) r × Left edition c (now (s .entry)) (now (scratch .entry)) (now (scratch .exit)) r ⌝ }
-{
-    judge_raw(t, rows, steps, edition, s, folded, scratch, at, c)
 }
 
 // The judgement of the line s, which starts at `at` in the input, with the place in the input of an octet that it names.
@@ -172,7 +149,7 @@ fn walk_in(
         let span = line_folds::spans::line_at(s, at);
         let end = span.end;
         let folded = span.cr != end;
-        let j = judge_raw(t, rows, steps, edition, &s[at..end], folded, scratch, at, c);
+        let j = judge_span(t, rows, steps, edition, &s[at..end], folded, scratch, at, c);
         let Step::Next(next) = j else {
             return settle(j, &s[at..end], at);
         };

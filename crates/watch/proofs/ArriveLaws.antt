@@ -239,6 +239,15 @@ module _ (w : Watch) (b i c : List ℕ) (l : Live w b i) (holds : b ≡ bufferAf
     abbrev to : ℕ
     to = w .card .used + (w .«open» + length (take k c))
 
+    two-octets : 2 ≤ length o + k
+    two-octets = subst (λ (e : ℕ). 2 ≤ length o + e) (sym at-is) (two-there i c there)
+
+    s-size : length s ≡ length o + k - 2
+    s-size = length-take-le (length o + k - 2) (o ++ c) (omega (arith, length-append o c))
+
+    to-is : to ≡ w .card .used + length s + 2
+    to-is = omega (arith, s-size, two-octets, l .line, length-take-le k c (omega arith))
+
     zero-behind : drop to b ≡ replicate (16384 - to) 0
     zero-behind = ap (drop to) buffer-is ∙ padded-rest (a ++ o) to (omega (arith, used-low))
 
@@ -250,7 +259,7 @@ module _ (w : Watch) (b i c : List ℕ) (l : Live w b i) (holds : b ≡ bufferAf
         → (n tail : ℕ) → n ≡ w .start + w .«open» + length c → tail ≡ tailFrom (w .tail) c → After (stoppedState r n tail) b₁ (i ++ c)
     after-refused r h b₁ t n tail size ends =
         let t′ = subst (λ (x : List ℕ). Took (w .card) x b b₁ (w .start) to r) same-line t in
-        let e = rest-refused (w .card) (o ++ c) b (w .start) (w .card) (o ++ c) b (w .start) so-far s m first-ends b₁ to (omega arith) first-size r (stopped-never r h) t′ in
+        let e = rest-refused (w .card) (o ++ c) b (w .start) (w .card) (o ++ c) b (w .start) so-far s m first-ends b₁ to to-is first-size r (stopped-never r h) t′ in
         let z : halted (judgement (w .card) b s (w .start)) ≡ true = sym (settled-halted (w .start) s (judgement (w .card) b s (w .start))) ∙ ap halted (sym (t′ .step)) ∙ halts r h b₁ in
         after-stopped (i ++ c) b₁ n tail all-short all-fine (omega (arith, size, l .count, all-long)) (ends ∙ all-tail) r h (judged-all ∙ sym (e .0))
         (t′ .buffer zero-behind ∙ ap padded (values-none (judgement (w .card) b s (w .start)) (valuesNext (kept (w .card) b) (cardOf (w .card) b) s) z))
@@ -263,11 +272,9 @@ module _ (w : Watch) (b i c : List ℕ) (l : Live w b i) (holds : b ≡ bufferAf
 
       on : Rest (w .card) (o ++ c) b (w .start) d m b₁ (w .start + w .«open» + k)
       on =
-          let two : 2 ≤ length o + k = subst (λ (e : ℕ). 2 ≤ length o + e) (sym at-is) (two-there i c there) in
-          let n : length s ≡ length o + k - 2 = length-take-le (length o + k - 2) (o ++ c) (omega (arith, length-append o c)) in
-          let p : w .start + length s + 2 ≡ w .start + w .«open» + k = omega (arith, n, l .line, two) in
+          let p : w .start + length s + 2 ≡ w .start + w .«open» + k = omega (arith, s-size, l .line, two-octets) in
           subst (Rest (w .card) (o ++ c) b (w .start) d m b₁) p
-          (rest-next (w .card) (o ++ c) b (w .start) (w .card) (o ++ c) b (w .start) so-far s m first-ends b₁ to (omega arith) first-size d low led)
+          (rest-next (w .card) (o ++ c) b (w .start) (w .card) (o ++ c) b (w .start) so-far s m first-ends b₁ to to-is first-size d low led)
 
       pads : b₁ ≡ padded (kept d b₁)
       pads = led .buffer zero-behind ∙ ap padded (sym (led .front d refl .1))

@@ -4,3 +4,4 @@ pub mod ArriveLaws
 pub mod FaultLaws
 pub mod EndLaws
 pub mod ReachLaws
+pub mod OutcomeLaws

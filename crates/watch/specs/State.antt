@@ -1,18 +1,16 @@
--- The state of a watch: what it is after some octets, and what a chunk and the end do. Assumes nothing.
+-- The state of a watch: what it is after some octets. Assumes nothing.
 use Prim.Native.Nat.{ℕ, _+_, _<_, _≤_}
 use mathlib.Core.Path.{_≡_}
 use mathlib.Core.Bool.{true}
-use mathlib.Core.List.{List, [], _++_}
+use mathlib.Core.List.{List}
 use lib.ListN.{length}
 use Rattle.numbers.specs.Limits as limit
-use Rattle.numbers.specs.Refusals as refusal
 use Rattle.card_state.specs.State.{Step, Next}
 use Rattle.card_state.specs.Kept.{freshKept, cardOf}
 use Rattle.card_state.specs.declared.Card.{Card as Kept}
 use Rattle.card_state.specs.declared.Step.{Step as KeptStep}
 use Rattle.card_state.specs.declared.Step.the-variants.{Next as nextKept, Refused as refusedKept, Flawed as flawedKept}
-use Rattle.reader.specs.Outcome.{verdictOf, judgeOf}
-use Rattle.reader.specs.declared.Verdict.{Verdict}
+use Rattle.reader.specs.Outcome.{verdictOf}
 use Rattle.reader.specs.declared.Verdict.the-variants.{Refused as Judged}
 use Rattle.watch_arrivals.specs.Arrivals.{afterOther, tailFrom, loneFrom}
 use Rattle.watch_lines.specs.Parting.{openLine}
@@ -20,8 +18,6 @@ use Rattle.watch_lines.specs.Values.{halted}
 use Rattle.watch_lines.specs.Taking.{Within}
 use Rattle.watch.specs.Octets.{judged, altidOctets, bufferAfter}
 use Rattle.watch.specs.declared.Watch.{Watch}
-use Rattle.watch.specs.declared.Arrived.{Arrived}
-use Rattle.watch.specs.declared.Arrived.the-variants.{Next as goesOn, Refused}
 
 -- which fault is known: none, that of an ended line, a lone CR or LF, an input that is too long
 abbrev pub isNone : ℕ
@@ -131,19 +127,3 @@ pub record After (w : Watch) (b i : List ℕ) : Type 0 where
 pub record Reached (w : Watch) (b i : List ℕ) : Type 0 where
   pub stands : Stands w b i
   pub holds : 0 < length i → b ≡ bufferAfter i
-
--- what a chunk c answers, and the buffer then: a state that was handed on leads to the next; any other state of a sound size is answered with some state
-pub record ChunkOf (w : Watch) (b c : List ℕ) (r : Arrived) (b′ : List ℕ) : Type 0 where
-  pub another : (length b ≡ limit.octets → ⊥) → (r ≡ Refused refusal.bufferLength 0) × (b′ ≡ b)
-  pub over : length b ≡ limit.octets → limit.octets < claims w → (r ≡ Refused refusal.claim 0) × (b′ ≡ b)
-  pub goes : length b ≡ limit.octets → claims w ≤ limit.octets → (v : Watch) × (r ≡ goesOn v)
-  pub false : length b ≡ limit.octets → claims w ≤ limit.octets → (Sound w → ⊥) → (r ≡ goesOn w) × (b′ ≡ b)
-  pub led : (i : List ℕ) → Reached w b i → length b ≡ limit.octets → (v : Watch) × ((r ≡ goesOn v) × After v b′ (i ++ c))
-  pub size : length b′ ≡ length b
-
--- what the end answers
-pub record EndOf (w : Watch) (b : List ℕ) (v : Verdict) : Type 0 where
-  pub another : (length b ≡ limit.octets → ⊥) → v ≡ Judged refusal.bufferLength 0
-  pub over : length b ≡ limit.octets → limit.octets < claims w → v ≡ Judged refusal.claim 0
-  pub false : length b ≡ limit.octets → claims w ≤ limit.octets → (Sound w → ⊥) → v ≡ Judged refusal.order 0
-  pub led : (i : List ℕ) → Reached w b i → length b ≡ limit.octets → v ≡ judgeOf i

@@ -2,18 +2,21 @@
 ghost use mathlib.Core.Path.{_≡_};
 ghost use mathlib.Core.Bool.{true};
 ghost use mathlib.Core.List.{List, _++_};
-ghost use Prim.Native.Nat.{ℕ, _+_, _<_, _≤_};
+ghost use Prim.Native.Nat.{ℕ, _+_, _-_, _<_, _≤_};
 ghost use lib.Dec.{ltb};
-ghost use lib.ListN.{length};
+ghost use lib.ListN.{length, take, drop};
 ghost use Rattle.numbers.specs.Limits as limit;
 ghost use Rattle.numbers.specs.Refusals as refusal;
-ghost use Rattle.card_state.specs.Kept.{placesOf, endOf, Inside};
+ghost use Rattle.card_state.specs.Kept.{placesOf, endOf, Inside, stepOf};
 ghost use Rattle.desk_pool.specs.Pools.{patch};
+ghost use Rattle.value_automaton.specs.States.{Scanner};
+ghost use Rattle.reader_walk.specs.Walk.{settled};
 ghost use Rattle.reader.specs.Outcome.{judgeOf};
 ghost use Rattle.watch_arrivals.specs.Arrivals.{afterOther, tailFrom, loneFrom, nextFrom};
-ghost use Rattle.watch_lines.specs.Taking.{Within};
+ghost use Rattle.watch_lines.specs.Taking.{Within, judgement};
 ghost use Rattle.watch.specs.Octets.{bufferAfter};
-ghost use Rattle.watch.specs.State.{isOver, quietState, openState, stoppedState, freshWatch, claims, Counts, Sound, Live, Stands, After, Reached, ChunkOf, EndOf};
+ghost use Rattle.watch.specs.State.{isOver, quietState, openState, stoppedState, freshWatch, claims, Counts, Sound, Live, Stands, After, Reached};
+ghost use Rattle.watch.specs.Outcome.{Comes, linesCame, octetsCame, chunkCame, endCame, ChunkOf, EndOf};
 use card_state::Card;
 use card_state::Step;
 use card_state::tags::Tags;
@@ -215,33 +218,33 @@ fn go_on(w: Watch, buffer: &mut [u8], chunk: &[u8], tail: u32) -> Watch
 }
 
 // A chunk with which lines end, the first before octet `next`: they are judged, and the rest is kept.
-fn take_lines(w: Watch, buffer: &mut [u8], chunk: &[u8], next: usize, tail: u32) -> Watch
+// It is lent the scanner's table, or no octets.
+fn take_lines_with(
+    steps: &[u8],
+    w: Watch,
+    buffer: &mut [u8],
+    chunk: &[u8],
+    next: usize,
+    tail: u32,
+) -> Watch
+    requires { ⌜ Scanner (now steps) ⌝ }
     requires { ⌜ Sound w × (length (now buffer) ≡ limit.octets) ⌝ }
     requires { ⌜ (w .tail ≤ w .«open») × (w .start + w .«open» + length (now chunk) ≤ limit.octets) ⌝ }
     requires { ⌜ (next ≡ nextFrom (w .tail) (now chunk)) × (next < length (now chunk)) ⌝ }
     requires { ⌜ loneFrom (w .tail) (now chunk) ≡ length (now chunk) + 1 ⌝ }
     ensures { λ r. ⌜ ((i : List ℕ) → Live w (now (buffer .entry)) i → now (buffer .entry) ≡ bufferAfter i → tail ≡ tailFrom (w .tail) (now (chunk .entry)) → After r (now (buffer .exit)) (i ++ now (chunk .entry))) ⌝ }
+    ensures { λ r. ⌜ (tail ≡ tailFrom (w .tail) (now (chunk .entry)) → Comes r (now (buffer .exit)) (linesCame w (now (buffer .entry)) (now (chunk .entry)) next)) ⌝ }
 {
     let c = w.card;
     let base = w.start + w.open;
     let n = base + chunk.len();
     let t = octets::classes::table();
     let rows = property_table::table();
-    let steps = value_automaton::scanner::table();
-    let j = watch_lines::judge_open(
-        &t,
-        &rows,
-        &steps,
-        buffer,
-        w.open,
-        &chunk[..next],
-        w.start,
-        c,
-    );
+    let j = watch_lines::judge_open(&t, &rows, steps, buffer, w.open, &chunk[..next], w.start, c);
     let Step::Next(first) = j else {
         return stopped(j, n, tail);
     };
-    let l = watch_lines::judge_lines(&t, &rows, &steps, chunk, next, buffer, base, first);
+    let l = watch_lines::judge_lines(&t, &rows, steps, chunk, next, buffer, base, first);
     let at = l.at;
     let last = l.step;
     let Step::Next(card) = last else {
@@ -259,12 +262,32 @@ fn take_lines(w: Watch, buffer: &mut [u8], chunk: &[u8], next: usize, tail: u32)
     }
 }
 
+// A chunk, or a last line, of at most so many octets is judged without the scanner's table, which is then built for each value that needs it.
+const SHORT: usize = 192;
+
+// A chunk with which lines end, with the scanner's table where it is long.
+fn take_lines(w: Watch, buffer: &mut [u8], chunk: &[u8], next: usize, tail: u32) -> Watch
+    requires { ⌜ Sound w × (length (now buffer) ≡ limit.octets) ⌝ }
+    requires { ⌜ (w .tail ≤ w .«open») × (w .start + w .«open» + length (now chunk) ≤ limit.octets) ⌝ }
+    requires { ⌜ (next ≡ nextFrom (w .tail) (now chunk)) × (next < length (now chunk)) ⌝ }
+    requires { ⌜ loneFrom (w .tail) (now chunk) ≡ length (now chunk) + 1 ⌝ }
+    ensures { λ r. ⌜ ((i : List ℕ) → Live w (now (buffer .entry)) i → now (buffer .entry) ≡ bufferAfter i → tail ≡ tailFrom (w .tail) (now (chunk .entry)) → After r (now (buffer .exit)) (i ++ now (chunk .entry))) ⌝ }
+    ensures { λ r. ⌜ (tail ≡ tailFrom (w .tail) (now (chunk .entry)) → Comes r (now (buffer .exit)) (linesCame w (now (buffer .entry)) (now (chunk .entry)) next)) ⌝ }
+{
+    if chunk.len() <= SHORT {
+        return take_lines_with(&chunk[..0], w, buffer, chunk, next, tail);
+    }
+    let steps = value_automaton::scanner::table();
+    take_lines_with(&steps, w, buffer, chunk, next, tail)
+}
+
 // The octets of a chunk with which no fault of 1 or 3 is known, with no fault before.
 fn take_octets(w: Watch, buffer: &mut [u8], chunk: &[u8]) -> Watch
     requires { ⌜ Sound w × (length (now buffer) ≡ limit.octets) ⌝ }
     requires { ⌜ (w .tail ≤ w .«open») × (w .start + w .«open» + length (now chunk) ≤ limit.octets) ⌝ }
     requires { ⌜ loneFrom (w .tail) (now chunk) ≡ length (now chunk) + 1 ⌝ }
     ensures { λ r. ⌜ ((i : List ℕ) → Live w (now (buffer .entry)) i → now (buffer .entry) ≡ bufferAfter i → After r (now (buffer .exit)) (i ++ now (chunk .entry))) ⌝ }
+    ensures { λ r. ⌜ Comes r (now (buffer .exit)) (octetsCame w (now (buffer .entry)) (now (chunk .entry))) ⌝ }
 {
     let tail = watch_arrivals::tail_after(w.tail, chunk);
     let next = watch_arrivals::next_line(w.tail, chunk);
@@ -278,6 +301,7 @@ fn take_octets(w: Watch, buffer: &mut [u8], chunk: &[u8]) -> Watch
 fn arrive(w: Watch, buffer: &mut [u8], chunk: &[u8]) -> Watch
     requires { ⌜ Sound w × (length (now buffer) ≡ limit.octets) ⌝ }
     ensures { λ r. ⌜ ((i : List ℕ) → Stands w (now (buffer .entry)) i → now (buffer .entry) ≡ bufferAfter i → After r (now (buffer .exit)) (i ++ now (chunk .entry))) ⌝ }
+    ensures { λ r. ⌜ Comes r (now (buffer .exit)) (chunkCame w (now (buffer .entry)) (now (chunk .entry))) ⌝ }
 {
     if w.known == TOO_LONG {
         return w;
@@ -310,10 +334,26 @@ fn arrive(w: Watch, buffer: &mut [u8], chunk: &[u8]) -> Watch
     take_octets(w, buffer, chunk)
 }
 
+// What the open line leaves at the end of the input, with the tables made for it.
+fn last_line(w: Watch, buffer: &[u8]) -> Step
+    requires { ⌜ Sound w × (length (now buffer) ≡ limit.octets) × (2 ≤ w .«open») ⌝ }
+    ensures { λ r. ⌜ ((store : List ℕ) × (stepOf store r ≡ settled (w .start) (take (w .«open» - 2) (drop (w .card .used) (now (buffer .entry)))) (judgement (w .card) (now (buffer .entry)) (take (w .«open» - 2) (drop (w .card .used) (now (buffer .entry)))) (w .start)))) ⌝ }
+{
+    let c = w.card;
+    let t = octets::classes::table();
+    let rows = property_table::table();
+    if w.open <= SHORT {
+        return watch_lines::judge_last(&t, &rows, &buffer[..0], buffer, w.open, w.start, c);
+    }
+    let steps = value_automaton::scanner::table();
+    watch_lines::judge_last(&t, &rows, &steps, buffer, w.open, w.start, c)
+}
+
 // The verdict on the octets so far, of a state that can be worked with.
 fn conclude(w: Watch, buffer: &[u8]) -> Verdict
     requires { ⌜ Sound w × (length (now buffer) ≡ limit.octets) ⌝ }
     ensures { λ r. ⌜ ((i : List ℕ) → Reached w (now (buffer .entry)) i → r ≡ judgeOf i) ⌝ }
+    ensures { λ r. ⌜ r ≡ endCame w (now (buffer .entry)) ⌝ }
 {
     let n = w.start + w.open;
     if w.known == TOO_LONG {
@@ -334,11 +374,7 @@ fn conclude(w: Watch, buffer: &[u8]) -> Verdict
     if w.known == LINE_FAULT {
         return Verdict::Refused(w.fault, w.place);
     }
-    let t = octets::classes::table();
-    let rows = property_table::table();
-    let steps = value_automaton::scanner::table();
-    let c = w.card;
-    let last = watch_lines::judge_last(&t, &rows, &steps, buffer, w.open, w.start, c);
+    let last = last_line(w, buffer);
     reader::conclude(n, last)
 }
 

@@ -6,13 +6,15 @@ use native.Mathlib.Omega.{arith}
 use lib.ListN.{length}
 use Rattle.reader.specs.Outcome.{judgeOf}
 use Rattle.watch.specs.Octets.{known, used, bufferAfter}
-use Rattle.watch.specs.State.{freshWatch, claims, Stands, After, Reached, ChunkOf, EndOf}
+use Rattle.watch.specs.State.{freshWatch, claims, Stands, After, Reached}
+use Rattle.watch.specs.Outcome.{ChunkOf, EndOf}
 use Rattle.watch.specs.declared.Watch.{Watch}
 use Rattle.watch.specs.declared.Arrived.{Arrived}
 use Rattle.watch.specs.declared.Arrived.the-variants.{Next as goesOn}
 use Rattle.watch.proofs.ReachLaws.{reached-sound, sound-claims, fresh-stands}
 use Rattle.watch_laws.specs.Cuttings.{joined, Fed, Demand6}
 use Rattle.watch_laws.specs.Cuttings.Fed.{none, more}
+use Rattle.watch_laws.proofs.AltidLaws.{read, alts, laid}
 use Rattle.watch_laws.proofs.Parts.{parts, last, stays, zeros, gone}
 
 pub after-reached : {w : Watch} {b i : List ℕ} → After w b i → Reached w b i
@@ -60,5 +62,8 @@ watched = record {
   last = last;
   zero = zeros;
   stays = stays;
+  read = read;
+  alts = alts;
+  laid = laid;
   gone = gone;
 }

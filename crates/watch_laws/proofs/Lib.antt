@@ -1,3 +1,4 @@
 -- The laws of this crate. Assumes nothing.
+pub mod AltidLaws
 pub mod Parts
 pub mod Cuttings

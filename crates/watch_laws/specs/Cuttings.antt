@@ -1,20 +1,23 @@
 -- Chunks one after the other, each call with the state and the buffer that the one before left, and what holds of every cutting. Assumes nothing.
 use Prim.Native.Nat.{ℕ, _-_, _<_, _≤_}
 use mathlib.Core.Path.{_≡_}
-use mathlib.Core.Bool.{true}
+use mathlib.Core.Bool.{true, false}
 use mathlib.Core.List.{List, [], _∷_, _++_}
 use lib.ListN.{length, take, replicate}
 use Rattle.numbers.specs.Limits as limit
 use Rattle.line_breaks.specs.Lone.{firstLone, endsCrLf}
 use Rattle.line_folds.specs.Logical.{rawLines}
+use Rattle.line_parser.specs.Grammar.{Line}
 use Rattle.card_state.specs.State.{Card, Next, beforeBegin}
 use Rattle.reader.specs.Outcome.{judgeOf, ended}
 use Rattle.reader.specs.declared.Verdict.{Verdict}
 use Rattle.watch_lines.specs.Parting.{endedLines, openLine}
 use Rattle.watch.specs.Octets.{judged, altidOctets, known, bufferAfter}
-use Rattle.watch.specs.State.{freshWatch, claims, After, ChunkOf, EndOf}
+use Rattle.watch.specs.State.{freshWatch, claims, After}
+use Rattle.watch.specs.Outcome.{ChunkOf, EndOf}
 use Rattle.watch.specs.declared.Watch.{Watch}
 use Rattle.watch.specs.declared.Arrived.the-variants.{Next as goesOn}
+use Rattle.watch_laws.specs.Altids.{Ended, altidsAfter, bufferWith}
 
 -- the chunks joined
 unfoldable pub joined : List (List ℕ) → List ℕ
@@ -41,5 +44,10 @@ pub record Demand6 : Type 0 where
   -- once a fault is known the buffer is all 0, and it stays known
   pub zero : (i : List ℕ) → known i ≡ true → bufferAfter i ≡ replicate limit.octets 0
   pub stays : (i c : List ℕ) → known i ≡ true → known (i ++ c) ≡ true
+  -- while no fault is known the ended lines are lines of the grammar; the ALTID values are those of the lines since the last END that has ended, and the
+  -- buffer holds them, then the open line, then 0
+  pub read : (i : List ℕ) → known i ≡ false → (xs : List Line) × Ended i xs
+  pub alts : (i : List ℕ) (xs : List Line) → known i ≡ false → Ended i xs → altidOctets i ≡ altidsAfter xs
+  pub laid : (i : List ℕ) (xs : List Line) → known i ≡ false → Ended i xs → bufferAfter i ≡ bufferWith xs (openLine i)
   -- no ALTID value is kept outside a card
   pub gone : (i : List ℕ) (d : Card) → judged i ≡ Next d → d .phase ≡ beforeBegin → altidOctets i ≡ []

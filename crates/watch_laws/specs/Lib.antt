@@ -1,2 +1,3 @@
 -- What the laws of this crate speak of. Assumes nothing.
+pub mod Altids
 pub mod Cuttings

@@ -1,19 +1,21 @@
 -- One line judged with the buffer, and the lines one after the other. Assumes nothing.
 use mathlib.Core.Path.{_≡_, refl, sym, ap, subst, _∙_}
-use mathlib.Core.Bool.{Bool, true, false}
+use mathlib.Core.Bool.{Bool, true, false, not, false≢true}
 use mathlib.Core.List.{List, [], _∷_, _++_, append-assoc}
 use Prim.Native.Nat.{ℕ, zero, suc, _+_, _-_, _<_, _≤_}
 use native.Mathlib.Omega.{arith}
 use lib.Dec.{eqb, ltb}
-use lib.ListN.{length, take, drop, replicate, length-drop, length-append}
-use lib.Seq.{length-take-le, take-at, take-take, drop-drop}
+use lib.ListN.{length, take, drop, replicate, length-drop, length-append, length-replicate}
+use lib.Seq.{length-take-le, take-at, take-take, take-length, drop-drop}
 use denote.Enum.Declared.{tagOf}
 use types.Run.{OneOf, miss}
+use Rattle.octets.specs.Classes.{run}
 use Rattle.octets.specs.Pick.{pick}
 use Rattle.octets.specs.Room.{overlay}
 use Rattle.octets.proofs.Bools.{by}
-use borrow.Author.Tests.{lt-ltb, le-ltb}
-use Rattle.line_folds.specs.Folds.{lineLength, unfolded}
+use borrow.Author.Tests.{lt-ltb, le-ltb, eqb-true, not-false}
+use Rattle.line_folds.specs.Folds.{lineLength, unfolded, notCr}
+use Rattle.line_folds.proofs.QuickLaws.{no-fold}
 use Rattle.line_folds.proofs.SpanLaws.{part-length}
 use Rattle.property_table.specs.declared.Edition.the-variants.{First}
 use Rattle.card_state.specs.State.{Card, Step, Next, Refused, Flawed}
@@ -33,7 +35,7 @@ use Rattle.watch_buffer.proofs.BufferLaws.{clear-padded, padded-front, padded-r
 use Rattle.watch_arrivals.specs.Arrivals.{loneFrom, nextFrom}
 use Rattle.watch_arrivals.proofs.ArrivalLaws.{line-next, fine-next}
 use Rattle.watch_lines.specs.Parting.{Parting, withLine, opened, parted, endedLines, openLine}
-use Rattle.watch_lines.specs.Values.{valuesOn, valuesNext, valuesFrom}
+use Rattle.watch_lines.specs.Values.{halted, valuesOn, valuesNext, valuesFrom, laidIn, bufferOn, buffersFrom}
 use Rattle.watch_lines.specs.Taking.{kept, judgement, valuesAfter, Took, Within, Went}
 use Rattle.watch_lines.proofs.PartingLaws.{parted-step, parted-open}
 
@@ -74,14 +76,23 @@ pub kept-low : (n : ℕ) (j : KeptStep) (d : Kept) → j ≡ next d → Holds n 
 unfolding Holds
 kept-low n j d e h = subst (Holds n) e h .1
 
+-- a buffer e with the octets u at its front, cleared behind them up to a place from which on it is as b
+clear-laid : (e b u : List ℕ) (to : ℕ) → length u ≤ to → take (length u) e ≡ u → drop to e ≡ drop to b → patch e (length u) (replicate (to - length u) 0) ≡ laidIn to u b
+unfolding patch laidIn
+clear-laid e b u to h f r =
+    let n : length (replicate {A = ℕ} (to - length u) 0) ≡ to - length u = length-replicate (to - length u) 0 in
+    let m : length u + (to - length u) ≡ to = omega arith in
+    let d : drop (to - length u) (drop (length u) e) ≡ drop to b = drop-drop (to - length u) (length u) e ∙ ap (λ (k : ℕ). drop k e) m ∙ r in
+    rw (f, n, d)
+
 -- the line s was judged j with the buffer b, which then is e
 module _ (c : Kept) (s b e : List ℕ) (at to : ℕ) (full : length b ≡ 16384) (same : length e ≡ length b)
     (room : c .used + length s ≤ to) (within : to ≤ 16384) where
-  rest-zero : (j : KeptStep) → Left First c s b e j → drop to b ≡ replicate (16384 - to) 0 → drop to e ≡ replicate (16384 - to) 0
-  rest-zero j l z =
+  rest-same : (j : KeptStep) → Left First c s b e j → drop to e ≡ drop to b
+  rest-same j l =
       let k = c .used + length s in
       let w : k + (to - k) ≡ to = omega arith in
-      ap (λ (n : ℕ). drop n e) (sym w) ∙ sym (drop-drop (to - k) k e) ∙ ap (drop (to - k)) (l .rest) ∙ drop-drop (to - k) k b ∙ ap (λ (n : ℕ). drop n b) w ∙ z
+      ap (λ (n : ℕ). drop n e) (sym w) ∙ sym (drop-drop (to - k) k e) ∙ ap (drop (to - k)) (l .rest) ∙ drop-drop (to - k) k b ∙ ap (λ (n : ℕ). drop n b) w
 
   pub took-refused : (j : KeptStep) → Stopped j → stepOf e j ≡ judgement c b s at → Left First c s b e j
       → (r : KeptStep) → ((store : List ℕ) → stepOf store r ≡ settled at s (stepOf store j)) → (b′ : List ℕ) → b′ ≡ patch e 0 (replicate (to - 0) 0)
@@ -92,7 +103,8 @@ module _ (c : Kept) (s b e : List ℕ) (at to : ℕ) (full : length b ≡ 16384)
       record {
         step = settles b′ ∙ ap (settled at s) (no-store j h b′ e ∙ judged);
         holds = holds-none r (c .used + length s) none-next;
-        buffer = λ z. laid ∙ clear-padded e [] to (omega arith) within refl (rest-zero j l z) ∙ ap padded (sym none);
+        buffer = λ z. laid ∙ clear-padded e [] to (omega arith) within refl (rest-same j l ∙ z) ∙ ap padded (sym none);
+        whole = laid ∙ clear-laid e b [] to (omega arith) refl (rest-same j l) ∙ ap (λ (x : List ℕ). laidIn to x b) (sym none);
         front = λ d q. absurd (none-next d q);
       }
 
@@ -135,8 +147,13 @@ module _ (c : Kept) (s b e : List ℕ) (at to : ℕ) (full : length b ≡ 16384)
           buffer = λ z.
               laid
               ∙ ap (λ (n : ℕ). patch e n (replicate (to - n) 0)) size
-              ∙ clear-padded e after to (omega (arith, size, low)) within (ap (λ (n : ℕ). take n e) (sym size) ∙ there) (rest-zero (next d) l z)
+              ∙ clear-padded e after to (omega (arith, size, low)) within (ap (λ (n : ℕ). take n e) (sym size) ∙ there) (rest-same (next d) l ∙ z)
               ∙ ap padded (sym values);
+          whole =
+              laid
+              ∙ ap (λ (n : ℕ). patch e n (replicate (to - n) 0)) size
+              ∙ clear-laid e b after to (omega (arith, size, low)) (ap (λ (n : ℕ). take n e) (sym size) ∙ there) (rest-same (next d) l)
+              ∙ ap (λ (x : List ℕ). laidIn to x b) (sym values);
           front = λ f q.
               subst (λ (x : Kept). (x .used ≡ length (valuesAfter c b s at)) × (take (x .used) b′ ≡ valuesAfter c b s at)) (kept-same q)
               (size ∙ ap length (sym values), same-front ∙ there ∙ sym values);
@@ -145,24 +162,116 @@ module _ (c : Kept) (s b e : List ℕ) (at to : ℕ) (full : length b ≡ 16384)
         kept-same : {f : Kept} → next d ≡ next f → d ≡ f
         kept-same q = cc
 
+-- a refusal
+halt-step : (r : KeptStep) → ((d : Kept) → r ≡ next d → ⊥) → (b : List ℕ) → halted (stepOf b r) ≡ true
+unfolding stepOf
+halt-step (next d) h b = absurd (h d refl)
+halt-step (refused n q) h b = refl
+halt-step (flawed n o) h b = refl
+
+halt-settled : (p : ℕ) (s : List ℕ) (x : Step) → halted (settled p s x) ≡ halted x
+halt-settled p s (Next d) = refl
+halt-settled p s (Refused n q) = refl
+halt-settled p s (Flawed n o) = refl
+
+halt-on : (x : Step) → halted x ≡ true → (f : Card → Step) → onward x f ≡ x
+halt-on (Next d) h f = absurd (false≢true h)
+halt-on (Refused n q) h f = refl
+halt-on (Flawed n o) h f = refl
+
+halt-values : (x : Step) → halted x ≡ true → (f : Card → List ℕ) → valuesOn x f ≡ []
+halt-values (Next d) h f = absurd (false≢true h)
+halt-values (Refused n q) h f = refl
+halt-values (Flawed n o) h f = refl
+
+halt-buffer : (x : Step) → halted x ≡ true → (f : Card → List ℕ) (b : List ℕ) → bufferOn x f b ≡ b
+halt-buffer (Next d) h f b = absurd (false≢true h)
+halt-buffer (Refused n q) h f b = refl
+halt-buffer (Flawed n o) h f b = refl
+
+-- the line s, judged with the buffer b, and the lines ls after it
+module _ (c : Kept) (s b b′ : List ℕ) (p to : ℕ) (sized : c .used ≤ length b) (to-is : to ≡ c .used + length s + 2) (ls : List (List ℕ)) where
+  abbrev values-then : Card → List ℕ
+  values-then = valuesNext (kept c b) (cardOf c b) s
+
+  front-size : length (kept c b) + length s + 2 ≡ to
+  front-size = omega (arith, length-take-le (c .used) b sized, to-is)
+
+  -- the line led to the state d
+  module _ (d : Kept) (t : Took c s b b′ p to (next d)) where
+    led-to : judgement c b s p ≡ Next (cardOf d b′)
+    unfolding stepOf
+    led-to = settled-next p s (judgement c b s p) (cardOf d b′) (sym (t .step))
+
+    values-led : valuesAfter c b s p ≡ values-then (cardOf d b′)
+    values-led = ap (λ (x : Step). valuesOn x values-then) led-to
+
+    kept-led : kept d b′ ≡ values-then (cardOf d b′)
+    kept-led = t .front d refl .1 ∙ values-led
+
+    pub judged-next : judgeLines First (s ∷ ls) p (cardOf c b) ≡ judgeLines First ls (p + length s + 2) (cardOf d b′)
+    unfolding judgeLines stepOf
+    judged-next = ap (λ (x : Step). onward x (judgeLines First ls (p + length s + 2))) (sym (t .step))
+
+    pub values-next : valuesFrom (s ∷ ls) p (cardOf c b) (kept c b) ≡ valuesFrom ls (p + length s + 2) (cardOf d b′) (kept d b′)
+    unfolding valuesFrom
+    values-next =
+        ap (λ (x : Step). valuesOn x (λ (y : Card). valuesFrom ls (p + length s + 2) y (values-then y))) led-to
+        ∙ ap (valuesFrom ls (p + length s + 2) (cardOf d b′)) (sym kept-led)
+
+    pub buffers-next : buffersFrom (s ∷ ls) p (cardOf c b) (kept c b) b ≡ buffersFrom ls (p + length s + 2) (cardOf d b′) (kept d b′) b′
+    unfolding buffersFrom
+    buffers-next =
+        let n = length (kept c b) + length s + 2 in
+        let laid : laidIn n (values-then (cardOf d b′)) b ≡ b′ = ap (λ (m : ℕ). laidIn m (values-then (cardOf d b′)) b) front-size ∙ ap (λ (x : List ℕ). laidIn to x b) (sym values-led) ∙ sym (t .whole) in
+        ap (λ (x : Step). bufferOn x (λ (y : Card). buffersFrom ls (p + length s + 2) y (values-then y) (laidIn n (values-then y) b)) (laidIn n [] b)) led-to
+        ∙ ap (buffersFrom ls (p + length s + 2) (cardOf d b′) (values-then (cardOf d b′))) laid
+        ∙ ap (λ (x : List ℕ). buffersFrom ls (p + length s + 2) (cardOf d b′) x b′) (sym kept-led)
+
+  -- it was refused
+  module _ (r : KeptStep) (none : (d : Kept) → r ≡ next d → ⊥) (t : Took c s b b′ p to r) where
+    refuses : halted (judgement c b s p) ≡ true
+    refuses = sym (halt-settled p s (judgement c b s p)) ∙ ap halted (sym (t .step)) ∙ halt-step r none b′
+
+    values-gone : valuesAfter c b s p ≡ []
+    values-gone = halt-values (judgement c b s p) refuses values-then
+
+    pub judged-stop : judgeLines First (s ∷ ls) p (cardOf c b) ≡ stepOf b′ r
+    unfolding judgeLines
+    judged-stop =
+        let f = judgeLines First ls (p + length s + 2) in
+        ap (λ (x : Step). onward x f) (sym (t .step)) ∙ halt-on (stepOf b′ r) (halt-step r none b′) f
+
+    pub values-stop : valuesFrom (s ∷ ls) p (cardOf c b) (kept c b) ≡ valuesAfter c b s p
+    unfolding valuesFrom
+    values-stop = halt-values (judgement c b s p) refuses (λ (y : Card). valuesFrom ls (p + length s + 2) y (values-then y)) ∙ sym values-gone
+
+    pub buffers-stop : buffersFrom (s ∷ ls) p (cardOf c b) (kept c b) b ≡ b′
+    unfolding buffersFrom
+    buffers-stop =
+        let n = length (kept c b) + length s + 2 in
+        halt-buffer (judgement c b s p) refuses (λ (y : Card). buffersFrom ls (p + length s + 2) y (values-then y) (laidIn n (values-then y) b)) (laidIn n [] b)
+        ∙ ap (λ (m : ℕ). laidIn m [] b) front-size ∙ ap (λ (x : List ℕ). laidIn to x b) (sym values-gone) ∙ sym (t .whole)
+
 -- lines judged one after the other: from the lines of l₀ at p₀, with the state c₀ and the buffer b₀, those of l at p are left, with c and b
 pub record Rest (c₀ : Kept) (l₀ b₀ : List ℕ) (p₀ : ℕ) (c : Kept) (l b : List ℕ) (p : ℕ) : Type 0 where
   pub judged : judgeLines First (endedLines l₀) p₀ (cardOf c₀ b₀) ≡ judgeLines First (endedLines l) p (cardOf c b)
   pub opens : openLine l₀ ≡ openLine l
   pub pads : b₀ ≡ padded (kept c₀ b₀) → b ≡ padded (kept c b)
   pub values : valuesFrom (endedLines l₀) p₀ (cardOf c₀ b₀) (kept c₀ b₀) ≡ valuesFrom (endedLines l) p (cardOf c b) (kept c b)
+  pub buffers : buffersFrom (endedLines l₀) p₀ (cardOf c₀ b₀) (kept c₀ b₀) b₀ ≡ buffersFrom (endedLines l) p (cardOf c b) (kept c b) b
   pub sized : c .used ≤ length b
   pub place : p + length l ≡ p₀ + length l₀
 
 pub rest-start : (c : Kept) (l b : List ℕ) (p : ℕ) → c .used ≤ length b → Rest c l b p c l b p
-rest-start c l b p h = record { judged = refl; opens = refl; pads = λ z. z; values = refl; sized = h; place = refl }
+rest-start c l b p h = record { judged = refl; opens = refl; pads = λ z. z; values = refl; buffers = refl; sized = h; place = refl }
 
 -- the octets behind the values are 0
 pad-zero : (c : Kept) (b : List ℕ) (to : ℕ) → c .used ≤ length b → c .used ≤ to → b ≡ padded (kept c b) → drop to b ≡ replicate (16384 - to) 0
 pad-zero c b to h g z = ap (drop to) z ∙ padded-rest (kept c b) to (omega (arith, length-take-le (c .used) b h))
 
 module _ (c₀ : Kept) (l₀ b₀ : List ℕ) (p₀ : ℕ) (c : Kept) (l b : List ℕ) (p : ℕ) (so-far : Rest c₀ l₀ b₀ p₀ c l b p)
-    (s es : List ℕ) (first : parted l ≡ withLine s (parted es)) (b′ : List ℕ) (to : ℕ) (room : c .used ≤ to) (size : length s + 2 + length es ≡ length l) where
+    (s es : List ℕ) (first : parted l ≡ withLine s (parted es)) (b′ : List ℕ) (to : ℕ) (to-is : to ≡ c .used + length s + 2) (size : length s + 2 + length es ≡ length l) where
   ended-is : endedLines l ≡ s ∷ endedLines es
   ended-is = ap (λ (x : Parting). x .ended) first
 
@@ -170,55 +279,28 @@ module _ (c₀ : Kept) (l₀ b₀ : List ℕ) (p₀ : ℕ) (c : Kept) (l b : Lis
   pub rest-refused : (r : KeptStep) → ((d : Kept) → r ≡ next d → ⊥) → Took c s b b′ p to r
       → (stepOf b′ r ≡ judgeLines First (endedLines l₀) p₀ (cardOf c₀ b₀))
       × (b₀ ≡ padded (kept c₀ b₀) → b′ ≡ padded (valuesFrom (endedLines l₀) p₀ (cardOf c₀ b₀) (kept c₀ b₀)))
-  unfolding judgeLines valuesFrom stepOf
-  rest-refused r none t =
-      let stays = stop-on r none b′ (judgeLines First (endedLines es) (p + length s + 2)) in
-      let empty = stop-values r none b′ p s (judgement c b s p) (t .step) in (
-        sym (so-far .judged ∙ ap (λ (ls : List (List ℕ)). judgeLines First ls p (cardOf c b)) ended-is
-            ∙ ap (λ (x : Step). onward x (judgeLines First (endedLines es) (p + length s + 2))) (sym (t .step)) ∙ stays),
-        λ z.
-            t .buffer (pad-zero c b to (so-far .sized) room (so-far .pads z))
-            ∙ ap padded
-            (empty (valuesNext (kept c b) (cardOf c b) s)
-            ∙ sym (so-far .values ∙ ap (λ (ls : List (List ℕ)). valuesFrom ls p (cardOf c b) (kept c b)) ended-is
-            ∙ empty (λ (d : Card). valuesFrom (endedLines es) (p + length s + 2) d (valuesNext (kept c b) (cardOf c b) s d)))),
-      )
-    where
-      stop-on : (r : KeptStep) → ((d : Kept) → r ≡ next d → ⊥) → (b : List ℕ) (f : Card → Step) → onward (stepOf b r) f ≡ stepOf b r
-      stop-on (next d) h b f = absurd (h d refl)
-      stop-on (refused n q) h b f = refl
-      stop-on (flawed n o) h b f = refl
-
-      stop-values : (r : KeptStep) → ((d : Kept) → r ≡ next d → ⊥) → (b : List ℕ) (p : ℕ) (s : List ℕ) (x : Step) → stepOf b r ≡ settled p s x → (f : Card → List ℕ) → valuesOn x f ≡ []
-      stop-values r h b p s (Next d) e f = absurd (never-next r h b d e)
-        where
-          never-next : (r : KeptStep) → ((d : Kept) → r ≡ next d → ⊥) → (b : List ℕ) (d : Card) → stepOf b r ≡ Next d → ⊥
-          never-next (next d′) h b d e = h d′ refl
-          never-next (refused n q) h b d e = let y : _≡_ {A = ℕ} 0 1 = cc in absurd (omega arith)
-          never-next (flawed n o) h b d e = let y : _≡_ {A = ℕ} 0 1 = cc in absurd (omega arith)
-      stop-values r h b p s (Refused n q) e f = refl
-      stop-values r h b p s (Flawed n o) e f = refl
+      × (b′ ≡ buffersFrom (endedLines l₀) p₀ (cardOf c₀ b₀) (kept c₀ b₀) b₀)
+  rest-refused r none t = (
+    sym (so-far .judged ∙ ap (λ (ls : List (List ℕ)). judgeLines First ls p (cardOf c b)) ended-is ∙ judged-stop c s b b′ p to (so-far .sized) to-is (endedLines es) r none t),
+    λ z.
+        t .buffer (pad-zero c b to (so-far .sized) (omega arith) (so-far .pads z))
+        ∙ ap padded
+        (sym (so-far .values ∙ ap (λ (ls : List (List ℕ)). valuesFrom ls p (cardOf c b) (kept c b)) ended-is
+        ∙ values-stop c s b b′ p to (so-far .sized) to-is (endedLines es) r none t)),
+    sym (so-far .buffers ∙ ap (λ (ls : List (List ℕ)). buffersFrom ls p (cardOf c b) (kept c b) b) ended-is ∙ buffers-stop c s b b′ p to (so-far .sized) to-is (endedLines es) r none t),
+  )
 
   -- it led to the state d
   pub rest-next : (d : Kept) → d .used ≤ length b′ → Took c s b b′ p to (next d) → Rest c₀ l₀ b₀ p₀ d es b′ (p + length s + 2)
-  unfolding judgeLines valuesFrom stepOf
-  rest-next d low t =
-      let led : judgement c b s p ≡ Next (cardOf d b′) = settled-next p s (judgement c b s p) (cardOf d b′) (sym (t .step)) in
-      let here : kept d b′ ≡ valuesAfter c b s p = t .front d refl .1 in
-      let after : valuesAfter c b s p ≡ valuesNext (kept c b) (cardOf c b) s (cardOf d b′) = ap (λ (x : Step). valuesOn x (valuesNext (kept c b) (cardOf c b) s)) led in
-      record {
-        judged =
-            so-far .judged ∙ ap (λ (ls : List (List ℕ)). judgeLines First ls p (cardOf c b)) ended-is
-            ∙ ap (λ (x : Step). onward x (judgeLines First (endedLines es) (p + length s + 2))) (sym (t .step));
-        opens = so-far .opens ∙ ap (λ (x : Parting). x .left) first;
-        pads = λ z. t .buffer (pad-zero c b to (so-far .sized) room (so-far .pads z)) ∙ ap padded (sym here);
-        values =
-            so-far .values ∙ ap (λ (ls : List (List ℕ)). valuesFrom ls p (cardOf c b) (kept c b)) ended-is
-            ∙ ap (λ (x : Step). valuesOn x (λ (y : Card). valuesFrom (endedLines es) (p + length s + 2) y (valuesNext (kept c b) (cardOf c b) s y))) led
-            ∙ ap (valuesFrom (endedLines es) (p + length s + 2) (cardOf d b′)) (sym (here ∙ after));
-        sized = low;
-        place = omega (arith, so-far .place, size);
-      }
+  rest-next d low t = record {
+    judged = so-far .judged ∙ ap (λ (ls : List (List ℕ)). judgeLines First ls p (cardOf c b)) ended-is ∙ judged-next c s b b′ p to (so-far .sized) to-is (endedLines es) d t;
+    opens = so-far .opens ∙ ap (λ (x : Parting). x .left) first;
+    pads = λ z. t .buffer (pad-zero c b to (so-far .sized) (omega arith) (so-far .pads z)) ∙ ap padded (sym (t .front d refl .1));
+    values = so-far .values ∙ ap (λ (ls : List (List ℕ)). valuesFrom ls p (cardOf c b) (kept c b)) ended-is ∙ values-next c s b b′ p to (so-far .sized) to-is (endedLines es) d t;
+    buffers = so-far .buffers ∙ ap (λ (ls : List (List ℕ)). buffersFrom ls p (cardOf c b) (kept c b) b) ended-is ∙ buffers-next c s b b′ p to (so-far .sized) to-is (endedLines es) d t;
+    sized = low;
+    place = omega (arith, so-far .place, size);
+  }
 
 -- the state after a line keeps within the octets so far
 pub within-next : (c d : Kept) (s b b′ : List ℕ) (p to : ℕ) → Within c p → Took c s b b′ p to (next d) → Within d (p + length s + 2)
@@ -236,7 +318,7 @@ within-next c d s b b′ p to w t =
 -- the lines that have ended are all judged
 module _ (c₀ : Kept) (l₀ b₀ : List ℕ) (p₀ : ℕ) (c : Kept) (l b : List ℕ) (p : ℕ) (so-far : Rest c₀ l₀ b₀ p₀ c l b p) where
   pub went-open : parted l ≡ opened l → Within c p → p₀ ≤ p → Went c₀ l₀ b₀ b p₀ (next c) l
-  unfolding judgeLines valuesFrom stepOf
+  unfolding judgeLines valuesFrom buffersFrom stepOf
   went-open e w h =
       let none : endedLines l ≡ [] = ap (λ (x : Parting). x .ended) e in
       let values = so-far .values ∙ ap (λ (ls : List (List ℕ)). valuesFrom ls p (cardOf c b) (kept c b)) none in
@@ -251,18 +333,21 @@ module _ (c₀ : Kept) (l₀ b₀ : List ℕ) (p₀ : ℕ) (c : Kept) (l b : Lis
             let z : c ≡ d = cc in
             subst (λ (x : Kept). x .used ≡ length (valuesFrom (endedLines l₀) p₀ (cardOf c₀ b₀) (kept c₀ b₀))) z
             (sym (length-take-le (c .used) b (so-far .sized)) ∙ ap length (sym values));
+        whole = sym (so-far .buffers ∙ ap (λ (ls : List (List ℕ)). buffersFrom ls p (cardOf c b) (kept c b) b) none);
       }
 
 -- a line was refused
 pub went-refused : (c₀ : Kept) (l₀ b₀ : List ℕ) (p₀ : ℕ) (b : List ℕ) (r : KeptStep) (l : List ℕ) → ((d : Kept) → r ≡ next d → ⊥)
     → (stepOf b r ≡ judgeLines First (endedLines l₀) p₀ (cardOf c₀ b₀))
     × (b₀ ≡ padded (kept c₀ b₀) → b ≡ padded (valuesFrom (endedLines l₀) p₀ (cardOf c₀ b₀) (kept c₀ b₀)))
+    × (b ≡ buffersFrom (endedLines l₀) p₀ (cardOf c₀ b₀) (kept c₀ b₀) b₀)
     → Went c₀ l₀ b₀ b p₀ r l
 went-refused c₀ l₀ b₀ p₀ b r l none e = record {
   step = e .0;
   rest = λ d q. absurd (none d q);
   buffer = e .1;
   sized = λ d q. absurd (none d q);
+  whole = e .2;
 }
 
 pub stopped-never : (j : KeptStep) → Stopped j → (d : Kept) → j ≡ next d → ⊥
@@ -324,3 +409,10 @@ joined-front line x rest line′ n e l =
 -- a line that was joined, without its CR LF
 pub joined-line : (line x : List ℕ) (n : ℕ) → take n line ≡ x → take (n - 2) line ≡ take (n - 2) x
 joined-line line x n e = sym (take-take (n - 2) n line (omega arith)) ∙ ap (take (n - 2)) e
+
+-- a line that goes on to its end without a CR has no fold
+pub whole-line : (s : List ℕ) (cr n : ℕ) → length s ≡ n → cr ≡ 0 + run notCr (drop 0 s) → not (eqb cr n) ≡ false → unfolded s ≡ s
+whole-line s cr n size e h =
+    let q : cr ≡ n = eqb-true cr n (not-false _ h) in
+    let t : take cr s ≡ s = ap (λ (m : ℕ). take m s) (q ∙ sym size) ∙ take-length s in
+    subst (λ (x : List ℕ). unfolded x ≡ x) t (no-fold s cr (omega (arith, e)))

@@ -15,7 +15,7 @@ use Rattle.card_judge.specs.Judge.{judgeLine}
 use Rattle.reader_walk.specs.Walk.{settled, judgeLines}
 use Rattle.watch_buffer.specs.Buffer.{padded}
 use Rattle.watch_lines.specs.Parting.{endedLines, openLine}
-use Rattle.watch_lines.specs.Values.{valuesOn, valuesNext, valuesFrom}
+use Rattle.watch_lines.specs.Values.{valuesOn, valuesNext, valuesFrom, laidIn, buffersFrom}
 use Rattle.watch_lines.specs.declared.Walked.{Walked}
 
 -- the values that the state keeps, at the front of the buffer
@@ -29,11 +29,12 @@ judgement c b s at = judgeLine First (cardOf c b) at (unfolded s)
 abbrev pub valuesAfter : Kept → List ℕ → List ℕ → ℕ → List ℕ
 valuesAfter c b s at = valuesOn (judgement c b s at) (valuesNext (kept c b) (cardOf c b) s)
 
--- the line s was judged with the buffer b, and led to r and the buffer b′: where b was 0 from `to` on, it holds the values alone
+-- the line s was judged with the buffer b, and led to r and the buffer b′: up to `to` it holds the values alone, so all of it where b was 0 from `to` on
 pub record Took (c : Kept) (s b b′ : List ℕ) (at to : ℕ) (r : KeptStep) : Type 0 where
   pub step : stepOf b′ r ≡ settled at s (judgement c b s at)
   pub holds : Holds (c .used + length s) r
   pub buffer : drop to b ≡ replicate (limit.octets - to) 0 → b′ ≡ padded (valuesAfter c b s at)
+  pub whole : b′ ≡ laidIn to (valuesAfter c b s at) b
   pub front : (d : Kept) → r ≡ nextKept d → (d .used ≡ length (valuesAfter c b s at)) × (take (d .used) b′ ≡ valuesAfter c b s at)
 
 -- the counts and values of a state lie within the first n octets of the input
@@ -49,3 +50,4 @@ pub record Went (c : Kept) (l b b′ : List ℕ) (at : ℕ) (r : KeptStep) (left
   pub rest : (d : Kept) → r ≡ nextKept d → (left ≡ openLine l) × Within d (at + (length l - length left))
   pub buffer : b ≡ padded (kept c b) → b′ ≡ padded (valuesFrom (endedLines l) at (cardOf c b) (kept c b))
   pub sized : (d : Kept) → r ≡ nextKept d → d .used ≡ length (valuesFrom (endedLines l) at (cardOf c b) (kept c b))
+  pub whole : b′ ≡ buffersFrom (endedLines l) at (cardOf c b) (kept c b) b

@@ -1,9 +1,9 @@
--- The ALTID values that the buffer holds after some lines have ended, by the card's state after each. Assumes nothing.
-use Prim.Native.Nat.{ℕ, _+_}
+-- The ALTID values that the buffer holds after some lines have ended, by the card's state after each, and the whole buffer then. Assumes nothing.
+use Prim.Native.Nat.{ℕ, _+_, _-_}
 use mathlib.Core.Bool.{Bool, true, false}
 use mathlib.Core.List.{List, [], _∷_, _++_}
 use lib.Dec.{eqb}
-use lib.ListN.{length}
+use lib.ListN.{length, drop, replicate}
 use Rattle.octets.specs.Pick.{pick}
 use Rattle.line_folds.specs.Folds.{unfolded}
 use Rattle.property_table.specs.declared.Edition.the-variants.{First}
@@ -30,3 +30,22 @@ valuesNext a c l d = pick (eqb (d .phase) beforeBegin) [] (a ++ addedBy First (c
 unfoldable pub valuesFrom : List (List ℕ) → ℕ → Card → List ℕ → List ℕ
 valuesFrom [] p c a = a
 valuesFrom (l ∷ ls) p c a = valuesOn (judgeLine First c p (unfolded l)) (λ d. valuesFrom ls (p + length l + 2) d (valuesNext a c l d))
+
+-- a buffer b whose first n octets are now the octets a, with 0 behind them
+unfoldable pub laidIn : ℕ → List ℕ → List ℕ → List ℕ
+laidIn n a b = a ++ (replicate (n - length a) 0 ++ drop n b)
+
+-- what the buffer is by a judgement: b after a refusal
+abbrev pub bufferOn : Step → (Card → List ℕ) → List ℕ → List ℕ
+bufferOn (Next d) f b = f d
+bufferOn (Refused n p) f b = b
+bufferOn (Flawed n o) f b = b
+
+-- the buffer after lines as they came, where it was b with the values a at its front: each line lays the values after it over those before it and as many
+-- octets as the line with its CR LF has
+unfoldable pub buffersFrom : List (List ℕ) → ℕ → Card → List ℕ → List ℕ → List ℕ
+buffersFrom [] p c a b = b
+buffersFrom (l ∷ ls) p c a b =
+    bufferOn (judgeLine First c p (unfolded l))
+    (λ d. buffersFrom ls (p + length l + 2) d (valuesNext a c l d) (laidIn (length a + length l + 2) (valuesNext a c l d) b))
+    (laidIn (length a + length l + 2) [] b)

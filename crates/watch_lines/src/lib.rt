@@ -18,7 +18,6 @@ use numbers::limit;
 use octets::classes::ClassTable;
 use property_table::Edition;
 use property_table::rows::PropertyTable;
-use value_automaton::states::Transitions;
 
 // What the ended lines of a chunk make of the card, and where the line after them starts in the chunk.
 pub struct Walked {
@@ -31,7 +30,7 @@ pub struct Walked {
 fn take_line(
     t: &ClassTable,
     rows: &PropertyTable,
-    steps: &Transitions,
+    steps: &[u8],
     s: &[u8],
     folded: bool,
     buffer: &mut [u8],
@@ -52,14 +51,14 @@ fn take_line(
         return reader_walk::settle(j, s, at);
     };
     watch_buffer::clear(buffer, next.used, to);
-    Step::Next(next)
+    j
 }
 
 // Judges the lines of a chunk that have ended, from `from` on; the chunk starts at `base` in the input.
 pub fn judge_lines(
     t: &ClassTable,
     rows: &PropertyTable,
-    steps: &Transitions,
+    steps: &[u8],
     chunk: &[u8],
     from: usize,
     buffer: &mut [u8],
@@ -85,7 +84,7 @@ pub fn judge_lines(
             };
         }
         let folded = span.cr != end;
-        let to = c.used + (end - at);
+        let to = c.used + (end + 2 - at);
         let j = take_line(
             t,
             rows,
@@ -110,7 +109,7 @@ pub fn judge_lines(
 }
 
 // A line of at most so many octets with its CR LF is joined in as many, since the room is made at each call.
-const SHORT: usize = 1024;
+const SHORT: usize = 256;
 
 // Joins the open line, as it stands in the buffer behind the first `used` octets, with the octets that end it.
 fn join(line: &mut [u8], buffer: &[u8], used: usize, open: usize, rest: &[u8])
@@ -125,7 +124,7 @@ fn join(line: &mut [u8], buffer: &[u8], used: usize, open: usize, rest: &[u8])
 fn judge_joined(
     t: &ClassTable,
     rows: &PropertyTable,
-    steps: &Transitions,
+    steps: &[u8],
     line: &mut [u8],
     buffer: &mut [u8],
     open: usize,
@@ -144,14 +143,16 @@ fn judge_joined(
     let n = open + rest.len();
     join(line, buffer, used, open, rest);
     let end = n - 2;
-    take_line(t, rows, steps, &line[..end], true, buffer, used + n, at, c)
+    let s = &line[..end];
+    let cr = line_folds::hops::next_cr(s, 0);
+    take_line(t, rows, steps, s, cr != end, buffer, used + n, at, c)
 }
 
 // Judges the open line, which starts at `at` in the input, with the octets of a chunk that end it.
 pub fn judge_open(
     t: &ClassTable,
     rows: &PropertyTable,
-    steps: &Transitions,
+    steps: &[u8],
     buffer: &mut [u8],
     open: usize,
     rest: &[u8],
@@ -177,7 +178,7 @@ pub fn judge_open(
 pub fn judge_last(
     t: &ClassTable,
     rows: &PropertyTable,
-    steps: &Transitions,
+    steps: &[u8],
     buffer: &[u8],
     open: usize,
     at: usize,
@@ -192,7 +193,15 @@ pub fn judge_last(
     let mut scratch = [0u8; limit::OCTETS];
     octets::copying::copy_in(&mut scratch, &buffer[..used]);
     let end = used + open - 2;
-    let s = &buffer[used..end];
-    let j = reader_walk::judge_span(t, rows, steps, Edition::First, s, true, &mut scratch, at, c);
-    reader_walk::settle(j, s, at)
+    take_line(
+        t,
+        rows,
+        steps,
+        &buffer[used..end],
+        true,
+        &mut scratch,
+        used + open,
+        at,
+        c,
+    )
 }

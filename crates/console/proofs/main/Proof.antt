@@ -12,7 +12,10 @@ slice-aggregate-serve-2 : tie.Need-slice-aggregate-serve-2
 slice-aggregate-serve-2 c = sym (length-replicate {A = ℕ} 655360 0)
 
 slice-aggregate-serve-3 : tie.Need-slice-aggregate-serve-3
-slice-aggregate-serve-3 c = sym (length-replicate {A = ℕ} 2097152 0)
+slice-aggregate-serve-3 c = sym (length-replicate {A = ℕ} 20000 0)
+
+slice-aggregate-serve-4 : tie.Need-slice-aggregate-serve-4
+slice-aggregate-serve-4 c = sym (length-replicate {A = ℕ} 2097152 0)
 
 serve-requires : tie.Need-serve-requires
 serve-requires c κs = tt
@@ -27,5 +30,6 @@ main-spec =
     slice-aggregate-serve
     slice-aggregate-serve-2
     slice-aggregate-serve-3
+    slice-aggregate-serve-4
     serve-requires
     returns)

@@ -6,11 +6,11 @@ use Rattle.console.proofs.serve.Statement.{statement}
 use Rattle.console.proofs.serve.Tie as tie
 
 abbrev Inv-loop : tie.InvT-loop
-Inv-loop buffer₀ pool₀ out₀ i₀ c₀ turns₀ buffer pool out i c turns =
-    (length buffer ≡ length buffer₀) × (length pool ≡ length pool₀) × (length out ≡ length out₀)
+Inv-loop buffer₀ pool₀ watched₀ out₀ i₀ s₀ turns₀ buffer pool watched out i s turns =
+    (length buffer ≡ length buffer₀) × (length pool ≡ length pool₀) × (length watched ≡ length watched₀) × (length out ≡ length out₀)
 
 abbrev μ-loop : tie.MeasureT-loop
-μ-loop buffer₀ pool₀ out₀ i₀ c₀ turns₀ buffer pool out i c turns = turns
+μ-loop buffer₀ pool₀ watched₀ out₀ i₀ s₀ turns₀ buffer pool watched out i s turns = turns
 
 new-requires : tie.Need-new-requires Inv-loop μ-loop
 new-requires c κs = tt
@@ -19,7 +19,7 @@ new-requires-2 : tie.Need-new-requires-2 Inv-loop μ-loop
 new-requires-2 c κs = tt
 
 loop-holds : tie.Need-loop-holds Inv-loop μ-loop
-loop-holds c = (refl, refl, refl)
+loop-holds c = (refl, refl, refl, refl)
 
 line-of-requires : tie.Need-line-of-requires Inv-loop μ-loop
 line-of-requires c κs = tt
@@ -39,6 +39,9 @@ same-length-2 c = omega arith
 same-length-3 : tie.Need-same-length-3 Inv-loop μ-loop
 same-length-3 c = omega arith
 
+same-length-4 : tie.Need-same-length-4 Inv-loop μ-loop
+same-length-4 c = omega arith
+
 returns : tie.Need-returns Inv-loop μ-loop
 returns c = tt
 
@@ -52,16 +55,21 @@ loop-less : tie.Need-loop-less Inv-loop μ-loop
 loop-less c = omega arith
 
 loop-again : tie.Need-loop-again Inv-loop μ-loop
-loop-again c = (omega arith, omega arith, omega arith)
-
-same-length-4 : tie.Need-same-length-4 Inv-loop μ-loop
-same-length-4 c = omega arith
+loop-again c =
+    let l = c .before .before .before .before .before .before .before .before .before .before .before .before .before .before .before .before .before .before .before .loop .inv in
+    (omega (arith, l .0, c .before .buffer .given), omega (arith, l .1, c .before .before .before .before .before .before .before .before .before .before .pool .given), omega (arith, l .2, c .before .before .before .before .before .before .before .before .watched .given), omega (arith, l .3, c .before .before .before .before .before .before .out .given))
 
 same-length-5 : tie.Need-same-length-5 Inv-loop μ-loop
 same-length-5 c = omega arith
 
 same-length-6 : tie.Need-same-length-6 Inv-loop μ-loop
 same-length-6 c = omega arith
+
+same-length-7 : tie.Need-same-length-7 Inv-loop μ-loop
+same-length-7 c = omega arith
+
+same-length-8 : tie.Need-same-length-8 Inv-loop μ-loop
+same-length-8 c = omega arith
 
 returns-2 : tie.Need-returns-2 Inv-loop μ-loop
 returns-2 c = tt
@@ -81,12 +89,14 @@ serve-spec =
     same-length
     same-length-2
     same-length-3
+    same-length-4
     returns
     advance-requires
     sub-turns
     loop-less
     loop-again
-    same-length-4
     same-length-5
     same-length-6
+    same-length-7
+    same-length-8
     returns-2)

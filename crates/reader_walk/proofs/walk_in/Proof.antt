@@ -28,23 +28,23 @@ abbrev μ-loop : tie.MeasureT-loop
     length s - at
 
 -- the line at hand, as it came
-abbrev line : tie.After-judge-raw Inv-loop μ-loop → List ℕ
+abbrev line : tie.After-judge-span Inv-loop μ-loop → List ℕ
 line c =
     let at = c .before .before .before .before .before .before .loop .at in
     take (c .before .before .before .before .line-at .result .end - at) (drop at (c .before .before .before .before .before .before .before .before .before .before .before .args .s .now))
 
-abbrev edition : tie.After-judge-raw Inv-loop μ-loop → Edition
+abbrev edition : tie.After-judge-span Inv-loop μ-loop → Edition
 edition c = c .before .before .before .before .before .before .before .before .before .before .before .args .edition
 
 -- one turn, judged
-turn : (c : tie.After-judge-raw Inv-loop μ-loop)
+turn : (c : tie.After-judge-span Inv-loop μ-loop)
     → judgeLines (edition c) (rawLines (c .before .before .before .before .before .before .before .before .before .before .before .args .s .now)) 0 freshCard
-    ≡ onward (settled (c .before .before .before .before .before .before .loop .at) (line c) (stepOf (c .judge-raw .last .1 .1 .1 .1 .1 .1 .0) (c .judge-raw .result))) (judgeLines (edition c) (rawLines (drop (c .before .before .before .before .line-at .result .end + 2) (c .before .before .before .before .before .before .before .before .before .before .before .args .s .now))) (c .before .before .before .before .line-at .result .end + 2))
+    ≡ onward (settled (c .before .before .before .before .before .before .loop .at) (line c) (stepOf (c .judge-span .last .1 .1 .1 .1 .1 .1 .0) (c .judge-span .result))) (judgeLines (edition c) (rawLines (drop (c .before .before .before .before .line-at .result .end + 2) (c .before .before .before .before .before .before .before .before .before .before .before .args .s .now))) (c .before .before .before .before .line-at .result .end + 2))
 turn c =
     let l = c .before .before .before .before .before .before .loop in
     let v = c .before .before .before .before .line-at in
     let s = c .before .before .before .before .before .before .before .before .before .before .before .args .s .now in
-    l .inv .5 ∙ judged (edition c) s (l .at) (v .result .end) (c .before .before .before .before .before .loop-test .taken) (v .ensures .1) (v .ensures .2) (cardOf (l .c) (l .scratch)) (stepOf (c .judge-raw .last .1 .1 .1 .1 .1 .1 .0) (c .judge-raw .result)) (c .judge-raw .ensures .0)
+    l .inv .5 ∙ judged (edition c) s (l .at) (v .result .end) (c .before .before .before .before .before .loop-test .taken) (v .ensures .1) (v .ensures .2) (cardOf (l .c) (l .scratch)) (stepOf (c .judge-span .last .1 .1 .1 .1 .1 .1 .0) (c .judge-span .result)) (c .judge-span .ensures .0)
 
 fresh-requires : tie.Need-fresh-requires Inv-loop μ-loop
 fresh-requires c κs = search needs
@@ -64,17 +64,17 @@ loop-holds c =
 line-at-requires : tie.Need-line-at-requires Inv-loop μ-loop
 line-at-requires c κs = search needs
 
-sub-judge-raw : tie.Need-sub-judge-raw Inv-loop μ-loop
-sub-judge-raw c = search needs
+sub-judge-span : tie.Need-sub-judge-span Inv-loop μ-loop
+sub-judge-span c = search needs
 
-part-judge-raw-start : tie.Need-part-judge-raw-start Inv-loop μ-loop
-part-judge-raw-start c = search needs
+part-judge-span-start : tie.Need-part-judge-span-start Inv-loop μ-loop
+part-judge-span-start c = search needs
 
-part-judge-raw-end : tie.Need-part-judge-raw-end Inv-loop μ-loop
-part-judge-raw-end c = search needs
+part-judge-span-end : tie.Need-part-judge-span-end Inv-loop μ-loop
+part-judge-span-end c = search needs
 
-judge-raw-requires : tie.Need-judge-raw-requires Inv-loop μ-loop
-judge-raw-requires c κs =
+judge-span-requires : tie.Need-judge-span-requires Inv-loop μ-loop
+judge-span-requires c κs =
     let a = c .before .before .before .before .before .before .before .before .before .before .args in
     let l = c .before .before .before .before .before .loop in
     let v = c .before .before .before .line-at in
@@ -118,7 +118,7 @@ same-length c = search needs
 returns : tie.Need-returns Inv-loop μ-loop
 returns c =
     let c5 = c .before .before .before .before .before in
-    let j = c5 .judge-raw in
+    let j = c5 .judge-span in
     let store = j .last .1 .1 .1 .1 .1 .1 .0 in
     (store, c .settle .ensures store ∙ sym (turn c5 ∙ stopped-step store _ (line c5) _ (j .result) (c .before .before .match .keys2)))
 
@@ -142,7 +142,7 @@ loop-again c =
     let l = c11 .loop in
     let v = c9 .line-at in
     let a = c15 .args in
-    let j = c5 .judge-raw in
+    let j = c5 .judge-span in
     let n = part-length (a .s .now) (l .at) (v .result .end) (c5 .before .before .before .before .before .loop-test .taken) (v .ensures .1) (v .ensures .2) in
     let holds = subst (Holds (l .c .used + length (take (v .result .end - l .at) (drop (l .at) (a .s .now))))) e (j .ensures .1 .0) in
     let more = one-more (a .edition) (cardOf (l .c) (l .scratch)) (cardOf next (j .last .1 .1 .1 .1 .1 .1 .0)) (l .at) _ (sym (j .ensures .0) ∙ ap (stepOf (j .last .1 .1 .1 .1 .1 .1 .0)) e) in (
@@ -172,10 +172,10 @@ walk-in-spec =
     fresh-requires
     loop-holds
     line-at-requires
-    sub-judge-raw
-    part-judge-raw-start
-    part-judge-raw-end
-    judge-raw-requires
+    sub-judge-span
+    part-judge-span-start
+    part-judge-span-end
+    judge-span-requires
     enum-known-j
     sub-settle
     part-settle-start

@@ -21,11 +21,11 @@ slice-aggregate-copy-in c = search needs
 
 slice-aggregate-copy-in-2 : tie.Need-slice-aggregate-copy-in-2
 slice-aggregate-copy-in-2 c =
-    sym (length-take-le (c .before .before .before .args .c .used) (c .before .before .before .args .buffer .now) (omega (arith, c .before .before .before .pre .1 .1)))
+    sym (length-take-le (c .before .before .before .before .args .c .used) (c .before .before .before .before .args .buffer .now) (omega (arith, c .before .before .before .before .pre .1 .1)))
 
 copy-in-requires : tie.Need-copy-in-requires
 copy-in-requires c κs =
-    rw (length-take-le (c .before .before .before .args .c .used) (c .before .before .before .args .buffer .now) (omega (arith, c .before .before .before .pre .1 .1))) (omega (arith, c .before .before .before .pre .1 .1))
+    rw (length-take-le (c .before .before .before .before .args .c .used) (c .before .before .before .before .args .buffer .now) (omega (arith, c .before .before .before .before .pre .1 .1))) (omega (arith, c .before .before .before .before .pre .1 .1))
 
 add-end : tie.Need-add-end
 add-end c = search needs
@@ -33,41 +33,50 @@ add-end c = search needs
 sub-end : tie.Need-sub-end
 sub-end c = search needs
 
-sub-s : tie.Need-sub-s
-sub-s c = search needs
+sub-take-line : tie.Need-sub-take-line
+sub-take-line c = search needs
 
-part-s-start : tie.Need-part-s-start
-part-s-start c = search needs
+part-take-line-start : tie.Need-part-take-line-start
+part-take-line-start c = search needs
 
-part-s-end : tie.Need-part-s-end
-part-s-end c = search needs
+part-take-line-end : tie.Need-part-take-line-end
+part-take-line-end c = search needs
 
-slice-aggregate-judge-span : tie.Need-slice-aggregate-judge-span
-slice-aggregate-judge-span c = search needs
+slice-aggregate-take-line : tie.Need-slice-aggregate-take-line
+slice-aggregate-take-line c = search needs
 
-judge-span-requires : tie.Need-judge-span-requires
-judge-span-requires c κs =
-    let a = c .before .before .before .before .before .before .before .args in
-    let z = c .before .before .before .before .before .before .before .pre in
-    let n : length (take (a .c .used + a .«open» - 2 - a .c .used) (drop (a .c .used) (a .buffer .now))) ≤ a .«open» - 2 = rw length-take (omega arith) in
-    (z .0, (z .1 .0 .0, (record { lies = z .1 .0 .1; room = omega (arith, n, z .1 .1, c .before .before .before .copy-in); short = omega (arith, c .before .before .before .copy-in) }, λ e. absurd (false≢true (sym e)))))
+add-take-line : tie.Need-add-take-line
+add-take-line c = search needs
 
-settle-requires : tie.Need-settle-requires
-settle-requires c κs = search needs
+take-line-requires : tie.Need-take-line-requires
+take-line-requires c κs =
+    let a = c .before .before .before .before .before .before .before .before .args in
+    let z = c .before .before .before .before .before .before .before .before .pre in
+    let k = c .before .before .before .copy-in in
+    let n : length (take (a .c .used + a .«open» - 2 - a .c .used) (drop (a .c .used) (a .buffer .now))) ≤ a .«open» - 2 = rw length-take (omega arith) in (
+      z .0,
+      (
+        z .1 .0 .0,
+        (
+          (record { lies = z .1 .0 .1; room = omega (arith, n, z .1 .1, k); short = omega (arith, k) }, omega (arith, k)),
+          (λ e. absurd (false≢true (sym e)), (omega (arith, n, z .1 .1), omega (arith, z .1 .1), omega (arith, n, z .1 .1))),
+        ),
+      ),
+    )
 
 returns : tie.Need-returns
 returns c =
     let a = c .before .before .before .before .before .before .before .before .before .before .args in
     let z = c .before .before .before .before .before .before .before .before .before .before .pre in
-    let j = c .before .before .judge-span in
-    let store = j .last .1 .1 .1 .1 .1 .1 .0 in
+    let j = c .before .take-line in
+    let k = c .before .before .before .before .before .copy-in in
     let u = a .c .used in
     let b = a .buffer .now in
     let size : u + a .«open» - 2 - u ≡ a .«open» - 2 = omega (arith, z .1 .1) in
     let s = take (a .«open» - 2) (drop u b) in
-    let f : take u (c .before .before .before .before .before .before .copy-in .last .0) ≡ take u b = ap (take u) (c .before .before .before .before .before .before .copy-in .ensures) ∙ take-at (take u b) _ u (length-take-le u b (omega (arith, z .1 .1))) in
-    let card : cardOf (a .c) (c .before .before .before .before .before .before .copy-in .last .0) ≡ cardOf (a .c) b = card-front (a .c) (c .before .before .before .before .before .before .copy-in .last .0) b (z .1 .0 .1) f in
-    (store, (rw size at (c .settle .ensures store)) ∙ ap (settled (a .at) s) ((rw size at (j .ensures .0)) ∙ ap (λ (x : Card). judgeLine First x (a .at) (unfolded s)) card))
+    let f : take u (k .last .0) ≡ take u b = ap (take u) (k .ensures) ∙ take-at (take u b) _ u (length-take-le u b (omega (arith, z .1 .1))) in
+    let card : cardOf (a .c) (k .last .0) ≡ cardOf (a .c) b = card-front (a .c) (k .last .0) b (z .1 .0 .1) f in
+    (j .last .1 .1 .1 .1 .1 .0, (rw size at (j .ensures .step)) ∙ ap (λ (x : Card). settled (a .at) s (judgeLine First x (a .at) (unfolded s))) card)
 
 pub judge-last-spec : {M : Type 1} → statement M
 judge-last-spec =
@@ -78,10 +87,10 @@ judge-last-spec =
     copy-in-requires
     add-end
     sub-end
-    sub-s
-    part-s-start
-    part-s-end
-    slice-aggregate-judge-span
-    judge-span-requires
-    settle-requires
+    sub-take-line
+    part-take-line-start
+    part-take-line-end
+    slice-aggregate-take-line
+    add-take-line
+    take-line-requires
     returns)

@@ -12,7 +12,7 @@ slice-aggregate-judge-joined c = search needs
 
 judge-joined-requires : tie.Need-judge-joined-requires
 judge-joined-requires c κs =
-    let z = c .before .before .before .before .before .pre in
+    let z = c .before .before .before .before .before .before .pre in
     (z .0, (z .1 .0, (z .1 .1 .0, (z .1 .1 .1, omega (arith, c .before .before .if1 .taken)))))
 
 same-length : tie.Need-same-length
@@ -26,7 +26,7 @@ slice-aggregate-judge-joined-2 c = search needs
 
 judge-joined-requires-2 : tie.Need-judge-joined-requires-2
 judge-joined-requires-2 c κs =
-    let z = c .before .before .before .before .before .pre in
+    let z = c .before .before .before .before .before .before .pre in
     (z .0, (z .1 .0, (z .1 .1 .0, (z .1 .1 .1, omega (arith, z .1 .1 .0 .0)))))
 
 same-length-2 : tie.Need-same-length-2

@@ -15,7 +15,7 @@ use Rattle.watch_lines.proofs.take_line.Tie as tie
 
 judge-span-requires : tie.Need-judge-span-requires
 judge-span-requires c κs =
-    let p = c .before .before .before .pre in (p .0, (p .1 .0, (p .1 .1 .0 .0, p .1 .1 .1 .0)))
+    let p = c .before .before .before .before .pre in (p .0, (p .1 .0, (p .1 .1 .0 .0, p .1 .1 .1 .0)))
 
 enum-known-j : tie.Need-enum-known-j
 enum-known-j c = search needs
@@ -31,16 +31,16 @@ same-length c = search needs
 
 returns : tie.Need-returns
 returns c =
-    let p = c .before .before .before .before .before .before .before .before .before .before .before .before .pre in
-    let a = c .before .before .before .before .before .before .before .before .before .before .before .before .args in
+    let p = c .before .before .before .before .before .before .before .before .before .before .before .before .before .pre in
+    let a = c .before .before .before .before .before .before .before .before .before .before .before .before .before .args in
     let j = c .before .before .before .before .before .before .before .before .judge-span in
     took-refused (a .c) (a .s .now) (a .buffer .now) (j .last .1 .1 .1 .1 .1 .1 .0) (a .at) (a .to) (p .1 .1 .0 .1) (omega (arith, j)) (p .1 .1 .1 .1 .0) (p .1 .1 .1 .1 .1)
     (j .result) (c .before .before .before .before .before .match .keys2) (j .ensures .0) (j .ensures .1 .1) (c .settle .result) (c .settle .ensures) (c .before .before .before .clear .last .0) (c .before .before .before .clear .ensures)
 
 clear-requires-2 : tie.Need-clear-requires-2
 clear-requires-2 c κs =
-    let p = c .before .before .before .before .before .before .before .before .before .before .pre in
-    let a = c .before .before .before .before .before .before .before .before .before .before .args in
+    let p = c .before .before .before .before .before .before .before .before .before .before .before .pre in
+    let a = c .before .before .before .before .before .before .before .before .before .before .before .args in
     let j = c .before .before .before .before .before .before .judge-span in
     let low = kept-low (a .c .used + length (a .s .now)) (j .result) (c .before .before .j .given .0 .0) (c .before .before .j .given .1) (j .ensures .1 .0) in
     (omega (arith, low, p .1 .1 .1 .1 .0), omega (arith, j, p .1 .1 .0 .1, p .1 .1 .1 .1 .1))
@@ -50,8 +50,8 @@ same-length-2 c = search needs
 
 returns-2 : tie.Need-returns-2
 returns-2 c =
-    let p = c .before .before .before .before .before .before .before .before .before .before .before .before .before .pre in
-    let a = c .before .before .before .before .before .before .before .before .before .before .before .before .before .args in
+    let p = c .before .before .before .before .before .before .before .before .before .before .before .before .before .before .pre in
+    let a = c .before .before .before .before .before .before .before .before .before .before .before .before .before .before .args in
     let j = c .before .before .before .before .before .before .before .before .before .judge-span in
     let b = j .last .1 .1 .1 .1 .1 .1 .0 in
     let e = c .before .before .before .before .before .j .given .1 in

@@ -1,11 +1,12 @@
 -- `console::dispatch::answer_in` meets its contract. Assumes nothing.
 use denote.Ref.{now}
-use mathlib.Core.Path.{ap, _∙_}
+use mathlib.Core.Path.{subst}
 use mathlib.Core.List.{List}
 use Prim.Native.Nat.{ℕ}
-use borrow.Author.Needs.{needs}
 use Rattle.console_requests.specs.Requests.{Requested}
-use Rattle.console.specs.Dispatch.{wholeOf, answerTo, answerFrom, answerIn}
+use Rattle.console.specs.Dispatch.{allOf, AnswerTo, AnswerFrom, AnswerIn}
+-- `console::dispatch::answer_in` meets its contract. Assumes nothing.
+use borrow.Author.Needs.{needs}
 use Rattle.console.proofs.dispatch.answer_in.Statement.{statement}
 use Rattle.console.proofs.dispatch.answer_in.Tie as tie
 
@@ -27,16 +28,18 @@ same-length-2 c = search needs
 same-length-3 : tie.Need-same-length-3
 same-length-3 c = search needs
 
+same-length-4 : tie.Need-same-length-4
+same-length-4 c = search needs
+
 returns : tie.Need-returns
-unfolding answerIn
+unfolding AnswerIn
 returns c =
-    let part = c .before .before .before .before .before .before .before .part in
-    let request-of = c .before .before .before .before .before .before .before .before .before .before .before .request-of in
-    let a = c .before .before .before .before .before .before .before .before .before .before .before .before .before .before .before .before .before .args in
-    let w = wholeOf (a .k) (now (a .out)) (now (a .pool)) in
-    c .before .before .before .before .answer-request .ensures
-    ∙ ap (λ (l : List ℕ). answerTo (request-of .result) l w) (part .ensures)
-    ∙ ap (λ (x : Requested). answerFrom x w) (request-of .ensures)
+    let a = c .before .before .before .before .before .before .before .before .before .before .before .before .before .before .before .before .before .before .before .before .before .args in
+    let d = c .before .before .before .before .before .before .answer-request in
+    let x = allOf (a .s) (now (a .out)) (now (a .buffer)) (now (a .pool)) in
+    let y = allOf (d .result) (d .last .1 .1 .1 .1 .1 .0) (d .last .1 .1 .1 .1 .0) (d .last .1 .1 .1 .0) in
+    subst (λ (z : Requested). AnswerFrom z x y) (c .before .before .before .before .before .before .before .before .before .before .before .before .before .before .request-of .ensures)
+    (subst (λ (l : List ℕ). AnswerTo (c .before .before .before .before .before .before .before .before .before .before .before .before .before .before .request-of .result) l x y) (c .before .before .before .before .before .before .before .before .before .before .part .ensures) (d .ensures))
 
 pub answer-in-spec : {M : Type 1} → statement M
 answer-in-spec =
@@ -48,4 +51,5 @@ answer-in-spec =
     same-length
     same-length-2
     same-length-3
+    same-length-4
     returns)

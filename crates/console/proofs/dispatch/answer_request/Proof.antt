@@ -1,11 +1,14 @@
 -- `console::dispatch::answer_request` meets its contract. Assumes nothing.
 use denote.Ref.{now}
-use mathlib.Core.Path.{ap, _∙_}
-use Rattle.console_desk.specs.DeskAnswers.{State, WithPool}
-use Rattle.console_report.specs.ReportAnswers.{KeptState, kept}
+use mathlib.Core.Path.{refl, ap, _∙_}
+use Rattle.console_desk.specs.DeskAnswers.{WithPool}
+use Rattle.console_report.specs.ReportAnswers.{KeptState, keptOf}
 use Rattle.console_report.specs.declared.Kept.{Kept}
-use Rattle.console.specs.Dispatch.{whole, wholeOf, beside, answerAny}
-use Rattle.console.proofs.Said.{said}
+use Rattle.console_watch.specs.WatchAnswers.{Watching, watching}
+use Rattle.console_watch.specs.declared.Session.{Session}
+use Rattle.console_watch.proofs.WatchLaws.{says-all}
+use Rattle.console.specs.Dispatch.{everything, allOf, keeping, beside, AnswerAny}
+-- `console::dispatch::answer_request` meets its contract. Assumes nothing.
 use borrow.Author.Needs.{needs}
 use Rattle.console.proofs.dispatch.answer_request.Statement.{statement}
 use Rattle.console.proofs.dispatch.answer_request.Tie as tie
@@ -19,23 +22,26 @@ put-entry-answer-requires c κs = search needs
 with-output-requires : tie.Need-with-output-requires
 with-output-requires c κs = search needs
 
-with-console-requires : tie.Need-with-console-requires
-with-console-requires c κs = search needs
-
 enum-known-name-2 : tie.Need-enum-known-name-2
 enum-known-name-2 c = search needs
 
 answer-desk-requires : tie.Need-answer-desk-requires
 answer-desk-requires c κs = search needs
 
-with-console-requires-2 : tie.Need-with-console-requires-2
-with-console-requires-2 c κs = search needs
+with-console-requires : tie.Need-with-console-requires
+with-console-requires c κs = search needs
+
+with-kept-requires : tie.Need-with-kept-requires
+with-kept-requires c κs = search needs
 
 enum-known-name-3 : tie.Need-enum-known-name-3
 enum-known-name-3 c = search needs
 
 answer-report-requires : tie.Need-answer-report-requires
 answer-report-requires c κs = search needs
+
+with-kept-requires-2 : tie.Need-with-kept-requires-2
+with-kept-requires-2 c κs = search needs
 
 enum-known-name-4 : tie.Need-enum-known-name-4
 enum-known-name-4 c = search needs
@@ -46,8 +52,11 @@ put-merge-answer-requires c κs = search needs
 with-output-requires-2 : tie.Need-with-output-requires-2
 with-output-requires-2 c κs = search needs
 
-with-console-requires-3 : tie.Need-with-console-requires-3
-with-console-requires-3 c κs = search needs
+enum-known-name-5 : tie.Need-enum-known-name-5
+enum-known-name-5 c = search needs
+
+answer-watch-requires : tie.Need-answer-watch-requires
+answer-watch-requires c κs = search needs
 
 enum-told : tie.Need-enum-told
 enum-told c = search needs
@@ -55,20 +64,15 @@ enum-told c = search needs
 answer-bad-requires : tie.Need-answer-bad-requires
 answer-bad-requires c κs = search needs
 
-with-console-requires-4 : tie.Need-with-console-requires-4
-with-console-requires-4 c κs = search needs
-
 same-length : tie.Need-same-length
 same-length c = search needs
 
 returns : tie.Need-returns
-unfolding answerAny
+unfolding AnswerAny
 returns c =
-    let a = c .before .before .before .before .before .before .before .before .before .before .before .before .before .args in
-    let d = c .before .before .before .before .put-entry-answer in
-    rw (c .before .before .before .before .before .before .before .name .given .1)
-    (ap (λ (x : Kept). wholeOf x (d .last .1 .1 .1 .0) (now (a .pool))) (c .with-console .ensures)
-    ∙ ap (λ (x : WithPool). beside x (a .k .report)) (said (a .k .console) (now (a .pool)) (now (a .out)) _ (c .before .with-output .ensures) (d .ensures)))
+    let a = c .before .before .before .before .before .before .before .before .before .before .before .before .before .before .args in
+    rw (c .before .before .before .before .before .before .name .given .1)
+    (ap (λ (t : Watching). everything t (now (a .buffer)) (now (a .pool))) (says-all (a .s) (now (a .out)) _ (c .with-output .ensures) (c .before .before .before .put-entry-answer .ensures)))
 
 same-length-2 : tie.Need-same-length-2
 same-length-2 c = search needs
@@ -77,46 +81,62 @@ same-length-3 : tie.Need-same-length-3
 same-length-3 c = search needs
 
 returns-2 : tie.Need-returns-2
-unfolding answerAny
+unfolding AnswerAny
 returns-2 c =
-    let a = c .before .before .before .before .before .before .before .before .before .before .before .before .before .before .before .args in
-    let d = c .before .before .before .before .before .answer-desk in
-    rw (c .before .before .before .before .before .before .before .before .before .name2 .given .1)
-    (ap (λ (x : Kept). wholeOf x (d .last .1 .1 .1 .1 .1 .0) (d .last .1 .1 .1 .1 .0)) (c .with-console2 .ensures)
-    ∙ ap (λ (x : WithPool). beside x (a .k .report)) (d .ensures))
+    let a = c .before .before .before .before .before .before .before .before .before .before .before .before .before .before .before .before .before .before .args in
+    let d = c .before .before .before .before .before .before .answer-desk in
+    let after = d .last .1 .1 .1 .1 .1 .0 in
+    let pool = d .last .1 .1 .1 .1 .0 in
+    let b = now (a .buffer) in
+    rw (c .before .before .before .before .before .before .before .before .before .before .name2 .given .1)
+    (ap (λ (z : Session). allOf z after b pool) (c .with-kept .ensures)
+    ∙ ap (λ (z : Kept). everything (watching (keptOf z after) (a .s .watch) (a .s .size)) b pool) (c .before .with-console .ensures)
+    ∙ ap (λ (p : WithPool). beside p (allOf (a .s) (now (a .out)) b (now (a .pool)))) (d .ensures))
 
 same-length-4 : tie.Need-same-length-4
 same-length-4 c = search needs
 
 returns-3 : tie.Need-returns-3
-unfolding answerAny
+unfolding AnswerAny
 returns-3 c =
-    rw (c .before .before .before .before .before .name3 .given .1)
-    (ap (λ (x : KeptState). whole x (now (c .before .before .before .before .before .before .before .before .before .before .before .args .pool))) (c .before .before .answer-report .ensures))
+    let a = c .before .before .before .before .before .before .before .before .before .before .before .before .before .before .args in
+    let d = c .before .before .before .answer-report in
+    let after = d .last .1 .1 .1 .1 .0 in
+    let b = now (a .buffer) in
+    rw (c .before .before .before .before .before .before .name3 .given .1)
+    (ap (λ (z : Session). allOf z after b (now (a .pool))) (c .with-kept2 .ensures)
+    ∙ ap (λ (k : KeptState). keeping k (now (a .pool)) (allOf (a .s) (now (a .out)) b (now (a .pool)))) (d .ensures))
 
 same-length-5 : tie.Need-same-length-5
 same-length-5 c = search needs
 
 returns-4 : tie.Need-returns-4
-unfolding answerAny
+unfolding AnswerAny
 returns-4 c =
-    let a = c .before .before .before .before .before .before .before .before .before .before .before .before .before .args in
-    let d = c .before .before .before .before .put-merge-answer in
-    rw (c .before .before .before .before .before .before .before .name4 .given .1)
-    (ap (λ (x : Kept). wholeOf x (d .last .1 .1 .1 .0) (now (a .pool))) (c .with-console3 .ensures)
-    ∙ ap (λ (x : WithPool). beside x (a .k .report)) (said (a .k .console) (now (a .pool)) (now (a .out)) _ (c .before .with-output2 .ensures) (d .ensures)))
+    let a = c .before .before .before .before .before .before .before .before .before .before .before .before .before .before .args in
+    rw (c .before .before .before .before .before .before .name4 .given .1)
+    (ap (λ (t : Watching). everything t (now (a .buffer)) (now (a .pool))) (says-all (a .s) (now (a .out)) _ (c .with-output2 .ensures) (c .before .before .before .put-merge-answer .ensures)))
 
 same-length-6 : tie.Need-same-length-6
 same-length-6 c = search needs
 
+same-length-7 : tie.Need-same-length-7
+same-length-7 c = search needs
+
 returns-5 : tie.Need-returns-5
-unfolding answerAny
+unfolding AnswerAny
 returns-5 c =
-    let a = c .before .before .before .before .before .before .before .before .before .before .before .args in
-    let d = c .before .before .before .answer-bad in
-    rw (c .before .before .before .before .before .enum-told .given .1)
-    (ap (λ (x : Kept). wholeOf x (d .last .1 .0) (now (a .pool))) (c .with-console4 .ensures)
-    ∙ ap (λ (x : State). whole (kept x (a .k .report)) (now (a .pool))) (d .ensures))
+    rw (c .before .before .before .before .before .before .before .before .name5 .given .1) (c .before .before .before .before .answer-watch .ensures, refl)
+
+same-length-8 : tie.Need-same-length-8
+same-length-8 c = search needs
+
+returns-6 : tie.Need-returns-6
+unfolding AnswerAny
+returns-6 c =
+    let a = c .before .before .before .before .before .before .before .before .before .before .before .before .args in
+    rw (c .before .before .before .before .enum-told .given .1)
+    (ap (λ (t : Watching). everything t (now (a .buffer)) (now (a .pool))) (c .before .before .answer-bad .ensures))
 
 pub answer-request-spec : {M : Type 1} → statement M
 answer-request-spec =
@@ -125,19 +145,20 @@ answer-request-spec =
     enum-known-name
     put-entry-answer-requires
     with-output-requires
-    with-console-requires
     enum-known-name-2
     answer-desk-requires
-    with-console-requires-2
+    with-console-requires
+    with-kept-requires
     enum-known-name-3
     answer-report-requires
+    with-kept-requires-2
     enum-known-name-4
     put-merge-answer-requires
     with-output-requires-2
-    with-console-requires-3
+    enum-known-name-5
+    answer-watch-requires
     enum-told
     answer-bad-requires
-    with-console-requires-4
     same-length
     returns
     same-length-2
@@ -148,4 +169,7 @@ answer-request-spec =
     same-length-5
     returns-4
     same-length-6
-    returns-5)
+    same-length-7
+    returns-5
+    same-length-8
+    returns-6)

@@ -1,10 +1,14 @@
 -- `watch::Watch::chunk` meets its contract. Assumes nothing.
 use native.Mathlib.Omega.{arith}
-use mathlib.Core.Path.{refl, sym, _∙_}
+use mathlib.Core.Path.{refl, sym, subst, _∙_}
+use mathlib.Core.List.{List}
+use Prim.Native.Nat.{ℕ}
 use borrow.Author.Tests.{ltb-true, ltb-false, not-true, not-false}
 use Rattle.watch.specs.State.{claims}
 use Rattle.watch.proofs.SoundLaws.{no-way}
 use Rattle.watch.proofs.ReachLaws.{reached-sound, sound-claims, first-buffer, first-stands, later-buffer}
+use Rattle.watch.specs.Outcome.{Comes, chunkCame}
+use Rattle.watch.proofs.OutcomeLaws.{begun-first, begun-later}
 use borrow.Author.Needs.{needs}
 use Rattle.watch.proofs.Watch.chunk.Statement.{statement}
 use Rattle.watch.proofs.Watch.chunk.Tie as tie
@@ -16,6 +20,7 @@ returns c =
       over = λ e k. absurd (c .if1 .taken e);
       goes = λ e k. absurd (c .if1 .taken e);
       false = λ e k s. absurd (c .if1 .taken e);
+      sound = λ e k s. absurd (c .if1 .taken e);
       led = λ i r e. absurd (c .if1 .taken e);
       size = refl;
     }
@@ -31,6 +36,7 @@ returns-2 c =
       over = λ e k. (refl, refl);
       goes = λ e k. absurd (omega (arith, much, k));
       false = λ e k s. absurd (omega (arith, much, k));
+      sound = λ e k s. absurd (omega (arith, much, k));
       led = λ i r e. absurd (omega (arith, much, sound-claims (c .before .before .before .before .before .args .self) (reached-sound (c .before .before .before .before .before .args .self) (c .before .before .before .before .before .args .buffer .now) i (r .stands))));
       size = refl;
     }
@@ -47,6 +53,7 @@ returns-3 c =
       over = λ e k. absurd (omega (arith, low, k));
       goes = λ e k. (c .before .before .before .before .before .before .before .args .self, refl);
       false = λ e k s. (refl, refl);
+      sound = λ e k s. no-way (sym unsound ∙ c .before .is-sound .ensures .1 s);
       led = λ i r e. no-way (sym unsound ∙ c .before .is-sound .ensures .1 (reached-sound (c .before .before .before .before .before .before .before .args .self) (c .before .before .before .before .before .before .before .args .buffer .now) i (r .stands)));
       size = refl;
     }
@@ -76,7 +83,8 @@ returns-4 c =
       over = λ e k. absurd (omega (arith, low, k));
       goes = λ e k. (c .before .before .arrive .result, refl);
       false = λ e k s. absurd (s sound);
-      led = λ i r e. (c .before .before .arrive .result, (refl, c .before .before .arrive .ensures i (first-stands (a .self) (a .buffer .now) i b (r .stands) (c .before .before .before .before .before .before .before .before .if4 .taken) (c .before .before .before .before .before .before .before .before .before .before .before .before .before .before .if1 .left) (c .before .before .before .before .before .before .clear .ensures)) (first-buffer (a .self) (a .buffer .now) i b (r .stands) (c .before .before .before .before .before .before .before .before .if4 .taken) (c .before .before .before .before .before .before .before .before .before .before .before .before .before .before .if1 .left) (c .before .before .before .before .before .before .clear .ensures))));
+      sound = λ e k s. (c .before .before .arrive .result, (refl, subst (λ (x : List ℕ). Comes (c .before .before .arrive .result) (c .before .before .arrive .last .1 .0) (chunkCame (a .self) x (a .chunk .now))) (begun-first (a .self) (a .buffer .now) b (c .before .before .before .before .before .before .before .before .if4 .taken) (c .before .before .before .before .before .before .clear .ensures)) (c .before .before .arrive .ensures .1)));
+      led = λ i r e. (c .before .before .arrive .result, (refl, c .before .before .arrive .ensures .0 i (first-stands (a .self) (a .buffer .now) i b (r .stands) (c .before .before .before .before .before .before .before .before .if4 .taken) (c .before .before .before .before .before .before .before .before .before .before .before .before .before .before .if1 .left) (c .before .before .before .before .before .before .clear .ensures)) (first-buffer (a .self) (a .buffer .now) i b (r .stands) (c .before .before .before .before .before .before .before .before .if4 .taken) (c .before .before .before .before .before .before .before .before .before .before .before .before .before .before .if1 .left) (c .before .before .before .before .before .before .clear .ensures))));
       size = omega (arith, c .before .before .arrive, c .before .before .before .before .before .before .clear);
     }
 
@@ -97,7 +105,8 @@ returns-5 c =
       over = λ e k. absurd (omega (arith, low, k));
       goes = λ e k. (c .before .before .arrive2 .result, refl);
       false = λ e k s. absurd (s sound);
-      led = λ i r e. (c .before .before .arrive2 .result, (refl, c .before .before .arrive2 .ensures i (r .stands) (later-buffer (a .self) (a .buffer .now) i r (c .before .before .before .before .if4 .left))));
+      sound = λ e k s. (c .before .before .arrive2 .result, (refl, subst (λ (x : List ℕ). Comes (c .before .before .arrive2 .result) (c .before .before .arrive2 .last .1 .0) (chunkCame (a .self) x (a .chunk .now))) (begun-later (a .self) (a .buffer .now) (c .before .before .before .before .if4 .left)) (c .before .before .arrive2 .ensures .1)));
+      led = λ i r e. (c .before .before .arrive2 .result, (refl, c .before .before .arrive2 .ensures .0 i (r .stands) (later-buffer (a .self) (a .buffer .now) i r (c .before .before .before .before .if4 .left))));
       size = omega (arith, c .before .before .arrive2);
     }
 

@@ -15,6 +15,7 @@ returns c =
       another = λ h. refl;
       over = λ e k. absurd (c .if1 .taken e);
       false = λ e k s. absurd (c .if1 .taken e);
+      sound = λ e k s. absurd (c .if1 .taken e);
       led = λ i r e. absurd (c .if1 .taken e);
     }
 
@@ -28,6 +29,7 @@ returns-2 c =
       another = λ h. absurd (h (c .before .before .if1 .left));
       over = λ e k. refl;
       false = λ e k s. absurd (omega (arith, much, k));
+      sound = λ e k s. absurd (omega (arith, much, k));
       led = λ i r e. absurd (omega (arith, much, sound-claims (c .before .before .before .before .args .self) (reached-sound (c .before .before .before .before .args .self) (c .before .before .before .before .args .buffer .now) i (r .stands))));
     }
 
@@ -42,6 +44,7 @@ returns-3 c =
       another = λ h. absurd (h (c .before .before .before .before .if1 .left));
       over = λ e k. absurd (omega (arith, low, k));
       false = λ e k s. refl;
+      sound = λ e k s. no-way (sym unsound ∙ c .before .is-sound .ensures .1 s);
       led = λ i r e. no-way (sym unsound ∙ c .before .is-sound .ensures .1 (reached-sound (c .before .before .before .before .before .before .args .self) (c .before .before .before .before .before .before .args .buffer .now) i (r .stands)));
     }
 
@@ -57,7 +60,8 @@ returns-4 c =
       another = λ h. absurd (h (c .before .before .before .before .before .if1 .left));
       over = λ e k. absurd (omega (arith, low, k));
       false = λ e k s. absurd (s sound);
-      led = λ i r e. c .conclude .ensures i r;
+      sound = λ e k s. c .conclude .ensures .1;
+      led = λ i r e. c .conclude .ensures .0 i r;
     }
 
 pub end-spec : {M : Type 1} → statement M

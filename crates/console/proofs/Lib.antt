@@ -1,2 +1,0 @@
--- The law that the proof of the answers cites. Assumes nothing.
-mod Said

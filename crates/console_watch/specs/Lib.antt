@@ -1,0 +1,2 @@
+-- The definitions that the contracts of `console_watch` cite. Assumes nothing.
+pub mod WatchAnswers
