@@ -10,8 +10,8 @@ use lib.Seq.{getD-drop}
 use borrow.Author.Tests.{eq-eqb, ne-eqb}
 use Rattle.octets.specs.Pick.{pick}
 use Rattle.octets.proofs.Scans.{gather-step, gather-end}
-use Rattle.cabbook_visible.proofs.VisibleLaws.{character-inside}
-use Rattle.cabbook_visible.specs.Visible.{character, passed}
+use Rattle.program_visible.proofs.VisibleLaws.{character-inside}
+use Rattle.program_visible.specs.Visible.{character, passed}
 use Rattle.cabbook_cells.specs.Ranges.{ranges, cellsIn}
 use Rattle.cabbook_cells.specs.Cells.{codeBy, codeOf, blank, blanks}
 

@@ -5,7 +5,7 @@ use lib.Dec.{eqb, ltb}
 use lib.ListN.{getD, replicate}
 use Rattle.octets.specs.Pick.{pick}
 use Rattle.octets.specs.Scan.{gather}
-use Rattle.cabbook_visible.specs.Visible.{character, passed}
+use Rattle.program_visible.specs.Visible.{character, passed}
 use Rattle.cabbook_cells.specs.Ranges.{ranges, cellsIn}
 
 -- a code point so far, with the six bits of the next octet

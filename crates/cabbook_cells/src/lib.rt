@@ -8,9 +8,9 @@ ghost use lib.Dec.{eqb};
 ghost use lib.ListN.{length, drop};
 ghost use Rattle.octets.specs.Pick.{pick};
 ghost use Rattle.program_output.specs.Pages.{page, added};
-ghost use Rattle.cabbook_visible.specs.Visible.{character};
+ghost use Rattle.program_visible.specs.Visible.{character};
 ghost use Rattle.cabbook_cells.specs.Cells.{codeOf, blank, blanks};
-use cabbook_visible::octet_at;
+use program_visible::octet_at;
 
 // The cells of an octet that is shown in digits, as `\x07`.
 const IN_DIGITS: usize = 4;
@@ -80,7 +80,7 @@ pub fn put_blanks(room: &mut [u8], at: usize, text: &[u8]) -> usize
     let mut next = at;
     let mut i: usize = 0;
     while i < text.len() {
-        let n = cabbook_visible::shown_length(&t, text, i);
+        let n = program_visible::shown_length(&t, text, i);
         next = put_blank(room, next, text, i, n);
         i += step_of(n);
     }
@@ -120,7 +120,7 @@ pub fn spare(text: &[u8], width: usize) -> usize
     let mut left = width;
     let mut i: usize = 0;
     while i < text.len() {
-        let n = cabbook_visible::shown_length(&t, text, i);
+        let n = program_visible::shown_length(&t, text, i);
         left = less(left, cells_at(text, i, n));
         i += step_of(n);
     }

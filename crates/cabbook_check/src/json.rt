@@ -35,7 +35,7 @@ fn put_quoted(room: &mut [u8], at: usize, text: &[u8]) -> usize {
 // Adds the start of a file's object: its name, made visible.
 fn put_file(room: &mut [u8], path: &[u8]) -> usize {
     let mut shown = io::large_buffer();
-    let n = cabbook_visible::put_visible(&mut shown, 0, path);
+    let n = program_visible::put_visible(&mut shown, 0, path);
     let start = put_all(room, 0, b"{\"file\":");
     put_quoted(room, start, part(&shown, 0, n))
 }

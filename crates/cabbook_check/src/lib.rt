@@ -1,5 +1,4 @@
-// `check`: a row a file, and under each refusal the logical line that it is about; how large a file is that is too long; of a card of version 3, whether
-// `v3in` takes it in; or an object of JSON; or nothing but the status.
+// `check`: a row a file, and under each refusal its logical line and what would help; or an object of JSON; or nothing but the status.
 mod json;
 
 ghost use Rattle.cabbook_output.specs.Ends.{Status};

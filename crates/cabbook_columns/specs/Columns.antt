@@ -4,7 +4,7 @@ use mathlib.Core.List.{List, [], _∷_, _++_}
 use lib.ListN.{length, replicate}
 use Rattle.cabbook_cells.specs.Cells.{blanks}
 use Rattle.program_output.specs.Digits.{decimal}
-use Rattle.cabbook_visible.specs.Visible.{visible}
+use Rattle.program_visible.specs.Visible.{visible}
 
 -- a text at the left of a column of so many cells, and a space
 abbrev pub atLeft : List ℕ → ℕ → List ℕ

@@ -20,7 +20,7 @@ pub fn put_gap(room: &mut [u8], at: usize, used: usize, width: usize) -> usize
 pub fn put_column(room: &mut [u8], at: usize, text: &[u8], width: usize) -> usize
     ensures { λ r. ⌜ page r (now (room .exit)) ≡ added (atLeft (now (text .entry)) width) (page at (now (room .entry))) ⌝ }
 {
-    let text_end = cabbook_visible::put_visible(room, at, text);
+    let text_end = program_visible::put_visible(room, at, text);
     let gap_end = program_output::put_spaces(room, text_end, cabbook_cells::spare(text, width));
     program_output::put_spaces(room, gap_end, 1)
 }

@@ -215,7 +215,7 @@ pub(crate) fn print_wrong(word: &[u8], why: &[u8], command: usize) -> u8
 {
     let mut room = io::large_buffer();
     let start = put_all(&mut room, 0, b"cabbook: ");
-    let word_end = cabbook_visible::put_visible(&mut room, start, word);
+    let word_end = program_visible::put_visible(&mut room, start, word);
     let why_end = put_all(&mut room, word_end, why);
     let use_end = put_all(&mut room, why_end, b"; use it as\n");
     let n = put_use(&mut room, use_end, command);

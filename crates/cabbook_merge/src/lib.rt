@@ -201,9 +201,9 @@ fn show(
 
 // Adds the start of what is said of two edits that are refused.
 fn put_start(room: &mut [u8], first: &[u8], second: &[u8], number: u32) -> usize {
-    let first_end = cabbook_visible::put_visible(room, 0, first);
+    let first_end = program_visible::put_visible(room, 0, first);
     let comma_end = put_all(room, first_end, b", ");
-    let second_end = cabbook_visible::put_visible(room, comma_end, second);
+    let second_end = program_visible::put_visible(room, comma_end, second);
     let start = put_all(room, second_end, b": refused ");
     sentences::put_amount(room, start, number as usize, b": ")
 }

@@ -21,7 +21,7 @@ fn put_side_over(
     lines: usize,
 ) -> usize {
     let own = merge_sides::own_row(copy, records, lines);
-    let name_end = cabbook_visible::put_visible(room, at, path);
+    let name_end = program_visible::put_visible(room, at, path);
     if cards != 1 {
         return put_all(
             room,
@@ -73,7 +73,7 @@ pub(crate) fn put_over(
 
 // Adds that a file has no UID.
 fn put_no_uid(room: &mut [u8], at: usize, path: &[u8]) -> usize {
-    let name_end = cabbook_visible::put_visible(room, at, path);
+    let name_end = program_visible::put_visible(room, at, path);
     put_all(
         room,
         name_end,

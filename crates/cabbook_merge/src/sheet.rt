@@ -43,18 +43,18 @@ pub(crate) fn begin(sent: bool) -> Tally {
 pub(crate) fn put_row(room: &mut [u8], at: usize, mark: &[u8], left: &[u8], right: &[u8]) -> usize {
     let start = put_all(room, at, mark);
     if right.len() == 0 {
-        let left_end = cabbook_visible::put_visible(room, start, left);
+        let left_end = program_visible::put_visible(room, start, left);
         return put_all(room, left_end, b"\n");
     }
     if cabbook_cells::spare(left, WIDTH + 1) > 0 {
         let left_end = cabbook_columns::put_column(room, start, left, WIDTH);
-        let right_end = cabbook_visible::put_visible(room, left_end, right);
+        let right_end = program_visible::put_visible(room, left_end, right);
         return put_all(room, right_end, b"\n");
     }
-    let left_end = cabbook_visible::put_visible(room, start, left);
+    let left_end = program_visible::put_visible(room, start, left);
     let row_end = put_all(room, left_end, b"\n");
     let gap_end = program_output::put_spaces(room, row_end, MARK + WIDTH + 1);
-    let right_end = cabbook_visible::put_visible(room, gap_end, right);
+    let right_end = program_visible::put_visible(room, gap_end, right);
     put_all(room, right_end, b"\n")
 }
 

@@ -3,11 +3,11 @@ ghost use mathlib.Core.Path.{_≡_};
 ghost use lib.ListN.{length};
 ghost use Rattle.program_output.specs.Pages.{page, added};
 ghost use Rattle.cabbook_reasons.specs.Reasons.{opening, closing, utf16, lineEndWords, innerWords, betweenWords, orderWords, reason};
-use cabbook_visible::octet_at;
 use numbers::refusal;
 use octets::cases::same_name;
 use octets::slices::part;
 use program_output::put_all;
+use program_visible::octet_at;
 
 // Whether a word stands at a place, in either case of letters.
 fn opens_with(s: &[u8], place: usize, word: &[u8]) -> bool

@@ -5,7 +5,7 @@ use lib.ListN.{length}
 use Rattle.octets.specs.Ascii.{octets}
 use Rattle.octets.specs.Slices.{part}
 use Rattle.cabbook_positions.specs.Positions.{count, isLf, isFirst, backTo, begins}
-use Rattle.cabbook_visible.specs.Visible.{visible}
+use Rattle.program_visible.specs.Visible.{visible}
 use Rattle.cabbook_messages.specs.Sentences.{amount, counted}
 use Rattle.cabbook_rows.specs.Faults.{why}
 

@@ -10,7 +10,7 @@ use Rattle.octets.specs.Ascii.{octets}
 use Rattle.line_folds.specs.Folds.{lineLength, unfolded}
 use Rattle.octets.specs.Slices.{part}
 use Rattle.cabbook_positions.specs.Positions.{backTo, opens, starts}
-use Rattle.cabbook_visible.specs.Visible.{visible}
+use Rattle.program_visible.specs.Visible.{visible}
 use Rattle.cabbook_cells.specs.Cells.{blanks}
 
 -- past a lone CR or LF where that is refused, else at the end of the logical line

@@ -9,7 +9,7 @@ use cabbook_messages::sentences;
 fn put_name(room: &mut [u8], at: usize, path: &[u8]) -> usize
     ensures { λ r. ⌜ page r (now (room .exit)) ≡ added (named (now (path .entry))) (page at (now (room .entry))) ⌝ }
 {
-    let path_end = cabbook_visible::put_visible(room, at, path);
+    let path_end = program_visible::put_visible(room, at, path);
     program_output::put_all(room, path_end, b": ")
 }
 
@@ -45,7 +45,7 @@ pub fn column_of(s: &[u8], place: usize) -> usize
 pub fn put_where(room: &mut [u8], at: usize, path: &[u8], s: &[u8], place: usize) -> usize
     ensures { λ r. ⌜ page r (now (room .exit)) ≡ added (location (now (path .entry)) (now (s .entry)) place) (page at (now (room .entry))) ⌝ }
 {
-    let path_end = cabbook_visible::put_visible(room, at, path);
+    let path_end = program_visible::put_visible(room, at, path);
     let colon_end = program_output::put_all(room, path_end, b":");
     let line_end = sentences::put_amount(room, colon_end, line_of(s, place), b":");
     sentences::put_amount(room, line_end, column_of(s, place), b": ")

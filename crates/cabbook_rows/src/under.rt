@@ -45,7 +45,7 @@ pub(crate) fn put_cut(room: &mut [u8], at: usize, text: &[u8], most: usize) -> u
     ensures { λ r. ⌜ page r (now (room .exit)) ≡ added (cut most (now (text .entry))) (page at (now (room .entry))) ⌝ }
 {
     let end = cabbook_positions::character_start(text, most);
-    let text_end = cabbook_visible::put_visible(room, at, octets::slices::part(text, 0, end));
+    let text_end = program_visible::put_visible(room, at, octets::slices::part(text, 0, end));
     program_output::put_unless(room, text_end, end == text.len(), b"...")
 }
 
@@ -65,7 +65,7 @@ fn put_last(room: &mut [u8], at: usize, text: &[u8]) -> usize
 {
     let from = tail_start(text);
     let points_end = program_output::put_unless(room, at, from == 0, b"...");
-    cabbook_visible::put_visible(
+    program_visible::put_visible(
         room,
         points_end,
         octets::slices::part(text, from, text.len()),

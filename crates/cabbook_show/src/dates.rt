@@ -70,7 +70,7 @@ fn put_clock(room: &mut [u8], at: usize, s: &[u8]) -> usize {
 
 // Adds a date as it stands, and in brackets as people write it where it has year, month and day.
 pub(crate) fn put_date(room: &mut [u8], at: usize, s: &[u8]) -> usize {
-    let end = cabbook_visible::put_visible(room, at, s);
+    let end = program_visible::put_visible(room, at, s);
     if !is_digit_at(s, 0) {
         return end;
     }

@@ -3,12 +3,12 @@ ghost use lib.ListN.{length};
 ghost use Prim.Native.Nat.{_≤_};
 use crate::dates;
 use cabbook_tables::fields;
-use cabbook_visible::put_visible;
 use label_carets::Rule;
 use line_parameters::First;
 use numbers::kind;
 use numbers::limit;
 use octets::rooms::Written;
+use program_visible::put_visible;
 
 // Where the value's column starts: past three columns, each with a space after it.
 const INDENT: usize = fields::PROPERTY_WIDTH + fields::GROUP_WIDTH + fields::PARAMETERS_WIDTH + 3;

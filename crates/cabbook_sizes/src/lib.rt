@@ -140,7 +140,7 @@ fn put_three(room: &mut [u8], at: usize, n: usize) -> usize {
 
 // Adds what a file has that is too long for a book.
 fn put_size(room: &mut [u8], path: &[u8], s: Size) -> usize {
-    let name_end = cabbook_visible::put_visible(room, 0, path);
+    let name_end = program_visible::put_visible(room, 0, path);
     let start = put_all(room, name_end, b": ");
     let octets_end = put_grouped(room, start, s.octets);
     let cards_start = put_all(room, octets_end, b" octets in ");

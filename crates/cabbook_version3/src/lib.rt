@@ -1,4 +1,4 @@
-// `v3in` and `v3out`: a card of version 3 as one of version 4, and back, to standard output; and why a card does not go over, by what stands there.
+// `v3in` and `v3out`: a card of version 3 as one of version 4, and back; and why a card does not go over, by what stands there.
 mod reasons;
 
 ghost use Rattle.cabbook_output.specs.Ends.{Status};
@@ -122,7 +122,7 @@ pub fn is_version3(s: &[u8], number: u32, place: usize) -> bool {
 // Prints a line on a file, and answers whether it was written.
 fn print_line(path: &[u8], words: &[u8]) -> bool {
     let mut room = io::large_buffer();
-    let name_end = cabbook_visible::put_visible(&mut room, 0, path);
+    let name_end = program_visible::put_visible(&mut room, 0, path);
     let n = put_all(&mut room, name_end, words);
     cabbook_output::send(STDOUT_FILENO, &room, n)
 }

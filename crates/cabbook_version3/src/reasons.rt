@@ -288,7 +288,7 @@ fn put_parts(
         let value = part(line, x.value_start, line.len());
         return put_frame(room, at, way, c, x.row, value);
     }
-    let name_end = cabbook_visible::put_visible(room, at, part(line, 0, x.name_end));
+    let name_end = program_visible::put_visible(room, at, part(line, 0, x.name_end));
     put_inner(room, name_end, way, c, t, line, x)
 }
 

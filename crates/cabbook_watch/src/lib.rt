@@ -1,4 +1,4 @@
-// `watch`: files that are judged while they arrive, so many octets at a time; where standard error is a terminal, a line there tells how far that is.
+// `watch`: files that are judged while they arrive, so many octets at a time, with a line on a terminal that tells how far that is.
 ghost use Rattle.cabbook_output.specs.Ends.{Status};
 use cabbook_messages::sentences;
 use cabbook_options::arguments;
@@ -50,7 +50,7 @@ fn tell_progress(tells: bool, path: &[u8], w: Watch, octets: usize) {
     }
     let mut room = io::large_buffer();
     let start = put_all(&mut room, 0, b"\r\x1b[K");
-    let name_end = cabbook_visible::put_visible(&mut room, start, path);
+    let name_end = program_visible::put_visible(&mut room, start, path);
     let colon_end = put_all(&mut room, name_end, b": ");
     let count_end = sentences::put_count(&mut room, colon_end, octets, b" octet");
     let n = put_known(&mut room, count_end, w);

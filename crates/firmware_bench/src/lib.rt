@@ -1,4 +1,4 @@
-// For the benchmark alone: escape, labels, version 3 sets, read, take of a report and the desk's calls, for C to time; a refusal is its number alone.
+// For the benchmark alone: escape, labels, version 3 sets, read, take of a report and the desk's calls, for C to time.
 use desk::Answer;
 use desk::Desk;
 use label_carets::Rule;

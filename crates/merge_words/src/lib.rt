@@ -1,1 +1,1 @@
-// Two edits of one card in plain words: no code, only what pairs, PIDs, rows and plans are, and the laws that what reading a card leaves says what its lines say.
+// Two edits of one card in plain words: PIDs, sources and rows, and the laws of what reading a card leaves.

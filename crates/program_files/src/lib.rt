@@ -28,9 +28,9 @@ fn open(path: &[u8]) -> i32 {
 // Adds a file's name, and of a longer text its start.
 fn put_name(room: &mut [u8], path: &[u8]) -> usize {
     if path.len() < LONG {
-        return cabbook_visible::put_visible(room, 0, path);
+        return program_visible::put_visible(room, 0, path);
     }
-    let start_end = cabbook_visible::put_visible(room, 0, part(path, 0, SHOWN));
+    let start_end = program_visible::put_visible(room, 0, part(path, 0, SHOWN));
     put_all(room, start_end, b"...")
 }
 

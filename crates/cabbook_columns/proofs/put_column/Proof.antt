@@ -7,7 +7,7 @@ use Prim.Native.Nat.{ℕ}
 use lib.ListN.{replicate}
 use Rattle.program_output.specs.Pages.{page, added}
 use Rattle.program_output.proofs.PageLaws.{then}
-use Rattle.cabbook_visible.specs.Visible.{visible}
+use Rattle.program_visible.specs.Visible.{visible}
 use Rattle.cabbook_columns.proofs.put_column.Statement.{statement}
 use Rattle.cabbook_columns.proofs.put_column.Tie as tie
 

@@ -6,7 +6,7 @@ use Rattle.octets.specs.Ascii.{octets}
 use Rattle.octets.specs.Slices.{part}
 use Rattle.program_output.specs.Pages.{page, added}
 use Rattle.program_output.proofs.PageLaws.{nothing, piece}
-use Rattle.cabbook_visible.specs.Visible.{visible}
+use Rattle.program_visible.specs.Visible.{visible}
 use Rattle.cabbook_rows.specs.Under.{cutAt}
 use borrow.Author.Needs.{needs}
 use Rattle.cabbook_rows.proofs.under.put_cut.Statement.{statement}

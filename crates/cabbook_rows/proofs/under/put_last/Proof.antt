@@ -2,7 +2,7 @@
 use Rattle.octets.specs.Ascii.{octets}
 use Rattle.program_output.specs.Pages.{page}
 use Rattle.program_output.proofs.PageLaws.{nothing, piece}
-use Rattle.cabbook_visible.specs.Visible.{visible}
+use Rattle.program_visible.specs.Visible.{visible}
 use Rattle.cabbook_rows.proofs.PartLaws.{added-same}
 use borrow.Author.Needs.{needs}
 use Rattle.cabbook_rows.proofs.under.put_last.Statement.{statement}

@@ -1,2 +1,0 @@
--- The laws that the proofs of `cabbook_visible` cite. Assumes nothing.
-pub mod VisibleLaws
