@@ -119,6 +119,6 @@ pub fn write_lines(
     ensures { λ _. ⌜ now (copy .exit) ≡ overlay (unfolded (now (s .entry))) (now (copy .entry)) ⌝ }
     ensures { λ _. ⌜ now (out .exit) ≡ overlay (recordsFrom edition 0 (rawLines (unfolded (now (s .entry))))) (now (out .entry)) ⌝ }
 {
-    let n = line_unfolding::unfold(s, copy);
+    let n = line_unfolding::unfold_text(s, copy);
     write_records(t, rows, edition, &copy[..n], out);
 }
