@@ -13,7 +13,7 @@ use Rattle.line_folds.specs.Folds.{unfolded}
 use Rattle.reader.specs.Outcome.{judgeIn, copyOf}
 use Rattle.reader.specs.declared.Verdict.the-variants.{Accepted}
 use Rattle.reader.proofs.AcceptLaws.{accepting, lines-counted, lines-few}
-use Rattle.reader.proofs.ReadLaws.{copied, recorded, read-refused, numbers-counted, read-13, read-14, read-written}
+use Rattle.reader.proofs.ReadLaws.{copied, flat, recorded, read-refused, numbers-counted, read-13, read-14, read-written}
 use borrow.Author.Needs.{needs}
 use Rattle.reader.proofs.read.Statement.{statement}
 use Rattle.reader.proofs.read.Tie as tie
@@ -87,7 +87,7 @@ write-lines-requires c κs =
     let i = a .input .now in
     let e = sym (c8 .before .before .before .before .judge-as .ensures) ∙ c8 .before .before .v .given .1 in
     let r = numbers-counted (a .edition) i (a .copy .now) (a .records .now) _ _ _ e (size (a .edition) (a .input .now) _ _ e refl) in
-    (c5 .table .ensures, (c .before .before .before .before .table2 .ensures, (accepting (a .edition) i _ _ e .short, (fits (a .copy .now) i (c8 .is-copy-short .ensures) (c5 .before .before .if1 .left), rw (recorded (a .edition) i _ _ e) (omega (arith, r, c5 .before .if2 .left))))))
+    (c5 .table .ensures, (c .before .before .before .before .table2 .ensures, (accepting (a .edition) i _ _ e .short, ((fits (a .copy .now) i (c8 .is-copy-short .ensures) (c5 .before .before .if1 .left), rw (recorded (a .edition) i _ _ e) (omega (arith, r, c5 .before .if2 .left))), flat (a .edition) i _ _ e))))
 
 same-length : tie.Need-same-length
 same-length c = search needs

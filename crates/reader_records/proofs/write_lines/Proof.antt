@@ -23,7 +23,7 @@ slice-reshare-prefix-write-records c = search needs
 slice-aggregate-write-records : tie.Need-slice-aggregate-write-records
 slice-aggregate-write-records c =
     let u = c .before .before .before .unfold-text in
-    simp length-take (omega (arith, u .ensures .0, u .kept .1 .0, c .before .before .before .before .before .before .before .before .pre .1 .1 .1 .0))
+    simp length-take (omega (arith, u .ensures .0, u .kept .1 .0, c .before .before .before .before .before .before .before .before .pre .1 .1 .1 .0 .0))
 
 -- the copy holds the text without its folds
 text : (c : tie.After-write-records-arg)
@@ -37,7 +37,7 @@ write-records-requires : tie.Need-write-records-requires
 write-records-requires c κs =
     let p = c .before .before .before .before .before .before .before .before .before .pre in
     let s = c .before .before .before .before .before .before .before .before .before .args .s .now in
-    (p .0, (p .1 .0, (rw (text (c .before)) (omega (arith, unfold-shorter s, p .1 .1 .0)), rw (text (c .before)) (p .1 .1 .1 .1))))
+    (p .0, (p .1 .0, (rw (text (c .before)) (omega (arith, unfold-shorter s, p .1 .1 .0)), (rw (text (c .before)) (p .1 .1 .1 .0 .1), rw (text (c .before)) (p .1 .1 .1 .1)))))
 
 same-length : tie.Need-same-length
 same-length c = search needs
