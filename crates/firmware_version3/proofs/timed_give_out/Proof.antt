@@ -1,10 +1,10 @@
--- `firmware_bench::timed_give_out` meets its contract. Assumes nothing.
+-- `firmware_version3::timed_give_out` meets its contract. Assumes nothing.
 use mathlib.Core.Path.{sym, ap, _∙_}
 use Rattle.octets.specs.Room.{Filled}
-use Rattle.firmware_bench.specs.Answers.{writtenNumber}
+use Rattle.firmware_version3.specs.Answers.{writtenNumber}
 use borrow.Author.Needs.{needs}
-use Rattle.firmware_bench.proofs.timed_give_out.Statement.{statement}
-use Rattle.firmware_bench.proofs.timed_give_out.Tie as tie
+use Rattle.firmware_version3.proofs.timed_give_out.Statement.{statement}
+use Rattle.firmware_version3.proofs.timed_give_out.Tie as tie
 
 give-out-requires : tie.Need-give-out-requires
 give-out-requires c κs = search needs

@@ -1,10 +1,10 @@
--- `firmware_bench::timed_take_in` meets its contract. Assumes nothing.
+-- `firmware_version3::timed_take_in` meets its contract. Assumes nothing.
 use mathlib.Core.Path.{sym, ap, _∙_}
 use Rattle.octets.specs.Room.{Filled}
-use Rattle.firmware_bench.specs.Answers.{writtenNumber}
+use Rattle.firmware_version3.specs.Answers.{writtenNumber}
 use borrow.Author.Needs.{needs}
-use Rattle.firmware_bench.proofs.timed_take_in.Statement.{statement}
-use Rattle.firmware_bench.proofs.timed_take_in.Tie as tie
+use Rattle.firmware_version3.proofs.timed_take_in.Statement.{statement}
+use Rattle.firmware_version3.proofs.timed_take_in.Tie as tie
 
 take-in-requires : tie.Need-take-in-requires
 take-in-requires c κs = search needs
