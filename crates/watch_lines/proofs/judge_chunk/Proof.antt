@@ -1,8 +1,8 @@
--- `watch_lines::judge_open` meets its contract. Assumes nothing.
+-- `watch_lines::judge_chunk` meets its contract. Assumes nothing.
 use native.Mathlib.Omega.{arith}
 use borrow.Author.Needs.{needs}
-use Rattle.watch_lines.proofs.judge_open.Statement.{statement}
-use Rattle.watch_lines.proofs.judge_open.Tie as tie
+use Rattle.watch_lines.proofs.judge_chunk.Statement.{statement}
+use Rattle.watch_lines.proofs.judge_chunk.Tie as tie
 
 add-n : tie.Need-add-n
 add-n c = search needs
@@ -27,7 +27,7 @@ slice-aggregate-judge-joined-2 c = search needs
 judge-joined-requires-2 : tie.Need-judge-joined-requires-2
 judge-joined-requires-2 c κs =
     let z = c .before .before .before .before .before .before .pre in
-    (z .0, (z .1 .0, (z .1 .1 .0, (z .1 .1 .1, omega (arith, z .1 .1 .0 .0)))))
+    (z .0, (z .1 .0, (z .1 .1 .0, (z .1 .1 .1, omega (arith, z .1 .0)))))
 
 same-length-2 : tie.Need-same-length-2
 same-length-2 c = search needs
@@ -35,8 +35,8 @@ same-length-2 c = search needs
 returns-2 : tie.Need-returns-2
 returns-2 c = search needs
 
-pub judge-open-spec : {M : Type 1} → statement M
-judge-open-spec =
+pub judge-chunk-spec : {M : Type 1} → statement M
+judge-chunk-spec =
     tie.close
     (tie.spec
     add-n
