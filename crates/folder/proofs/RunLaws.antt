@@ -14,13 +14,18 @@ use Rattle.octets.specs.Slices.{part}
 use Rattle.line_folds.specs.Logical.{logicalLines}
 use Rattle.folder_line.specs.Pieces.{pieces, folded, foldedLines, Clean}
 use Rattle.folder_line.proofs.Turns.{last-piece}
+use Rattle.folder_raising.specs.Walk.{raised, written}
+use Rattle.folder_raising.specs.declared.Style.{Style}
+use Rattle.folder_raising.specs.declared.Style.the-variants.{AsRead, Raised}
+use Rattle.folder_raising.specs.declared.Spot.the-variants.{Name}
+use Rattle.folder_raising.proofs.Kept.{ends, raised-folded}
 use Rattle.folder.proofs.TextLaws.{none-left, nothing}
 
 -- what is claimed only of true holds of false
 pub only-true : {A : Type 0} → false ≡ true → A
 only-true e = absurd (let z : _≡_ {A = ℕ} 0 1 = cc in omega arith)
 
--- a line of at most 75 octets with CR LF behind it
+-- CR LF behind a line
 module _ (s : List ℕ) (at end : ℕ) (le : at ≤ end) (room : end + 2 ≤ length s) (cr : getD s end 0 ≡ 13) (lf : getD s (end + 1) 0 ≡ 10) where
   mark : take 2 (drop end s) ≡ 13 ∷ 10 ∷ []
   mark =
@@ -28,7 +33,7 @@ module _ (s : List ℕ) (at end : ℕ) (le : at ≤ end) (room : end + 2 ≤ len
       (drop-cons s end 0 (omega arith) ∙ ap (λ (b : ℕ). b ∷ drop (suc end) s) cr
       ∙ ap (λ (r : List ℕ). 13 ∷ r) (drop-cons s (suc end) 0 (omega arith) ∙ ap (λ (b : ℕ). b ∷ drop (suc (suc end)) s) (ap (λ (i : ℕ). getD s i 0) (sym (add-one end)) ∙ lf)))
 
-  with-end : take (end - at) (drop at s) ++ (13 ∷ 10 ∷ []) ≡ take (end + 2 - at) (drop at s)
+  pub with-end : take (end - at) (drop at s) ++ (13 ∷ 10 ∷ []) ≡ take (end + 2 - at) (drop at s)
   with-end =
       let n : end - at + 2 ≡ end + 2 - at = omega arith in
       let k : at + (end - at) ≡ end = omega arith in
@@ -37,9 +42,17 @@ module _ (s : List ℕ) (at end : ℕ) (le : at ≤ end) (room : end + 2 ≤ len
       ∙ take-add (end - at) 2 (drop at s)
       ∙ ap (λ (r : List ℕ). take (end - at) (drop at s) ++ r) (ap (take 2) (drop-drop (end - at) at s ∙ ap (λ (i : ℕ). drop i s) k) ∙ mark))
 
-  pub line-stays : Clean (take (end - at) (drop at s)) → end - at ≤ 75 → folded (take (end - at) (drop at s)) ≡ take (end + 2 - at) (drop at s)
-  unfolding folded pieces
-  line-stays c h = last-piece (take (end - at) (drop at s)) 75 c (rw length-take (omega arith)) ∙ with-end
+-- a line of at most 75 octets is its own folded form
+pub short-stands : (l : List ℕ) → Clean l → length l ≤ 75 → folded l ≡ l ++ (13 ∷ 10 ∷ [])
+unfolding folded pieces
+short-stands l c h = last-piece l 75 c h
+
+-- a line that is its own folded form, and whose names stay, is so in a style
+pub styled-stands : (st : Style) (u l : List ℕ) → folded u ≡ l ++ (13 ∷ 10 ∷ []) → written st l ≡ l → folded (written st u) ≡ l ++ (13 ∷ 10 ∷ [])
+unfolding raised
+styled-stands AsRead u l e k = e
+styled-stands Raised u l e k =
+    sym (raised-folded u) ∙ ap raised e ∙ ends Name l ∙ ap (λ (r : List ℕ). r ++ (13 ∷ 10 ∷ [])) k
 
 -- what is left: the run from `from` up to `at`, and the lines from there on
 abbrev pub restFrom : (List ℕ → List ℕ) → List ℕ → ℕ → ℕ → List ℕ

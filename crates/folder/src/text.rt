@@ -7,7 +7,7 @@ ghost use Rattle.numbers.specs.Limits as limit;
 ghost use Rattle.octets.specs.Room.{filled, fillBounded, overlay};
 ghost use Rattle.line_folds.specs.Folds.{unfolded};
 ghost use Rattle.line_folds.specs.Logical.{logicalLines};
-ghost use mathlib.Core.List.{_++_, map};
+ghost use mathlib.Core.List.{[], _∷_, _++_, map};
 ghost use lib.ListN.{take, drop};
 ghost use Rattle.folder_line.specs.Pieces.{folded, foldedLines, Clean, All};
 ghost use Rattle.folder_raising.specs.Walk.{raised, written};
@@ -98,18 +98,24 @@ fn keeps_names(style: Style, s: &[u8]) -> bool
     }
 }
 
+// True only where the logical line s, its folds with it, is its own folded form.
+fn stands(s: &[u8], folds: bool) -> bool
+    requires { ⌜ Clean (unfolded (now s)) ⌝ }
+    requires { ⌜ (folds ≡ false → unfolded (now s) ≡ now s) ⌝ }
+    ensures { λ r. ⌜ (r ≡ true → folded (unfolded (now (s .entry))) ≡ now (s .entry) ++ (13 ∷ 10 ∷ [])) ⌝ }
+{
+    if folds {
+        return folder_line::standing::stands_folded(s);
+    }
+    s.len() <= limit::FIRST_LINE
+}
+
 // True only where the logical line from `at` to `end` is written as it stands, with the CR LF behind it.
 fn stays(style: Style, s: &[u8], at: usize, end: usize, folds: bool) -> bool
     requires { ⌜ (at ≤ end) × (end ≤ length (now s)) × Clean (unfolded (take (end - at) (drop at (now s)))) ⌝ }
     requires { ⌜ (folds ≡ false → unfolded (take (end - at) (drop at (now s))) ≡ take (end - at) (drop at (now s))) ⌝ }
     ensures { λ r. ⌜ (r ≡ true → (end + 2 ≤ length (now (s .entry))) × (folded (written style (unfolded (take (end - at) (drop at (now (s .entry)))))) ≡ take (end + 2 - at) (drop at (now (s .entry))))) ⌝ }
 {
-    if folds {
-        return false;
-    }
-    if limit::FIRST_LINE < end - at {
-        return false;
-    }
     if s.len() - end < 2 {
         return false;
     }
@@ -117,6 +123,9 @@ fn stays(style: Style, s: &[u8], at: usize, end: usize, folds: bool) -> bool
         return false;
     }
     if s[end + 1] != b'\n' {
+        return false;
+    }
+    if !stands(&s[at..end], folds) {
         return false;
     }
     keeps_names(style, &s[at..end])

@@ -1,48 +1,50 @@
 -- `crate::text::stays` meets its contract. Assumes nothing.
 use borrow.Author.Needs.{needs}
-use mathlib.Core.Path.{ap, _∙_}
-use mathlib.Core.List.{List}
-use Prim.Native.Nat.{ℕ}
+use mathlib.Core.Path.{_∙_}
 use native.Mathlib.Omega.{arith}
-use Rattle.folder_line.specs.Pieces.{folded}
-use Rattle.folder_raising.specs.Walk.{written}
-use Rattle.folder.proofs.RunLaws.{only-true, line-stays}
+use borrow.Author.Tests.{not-false}
+use Rattle.folder.proofs.RunLaws.{only-true, with-end, styled-stands}
 use Rattle.folder.proofs.text.stays.Statement.{statement}
 use Rattle.folder.proofs.text.stays.Tie as tie
+
+sub-if1 : tie.Need-sub-if1
+sub-if1 c = search needs
 
 returns : tie.Need-returns
 returns c =
     λ e. only-true e
 
-sub-if2 : tie.Need-sub-if2
-sub-if2 c = search needs
+shared-slice-read-if2 : tie.Need-shared-slice-read-if2
+shared-slice-read-if2 c = search needs
 
 returns-2 : tie.Need-returns-2
 returns-2 c =
     λ e. only-true e
 
-sub-if3 : tie.Need-sub-if3
-sub-if3 c = search needs
+add-if3 : tie.Need-add-if3
+add-if3 c = search needs
+
+shared-slice-read-if3 : tie.Need-shared-slice-read-if3
+shared-slice-read-if3 c = search needs
 
 returns-3 : tie.Need-returns-3
 returns-3 c =
     λ e. only-true e
 
-shared-slice-read-if4 : tie.Need-shared-slice-read-if4
-shared-slice-read-if4 c = search needs
+sub-stands : tie.Need-sub-stands
+sub-stands c = search needs
+
+part-stands-start : tie.Need-part-stands-start
+part-stands-start c = search needs
+
+part-stands-end : tie.Need-part-stands-end
+part-stands-end c = search needs
+
+stands-requires : tie.Need-stands-requires
+stands-requires c κs = search needs
 
 returns-4 : tie.Need-returns-4
 returns-4 c =
-    λ e. only-true e
-
-add-if5 : tie.Need-add-if5
-add-if5 c = search needs
-
-shared-slice-read-if5 : tie.Need-shared-slice-read-if5
-shared-slice-read-if5 c = search needs
-
-returns-5 : tie.Need-returns-5
-returns-5 c =
     λ e. only-true e
 
 sub-keeps-names : tie.Need-sub-keeps-names
@@ -57,33 +59,30 @@ part-keeps-names-end c = search needs
 keeps-names-requires : tie.Need-keeps-names-requires
 keeps-names-requires c κs = search needs
 
-returns-6 : tie.Need-returns-6
-returns-6 c =
-    let a = c .before .before .before .before .before .before .before .before .before .before .args in
-    let p = c .before .before .before .before .before .before .before .before .before .before .pre in
-    let u = p .1 (c .before .before .before .before .before .before .before .before .if1 .left) in
-    λ e. (
-      omega arith,
-      ap (λ (l : List ℕ). folded (written (a .style) l)) u ∙ ap folded (c .keeps-names .ensures e)
-          ∙ line-stays (a .s .now) (a .at) (a .end) (p .0 .0) (omega arith) (omega arith) (omega arith) (rw u at (p .0 .2)) (omega arith),
-    )
+returns-5 : tie.Need-returns-5
+returns-5 c =
+    let a = c .before .before .before .before .before .before .before .before .before .before .before .args in
+    let k = c .before .before .before .stands .ensures (not-false _ (c .before .before .if4 .left)) in
+    λ e. (omega arith, styled-stands (a .style) _ _ k (c .keeps-names .ensures e) ∙ with-end (a .s .now) (a .at) (a .end) (c .before .before .before .before .before .before .before .before .before .before .before .pre .0 .0) (omega arith) (omega arith) (omega arith))
 
 pub stays-spec : {M : Type 1} → statement M
 stays-spec =
     tie.close
     (tie.spec
+    sub-if1
     returns
-    sub-if2
+    shared-slice-read-if2
     returns-2
-    sub-if3
+    add-if3
+    shared-slice-read-if3
     returns-3
-    shared-slice-read-if4
+    sub-stands
+    part-stands-start
+    part-stands-end
+    stands-requires
     returns-4
-    add-if5
-    shared-slice-read-if5
-    returns-5
     sub-keeps-names
     part-keeps-names-start
     part-keeps-names-end
     keeps-names-requires
-    returns-6)
+    returns-5)
