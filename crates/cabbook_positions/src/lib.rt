@@ -1,4 +1,4 @@
-// Positions in a text as people count them: lines, characters, where a line or a character starts, where a part ends, how many parts there are, and open escapes.
+// Positions in a text as people count them: lines, characters, where each starts, where a part ends, how many there are, open escapes.
 ghost use mathlib.Core.Path.{_≡_};
 ghost use mathlib.Core.Bool.{false};
 ghost use Prim.Native.Nat.{_+_, _-_, _≤_, _<_, min};
