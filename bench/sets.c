@@ -16,14 +16,18 @@
 extern uint64_t timed_take_in(const uint8_t *input, size_t len, uint8_t *out, size_t room);
 extern uint64_t timed_give_out(const uint8_t *input, size_t len, uint8_t *out, size_t room);
 
-/* A card as version 3 and as version 4 has it. */
+/* A card as version 3 and as version 4 has it, and as it is written when it is taken in. */
 static const struct card {
-    const char *old, *new;
-} cards[] = {{"set3-9", "set4-9"}, {"set3-85", "set4-85"}, {"set3-250", "set4-250"}};
+    const char *old, *new, *written;
+} cards[] = {{"set3-9", "set4-9", "set4-9"},
+             {"set3-85", "set4-85", "set4-85"},
+             {"set3-250", "set4-250", "set4-250"},
+             {"set3-long", "set4-long", "set4-long"},
+             {"set3-flat", "set4-flat", "set4-long"}};
 #define CARDS LENGTH(cards)
 
 enum routine { IN, OUT, FOLD, ROUTINES };
-static struct input inputs[CARDS][2];
+static struct input inputs[CARDS][3];
 static struct job jobs[CARDS][ROUTINES];
 static double counts[CARDS][ROUTINES];
 static ALIGNED uint8_t room[LIMIT];
@@ -47,10 +51,11 @@ static void expect(uint64_t length, const struct input *in, const char *name) {
 
 static void make_jobs(const char *folder) {
     for (size_t c = 0; c < CARDS; c++) {
-        struct input *old = &inputs[c][0], *new = &inputs[c][1];
+        struct input *old = &inputs[c][0], *new = &inputs[c][1], *written = &inputs[c][2];
         load(old, folder, cards[c].old, LIMIT);
         load(new, folder, cards[c].new, LIMIT);
-        expect(take_in(old), new, old->name);
+        load(written, folder, cards[c].written, LIMIT);
+        expect(take_in(old), written, old->name);
         if (give_out(new) >> 32 || fold_card(new) >> 32) {
             fprintf(stderr, "bench: %s is refused\n", new->name);
             exit(1);

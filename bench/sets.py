@@ -1,5 +1,5 @@
 #!/usr/bin/env python3
-"""Writes cards of version 3, each beside the card of version 4 as which it is taken in, folded.
+"""Writes cards of version 3, each beside the card of version 4 as which it is taken in: folded, and one with a long line on one physical line too.
 
   sets.py FOLDER
 """
@@ -43,19 +43,30 @@ def line(dice, turn):
     return kinds[turn % len(kinds)]
 
 
-def card(count):
-    """A card of so many lines, in both versions."""
+def lines(count):
+    """So many lines of a card, in both versions."""
     dice = random.Random(7)
-    lines = [both("BEGIN:VCARD"), both("VERSION:3.0", "VERSION:4.0"), both("FN:Anna Klein"), both("N:Klein;Anna", "N:Klein;Anna;;;")]
-    lines += [line(dice, turn) for turn in range(count - len(lines) - 1)] + [both("END:VCARD")]
-    return [b"".join(fold(pair[version]) for pair in lines) for version in (0, 1)]
+    head = [both("BEGIN:VCARD"), both("VERSION:3.0", "VERSION:4.0"), both("FN:Anna Klein"), both("N:Klein;Anna", "N:Klein;Anna;;;")]
+    return head + [line(dice, turn) for turn in range(count - len(head) - 1)] + [both("END:VCARD")]
+
+
+def long_line():
+    """A line of about 5,000 octets."""
+    note = "NOTE:" + " ".join(WORDS * 50)
+    return both(note, note.replace(";", "\\;"))
+
+
+def flat(line):
+    """A line as one physical line."""
+    return line.encode() + b"\r\n"
 
 
 def main():
     folder = pathlib.Path(sys.argv[1])
-    for name, count in (("9", 9), ("85", 85), ("250", 250)):
-        for version, octets in zip((3, 4), card(count)):
-            (folder / f"set{version}-{name}").write_bytes(octets)
+    long = lines(9)[:-1] + [long_line(), both("END:VCARD")]
+    for name, pairs, write in (("9", lines(9), fold), ("85", lines(85), fold), ("250", lines(250), fold), ("long", long, fold), ("flat", long, flat)):
+        for version in (3, 4):
+            (folder / f"set{version}-{name}").write_bytes(b"".join(write(pair[version - 3]) for pair in pairs))
 
 
 main()

@@ -1,4 +1,4 @@
-// What `check` found as an object of JSON, one a line.
+// What `check` found of a file as an object of JSON, one a line, with its refusals in a list.
 ghost use Rattle.cabbook_output.specs.Ends.{Status};
 use cabbook_messages::sentences::put_amount;
 use cabbook_tables::status;
@@ -72,19 +72,63 @@ fn put_place(room: &mut [u8], at: usize, s: &[u8], place: usize) -> usize {
     )
 }
 
-// Prints the object of a refusal of a file with these octets, and answers the exit status.
+// Adds a refusal of octets, as an object.
+fn put_refusal(room: &mut [u8], at: usize, s: &[u8], number: u32, place: usize) -> usize {
+    let mut words = io::buffer();
+    let k = cabbook_rows::faults::put_why(&mut words, 0, s, number, place);
+    let start = put_all(room, at, b"{\"refusal\":");
+    let refusal = put_amount(room, start, number as usize, b",\"octet\":");
+    let octet = put_place(room, refusal, s, place);
+    let why = put_quoted(room, octet, part(&words, 0, k));
+    put_all(room, why, b"}")
+}
+
+// Adds the start of the object of a refused file, with its first refusal.
+fn put_first(room: &mut [u8], path: &[u8], s: &[u8], number: u32, place: usize) -> usize {
+    let file = put_file(room, path);
+    let start = put_all(room, file, b",\"accepted\":false,\"refusals\":[");
+    put_refusal(room, start, s, number, place)
+}
+
+// Prints the start of the object of a refused file, with its first refusal, and answers the exit status.
+pub(crate) fn print_first(path: &[u8], s: &[u8], number: u32, place: usize) -> u8
+    ensures { λ r. ⌜ Status r ⌝ }
+{
+    let mut room = io::large_buffer();
+    let n = put_first(&mut room, path, s, number, place);
+    cabbook_output::status_if(
+        cabbook_output::send(STDOUT_FILENO, &room, n),
+        status::REFUSED,
+    )
+}
+
+// Prints one refusal more of a file, and answers the exit status.
+pub(crate) fn print_next(s: &[u8], number: u32, place: usize) -> u8
+    ensures { λ r. ⌜ Status r ⌝ }
+{
+    let mut room = io::large_buffer();
+    let start = put_all(&mut room, 0, b",");
+    let n = put_refusal(&mut room, start, s, number, place);
+    cabbook_output::status_if(
+        cabbook_output::send(STDOUT_FILENO, &room, n),
+        status::REFUSED,
+    )
+}
+
+// Prints the end of the object of a refused file, and answers the exit status.
+pub(crate) fn print_end() -> u8
+    ensures { λ r. ⌜ Status r ⌝ }
+{
+    cabbook_output::status_if(io::write_all(STDOUT_FILENO, b"]}\n"), status::REFUSED)
+}
+
+// Prints the object of a file with one refusal, and answers the exit status.
 pub(crate) fn print_refused(path: &[u8], s: &[u8], number: u32, place: usize) -> u8
     ensures { λ r. ⌜ Status r ⌝ }
 {
-    let mut words = io::buffer();
-    let k = cabbook_rows::faults::put_why(&mut words, 0, s, number, place);
     let mut room = io::large_buffer();
-    let file = put_file(&mut room, path);
-    let verdict = put_all(&mut room, file, b",\"accepted\":false,\"refusal\":");
-    let refusal = put_amount(&mut room, verdict, number as usize, b",\"octet\":");
-    let octet = put_place(&mut room, refusal, s, place);
-    let why = put_quoted(&mut room, octet, part(&words, 0, k));
-    let n = put_all(&mut room, why, b"}\n");
+    let first = put_first(&mut room, path, s, number, place);
+    let n = put_all(&mut room, first, b"]}\n");
     cabbook_output::status_if(
         cabbook_output::send(STDOUT_FILENO, &room, n),
         status::REFUSED,

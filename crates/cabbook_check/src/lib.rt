@@ -89,13 +89,39 @@ fn tell(manner: Manner, path: &[u8], s: &[u8], v: Verdict) -> u8
     }
 }
 
-// Tells a refusal of one of several cards, and answers the exit status.
+// Tells the first refusal of several cards, and answers the exit status.
+fn tell_first(manner: Manner, path: &[u8], s: &[u8], number: u32, place: usize) -> u8
+    ensures { λ r. ⌜ Status r ⌝ }
+{
+    match manner {
+        Manner::Rows => cabbook_output::print_refusal(STDOUT_FILENO, path, s, number, place),
+        Manner::Json => json::print_first(path, s, number, place),
+        Manner::Quiet => status::REFUSED,
+    }
+}
+
+// Tells that there are no more refusals, and answers the exit status, where all was written so far.
+fn tell_end(manner: Manner, status: u8) -> u8
+    requires { ⌜ Status status ⌝ }
+    ensures { λ r. ⌜ Status r ⌝ }
+{
+    if status == cabbook_output::UNWRITTEN {
+        return status;
+    }
+    match manner {
+        Manner::Rows => status,
+        Manner::Json => json::print_end(),
+        Manner::Quiet => status,
+    }
+}
+
+// Tells one refusal more of several cards, and answers the exit status.
 fn tell_refused(manner: Manner, path: &[u8], s: &[u8], number: u32, place: usize) -> u8
     ensures { λ r. ⌜ Status r ⌝ }
 {
     match manner {
         Manner::Rows => cabbook_output::print_refusal(STDOUT_FILENO, path, s, number, place),
-        Manner::Json => json::print_refused(path, s, number, place),
+        Manner::Json => json::print_next(s, number, place),
         Manner::Quiet => status::REFUSED,
     }
 }
@@ -165,8 +191,8 @@ pub fn check_all(edition: Edition, manner: Manner, path: &[u8], s: &[u8]) -> u8
     let Verdict::Refused(number, place) = v else {
         return tell(manner, path, s, v);
     };
-    if tell_refused(manner, path, s, number, place) == cabbook_output::UNWRITTEN {
+    if tell_first(manner, path, s, number, place) == cabbook_output::UNWRITTEN {
         return cabbook_output::UNWRITTEN;
     }
-    check_behind(edition, manner, path, s, place)
+    tell_end(manner, check_behind(edition, manner, path, s, place))
 }

@@ -227,6 +227,49 @@ fn put_over(
     put_all(room, end, b"\n")
 }
 
+// Prints why there is no plan for two edits with these cards, lines and sources, and answers the exit status.
+fn print_no_plan(
+    number: u32,
+    first: &[u8],
+    ca: &[u8],
+    ra: &[u32],
+    ka: usize,
+    na: usize,
+    a: Row,
+    second: &[u8],
+    cb: &[u8],
+    rb: &[u32],
+    kb: usize,
+    nb: usize,
+    b: Row,
+) -> u8
+    ensures { λ r. ⌜ Status r ⌝ }
+{
+    let mut room = [0u8; PAGE];
+    if number == refusal::MERGE_LIMIT {
+        let n = put_over(&mut room, first, ca, ra, ka, na, second, cb, rb, kb, nb);
+        cabbook_output::send(STDERR_FILENO, &room, n);
+        return status::REFUSED;
+    }
+    let start = put_start(&mut room, first, second, number);
+    let n = reasons::put_no_plan(
+        &mut room,
+        start,
+        first,
+        ca,
+        ra,
+        na,
+        a,
+        second,
+        cb,
+        rb,
+        nb,
+        b,
+    );
+    cabbook_output::send(STDERR_FILENO, &room, n);
+    status::REFUSED
+}
+
 // Merges two edits that the reader accepts, with these cards and lines, and answers the exit status.
 fn merge_read(
     first: &[u8],
@@ -262,29 +305,7 @@ fn merge_read(
             show(first, ca, ra, na, second, cb, rb, nb, numbers(&plan, end))
         }
         Paired::Refused(number, _) => {
-            let mut room = [0u8; PAGE];
-            if number == refusal::MERGE_LIMIT {
-                let n = put_over(&mut room, first, ca, ra, ka, na, second, cb, rb, kb, nb);
-                cabbook_output::send(STDERR_FILENO, &room, n);
-                return status::REFUSED;
-            }
-            let start = put_start(&mut room, first, second, number);
-            let n = reasons::put_no_plan(
-                &mut room,
-                start,
-                first,
-                ca,
-                ra,
-                na,
-                a,
-                second,
-                cb,
-                rb,
-                nb,
-                b,
-            );
-            cabbook_output::send(STDERR_FILENO, &room, n);
-            status::REFUSED
+            print_no_plan(number, first, ca, ra, ka, na, a, second, cb, rb, kb, nb, b)
         }
     }
 }

@@ -1,5 +1,5 @@
--- Where a component of a value ends, and whether an escape is open. Assumes nothing.
-use Prim.Native.Nat.{ℕ}
+-- Where a component of a value ends, how many parts a value has, and whether an escape is open. Assumes nothing.
+use Prim.Native.Nat.{ℕ, _+_}
 use mathlib.Core.Bool.{Bool, false, _&&_, _||_}
 use mathlib.Core.List.{List, [], _∷_}
 use lib.Dec.{eqb, ltb}
@@ -27,3 +27,12 @@ opened waits x = pick waits false (eqb x 92)
 unfoldable pub openAfter : Bool → List ℕ → Bool
 openAfter waits [] = waits
 openAfter waits (x ∷ xs) = openAfter (opened waits x) xs
+
+-- an octet splits a value: a semicolon for which no backslash waits
+abbrev pub splitAt : Bool → ℕ → ℕ
+splitAt waits x = pick waits 0 (pick (eqb x 59) 1 0)
+
+-- how many octets split a value, where a backslash waits before them or not
+unfoldable pub splits : Bool → List ℕ → ℕ
+splits waits [] = 0
+splits waits (x ∷ xs) = splitAt waits x + splits (opened waits x) xs

@@ -1,4 +1,4 @@
-// Positions in a text as people count them: lines, characters, where a line or a character starts, where a part ends, and open escapes.
+// Positions in a text as people count them: lines, characters, where each starts, where a part ends, how many there are, open escapes.
 ghost use mathlib.Core.Path.{_≡_};
 ghost use mathlib.Core.Bool.{false};
 ghost use Prim.Native.Nat.{_+_, _-_, _≤_, _<_, min};
@@ -6,7 +6,7 @@ ghost use lib.Dec.{ltb};
 ghost use lib.ListN.{length, drop};
 ghost use Rattle.octets.specs.Pick.{pick};
 ghost use Rattle.cabbook_positions.specs.Positions.{count, isLf, isFirst, backTo, opens, begins, starts};
-ghost use Rattle.cabbook_positions.specs.Components.{bareStep, bareLength, opened, openAfter};
+ghost use Rattle.cabbook_positions.specs.Components.{bareStep, bareLength, opened, openAfter, splitAt, splits};
 
 // The place before a place, or 0.
 pub fn before(place: usize) -> usize
@@ -178,4 +178,32 @@ pub fn ends_in_escape(s: &[u8]) -> bool
         i += 1;
     }
     waits
+}
+
+// How many parts an octet adds to a value: one where it is a semicolon, and no backslash waits for it.
+fn part_at(waits: bool, octet: u8) -> usize
+    ensures { λ r. ⌜ (r ≡ splitAt waits octet) × (r ≤ 1) ⌝ }
+{
+    if waits {
+        return 0;
+    }
+    if octet == b';' {
+        return 1;
+    }
+    0
+}
+
+// How many parts a value has, split by semicolons without a backslash before them.
+pub fn parts(s: &[u8]) -> usize
+    ensures { λ r. ⌜ r ≡ 1 + splits false (now (s .entry)) ⌝ }
+{
+    let mut n: usize = 1;
+    let mut waits = false;
+    let mut i: usize = 0;
+    while i < s.len() {
+        n += part_at(waits, s[i]);
+        waits = opens_escape(waits, s[i]);
+        i += 1;
+    }
+    n
 }

@@ -1,1 +1,2 @@
--- No laws of its own. Assumes nothing.
+-- The laws that the proofs of `cabbook_reasons` cite. Assumes nothing.
+pub mod MarkLaws

@@ -1,6 +1,6 @@
 -- Why a file is refused, in words for a clerk, by what stands there. Assumes nothing.
-use Prim.Native.Nat.{ℕ, _-_}
-use mathlib.Core.Bool.{Bool, false}
+use Prim.Native.Nat.{ℕ, zero, suc, _+_, _-_}
+use mathlib.Core.Bool.{Bool, true, false}
 use mathlib.Core.List.{List}
 use lib.Dec.{eqb, ltb, leb}
 use lib.ListN.{length, getD}
@@ -38,12 +38,35 @@ innerWords s place =
     pick (opening s place (octets "BEGIN:")) (octets "BEGIN inside a card: the card before it has no END")
     (pick (opening s place (octets "VERSION:")) (octets "VERSION again: it is the second line of a card, once") (octets "line out of order"))
 
+-- a line starts there that tells a card's version, or starts or ends a card
+unfoldable pub marking : List ℕ → ℕ → Bool
+marking s i =
+    pick (closing s i (octets "\n"))
+    (pick (opening s i (octets "VERSION:")) true (pick (opening s i (octets "END:")) true (opening s i (octets "BEGIN:")))) false
+
+-- the first such place from i on, within so many octets
+unfoldable pub markFrom : List ℕ → ℕ → ℕ → ℕ
+markFrom s i zero = i
+markFrom s i (suc k) = pick (marking s i) i (markFrom s (i + 1) k)
+
+-- why VERSION is missing as the second line of a card, by the next such line
+unfoldable pub foundWords : List ℕ → ℕ → List ℕ
+foundWords s mark =
+    pick (opening s mark (octets "VERSION:4.0")) (octets "VERSION must be the second line of a card")
+    (pick (opening s mark (octets "VERSION:3.0")) (octets "version 3.0: this unit takes 4.0, and VERSION as the second line")
+    (pick (opening s mark (octets "VERSION:2.1")) (octets "version 2.1: this unit takes 4.0, and VERSION as the second line")
+    (pick (opening s mark (octets "VERSION:")) (octets "VERSION must be the second line of a card, and be 4.0")
+    (octets "no VERSION line: the second line of a card must be VERSION:4.0"))))
+
+unfoldable pub versionWords : List ℕ → ℕ → List ℕ
+versionWords s place = foundWords s (markFrom s place (length s - place))
+
 -- of a line where a card has to start, where VERSION has to stand, or inside a card
 unfoldable pub betweenWords : List ℕ → ℕ → List ℕ
 betweenWords s place =
     pick (eqb place 0) (octets "a card starts with BEGIN:VCARD")
     (pick (closing s place (octets "END:VCARD\r\n")) (octets "a card starts with BEGIN:VCARD")
-    (pick (closing s place (octets "BEGIN:VCARD\r\n")) (octets "VERSION must be the second line of a card") (innerWords s place)))
+    (pick (closing s place (octets "BEGIN:VCARD\r\n")) (versionWords s place) (innerWords s place)))
 
 unfoldable pub orderWords : List ℕ → ℕ → List ℕ
 orderWords s place = pick (leb (length s) place) (octets "the last card has no END:VCARD") (betweenWords s place)

@@ -2,7 +2,8 @@
 ghost use mathlib.Core.Path.{_≡_};
 ghost use lib.ListN.{length};
 ghost use Rattle.program_output.specs.Pages.{page, added};
-ghost use Rattle.cabbook_reasons.specs.Reasons.{opening, closing, utf16, lineEndWords, innerWords, betweenWords, orderWords, reason};
+ghost use Prim.Native.Nat.{_-_};
+ghost use Rattle.cabbook_reasons.specs.Reasons.{opening, closing, utf16, marking, markFrom, lineEndWords, innerWords, foundWords, versionWords, betweenWords, orderWords, reason};
 use numbers::refusal;
 use octets::cases::same_name;
 use octets::slices::part;
@@ -82,6 +83,78 @@ fn put_inner(room: &mut [u8], at: usize, s: &[u8], place: usize) -> usize
     put_all(room, at, b"line out of order")
 }
 
+// Whether a line starts there that tells a card's version, or starts or ends a card.
+fn is_mark(s: &[u8], i: usize) -> bool
+    ensures { λ r. ⌜ r ≡ marking (now (s .entry)) i ⌝ }
+{
+    if !closes_with(s, i, b"\n") {
+        return false;
+    }
+    if opens_with(s, i, b"VERSION:") {
+        return true;
+    }
+    if opens_with(s, i, b"END:") {
+        return true;
+    }
+    opens_with(s, i, b"BEGIN:")
+}
+
+// The first place from a place on at which such a line starts; the end of the text where there is none.
+fn find_mark(s: &[u8], place: usize) -> usize
+    ensures { λ r. ⌜ r ≡ markFrom (now (s .entry)) place (length (now (s .entry)) - place) ⌝ }
+{
+    let mut i = place;
+    while i < s.len() {
+        if is_mark(s, i) {
+            return i;
+        }
+        i += 1;
+    }
+    i
+}
+
+// Adds why VERSION is missing as the second line of a card, by the next such line.
+fn put_found(room: &mut [u8], at: usize, s: &[u8], mark: usize) -> usize
+    ensures { λ r. ⌜ page r (now (room .exit)) ≡ added (foundWords (now (s .entry)) mark) (page at (now (room .entry))) ⌝ }
+{
+    if opens_with(s, mark, b"VERSION:4.0") {
+        return put_all(room, at, b"VERSION must be the second line of a card");
+    }
+    if opens_with(s, mark, b"VERSION:3.0") {
+        return put_all(
+            room,
+            at,
+            b"version 3.0: this unit takes 4.0, and VERSION as the second line",
+        );
+    }
+    if opens_with(s, mark, b"VERSION:2.1") {
+        return put_all(
+            room,
+            at,
+            b"version 2.1: this unit takes 4.0, and VERSION as the second line",
+        );
+    }
+    if opens_with(s, mark, b"VERSION:") {
+        return put_all(
+            room,
+            at,
+            b"VERSION must be the second line of a card, and be 4.0",
+        );
+    }
+    put_all(
+        room,
+        at,
+        b"no VERSION line: the second line of a card must be VERSION:4.0",
+    )
+}
+
+// Adds why VERSION is missing as the second line of the card in which a place lies.
+fn put_version(room: &mut [u8], at: usize, s: &[u8], place: usize) -> usize
+    ensures { λ r. ⌜ page r (now (room .exit)) ≡ added (versionWords (now (s .entry)) place) (page at (now (room .entry))) ⌝ }
+{
+    put_found(room, at, s, find_mark(s, place))
+}
+
 // Adds why a line is out of order: it stands where a card has to start, or VERSION, or inside a card.
 fn put_between(room: &mut [u8], at: usize, s: &[u8], place: usize) -> usize
     ensures { λ r. ⌜ page r (now (room .exit)) ≡ added (betweenWords (now (s .entry)) place) (page at (now (room .entry))) ⌝ }
@@ -93,7 +166,7 @@ fn put_between(room: &mut [u8], at: usize, s: &[u8], place: usize) -> usize
         return put_all(room, at, b"a card starts with BEGIN:VCARD");
     }
     if closes_with(s, place, b"BEGIN:VCARD\r\n") {
-        return put_all(room, at, b"VERSION must be the second line of a card");
+        return put_version(room, at, s, place);
     }
     put_inner(room, at, s, place)
 }

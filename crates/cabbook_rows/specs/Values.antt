@@ -16,12 +16,14 @@ use Rattle.card_line.specs.declared.LineParts.{LineParts}
 use Rattle.card_line.specs.declared.LineParts.the-variants.{Line, Fault}
 use Rattle.cabbook_messages.specs.Words.{wordsOf}
 use Rattle.cabbook_messages.specs.Wants.{wants}
-use Rattle.cabbook_positions.specs.Components.{openAfter}
+use Rattle.cabbook_positions.specs.Components.{openAfter, splits}
 use Rattle.cabbook_rows.specs.Under.{nameMost, cut, startOf}
 
--- of a logical line with these parts at an octet of it: the line's name with its group, and what the value wants
+-- of a logical line with these parts at an octet of it: the line's name with its group, what the value wants, and of how many parts it is
 abbrev pub partsWords : Parts → List ℕ → ℕ → List ℕ
-partsWords p l octet = cut nameMost (part l 0 (p .«name_end»)) ++ wants (p .row) (p .kind) (openAfter false (part l (p .«value_start») octet))
+partsWords p l octet =
+    cut nameMost (part l 0 (p .«name_end»))
+    ++ wants (p .row) (p .kind) (openAfter false (part l (p .«value_start») octet)) (1 + splits false (part l (p .«value_start») (length l)))
 
 abbrev pub partedWords : LineParts → List ℕ → ℕ → List ℕ
 partedWords (Line p) l octet = partsWords p l octet

@@ -19,7 +19,8 @@ fn put_parts(room: &mut [u8], at: usize, line: &[u8], p: Parts, octet: usize) ->
 {
     let name_end = under::put_cut(room, at, part(line, 0, p.name_end), under::NAME);
     let after_backslash = cabbook_positions::ends_in_escape(part(line, p.value_start, octet));
-    cabbook_messages::wants::put_wants(room, name_end, p.row, p.kind, after_backslash)
+    let parts = cabbook_positions::parts(part(line, p.value_start, line.len()));
+    cabbook_messages::wants::put_wants(room, name_end, p.row, p.kind, after_backslash, parts)
 }
 
 // Adds what the value of a logical line should be at an octet of the line: edition two has the rows of both; the words of the refusal where it breaks the line rule.

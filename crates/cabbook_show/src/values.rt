@@ -22,13 +22,59 @@ fn put_indent(room: &mut [u8], at: usize, last: bool) -> usize {
     program_output::put_spaces(room, start, INDENT)
 }
 
+// Whether an octet is a space or a tab.
+fn is_blank(octet: u8) -> bool {
+    if octet == b' ' {
+        return true;
+    }
+    octet == b'\t'
+}
+
+// Where the blanks at the end of a line start.
+fn blank_start(s: &[u8]) -> usize {
+    let mut end = s.len();
+    while end > 0 {
+        if !is_blank(s[end - 1]) {
+            return end;
+        }
+        end -= 1;
+    }
+    0
+}
+
+// Adds a blank in digits.
+fn put_blank(room: &mut [u8], at: usize, blank: u8) -> usize {
+    if blank == b' ' {
+        return program_output::put_all(room, at, b"\\x20");
+    }
+    program_output::put_all(room, at, b"\\x09")
+}
+
+// Adds blanks in digits, since they could not be seen.
+fn put_blanks(room: &mut [u8], at: usize, blanks: &[u8]) -> usize {
+    let mut next = at;
+    let mut i: usize = 0;
+    while i < blanks.len() {
+        next = put_blank(room, next, blanks[i]);
+        i += 1;
+    }
+    next
+}
+
+// Adds a line, with the blanks at its end in digits.
+fn put_line(room: &mut [u8], at: usize, s: &[u8]) -> usize {
+    let start = blank_start(s);
+    let end = put_visible(room, at, octets::slices::part(s, 0, start));
+    put_blanks(room, end, octets::slices::part(s, start, s.len()))
+}
+
 // Adds text, each of its lines in the value's column.
 fn put_paragraphs(room: &mut [u8], at: usize, s: &[u8]) -> usize {
     let mut next = at;
     let mut from: usize = 0;
     while from < s.len() {
         let end = bytes::scan::find(s, from, s.len(), b'\n');
-        next = put_visible(room, next, &s[from..end]);
+        next = put_line(room, next, &s[from..end]);
         next = put_indent(room, next, end == s.len());
         from = end + 1;
     }
@@ -39,7 +85,7 @@ fn put_paragraphs(room: &mut [u8], at: usize, s: &[u8]) -> usize {
 fn put_meaning(room: &mut [u8], at: usize, w: Written, meant: &[u8], s: &[u8]) -> usize {
     match w {
         Written::Wrote(n) => put_paragraphs(room, at, octets::slices::part(meant, 0, n)),
-        Written::Refused(_, _) => put_visible(room, at, s),
+        Written::Refused(_, _) => put_line(room, at, s),
     }
 }
 
@@ -94,7 +140,7 @@ pub(crate) fn put_value(room: &mut [u8], at: usize, s: &[u8], number: u32) -> us
         kind::TEXTS => put_components(room, at, s, false),
         kind::NAME | kind::ADDRESS | kind::ORGANIZATION => put_components(room, at, s, true),
         kind::DATE | kind::TIMESTAMP => dates::put_date(room, at, s),
-        _ => put_visible(room, at, s),
+        _ => put_line(room, at, s),
     }
 }
 

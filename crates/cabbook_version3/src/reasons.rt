@@ -149,13 +149,14 @@ fn put_pieces(room: &mut [u8], at: usize, value: &[u8], most: usize, words: &[u8
 fn put_wants(room: &mut [u8], at: usize, row: usize, kind: usize, value: &[u8]) -> usize
     requires { ⌜ kind < kinds.count ⌝ }
 {
+    let parts = cabbook_positions::parts(value);
     let steps = value_automaton::scanner::table();
     let fault = value_automaton::value_fault(&steps, Edition::First, kind, value);
     match fault {
-        Fault::Fits => wants::put_wants(room, at, row, kind, false),
+        Fault::Fits => wants::put_wants(room, at, row, kind, false, parts),
         Fault::Breaks(octet) => {
             let waits = cabbook_positions::ends_in_escape(part(value, 0, octet));
-            wants::put_wants(room, at, row, kind, waits)
+            wants::put_wants(room, at, row, kind, waits, parts)
         }
     }
 }

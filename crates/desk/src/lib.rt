@@ -18,10 +18,10 @@ ghost use Rattle.desk.specs.Steps.{refuse, grant, stamped, slotOf, idleS
 // A desk: the entries of its slots, its slot count and its next ticket; the highest tick seen, and beside each entry the tick of its opening or last accepted add.
 pub struct Desk {
     pub entries: [Entry; limit::SLOTS],
+    pub stamps: [u32; limit::SLOTS],
     pub slots: usize,
     pub next: u32,
     pub tick: u32,
-    pub stamps: [u32; limit::SLOTS],
 }
 
 // What a call answers: a ticket, a count of octets or 0; or a refusal's number and place.
@@ -149,7 +149,7 @@ impl Desk {
         let es = self.entries;
         let stamps = self.stamps;
         let size = pool.len();
-        let p = desk_slots::find_slot(es, self.slots, self.next, &stamps, self.tick, size, 0);
+        let p = desk_slots::find_slot(es, self.slots, self.next, &stamps, self.tick, size);
         match p {
             Position::Barred(r) => self.refuse(r, 0),
             Position::Nowhere => {

@@ -7,7 +7,7 @@ use native.Mathlib.Omega.{arith}
 use lib.Dec.{ltb, eqb}
 use borrow.Author.Tests.{ltb-true, ltb-false, eqb-true, eqb-false, eq-eqb, ne-eqb}
 use Rattle.octets.specs.Pick.{pick}
-use Rattle.desk_entries.specs.Search.{firstAt, allAt, anyAt, sameAs, isAt, among, AtMost, noneYet, lower, lowestOf, lowestAt}
+use Rattle.desk_entries.specs.Search.{firstAt, allAt, anyAt, sameAs, isAt, among, AtMost, noneYet, lower, lowestOf, lowestAt, longer, leading}
 use Rattle.desk_entries.specs.declared.tickets.Lowest.{Lowest}
 use Rattle.desk_entries.specs.declared.tickets.Position.{Position}
 use Rattle.desk_entries.specs.declared.tickets.Position.the-variants.{At, Nowhere, Barred}
@@ -172,6 +172,75 @@ pub anyAt-same : (p q : ℕ → Bool) (n : ℕ) → ((j : ℕ) → j < n → p j
 unfolding anyAt
 anyAt-same p q zero f = refl
 anyAt-same p q (suc n) f = rw (anyAt-same p q n (λ j h. f j (omega arith)), f n (omega arith))
+
+pub anyAt-some : (p : ℕ → Bool) (n j : ℕ) → j < n → p j ≡ true → anyAt p n ≡ true
+anyAt-some p n j h e = go (anyAt p n) refl
+  where
+    go : (b : Bool) → anyAt p n ≡ b → b ≡ true
+    go true q = refl
+    go false q = let w : false ≡ true = sym (anyAt-not p n q j h) ∙ e in clash cc
+
+-- ---- the positions that come first
+
+pub leading-none : (p : ℕ → Bool) → leading p 0 ≡ 0
+unfolding leading
+leading-none p = refl
+
+pub leading-more : (p : ℕ → Bool) (n : ℕ) → leading p (n + 1) ≡ pick (p n) (leading p n) (longer (leading p n) n)
+unfolding leading
+leading-more p n = ap (leading p) (add-one n)
+
+-- p holds at none of the first k positions, and at k where that is one of the first n
+record Leads (p : ℕ → Bool) (n k : ℕ) : Type 0 where
+  few : k ≤ n
+  before : (j : ℕ) → j < k → p j ≡ false
+  there : k < n → p k ≡ true
+
+leads-more : (p : ℕ → Bool) (n k : ℕ) → Leads p n k → (b : Bool) → p n ≡ b → Leads p (suc n) (pick b k (longer k n))
+leads-more p n k h true e =
+    record { few = omega (arith, h .few); before = h .before; there = λ l. there l (eqb k n) refl }
+  where
+    there : k < suc n → (t : Bool) → eqb k n ≡ t → p k ≡ true
+    there l true q = let w : k ≡ n = eqb-true k n q in rw w e
+    there l false q = h .there (omega (arith, eqb-false k n q))
+leads-more p n k h false e = go (eqb k n) refl
+  where
+    before : k ≡ n → (j : ℕ) → j < n + 1 → (t : Bool) → eqb j n ≡ t → p j ≡ false
+    before w j l true q = let v : j ≡ n = eqb-true j n q in rw v e
+    before w j l false q = h .before j (omega (arith, eqb-false j n q))
+
+    go : (t : Bool) → eqb k n ≡ t → Leads p (suc n) (pick t (n + 1) k)
+    go true q =
+        record { few = omega arith; before = λ j l. before (eqb-true k n q) j l (eqb j n) refl; there = λ l. absurd (omega arith) }
+    go false q =
+        let f = h .few in
+        record { few = omega arith; before = h .before; there = λ l. h .there (omega (arith, eqb-false k n q)) }
+
+leads : (p : ℕ → Bool) (n : ℕ) → Leads p n (leading p n)
+unfolding leading
+leads p zero = record { few = omega arith; before = λ j l. absurd (omega arith); there = λ l. absurd (omega arith) }
+leads p (suc n) = leads-more p n (leading p n) (leads p n) (p n) refl
+
+-- a search past positions at which the test does not hold
+pub firstAt-past : (p : ℕ → Bool) (m i k : ℕ) → i ≤ k → k < i + m → ((j : ℕ) → i ≤ j → j < k → p j ≡ false) → p k ≡ true → firstAt p i m ≡ At k
+unfolding firstAt
+firstAt-past p zero i k h l f e = absurd (omega arith)
+firstAt-past p (suc m) i k h l f e = go (eqb i k) refl (λ n. firstAt-past p m (i + 1) k (next i k h n) (omega arith) (λ j u v. f j (omega arith) v) e)
+  where
+    go : (t : Bool) → eqb i k ≡ t → ((i ≡ k → ⊥) → firstAt p (i + 1) m ≡ At k) → pick (p i) (At i) (firstAt p (i + 1) m) ≡ At k
+    go true q ih = let w : i ≡ k = eqb-true i k q in rw (w, e)
+    go false q ih = let n = eqb-false i k q in rw (f i (omega arith) (omega (arith, next i k h n))) (ih n)
+
+pub firstAt-nowhere : (p : ℕ → Bool) (m i : ℕ) → ((j : ℕ) → i ≤ j → j < i + m → p j ≡ false) → firstAt p i m ≡ Nowhere
+unfolding firstAt
+firstAt-nowhere p zero i f = refl
+firstAt-nowhere p (suc m) i f = rw (f i (omega arith) (omega arith)) (firstAt-nowhere p m (i + 1) (λ j h l. f j (omega arith) (omega arith)))
+
+pub leading-there : (p : ℕ → Bool) (n m : ℕ) → m ≤ n → leading p n < m → firstAt p 0 m ≡ At (leading p n)
+leading-there p n m h l = let k = leads p n in firstAt-past p m 0 (leading p n) (omega arith) (omega arith) (λ j u v. k .before j v) (k .there (omega arith))
+
+pub leading-not : (p : ℕ → Bool) (n m : ℕ) → m ≤ leading p n → firstAt p 0 m ≡ Nowhere
+leading-not p n m h = let k = leads p n in firstAt-nowhere p m 0 (λ j u v. k .before j (omega arith))
 
 -- ---- the lowest number
 

@@ -60,3 +60,14 @@ lowestOf f (suc n) = lower (lowestOf f n) (f n) n
 
 unfoldable pub lowestAt : (ℕ → ℕ) → ℕ → Position
 lowestAt f n = pick (eqb (lowestOf f n .ticket) 0) Nowhere (At (lowestOf f n .at))
+
+-- ---- the positions that come first
+
+-- one more than a count of positions that ends at i, and any other count as it is
+abbrev pub longer : ℕ → ℕ → ℕ
+longer run i = pick (eqb run i) (i + 1) run
+
+-- how many of the first n positions come before the first at which p holds
+unfoldable pub leading : (ℕ → Bool) → ℕ → ℕ
+leading p zero = 0
+leading p (suc n) = pick (p n) (leading p n) (longer (leading p n) n)

@@ -1,9 +1,9 @@
 // The tickets of a desk's entries side by side, 0 for a free one, and searches among them.
 use numbers::limit;
 ghost use mathlib.Core.Path.{_≡_};
-ghost use Prim.Native.Nat.{_≤_};
+ghost use Prim.Native.Nat.{_<_, _≤_};
 ghost use Rattle.numbers.specs.Limits as limit;
-ghost use Rattle.desk_entries.specs.Search.{firstAt, column, sameAs, among, AtMost, lower};
+ghost use Rattle.desk_entries.specs.Search.{firstAt, column, sameAs, among, AtMost, lower, longer};
 
 // Where a ticket stands among the entries, or the refusal that bars a call.
 pub enum Position {
@@ -83,4 +83,15 @@ pub fn repeats(tickets: &[u32; limit::SLOTS], t: u32, n: usize, highest: u32) ->
         return false;
     }
     stands(tickets, t, n)
+}
+
+// Counts position i where all before it are counted.
+pub fn longer(run: usize, i: usize) -> usize
+    requires { ⌜ i < limit.slots ⌝ }
+    ensures { λ r. ⌜ r ≡ longer run i ⌝ }
+{
+    if run == i {
+        return i + 1;
+    }
+    run
 }

@@ -81,19 +81,6 @@ pub begun-among : (es : List Entry) (ts : List ℕ) (n t : ℕ) → Begun es ts 
 unfolding Begun
 begun-among es ts n t b = among-same (column ts) (ticketAt es) t n b
 
-pub begun-first : (es : List Entry) (ts : List ℕ) (m n t : ℕ) → m ≤ n → Begun es ts n → firstAt (sameAs (column ts) t) 0 m ≡ firstAt (sameAs (ticketAt es) t) 0 m
-unfolding Begun
-begun-first es ts m n t h b =
-    firstAt-same (sameAs (column ts) t) (sameAs (ticketAt es) t) m 0 (λ j k l. ap (λ (x : ℕ). eqb x t) (b j (omega arith)))
-
--- no ticket is ahead where no entry is
-pub begun-ahead : (es : List Entry) (ts ks : List ℕ) (n tick : ℕ) → 40 ≤ n → Begun es ts n
-    → anyAt (aheadBy (column ts) (column ks) tick) 40 ≡ aheadIn es ks tick
-unfolding Begun aheadIn
-begun-ahead es ts ks n tick h b =
-    anyAt-same (aheadBy (column ts) (column ks) tick) (aheadBy (ticketAt es) (column ks) tick) 40
-    (λ j l. ap (λ (t : ℕ). ahead t (column ks j) tick) (b j (omega arith)))
-
 -- one number more, and the higher one as the bound
 pub most-more : (ts : List ℕ) (n t h : ℕ) → n < length ts → AtMost (column ts) n h → AtMost (column (set ts n t)) (n + 1) (higher h t)
 unfolding AtMost
@@ -141,47 +128,6 @@ module _ (es : List Entry) (slots next : ℕ) (s : Sound es slots next) where
       go true b = ltb-true j slots b
       go false b = let w : Free ≡ Open o = sym (s .past j (ltb-false j slots b) h) ∙ q in clash cc
 
-  same-slot : (t : ℕ) → atPosition es (firstAt (sameAs (ticketAt es) t) 0 slots) ≡ atPosition es (firstAt (openAt es t) 0 40)
-  same-slot t = go (firstAt (sameAs (ticketAt es) t) 0 slots) refl (firstAt (openAt es t) 0 40) refl
-    where
-      nowhere : (j : ℕ) → firstAt (openAt es t) 0 40 ≡ Nowhere → j < 40 → (x : State) → stateAt es j ≡ x → ticketOf x ≡ t → inState j x ≡ No 22
-      nowhere j e h Free q w = refl
-      nowhere j e h (Open o) q w =
-          let z : false ≡ true = sym (firstAt-not (openAt es t) 40 0 e j (omega arith) (omega arith)) ∙ rw q (eq-eqb (o .ticket) t w) in
-          clash cc
-
-      both : (i j : ℕ) → i < slots → j < 40 → ticketAt es i ≡ t → (o : Session) → stateAt es j ≡ Open o → o .ticket ≡ t
-          → (x : State) → stateAt es i ≡ x → i ≡ j
-      both i j h l e o q w Free r =
-          let z : 0 ≡ t = rw r at e in
-          let k = s .each j l o q .low in
-          absurd (omega arith)
-      both i j h l e o q w (Open u) r =
-          let m = s .most in
-          s .distinct i j (omega arith) l u o r q ((rw r at e) ∙ sym w)
-
-      go : (p : Position) → firstAt (sameAs (ticketAt es) t) 0 slots ≡ p → (r : Position) → firstAt (openAt es t) 0 40 ≡ r → atPosition es p ≡ atPosition es r
-      go (Barred n) e r f = unbarred (sameAs (ticketAt es) t) slots 0 n e
-      go Nowhere e (Barred n) f = unbarred (openAt es t) 40 0 n f
-      go (At i) e (Barred n) f = unbarred (openAt es t) 40 0 n f
-      go Nowhere e Nowhere f = refl
-      go (At i) e Nowhere f =
-          let m = s .most in
-          let w = firstAt-is (sameAs (ticketAt es) t) slots 0 i e in
-          nowhere i f (omega arith) (stateAt es i) refl (eqb-true (ticketAt es i) t (w .0))
-      go Nowhere e (At j) f =
-          let w = firstAt-is (openAt es t) 40 0 j f in
-          let o = session-at es t j (w .0) in
-          let k = slot-inside j (omega arith) (o .0) (o .1 .0) in
-          let y : sameAs (ticketAt es) t j ≡ true = rw (o .1 .0) (eq-eqb (o .0 .ticket) t (o .1 .1)) in
-          let z : false ≡ true = sym (firstAt-not (sameAs (ticketAt es) t) slots 0 e j (omega arith) (omega arith)) ∙ y in
-          clash cc
-      go (At i) e (At j) f =
-          let v = firstAt-is (sameAs (ticketAt es) t) slots 0 i e in
-          let w = firstAt-is (openAt es t) 40 0 j f in
-          let o = session-at es t j (w .0) in
-          ap (λ (n : ℕ). atPosition es (At n)) (both i j (omega arith) (omega arith) (eqb-true (ticketAt es i) t (v .0)) (o .0) (o .1 .0) (o .1 .1) (stateAt es i) refl)
-
 -- ---- a search
 
 -- barred, or clear with what was found
@@ -198,18 +144,6 @@ position-short es slots next ks tick size t i e = go (eqb (guarded es slots next
     go false b =
         let h : Barred (guarded es slots next ks tick size (λ n. n) 0) ≡ At i = sym (barred es slots next ks tick size Barred (firstAt (sameAs (ticketAt es) t) 0 slots) (eqb-false (guarded es slots next ks tick size (λ n. n) 0) 0 b)) ∙ e in
         clash cc
-
--- a search for a ticket leads to its slot
-slot-position : (es : List Entry) (slots next : ℕ) (ks : List ℕ) (tick : ℕ) (size t : ℕ) (p : Position) → positionOf es slots next ks tick size t ≡ p → atPosition es p ≡ slotOf es slots next ks tick size t
-unfolding positionOf slotOf
-slot-position es slots next ks tick size t p e = sym (ap (atPosition es) e) ∙ go (soundAt es slots next ks tick) refl (eqb size (slots * 16384)) refl
-  where
-    go : (a : Bool) → soundAt es slots next ks tick ≡ a → (b : Bool) → eqb size (slots * 16384) ≡ b
-        → atPosition es (pick a (pick b (firstAt (sameAs (ticketAt es) t) 0 slots) (Barred 24)) (Barred 25))
-        ≡ pick a (pick b (atPosition es (firstAt (openAt es t) 0 40)) (No 24)) (No 25)
-    go true a true b = same-slot es slots next (sound-at es slots next ks tick a .entries) t
-    go true a false b = refl
-    go false a b c = refl
 
 -- a search for 0 leads to the lowest free slot
 pub free-position : (es : List Entry) (slots next : ℕ) (ks : List ℕ) (tick size : ℕ) → positionOf es slots next ks tick size 0 ≡ guarded es slots next ks tick size Barred (firstAt (freeAt es) 0 slots)
@@ -277,13 +211,9 @@ granted es slots next ks tick size t i s e = go (eqb (guarded es slots next ks t
         never (guarded es slots next ks tick size (λ n. n) 0) i s
         (sym (barred es slots next ks tick size No (atPosition es (firstAt (openAt es t) 0 40)) (eqb-false (guarded es slots next ks tick size (λ n. n) 0) 0 b)) ∙ e)
 
--- what a search for a ticket leads to: its slot, which lies within desk and pool
-pub found : (es : List Entry) (slots next : ℕ) (ks : List ℕ) (tick size t : ℕ) (q p : Position) → q ≡ positionOf es slots next ks tick size t → q ≡ p → (x : Slot) → atPosition es p ≡ x
-    → (x ≡ slotOf es slots next ks tick size t) × Within size x
-found es slots next ks tick size t q p e f x g = go x (sym g ∙ slot-position es slots next ks tick size t p (sym e ∙ f))
-  where
-    go : (x : Slot) → x ≡ slotOf es slots next ks tick size t → (x ≡ slotOf es slots next ks tick size t) × Within size x
-    go (No n) h = (h, tt)
-    go (Held i s) h =
-        let g = granted es slots next ks tick size t i s (sym h) in
-        (h, record { short = g .short; room = g .room; end = omega arith })
+-- the slot of a ticket lies within desk and pool
+pub within : (es : List Entry) (slots next : ℕ) (ks : List ℕ) (tick size t : ℕ) (x : Slot) → x ≡ slotOf es slots next ks tick size t → Within size x
+within es slots next ks tick size t (No n) h = tt
+within es slots next ks tick size t (Held i s) h =
+    let g = granted es slots next ks tick size t i s (sym h) in
+    record { short = g .short; room = g .room; end = omega arith }

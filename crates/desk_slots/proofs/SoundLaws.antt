@@ -22,7 +22,7 @@ use Rattle.desk_entries.specs.declared.Entry.{Entry}
 fits-inside : (slots next i : ℕ) (s : Session) → fits slots next i (Open s) ≡ true → i < slots
 fits-inside slots next i s e = ltb-true i slots (pick-both (ltb i slots) _ e .0)
 
-fits-fit : (slots next i : ℕ) (s : Session) → fits slots next i (Open s) ≡ true → Fit next s
+pub fits-fit : (slots next i : ℕ) (s : Session) → fits slots next i (Open s) ≡ true → Fit next s
 fits-fit slots next i s e =
     let a = pick-both _ _ (pick-both (ltb i slots) _ e .1) in
     let b = pick-both _ _ (a .1) in

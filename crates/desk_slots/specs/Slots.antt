@@ -1,13 +1,13 @@
 -- The slot of a ticket, the lowest free slot and the idle one with the lowest ticket, with the refusals 25, 24 and 22, for all entries of a
 -- desk, its slot count, its next ticket and its ticks, every size of the pool and every ticket. Assumes nothing.
-use Prim.Native.Nat.{ℕ, _+_, _*_, _<_, _≤_}
+use Prim.Native.Nat.{ℕ, zero, suc, _+_, _*_, _<_, _≤_}
 use mathlib.Core.Bool.{Bool, true, false}
 use mathlib.Core.List.{List}
 use lib.Dec.{eqb}
 use Rattle.numbers.specs.Limits as limit
 use Rattle.numbers.specs.Refusals as refusal
 use Rattle.octets.specs.Pick.{pick}
-use Rattle.desk_entries.specs.Search.{firstAt, sameAs, lowestAt}
+use Rattle.desk_entries.specs.Search.{firstAt, sameAs, lowestAt, leading}
 use Rattle.desk_entries.specs.Ticks.{idleTicket}
 use Rattle.desk_slots.specs.Sound.{stateAt, ticketAt, tickAt, soundAt}
 use Rattle.desk_entries.specs.declared.tickets.Position.{Position}
@@ -18,6 +18,7 @@ use Rattle.desk_entries.specs.declared.State.the-variants.{Free, Open}
 use Rattle.desk_entries.specs.declared.Entry.{Entry}
 use Rattle.desk_slots.specs.declared.Slot.{Slot}
 use Rattle.desk_slots.specs.declared.Slot.the-variants.{Held, No}
+use Rattle.desk_slots.specs.declared.Look.{Look}
 
 -- 25 where the desk is not sound, then 24 where the pool has another size, else a
 abbrev pub guarded : {A : Type 0} → List Entry → ℕ → ℕ → List ℕ → ℕ → ℕ → (ℕ → A) → A → A
@@ -61,6 +62,25 @@ idleOf es slots stamps now = lowestAt (idleAt es stamps now) slots
 -- 25, 24, 22, or the slot of a ticket with its session
 unfoldable pub slotOf : List Entry → ℕ → ℕ → List ℕ → ℕ → ℕ → ℕ → Slot
 slotOf es slots next stamps tick size t = guarded es slots next stamps tick size No (atPosition es (firstAt (openAt es t) 0 limit.slots))
+
+-- ---- one look along the entries
+
+-- entry i, where it has the ticket, and else what was found before
+abbrev pub met : Slot → ℕ → ℕ → State → Slot
+met slot i t Free = slot
+met slot i t (Open s) = pick (eqb (s .ticket) t) (Held i s) slot
+
+-- the last of the first n entries that has a ticket
+unfoldable pub latest : List Entry → ℕ → ℕ → Slot
+latest es t zero = No refusal.notOpen
+latest es t (suc n) = met (latest es t n) n t (stateAt es n)
+
+abbrev pub unsound : Look
+unsound = record { sound = false; slot = No refusal.notOpen; run = 0 }
+
+-- of a sound desk the entry that has a ticket, and how many open entries come first
+unfoldable pub lookOf : List Entry → ℕ → ℕ → List ℕ → ℕ → ℕ → Look
+lookOf es slots next stamps tick t = pick (soundAt es slots next stamps tick) (record { sound = true; slot = latest es t limit.slots; run = leading (freeAt es) limit.slots }) unsound
 
 -- slot i lies within the desk and its pool of that size, and the octets held within the slot
 pub record Bounded (size i : ℕ) (s : Session) : Type 0 where

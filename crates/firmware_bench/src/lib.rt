@@ -1,4 +1,4 @@
-// For the benchmark alone: escape, labels, version 3 sets, read, take of a report and the desk's calls, for C to time.
+// For the benchmark alone: escape, labels, read, take of a report and the desk's calls, for C to time.
 use desk::Answer;
 use desk::Desk;
 use label_carets::Rule;
@@ -20,7 +20,6 @@ ghost use Rattle.report.specs.Steps.{freshReport, takeStep};
 ghost use Rattle.text.specs.Outcomes.{escapeOutcome};
 ghost use Rattle.label.specs.Outcomes.{encodeOutcome, decodeOutcome};
 ghost use Rattle.label_carets.specs.declared.Rule.the-variants.{Rfc6868};
-ghost use Rattle.version3.specs.Outcome.{takeOutcome, giveOutcome};
 ghost use Rattle.firmware_bench.specs.Answers.{number, writtenNumber, verdictNumber, answerNumber};
 ghost use Rattle.firmware_bench.specs.Calls.{served};
 
@@ -66,32 +65,6 @@ pub extern "C" fn timed_decode(label: &[u8], out: &mut [u8]) -> u64
     ensures { λ _. ⌜ now (out .exit) ≡ decodeOutcome Rfc6868 (now (label .entry)) (now (out .entry)) .room ⌝ }
 {
     let w = label::decode(Rule::Rfc6868, label, out);
-    match w {
-        Written::Wrote(n) => n as u64,
-        Written::Refused(n, _) => pack_refusal(n),
-    }
-}
-
-// Takes in a card of version 3: the count of octets written, or the refusal; the room is as taking in leaves it.
-#[no_mangle]
-pub extern "C" fn timed_take_in(input: &[u8], out: &mut [u8]) -> u64
-    ensures { λ r. ⌜ r ≡ writtenNumber (takeOutcome (now (input .entry)) (now (out .entry)) .answer) ⌝ }
-    ensures { λ _. ⌜ now (out .exit) ≡ takeOutcome (now (input .entry)) (now (out .entry)) .room ⌝ }
-{
-    let w = version3::take_in(input, out);
-    match w {
-        Written::Wrote(n) => n as u64,
-        Written::Refused(n, _) => pack_refusal(n),
-    }
-}
-
-// Gives out a card as one of version 3: the count of octets written, or the refusal; the room is as giving out leaves it.
-#[no_mangle]
-pub extern "C" fn timed_give_out(input: &[u8], out: &mut [u8]) -> u64
-    ensures { λ r. ⌜ r ≡ writtenNumber (giveOutcome (now (input .entry)) (now (out .entry)) .answer) ⌝ }
-    ensures { λ _. ⌜ now (out .exit) ≡ giveOutcome (now (input .entry)) (now (out .entry)) .room ⌝ }
-{
-    let w = version3::give_out(input, out);
     match w {
         Written::Wrote(n) => n as u64,
         Written::Refused(n, _) => pack_refusal(n),

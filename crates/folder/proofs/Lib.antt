@@ -2,3 +2,5 @@
 pub mod Accepted
 pub mod TextLaws
 pub mod BoundLaws
+pub mod FitLaws
+pub mod RunLaws

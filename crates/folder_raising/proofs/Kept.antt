@@ -133,7 +133,7 @@ raised-text k (x ∷ xs) r = go (over (x ∷ xs) r) refl (raised-text (after k x
         ∙ sym (text-goes (turned k x) (raisedFrom (after k x) xs) r (over-raised k (x ∷ xs) r ∙ e))
 
 -- the end of a line is no letter
-ends : (k : Spot) (l : List ℕ) → raisedFrom k (l ++ (13 ∷ 10 ∷ [])) ≡ raisedFrom k l ++ (13 ∷ 10 ∷ [])
+pub ends : (k : Spot) (l : List ℕ) → raisedFrom k (l ++ (13 ∷ 10 ∷ [])) ≡ raisedFrom k l ++ (13 ∷ 10 ∷ [])
 unfolding raisedFrom upper
 ends Name [] = refl
 ends Values [] = refl

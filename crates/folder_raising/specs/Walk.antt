@@ -1,7 +1,9 @@
 -- The same octet by octet, over a line as it is written, folded or not. Assumes nothing.
 use Prim.Native.Nat.{ℕ}
 use mathlib.Core.List.{List, [], _∷_}
+use mathlib.Core.Path.{_≡_}
 use lib.Dec.{eqb}
+use lib.ListN.{drop}
 use Rattle.octets.specs.Pick.{pick}
 use Rattle.folder_raising.specs.Letters.{upper}
 use Rattle.folder_raising.specs.declared.Style.{Style}
@@ -27,6 +29,10 @@ turned Past b = b
 unfoldable pub raisedFrom : Spot → List ℕ → List ℕ
 raisedFrom k [] = []
 raisedFrom k (x ∷ xs) = turned k x ∷ raisedFrom (after k x) xs
+
+-- the line stands at spot k at i, and raising leaves the rest as it is
+abbrev pub Kept : Spot → ℕ → List ℕ → Type 0
+Kept k i s = raisedFrom k (drop i s) ≡ drop i s
 
 unfoldable pub raised : List ℕ → List ℕ
 raised l = raisedFrom Name l

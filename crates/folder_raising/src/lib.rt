@@ -2,7 +2,9 @@
 ghost use mathlib.Core.Path.{_≡_};
 ghost use mathlib.Core.Bool.{true};
 ghost use Rattle.folder_raising.specs.Letters.{upper};
-ghost use Rattle.folder_raising.specs.Walk.{after, turned, raised};
+ghost use Prim.Native.Nat.{_≤_};
+ghost use lib.ListN.{length};
+ghost use Rattle.folder_raising.specs.Walk.{after, turned, raised, Kept};
 
 // As read, or with the ASCII letters of group, property and parameter names as capitals.
 pub enum Style {
@@ -117,4 +119,53 @@ pub fn raise(d: &mut [u8])
         spot = next(spot, b);
         i += 1;
     }
+}
+
+// The end of a parameter's values, which start at `from`: the semicolon or the colon behind them, or the end of the line.
+fn pass_values(s: &[u8], from: usize) -> usize
+    requires { ⌜ from ≤ length (now s) ⌝ }
+    ensures { λ r. ⌜ (from ≤ r) × (r ≤ length (now (s .entry))) × (Kept Spot.Name r (now (s .entry)) → Kept Spot.Values from (now (s .entry))) ⌝ }
+{
+    let mut i = from;
+    let mut quoted = false;
+    while i < s.len() {
+        let b = s[i];
+        if b == b'"' {
+            quoted = !quoted;
+            i += 1;
+        } else if quoted {
+            i += 1;
+        } else {
+            if b == b';' {
+                return i;
+            }
+            if b == b':' {
+                return i;
+            }
+            i += 1;
+        }
+    }
+    i
+}
+
+// True only where raising the names of a line leaves it as it is.
+pub fn is_raised(s: &[u8]) -> bool
+    ensures { λ r. ⌜ (r ≡ true → raised (now (s .entry)) ≡ now (s .entry)) ⌝ }
+{
+    let mut i: usize = 0;
+    while i < s.len() {
+        let b = s[i];
+        if b'Z' < b {
+            return false;
+        }
+        if b == b':' {
+            return true;
+        }
+        if b == b'=' {
+            i = pass_values(s, i + 1);
+        } else {
+            i += 1;
+        }
+    }
+    true
 }

@@ -1,18 +1,21 @@
 -- Octets among which no fold starts: they stay as they are when a text is unfolded. Assumes nothing.
 use mathlib.Core.Path.{_≡_, refl, sym, ap, _∙_}
-use mathlib.Core.Bool.{Bool, true, false, true≢false}
+use mathlib.Core.Bool.{Bool, true, false, _&&_, and-false, true≢false}
 use mathlib.Core.List.{List, [], _∷_, _++_, append-assoc}
 use Prim.Native.Nat.{ℕ, zero, suc, _+_, _-_, _<_, _≤_}
 use native.Mathlib.Nat.{add-zero}
 use native.Mathlib.Omega.{arith}
-use lib.Dec.{ltb}
+use lib.Bits.{bitAnd, bitOr}
+use lib.Dec.{eqb, leb, ltb}
 use lib.ListN.{length, getD, take, drop, length-drop}
 use lib.Seq.{take-suc, getD-drop}
-use borrow.Author.Tests.{ltb-true, ltb-false}
+use borrow.Author.Tests.{leb-false, ltb-true, ltb-false, ne-eqb}
+use mir.Val.{boolByte}
 use Rattle.octets.specs.Classes.{run, more}
 use Rattle.octets.specs.Scan.{gather}
 use Rattle.line_folds.specs.Folds.{foldAt, passed, kept, notCr}
-use Rattle.line_folds.proofs.FoldLaws.{not-cr, octet-next}
+use Rattle.octets.proofs.BitLaws.{and-bytes, byte-no, or-zero-right}
+use Rattle.line_folds.proofs.FoldLaws.{fold-eq, not-cr, octet-next}
 use Rattle.line_folds.proofs.HopLaws.{a-cr}
 
 -- no fold starts from a up to e
@@ -30,6 +33,21 @@ pub flat-sixteen : (s : List ℕ) (i : ℕ) → ((k : ℕ) → k < 16 → foldAt
 flat-sixteen s i f k hi he =
     let q : i + (k - i) ≡ k = omega arith in
     ap (λ (n : ℕ). foldAt (drop n s)) (sym q) ∙ f (k - i) (omega arith)
+
+-- no fold starts where no LF follows, or an octet over a space behind it
+pub unmarked : (s : List ℕ) (i a : ℕ) → bitOr a (bitAnd (boolByte (eqb (getD s (i + 1) 0) 10)) (boolByte (leb (getD s (i + 2) 0) 32))) ≡ 0
+    → foldAt (drop i s) ≡ false
+unmarked s i a e =
+    let x = eqb (getD s (i + 1) 0) 10 in
+    let y = leb (getD s (i + 2) 0) 32 in
+    by x y refl refl (byte-no (x && y) (sym (and-bytes x y) ∙ or-zero-right a (bitAnd (boolByte x) (boolByte y)) e))
+  where
+    by : (x y : Bool) → eqb (getD s (i + 1) 0) 10 ≡ x → leb (getD s (i + 2) 0) 32 ≡ y → (x && y) ≡ false → foldAt (drop i s) ≡ false
+    by false y ex ey h = fold-eq s i ∙ simp (ex, and-false)
+    by true false ex ey h =
+        let c = leb-false (getD s (i + 2) 0) 32 ey in
+        fold-eq s i ∙ simp (ex, ne-eqb (getD s (i + 2) 0) 32 (λ q. omega arith), ne-eqb (getD s (i + 2) 0) 9 (λ q. omega arith), and-false)
+    by true true ex ey h = absurd (true≢false h)
 
 run-each : (p : ℕ → Bool) (l : List ℕ) (k : ℕ) → k < run p l → p (getD l k 0) ≡ true
 unfolding run

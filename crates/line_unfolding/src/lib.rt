@@ -37,7 +37,7 @@ pub fn unfolded_length(s: &[u8]) -> usize
     s.len() - FOLD_LENGTH * folds as usize
 }
 
-// A place up to which no fold starts from `from` on: the next CR, or a place near the end.
+// A place up to which no fold starts from `from` on, in a line: the next CR, or a place near the end.
 fn skip_to_fold(s: &[u8], from: usize) -> usize
     requires { ⌜ from ≤ length (now s) ⌝ }
     ensures { λ r. ⌜ (from ≤ r) × (r ≤ length (now (s .entry))) × ((k : ℕ) → from ≤ k → k < r → foldAt (drop k (now (s .entry))) ≡ false) ⌝ }
@@ -52,9 +52,49 @@ fn skip_to_fold(s: &[u8], from: usize) -> usize
     i
 }
 
+// False only where no fold starts at the sixteen places from i on: no LF has a space, or less, after it.
+fn has_fold(s: &[u8], i: usize) -> bool
+    requires { ⌜ i + 18 ≤ length (now s) ⌝ }
+    ensures { λ r. ⌜ (r ≡ false → (k : ℕ) → k < 16 → foldAt (drop (i + k) (now (s .entry))) ≡ false) ⌝ }
+{
+    let mut hit: u8 = 0;
+    let mut k: usize = 0;
+    while k < BLOCK {
+        hit = hit | ((s[i + k + 1] == b'\n') as u8 & (s[i + k + 2] <= b' ') as u8);
+        k += 1;
+    }
+    hit != 0
+}
+
+// A place up to which no fold starts from `from` on, in a text of many lines: a CR near the next fold, or a place near the end.
+fn skip_lines(s: &[u8], from: usize) -> usize
+    requires { ⌜ from ≤ length (now s) ⌝ }
+    ensures { λ r. ⌜ (from ≤ r) × (r ≤ length (now (s .entry))) × ((k : ℕ) → from ≤ k → k < r → foldAt (drop k (now (s .entry))) ≡ false) ⌝ }
+{
+    let mut i = from;
+    while BLOCK + FOLD_LENGTH <= s.len() - i {
+        if has_fold(s, i) {
+            return line_folds::hops::next_cr(s, i);
+        }
+        i += BLOCK;
+    }
+    i
+}
+
+// A place up to which no fold starts from `from` on, in a text of many lines or in one line, where every CR starts a fold.
+fn skip(s: &[u8], from: usize, many: bool) -> usize
+    requires { ⌜ from ≤ length (now s) ⌝ }
+    ensures { λ r. ⌜ (from ≤ r) × (r ≤ length (now (s .entry))) × ((k : ℕ) → from ≤ k → k < r → foldAt (drop k (now (s .entry))) ≡ false) ⌝ }
+{
+    if many {
+        return skip_lines(s, from);
+    }
+    skip_to_fold(s, from)
+}
+
 // Writes s without its folds to the start of d, and answers how many octets that are. Four octets after a fold are written one by one,
 // and those up to the next at once.
-pub fn unfold(s: &[u8], d: &mut [u8]) -> usize
+fn unfold_as(s: &[u8], d: &mut [u8], many: bool) -> usize
     requires { ⌜ length (unfolded (now s)) ≤ length (now d) ⌝ }
     ensures { λ r. ⌜ (r ≡ length (unfolded (now (s .entry)))) × (now (d .exit) ≡ unfolded (now (s .entry)) ++ drop r (now (d .entry))) ⌝ }
 {
@@ -78,7 +118,7 @@ pub fn unfold(s: &[u8], d: &mut [u8]) -> usize
             i += 1;
             met += 1;
         } else {
-            let e = skip_to_fold(s, i + 1);
+            let e = skip(s, i + 1, many);
             octets::copying::copy_in(&mut d[j..], &s[i..e]);
             j += e - i;
             i = e;
@@ -86,4 +126,20 @@ pub fn unfold(s: &[u8], d: &mut [u8]) -> usize
         }
     }
     j
+}
+
+// Writes the line s without its folds to the start of d, and answers how many octets that are.
+pub fn unfold(s: &[u8], d: &mut [u8]) -> usize
+    requires { ⌜ length (unfolded (now s)) ≤ length (now d) ⌝ }
+    ensures { λ r. ⌜ (r ≡ length (unfolded (now (s .entry)))) × (now (d .exit) ≡ unfolded (now (s .entry)) ++ drop r (now (d .entry))) ⌝ }
+{
+    unfold_as(s, d, false)
+}
+
+// Writes the text s of many lines without its folds to the start of d, and answers how many octets that are.
+pub fn unfold_text(s: &[u8], d: &mut [u8]) -> usize
+    requires { ⌜ length (unfolded (now s)) ≤ length (now d) ⌝ }
+    ensures { λ r. ⌜ (r ≡ length (unfolded (now (s .entry)))) × (now (d .exit) ≡ unfolded (now (s .entry)) ++ drop r (now (d .entry))) ⌝ }
+{
+    unfold_as(s, d, true)
 }

@@ -24,6 +24,7 @@ use Rattle.merge_sources.specs.declared.Row.{Row}
 use Rattle.merge_pids.specs.Marks.{mark}
 use Rattle.merge_sides.specs.Lines.{sameProperty, firstLine, countLines}
 use Rattle.merge_partners.specs.Keys.{setsFrom, classesOf, classBy, noKey, keyBy, keyOf, numberAt, keyAt}
+use Rattle.merge_partners.proofs.WalkLaws.{sets-at, sets-length}
 use Rattle.merge_partners.specs.Pairs.{Pair, pair, hitPair, keyPair, hitPairs, markPairs, sharedPairs, rowPairs, singlePairs, keysOf, demandedPairs}
 use Rattle.merge.specs.Sides.{Side, marksOf}
 use Rattle.merge_words.specs.Lists.{Member, At}
@@ -38,7 +39,7 @@ use Rattle.merge_words.proofs.NumberLaws.{capped-low}
 use Rattle.merge_words.proofs.Members.{at-below, at-member, member-at, member-cases, member-none, member-left, member-right, member-append}
 use Rattle.merge_laws.proofs.Lists.{at-some}
 use Rattle.merge_laws.proofs.Lines.{same-property, leading-at, leading-row, only-leads, one-leads, side-count, side-line}
-use Rattle.merge_laws.proofs.Keys.{sets-at, sets-length, keys-global, global-keys}
+use Rattle.merge_laws.proofs.Keys.{keys-global, global-keys}
 
 -- lists one after the other, from k on
 walk : (ℕ → List Pair) → ℕ → ℕ → List Pair

@@ -4,10 +4,9 @@ use mathlib.Core.Bool.{true, false≢true}
 use mathlib.Core.List.{List}
 use Prim.Native.Nat.{ℕ, zero, suc, _+_, _*_, _<_, _≤_}
 use native.Mathlib.Omega.{arith}
-use lib.Dec.{eqb, ltb}
-use lib.ListN.{length, getD, set, replicate, length-set}
-use lib.Seq.{getD-set-same, getD-set-other}
-use borrow.Author.Tests.{ltb-true, ltb-false, lt-ltb, le-ltb, eqb-true, eqb-false}
+use lib.Dec.{ltb}
+use lib.ListN.{length, getD, replicate}
+use borrow.Author.Tests.{ltb-true, ltb-false, lt-ltb, le-ltb}
 use Rattle.octets.proofs.Bools.{by}
 use Rattle.line_parser.specs.Grammar.{Line}
 use Rattle.merge_sources.specs.Row.{none, rowOf, firstIn}
@@ -16,33 +15,12 @@ use Rattle.merge_sources.specs.declared.Row.{Row}
 use Rattle.merge_sources.specs.declared.Found.{Found}
 use Rattle.merge_sources.specs.declared.Found.the-variants.{At, Nothing}
 use Rattle.merge_sides.specs.Lines.{sameOctets}
-use Rattle.merge_partners.specs.Keys.{setsFrom, uriOf, classFrom, classOf, classAt, classesOf, classBy, noKey, keyBy}
+use Rattle.merge_partners.specs.Keys.{uriOf, classFrom, classOf, classAt, classesOf, classBy, noKey, keyBy}
+use Rattle.merge_partners.proofs.WalkLaws.{sets-at}
 use Rattle.merge_words.specs.Sources.{Leads}
 use Rattle.merge_words.specs.Sides.{Held}
 use Rattle.merge_laws.proofs.Lines.{octets-equal, octets-same}
 use Rattle.merge_laws.proofs.Sources.{leads-found, found-leads, row-entries, row-count, least-is}
-
--- elements that became what f says
-module _ (f : ℕ → ℕ) where
-  sets-below : (k : ℕ) (xs : List ℕ) (i n : ℕ) → n < i → getD (setsFrom f xs i k) n 0 ≡ getD xs n 0
-  unfolding setsFrom
-  sets-below zero xs i n h = refl
-  sets-below (suc k) xs i n h = sets-below k (set xs i (f i)) (i + 1) n (omega arith) ∙ getD-set-other xs i n (f i) 0 (λ e. absurd (omega arith))
-
-  pub sets-at : (k : ℕ) (xs : List ℕ) (i n : ℕ) → i ≤ n → n < i + k → i + k ≤ length xs → getD (setsFrom f xs i k) n 0 ≡ f n
-  unfolding setsFrom
-  sets-at zero xs i n a b c = absurd (omega arith)
-  sets-at (suc k) xs i n a b c =
-      by (eqb i n)
-      (λ e.
-      let s : i ≡ n = eqb-true i n e in
-      sets-below k (set xs i (f i)) (i + 1) n (omega arith) ∙ ap (λ (j : ℕ). getD (set xs i (f i)) j 0) (sym s) ∙ getD-set-same xs i (f i) 0 (omega arith) ∙ ap f s)
-      (λ e. sets-at k (set xs i (f i)) (i + 1) n (omega (arith, eqb-false i n e)) (omega arith) (omega (arith, length-set xs i (f i))))
-
-  pub sets-length : (k : ℕ) (xs : List ℕ) (i : ℕ) → length (setsFrom f xs i k) ≡ length xs
-  unfolding setsFrom
-  sets-length zero xs i = refl
-  sets-length (suc k) xs i = sets-length k (set xs i (f i)) (i + 1) ∙ length-set xs i (f i)
 
 -- the class of a URI
 module _ (ca : List ℕ) (a : Row) (u : List ℕ) where

@@ -1,7 +1,7 @@
 -- The key of a PID: its first number and the class of the URI that its source number leads to. Assumes nothing.
 use Prim.Native.Nat.{ℕ, zero, suc, _+_, _*_}
 use mathlib.Core.List.{List}
-use lib.Dec.{eqb, ltb}
+use lib.Dec.{ltb}
 use lib.ListN.{length, getD, set, replicate}
 use Rattle.numbers.specs.Limits as limit
 use Rattle.octets.specs.Pick.{pick}
@@ -12,7 +12,7 @@ use Rattle.merge_sources.specs.declared.Row.{Row}
 use Rattle.merge_sources.specs.declared.Found.{Found}
 use Rattle.merge_sources.specs.declared.Found.the-variants.{At, Nothing}
 use Rattle.merge_pids.specs.Marks.{markLength}
-use Rattle.merge_sides.specs.Lines.{sameOctets, one}
+use Rattle.merge_sides.specs.Lines.{sameOctets}
 
 -- k elements from i on become what f says
 unfoldable pub setsFrom : (ℕ → ℕ) → List ℕ → ℕ → ℕ → List ℕ
@@ -76,8 +76,3 @@ source = 2
 -- the key of the mark k
 unfoldable pub keyAt : List ℕ → Row → List ℕ → ℕ → ℕ
 keyAt marks own classes k = keyOf own classes (numberAt marks k first) (numberAt marks k source)
-
--- how many of n keys from k on are this one
-unfoldable pub countKeys : List ℕ → ℕ → ℕ → ℕ → ℕ
-countKeys keys key k zero = 0
-countKeys keys key k (suc n) = one (eqb (getD keys k 0) key) + countKeys keys key (k + 1) n

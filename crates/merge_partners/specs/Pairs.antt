@@ -1,6 +1,5 @@
 -- The demanded pairs of two sides, one after the other, and how the lines are joined by them. Assumes nothing.
 use Prim.Native.Nat.{ℕ, zero, suc, _+_, _-_, min}
-use mathlib.Core.Path.{_≡_}
 use mathlib.Core.Bool.{Bool, true, false}
 use mathlib.Core.List.{List, [], _∷_, _++_}
 use lib.Dec.{eqb, ltb}
@@ -11,7 +10,6 @@ use Rattle.octets.specs.Pick.{pick}
 use Rattle.property_table.specs.Rows.{onceAt}
 use Rattle.merge_sources.specs.declared.Row.{Row}
 use Rattle.merge_sides.specs.Lines.{valueAt, sameOctets, sameProperty, firstLine, countLines}
-use Rattle.merge_partners.specs.declared.Alike.{Alike}
 use Rattle.merge_partners.specs.Keys.{setsFrom, classesOf, noKey, numberAt, line, keyAt}
 
 -- a line of the first card and one of the second
@@ -55,18 +53,6 @@ hitPair ca ra i cb rb j = pick (sameProperty ca ra i cb rb j) (pair i j ∷ []) 
 -- line i and the line of the second card's mark k, where the mark has the key
 unfoldable pub keyPair : List ℕ → List ℕ → ℕ → ℕ → List ℕ → List ℕ → List ℕ → List ℕ → ℕ → List Pair
 keyPair ca ra i key cb rb marks keys k = pick (eqb (getD keys k 0) key) (hitPair ca ra i cb rb (numberAt marks k line)) []
-
--- the same, where it is known whether the lines have one property
-unfoldable pub keyPairBy : Bool → ℕ → ℕ → List ℕ → List ℕ → ℕ → List Pair
-keyPairBy alike i key marks keys k = pick (eqb (getD keys k 0) key) (pick alike (pair i (numberAt marks k line) ∷ []) []) []
-
--- the line before any was looked at
-abbrev pub noLine : ℕ
-noLine = limit.word
-
--- what is known of the line that was looked at last: whether it has the property of line i
-abbrev pub Known : List ℕ → List ℕ → ℕ → List ℕ → List ℕ → Alike → Type 0
-Known ca ra i cb rb a = (a .line ≡ noLine → ⊥) → a .same ≡ sameProperty ca ra i cb rb (a .line)
 
 -- and the lines of n marks from k on
 unfoldable pub hitPairs : List ℕ → List ℕ → ℕ → ℕ → List ℕ → List ℕ → List ℕ → List ℕ → ℕ → ℕ → List Pair

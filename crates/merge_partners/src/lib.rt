@@ -9,11 +9,13 @@ ghost use Rattle.numbers.specs.Properties as property;
 ghost use Rattle.property_table.specs.Rows.{Lists};
 ghost use Rattle.merge_pids.specs.Marks.{markLength};
 ghost use Rattle.merge_sides.specs.Lines.{one, sameProperty};
-ghost use Rattle.merge_partners.specs.Keys.{setsFrom, uriOf, classOf, classesOf, classBy, keyOf, numberAt, keyAt, countKeys};
-ghost use Rattle.merge_partners.specs.Pairs.{joined, joinTo, joinAll, Known, keyPairBy, keyPair, hitPairs, markPairs, sharedPairs, rowPairs, singlePairs, joinedFirst, firstOf, demandedPairs, pairsFrom, sameUids};
+ghost use Rattle.merge_partners.specs.Keys.{setsFrom, uriOf, classOf, classesOf, classBy, keyOf, numberAt, keyAt};
+ghost use Rattle.merge_partners.specs.Heads.{modulus, withOctet, digestFrom, digestOf, headFrom, Digests, Known, tagOf, seatOf, tagAt, seatAt, isNew, countNew, partnerOf, Tagged, Sifts};
+ghost use Rattle.merge_partners.specs.Pairs.{joined, joinTo, joinAll, keyPair, hitPairs, markPairs, sharedPairs, rowPairs, singlePairs, joinedFirst, firstOf, demandedPairs, pairsFrom, sameUids};
 use merge_sources::Found;
 use merge_sources::Row;
 use merge_sources::Source;
+use numbers::field;
 use numbers::limit;
 use numbers::property;
 use octets::indices::wide_number;
@@ -29,14 +31,24 @@ pub type Classes = [usize; limit::SOURCES];
 // The key of a mark that leads nowhere.
 const NO_KEY: u32 = 4294967295;
 
-// A line of the second card that was looked at, and whether it has the property of the line at hand, so that long names are compared once.
-struct Alike {
+// A line that was looked at, and its head: the first line of the first card that has its property.
+struct Headed {
     line: usize,
-    same: bool,
+    head: usize,
 }
 
 // The line before any was looked at.
 const NO_LINE: usize = 4294967296;
+
+// The factor of a digest, and what it stays below: primes, so that names seldom have one digest.
+const FACTOR: usize = 32749;
+
+const MODULUS: usize = 281474976710597;
+
+// A key that leads somewhere is below this number, and a tag has room for so many heads.
+const KEYS: usize = 1048576;
+
+const HEADS: usize = 4095;
 
 // The numbers of a mark: its line, the PID's first number and its source number.
 const LINE: usize = 0;
@@ -159,28 +171,225 @@ fn put_keys(marks: &[u32], n: usize, own: Row, classes: &Classes, keys: &mut [u3
     }
 }
 
-// 1 where two keys are the same, else 0.
-fn same_key(a: u32, b: u32) -> usize
-    ensures { λ r. ⌜ r ≡ one (eqb a b) ⌝ }
-    ensures { λ r. ⌜ r ≤ 1 ⌝ }
+// A digest with one octet more.
+fn append_octet(digest: usize, b: u8) -> usize
+    requires { ⌜ digest < modulus ⌝ }
+    ensures { λ r. ⌜ r ≡ withOctet digest b ⌝ }
+    ensures { λ r. ⌜ r < modulus ⌝ }
 {
-    if a == b {
-        return 1;
-    }
-    0
+    let octet = octets::indices::wide(octets::cases::lower(b));
+    (digest * FACTOR + octet) % MODULUS
 }
 
-// How many of the keys are this one.
-fn count_hits(keys: &[u32], key: u32) -> usize
-    ensures { λ r. ⌜ r ≡ countKeys (now (keys .entry)) key 0 (length (now (keys .entry))) ⌝ }
+// The digest of a name, the same for names that are equal without case.
+fn digest_name(s: &[u8]) -> usize
+    ensures { λ r. ⌜ r ≡ digestFrom 0 (now (s .entry)) ⌝ }
 {
-    let mut hits: usize = 0;
+    let mut digest: usize = 0;
+    let mut i: usize = 0;
+    while i < s.len() {
+        digest = append_octet(digest, s[i]);
+        i += 1;
+    }
+    digest
+}
+
+// A number that lines of one property share: the property's, or for number 0 the digest of the name.
+fn digest_of(c: &[u8], rs: &[u32], i: usize) -> usize
+    ensures { λ r. ⌜ r ≡ digestOf (now (c .entry)) (now (rs .entry)) i ⌝ }
+{
+    let row = merge_sides::field_at(rs, i, field::PROPERTY);
+    if row != property::OTHER {
+        return row;
+    }
+    let start = merge_sides::name_start(rs, i);
+    let name = part(c, start, start + merge_sides::field_at(rs, i, field::NAME));
+    digest_name(name)
+}
+
+// Writes a digest at i, where there is room.
+fn put_digest(xs: &mut [usize], i: usize, digest: usize)
+    ensures { λ _. ⌜ now (xs .exit) ≡ set (now (xs .entry)) i digest ⌝ }
+{
+    if i < xs.len() {
+        xs[i] = digest;
+    }
+}
+
+// Writes the digests of the first n lines.
+fn put_digests(c: &[u8], rs: &[u32], n: usize, digests: &mut [usize])
+    ensures { λ _. ⌜ now (digests .exit) ≡ setsFrom (digestOf (now (c .entry)) (now (rs .entry))) (now (digests .entry)) 0 n ⌝ }
+{
+    let mut i: usize = 0;
+    while i < n {
+        put_digest(digests, i, digest_of(c, rs, i));
+        i += 1;
+    }
+}
+
+// Whether line i of the first card has the property of line j of a card; names are compared only where the digests x and y are equal.
+fn is_alike(
+    ca: &[u8],
+    ra: &[u32],
+    i: usize,
+    x: usize,
+    c: &[u8],
+    rs: &[u32],
+    j: usize,
+    y: usize,
+) -> bool
+    requires { ⌜ (x ≡ digestOf (now ca) (now ra) i) × (y ≡ digestOf (now c) (now rs) j) ⌝ }
+    ensures { λ r. ⌜ r ≡ sameProperty (now (ca .entry)) (now (ra .entry)) i (now (c .entry)) (now (rs .entry)) j ⌝ }
+{
+    if x != y {
+        return false;
+    }
+    merge_sides::same_property(ca, ra, i, c, rs, j)
+}
+
+// The head of line j of a card among the lines of the first card that have digests; 4,096 for none.
+fn head_of(ca: &[u8], ra: &[u32], digests: &[usize], c: &[u8], rs: &[u32], j: usize) -> usize
+    requires { ⌜ Digests (now ca) (now ra) (now digests) ⌝ }
+    ensures { λ r. ⌜ r ≡ headFrom (now (ca .entry)) (now (ra .entry)) (now (c .entry)) (now (rs .entry)) j 0 (length (now (digests .entry))) ⌝ }
+{
+    let digest = digest_of(c, rs, j);
+    let mut i: usize = 0;
+    while i < digests.len() {
+        if is_alike(ca, ra, i, digests[i], c, rs, j, digest) {
+            return i;
+        }
+        i += 1;
+    }
+    limit::LINES
+}
+
+// Looks at line j of a card, unless it is the one that was looked at last.
+fn look(
+    ca: &[u8],
+    ra: &[u32],
+    digests: &[usize],
+    c: &[u8],
+    rs: &[u32],
+    j: usize,
+    last: Headed,
+) -> Headed
+    requires { ⌜ j < limit.word ⌝ }
+    requires { ⌜ Digests (now ca) (now ra) (now digests) ⌝ }
+    requires { ⌜ Known (now ca) (now ra) (length (now digests)) (now c) (now rs) last ⌝ }
+    ensures { λ r. ⌜ r .line ≡ j ⌝ }
+    ensures { λ r. ⌜ r .head ≡ headFrom (now (ca .entry)) (now (ra .entry)) (now (c .entry)) (now (rs .entry)) j 0 (length (now (digests .entry))) ⌝ }
+{
+    if j == last.line {
+        return last;
+    }
+    Headed {
+        line: j,
+        head: head_of(ca, ra, digests, c, rs, j),
+    }
+}
+
+// The tag of a mark, of its line's head and its key: marks of lines of one property with one key have one tag.
+fn tag_of(head: usize, key: u32) -> u32
+    ensures { λ r. ⌜ r ≡ tagOf head key ⌝ }
+{
+    if HEADS <= head {
+        return NO_KEY;
+    }
+    if KEYS <= wide_number(key) {
+        return NO_KEY;
+    }
+    head as u32 * 1048576 + key
+}
+
+// Writes the tags of the second card's marks, which have these keys.
+fn put_tags(
+    ca: &[u8],
+    ra: &[u32],
+    digests: &[usize],
+    cb: &[u8],
+    rb: &[u32],
+    marks: &[u32],
+    keys: &[u32],
+    tags: &mut [u32],
+)
+    requires { ⌜ Digests (now ca) (now ra) (now digests) ⌝ }
+    requires { ⌜ length (now keys) ≤ limit.lines ⌝ }
+    ensures { λ _. ⌜ now (tags .exit) ≡ setsFrom (tagAt (now (ca .entry)) (now (ra .entry)) (length (now (digests .entry))) (now (cb .entry)) (now (rb .entry)) (now (marks .entry)) (now (keys .entry))) (now (tags .entry)) 0 (length (now (keys .entry))) ⌝ }
+{
+    let mut last = Headed {
+        line: NO_LINE,
+        head: 0,
+    };
     let mut k: usize = 0;
     while k < keys.len() {
-        hits += same_key(keys[k], key);
+        let j = wide_number(number_of(marks, k, LINE));
+        last = look(ca, ra, digests, cb, rb, j, last);
+        let head = last.head;
+        put_number(tags, k, tag_of(head, keys[k]));
+        k += 1;
+    }
+}
+
+// How a line stands as a partner: its number and 1 more, 4,097 for a line that no card has.
+fn seat_of(line: u32) -> u32
+    ensures { λ r. ⌜ r ≡ seatOf line ⌝ }
+{
+    if limit::LINES <= wide_number(line) {
+        return 4097;
+    }
+    line + 1
+}
+
+// Writes how the lines of the first n marks stand as partners.
+fn put_seats(marks: &[u32], n: usize, seats: &mut [u32])
+    ensures { λ _. ⌜ now (seats .exit) ≡ setsFrom (seatAt (now (marks .entry))) (now (seats .entry)) 0 n ⌝ }
+{
+    let mut k: usize = 0;
+    while k < n {
+        put_number(seats, k, seat_of(number_of(marks, k, LINE)));
+        k += 1;
+    }
+}
+
+// 1 for a mark of this tag whose line is not the partner already, else 0.
+fn is_new(tag: u32, seat: u32, own: u32, partner: u32) -> u32
+    ensures { λ r. ⌜ r ≡ one (isNew tag seat own partner) ⌝ }
+    ensures { λ r. ⌜ r ≤ 1 ⌝ }
+{
+    if tag != own {
+        return 0;
+    }
+    if seat == partner {
+        return 0;
+    }
+    1
+}
+
+// How many marks have this tag and a line that is not the partner already.
+fn count_new(tags: &[u32], seats: &[u32], own: u32, partner: u32) -> u32
+    requires { ⌜ (length (now seats) ≡ length (now tags)) × (length (now tags) ≤ limit.lines) ⌝ }
+    ensures { λ r. ⌜ r ≡ countNew (now (tags .entry)) (now (seats .entry)) own partner 0 (length (now (tags .entry))) ⌝ }
+{
+    let mut hits: u32 = 0;
+    let mut k: usize = 0;
+    while k < tags.len() {
+        hits += is_new(tags[k], seats[k], own, partner);
         k += 1;
     }
     hits
+}
+
+// The partner of line i as it stands, 0 for none.
+fn partner_of(p: &Partners, i: usize) -> u32
+    ensures { λ r. ⌜ r ≡ partnerOf (now (p .entry)) i ⌝ }
+{
+    if limit::LINES <= i {
+        return 0;
+    }
+    if limit::LINES < wide_number(p[i]) {
+        return 0;
+    }
+    p[i]
 }
 
 // Pairs line i of the first card with line j of the second; false where one of them has another partner.
@@ -207,68 +416,38 @@ fn join(p: &mut Partners, t: &mut Partners, i: usize, j: usize) -> bool
     true
 }
 
-// Looks at line j of the second card, unless it is the one that was looked at last.
-fn look(ca: &[u8], ra: &[u32], i: usize, cb: &[u8], rb: &[u32], j: usize, last: Alike) -> Alike
-    requires { ⌜ j < limit.word ⌝ }
-    requires { ⌜ Known (now ca) (now ra) i (now cb) (now rb) last ⌝ }
-    ensures { λ r. ⌜ r .line ≡ j ⌝ }
-    ensures { λ r. ⌜ r .same ≡ sameProperty (now (ca .entry)) (now (ra .entry)) i (now (cb .entry)) (now (rb .entry)) j ⌝ }
-{
-    if j == last.line {
-        return last;
-    }
-    Alike {
-        line: j,
-        same: merge_sides::same_property(ca, ra, i, cb, rb, j),
-    }
-}
-
-// Looks at the line of the second card's mark k where the mark has the key.
-fn look_at(
+// Joins line i with the line of the second card's mark k where the mark has the key and the lines have one property.
+fn join_at(
     ca: &[u8],
     ra: &[u32],
     i: usize,
     key: u32,
+    tag: u32,
     cb: &[u8],
     rb: &[u32],
     marks: &[u32],
     keys: &[u32],
+    tags: &[u32],
+    seats: &[u32],
     k: usize,
-    last: Alike,
-) -> Alike
-    requires { ⌜ k < length (now keys) ⌝ }
-    requires { ⌜ Known (now ca) (now ra) i (now cb) (now rb) last ⌝ }
-    ensures { λ r. ⌜ Known (now (ca .entry)) (now (ra .entry)) i (now (cb .entry)) (now (rb .entry)) r ⌝ }
-    ensures { λ r. ⌜ keyPairBy (r .same) i key (now (marks .entry)) (now (keys .entry)) k ≡ keyPair (now (ca .entry)) (now (ra .entry)) i key (now (cb .entry)) (now (rb .entry)) (now (marks .entry)) (now (keys .entry)) k ⌝ }
-{
-    if keys[k] != key {
-        return last;
-    }
-    let j = wide_number(number_of(marks, k, LINE));
-    look(ca, ra, i, cb, rb, j, last)
-}
-
-// Joins line i with the line of the second card's mark k where the mark has the key and the lines have one property.
-fn join_at(
-    i: usize,
-    key: u32,
-    marks: &[u32],
-    keys: &[u32],
-    k: usize,
-    same: bool,
     p: &mut Partners,
     t: &mut Partners,
 ) -> bool
     requires { ⌜ k < length (now keys) ⌝ }
-    ensures { λ r. ⌜ joined r (now (p .exit)) (now (t .exit)) ≡ joinAll (joined true (now (p .entry)) (now (t .entry))) (keyPairBy same i key (now (marks .entry)) (now (keys .entry)) k) ⌝ }
+    requires { ⌜ Sifts (now ca) (now ra) i key tag (now cb) (now rb) (now marks) (now keys) (now tags) (now seats) ⌝ }
+    ensures { λ r. ⌜ joined r (now (p .exit)) (now (t .exit)) ≡ joinAll (joined true (now (p .entry)) (now (t .entry))) (keyPair (now (ca .entry)) (now (ra .entry)) i key (now (cb .entry)) (now (rb .entry)) (now (marks .entry)) (now (keys .entry)) k) ⌝ }
 {
+    let partner = partner_of(p, i);
+    if is_new(tags[k], seats[k], tag, partner) == 0 {
+        return true;
+    }
     if keys[k] != key {
         return true;
     }
-    if !same {
+    let j = wide_number(number_of(marks, k, LINE));
+    if !merge_sides::same_property(ca, ra, i, cb, rb, j) {
         return true;
     }
-    let j = wide_number(number_of(marks, k, LINE));
     join(p, t, i, j)
 }
 
@@ -278,24 +457,37 @@ fn join_hits(
     ra: &[u32],
     i: usize,
     key: u32,
+    tag: u32,
     cb: &[u8],
     rb: &[u32],
     marks: &[u32],
     keys: &[u32],
+    tags: &[u32],
+    seats: &[u32],
     p: &mut Partners,
     t: &mut Partners,
 ) -> bool
+    requires { ⌜ Sifts (now ca) (now ra) i key tag (now cb) (now rb) (now marks) (now keys) (now tags) (now seats) ⌝ }
     ensures { λ r. ⌜ joined r (now (p .exit)) (now (t .exit)) ≡ joinAll (joined true (now (p .entry)) (now (t .entry))) (hitPairs (now (ca .entry)) (now (ra .entry)) i key (now (cb .entry)) (now (rb .entry)) (now (marks .entry)) (now (keys .entry)) 0 (length (now (keys .entry)))) ⌝ }
 {
-    let mut last = Alike {
-        line: NO_LINE,
-        same: false,
-    };
     let mut k: usize = 0;
     while k < keys.len() {
-        last = look_at(ca, ra, i, key, cb, rb, marks, keys, k, last);
-        let same = last.same;
-        if !join_at(i, key, marks, keys, k, same, p, t) {
+        if !join_at(
+            ca,
+            ra,
+            i,
+            key,
+            tag,
+            cb,
+            rb,
+            marks,
+            keys,
+            tags,
+            seats,
+            k,
+            p,
+            t,
+        ) {
             return false;
         }
         k += 1;
@@ -303,34 +495,40 @@ fn join_hits(
     true
 }
 
-// The same, where a mark has the key at all.
+// The same, where a mark of the tag has a line that is not the partner already.
 fn join_mark(
     ca: &[u8],
     ra: &[u32],
     i: usize,
     key: u32,
+    tag: u32,
     cb: &[u8],
     rb: &[u32],
     marks: &[u32],
     keys: &[u32],
+    tags: &[u32],
+    seats: &[u32],
     p: &mut Partners,
     t: &mut Partners,
 ) -> bool
+    requires { ⌜ Sifts (now ca) (now ra) i key tag (now cb) (now rb) (now marks) (now keys) (now tags) (now seats) ⌝ }
     ensures { λ r. ⌜ joined r (now (p .exit)) (now (t .exit)) ≡ joinAll (joined true (now (p .entry)) (now (t .entry))) (markPairs (now (ca .entry)) (now (ra .entry)) i key (now (cb .entry)) (now (rb .entry)) (now (marks .entry)) (now (keys .entry))) ⌝ }
 {
     if key == NO_KEY {
         return true;
     }
-    if count_hits(keys, key) == 0 {
+    let partner = partner_of(p, i);
+    if count_new(tags, seats, tag, partner) == 0 {
         return true;
     }
-    join_hits(ca, ra, i, key, cb, rb, marks, keys, p, t)
+    join_hits(ca, ra, i, key, tag, cb, rb, marks, keys, tags, seats, p, t)
 }
 
 // Joins all lines that share a global value.
 fn join_marks(
     ca: &[u8],
     ra: &[u32],
+    digests: &[usize],
     firsts: &[u32],
     n: usize,
     own: Row,
@@ -339,16 +537,27 @@ fn join_marks(
     rb: &[u32],
     marks: &[u32],
     keys: &[u32],
+    tags: &[u32],
+    seats: &[u32],
     p: &mut Partners,
     t: &mut Partners,
 ) -> bool
+    requires { ⌜ Digests (now ca) (now ra) (now digests) ⌝ }
+    requires { ⌜ Tagged (now ca) (now ra) (length (now digests)) (now cb) (now rb) (now marks) (now keys) (now tags) (now seats) ⌝ }
     ensures { λ r. ⌜ joined r (now (p .exit)) (now (t .exit)) ≡ joinAll (joined true (now (p .entry)) (now (t .entry))) (sharedPairs (now (ca .entry)) (now (ra .entry)) (now (firsts .entry)) own (now (classes .entry)) (now (cb .entry)) (now (rb .entry)) (now (marks .entry)) (now (keys .entry)) 0 n) ⌝ }
 {
+    let mut last = Headed {
+        line: NO_LINE,
+        head: 0,
+    };
     let mut k: usize = 0;
     while k < n {
         let i = wide_number(number_of(firsts, k, LINE));
         let key = key_at(firsts, k, own, classes);
-        if !join_mark(ca, ra, i, key, cb, rb, marks, keys, p, t) {
+        last = look(ca, ra, digests, ca, ra, i, last);
+        let head = last.head;
+        let tag = tag_of(head, key);
+        if !join_mark(ca, ra, i, key, tag, cb, rb, marks, keys, tags, seats, p, t) {
             return false;
         }
         k += 1;
@@ -407,6 +616,19 @@ fn join_singles(
     true
 }
 
+// How many lines of the first card are looked through: none where a card has no marks.
+fn count_looked(na: usize, ka: usize, kb: usize) -> usize
+    ensures { λ r. ⌜ r ≤ limit.lines ⌝ }
+{
+    if ka == 0 {
+        return 0;
+    }
+    if kb == 0 {
+        return 0;
+    }
+    octets::slices::least(na, limit::LINES)
+}
+
 // Joins all demanded pairs; false where a line is in two of them.
 pub fn join_all(
     ca: &[u8],
@@ -431,9 +653,26 @@ pub fn join_all(
     let in_b = classes_of(ca, a, cb, b);
     put_keys(seconds, kb, b, &in_b, &mut keys);
     let n = octets::slices::least(kb, limit::LINES);
+    let looked = count_looked(na, ka, kb);
+    let mut digests = [0usize; limit::LINES];
+    put_digests(ca, ra, looked, &mut digests);
+    let mut tags = [0u32; limit::LINES];
+    put_tags(
+        ca,
+        ra,
+        &digests[..looked],
+        cb,
+        rb,
+        seconds,
+        &keys[..n],
+        &mut tags,
+    );
+    let mut seats = [0u32; limit::LINES];
+    put_seats(seconds, n, &mut seats);
     if !join_marks(
         ca,
         ra,
+        &digests[..looked],
         firsts,
         ka,
         a,
@@ -442,6 +681,8 @@ pub fn join_all(
         rb,
         seconds,
         &keys[..n],
+        &tags[..n],
+        &seats[..n],
         p,
         &mut t,
     ) {

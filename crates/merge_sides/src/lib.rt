@@ -36,7 +36,7 @@ pub fn field_at(rs: &[u32], i: usize, k: usize) -> usize
 }
 
 // Where the name of line i starts in the copy.
-fn name_start(rs: &[u32], i: usize) -> usize
+pub fn name_start(rs: &[u32], i: usize) -> usize
     ensures { λ r. ⌜ r ≡ nameStartAt (now (rs .entry)) i ⌝ }
     ensures { λ r. ⌜ r ≤ limit.word + limit.word ⌝ }
 {

@@ -82,7 +82,7 @@ text b (x ∷ y ∷ z ∷ w ∷ ws) h e =
     (λ q s. text false (z ∷ w ∷ ws) s g)
 
 -- lines and unfolding at an octet that is no CR, at a fold, and at a line's end
-no-fold : (x : ℕ) (xs : List ℕ) → (x ≡ 13 → ⊥) → foldAt (x ∷ xs) ≡ false
+pub no-fold : (x : ℕ) (xs : List ℕ) → (x ≡ 13 → ⊥) → foldAt (x ∷ xs) ≡ false
 unfolding foldAt
 no-fold x xs h = simp (ne-eqb x 13 h)
 

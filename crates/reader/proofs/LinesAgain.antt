@@ -4,7 +4,7 @@ use Prim.{tt}
 use mathlib.Core.Path.{_≡_, refl, sym, ap, _∙_}
 use mathlib.Core.Bool.{false, _||_}
 use mathlib.Core.List.{List, [], _∷_, _++_, map}
-use Prim.Native.Nat.{ℕ, _+_}
+use Prim.Native.Nat.{ℕ, zero, suc, _+_}
 use native.Mathlib.Nat.{zero-add}
 use native.Mathlib.Omega.{arith}
 use lib.Dec.{eqb}
@@ -14,7 +14,7 @@ use borrow.Author.Tests.{ne-eqb}
 use Rattle.utf8.specs.Characters.{allowed, firstBad}
 use Rattle.utf8.proofs.Chains.{NoEnd, none, more, no-end, good-chars}
 use Rattle.property_table.specs.declared.Edition.{Edition}
-use Rattle.line_folds.specs.Folds.{lineLength, unfolded}
+use Rattle.line_folds.specs.Folds.{foldAt, lineLength, unfolded}
 use Rattle.line_folds.specs.Logical.{rawLines, logicalLines}
 use Rattle.line_folds.proofs.LineLaws.{lines-end}
 use Rattle.line_parser.specs.Grammar.{Each}
@@ -26,7 +26,7 @@ use Rattle.reader.specs.Outcome.{judgeIn, ended, copyOf}
 use Rattle.reader.specs.declared.Verdict.the-variants.{Accepted}
 use Rattle.reader_walk.proofs.WalkLaws.{onward-next}
 use Rattle.reader.proofs.AcceptLaws.{accepting}
-use Rattle.reader.proofs.CopyUnfolds.{line-octet, raw, line-stop}
+use Rattle.reader.proofs.CopyUnfolds.{no-fold, line-octet, raw, line-stop}
 
 -- characters only, with no control but tab; neither empty nor led by a space or tab
 pub record Clean (l : List ℕ) : Type 0 where
@@ -85,3 +85,28 @@ lines-again (l ∷ ls) c =
 pub copy-lines : (ed : Edition) (i : List ℕ) (k n : ℕ) → judgeIn ed i ≡ Accepted k n → rawLines (copyOf i) ≡ logicalLines i
 unfolding copyOf
 copy-lines ed i k n e = lines-again (logicalLines i) (lines-clean ed i k n e)
+
+-- no fold starts in a line, nor at its end
+line-flat : {l : List ℕ} → NoEnd l → (t : List ℕ) → ((k : ℕ) → foldAt (drop k t) ≡ false) → (k : ℕ) → foldAt (drop k (l ++ t)) ≡ false
+line-flat none t f k = f k
+line-flat (more {x} {xs} a b n) t f zero = no-fold x (xs ++ t) a
+line-flat (more {x} {xs} a b n) t f (suc k) = line-flat n t f k
+
+end-flat : (t : List ℕ) → (eqb (getD t 0 0) 32 || eqb (getD t 0 0) 9) ≡ false → ((k : ℕ) → foldAt (drop k t) ≡ false)
+    → (k : ℕ) → foldAt (drop k (13 ∷ 10 ∷ t)) ≡ false
+unfolding foldAt
+end-flat t u f zero = simp u
+end-flat t u f (suc zero) = no-fold 10 t (λ e. omega arith)
+end-flat t u f (suc (suc k)) = f k
+
+lines-flat : (ls : List (List ℕ)) → Each Clean ls → (k : ℕ) → foldAt (drop k (ended ls)) ≡ false
+unfolding ended Each foldAt
+lines-flat [] c zero = refl
+lines-flat [] c (suc k) = refl
+lines-flat (l ∷ ls) c k =
+    line-flat (unended l (c .0)) (13 ∷ 10 ∷ ended ls) (end-flat (ended ls) (lines-unled ls (c .1)) (lines-flat ls (c .1))) k
+
+-- no fold is left in the copy
+pub copy-flat : (ed : Edition) (i : List ℕ) (k n : ℕ) → judgeIn ed i ≡ Accepted k n → (m : ℕ) → foldAt (drop m (copyOf i)) ≡ false
+unfolding copyOf
+copy-flat ed i k n e = lines-flat (logicalLines i) (lines-clean ed i k n e)

@@ -1,13 +1,14 @@
 -- The outcomes of reading, by what was judged and measured. Assumes nothing.
 use mathlib.Core.Path.{_≡_, sym, ap, _∙_}
+use mathlib.Core.Bool.{false}
 use mathlib.Core.List.{List, map}
 use Prim.Native.Nat.{ℕ, _*_, _<_, _≤_}
 use native.Mathlib.Omega.{arith}
-use lib.ListN.{length, length-map}
+use lib.ListN.{length, drop, length-map}
 use borrow.Author.Tests.{lt-ltb, le-ltb}
 use Rattle.octets.specs.Room.{overlay}
 use Rattle.property_table.specs.declared.Edition.{Edition}
-use Rattle.line_folds.specs.Folds.{unfolded}
+use Rattle.line_folds.specs.Folds.{foldAt, unfolded}
 use Rattle.line_folds.specs.Logical.{rawLines, logicalLines}
 use Rattle.reader_records.specs.Records.{recordsFrom}
 use Rattle.reader.specs.Outcome.{judgeIn, copyOf, recordsIn, took, writeOutcome, outcomeBy, readIn}
@@ -15,13 +16,16 @@ use Rattle.reader.specs.declared.Verdict.{Verdict}
 use Rattle.reader.specs.declared.Verdict.the-variants.{Accepted, Refused}
 use Rattle.reader.proofs.AcceptLaws.{accepting, lines-counted}
 use Rattle.reader.proofs.CopyUnfolds.{copy-unfolds}
-use Rattle.reader.proofs.LinesAgain.{copy-lines}
+use Rattle.reader.proofs.LinesAgain.{copy-lines, copy-flat}
 use Rattle.reader_records.proofs.RecordLaws.{records-length}
 
 module _ (ed : Edition) (i : List ℕ) (k n : ℕ) (e : judgeIn ed i ≡ Accepted k n) where
   -- the copy is the input without its folds, and its lines are the logical lines
   pub copied : unfolded i ≡ copyOf i
   copied = let a = accepting ed i k n e in sym (copy-unfolds i (a .unlone) (a .ends))
+
+  pub flat : (m : ℕ) → foldAt (drop m (unfolded i)) ≡ false
+  flat m = ap (λ (l : List ℕ). foldAt (drop m l)) copied ∙ copy-flat ed i k n e m
 
   pub recorded : recordsFrom ed 0 (rawLines (unfolded i)) ≡ recordsIn ed i
   unfolding recordsIn

@@ -2,8 +2,10 @@
 ghost use mathlib.Core.Path.{_≡_};
 ghost use mathlib.Core.List.{List};
 ghost use Prim.Native.Nat.{ℕ, _≤_};
+ghost use lib.Dec.{ltb};
 ghost use lib.ListN.{length};
 ghost use Rattle.numbers.specs.Limits as limit;
+ghost use Rattle.line_folds.specs.Folds.{unfolded};
 ghost use Rattle.line_folds.specs.Logical.{rawLines};
 ghost use Rattle.card_state.specs.State.{freshCard};
 ghost use Rattle.card_state.specs.Kept.{stepOf};
@@ -82,6 +84,18 @@ pub fn judge(input: &[u8]) -> Verdict
     judge_as(Edition::First, input)
 }
 
+// Whether a room of so many octets is too short for the copy of an input; one as long as the input is not, and no fold is counted then.
+fn is_copy_short(input: &[u8], room: usize) -> bool
+    requires { ⌜ length (now input) ≤ limit.octets ⌝ }
+    ensures { λ r. ⌜ r ≡ ltb room (length (unfolded (now (input .entry)))) ⌝ }
+{
+    if input.len() <= room {
+        return false;
+    }
+    let octets = line_unfolding::unfolded_length(input);
+    room < octets
+}
+
 // The verdict on an input in an edition, 1 to 14 or the counts; where it is accepted, its copy and its records are written to the start of their
 // rooms, and on a refusal nothing is.
 pub fn read(edition: Edition, input: &[u8], copy: &mut [u8], records: &mut [u32]) -> Verdict
@@ -91,8 +105,9 @@ pub fn read(edition: Edition, input: &[u8], copy: &mut [u8], records: &mut [u32]
     let Verdict::Accepted(cards, lines) = v else {
         return v;
     };
-    let octets = line_unfolding::unfolded_length(input);
-    if copy.len() < octets {
+    let short = is_copy_short(input, copy.len());
+    if short {
+        let octets = line_unfolding::unfolded_length(input);
         return Verdict::Refused(refusal::COPY_ROOM, octets);
     }
     let numbers = lines * limit::RECORD_LENGTH;

@@ -1,10 +1,15 @@
 -- The records, line by line. Assumes nothing.
-use mathlib.Core.Path.{_≡_, refl, ap, _∙_}
+use mathlib.Core.Path.{_≡_, refl, sym, ap, _∙_}
+use mathlib.Core.Bool.{Bool, true, false, not}
 use mathlib.Core.List.{List, [], _∷_, _++_}
-use Prim.Native.Nat.{ℕ, _+_, _-_, _*_, _<_, _≤_}
+use Prim.Native.Nat.{ℕ, suc, _+_, _-_, _*_, _<_, _≤_}
 use native.Mathlib.Omega.{arith}
+use lib.Dec.{eqb}
 use lib.ListN.{length, take, drop, length-append}
-use Rattle.line_folds.specs.Folds.{lineLength}
+use lib.Seq.{drop-drop}
+use Rattle.octets.specs.Classes.{run, more}
+use Rattle.octets.specs.Scan.{scan}
+use Rattle.line_folds.specs.Folds.{foldAt, lineStep, lineLength, notCr}
 use Rattle.line_folds.specs.Logical.{rawLines}
 use Rattle.line_folds.proofs.SpanLaws.{lines-turn, part-length}
 use Rattle.card_line.specs.Parts.{linePartsOf}
@@ -12,6 +17,20 @@ use Rattle.card_line.specs.declared.LineParts.{LineParts}
 use Rattle.card_line.specs.declared.LineParts.the-variants.{Line, Fault}
 use Rattle.reader_records.specs.Records.{recordBy, recordOf, recordsFrom}
 use Rattle.property_table.specs.declared.Edition.{Edition}
+
+-- where no fold starts the line ends at its first CR
+ends : (l : List ℕ) → ((k : ℕ) → foldAt (drop k l) ≡ false) → lineLength l ≡ run notCr l
+unfolding lineLength scan lineStep run notCr
+ends [] f = refl
+ends (x ∷ xs) f = by (eqb x 13) refl (ends xs (λ k. f (suc k)))
+  where
+    by : (t : Bool) → eqb x 13 ≡ t → scan lineStep xs 0 ≡ run notCr xs → scan lineStep (x ∷ xs) 0 ≡ more (not t) (run notCr xs)
+    by true e h = simp (f 0, e)
+    by false e h = simp (f 0, e) (ap suc h)
+
+pub ends-at-cr : (s : List ℕ) (at e : ℕ) → ((k : ℕ) → foldAt (drop k s) ≡ false) → e ≡ at + run notCr (drop at s) → e ≡ at + lineLength (drop at s)
+ends-at-cr s at e f q =
+    q ∙ ap (λ (n : ℕ). at + n) (sym (ends (drop at s) (λ k. ap foldAt (drop-drop k at s) ∙ f (at + k))))
 
 module _ (ed : Edition) where
   by-length : (w n : ℕ) (x : LineParts) → length (recordBy w n x) ≡ 8

@@ -1,12 +1,13 @@
 // The second pass over an accepted input: its copy, and a record of eight numbers for each line.
 ghost use mathlib.Core.Path.{_≡_};
+ghost use mathlib.Core.Bool.{false};
 ghost use mathlib.Core.List.{_++_};
-ghost use Prim.Native.Nat.{_+_, _≤_};
+ghost use Prim.Native.Nat.{ℕ, _+_, _≤_};
 ghost use lib.ListN.{length, take, drop};
 ghost use Rattle.numbers.specs.Limits as limit;
 ghost use Rattle.octets.specs.Classes.{Classes};
 ghost use Rattle.octets.specs.Room.{overlay};
-ghost use Rattle.line_folds.specs.Folds.{unfolded};
+ghost use Rattle.line_folds.specs.Folds.{foldAt, unfolded};
 ghost use Rattle.line_folds.specs.Logical.{rawLines};
 ghost use Rattle.property_table.specs.Rows.{Lists};
 ghost use Rattle.reader_records.specs.Records.{numbers, recordOf, recordsFrom};
@@ -89,13 +90,13 @@ fn write_records(t: &ClassTable, rows: &PropertyTable, edition: Edition, s: &[u8
     requires { ⌜ Lists (now rows) ⌝ }
     requires { ⌜ length (now s) ≤ limit.octets ⌝ }
     requires { ⌜ length (recordsFrom edition 0 (rawLines (now s))) ≤ length (now out) ⌝ }
+    requires { ⌜ ((k : ℕ) → foldAt (drop k (now s)) ≡ false) ⌝ }
     ensures { λ _. ⌜ now (out .exit) ≡ overlay (recordsFrom edition 0 (rawLines (now (s .entry)))) (now (out .entry)) ⌝ }
 {
     let mut at: usize = 0;
     let mut k: usize = 0;
     while at < s.len() {
-        let span = line_folds::spans::line_at(s, at);
-        let end = span.end;
+        let end = line_folds::hops::next_cr(s, at);
         let r = record_of(t, rows, edition, &s[at..end], at);
         put_record(out, k, r);
         k += limit::RECORD_LENGTH;
@@ -103,7 +104,7 @@ fn write_records(t: &ClassTable, rows: &PropertyTable, edition: Edition, s: &[u8
     }
 }
 
-// Writes s without its folds to the start of copy, and the records of the lines there to the start of out.
+// Writes s without its folds to the start of copy, where none is left, and the records of the lines there to the start of out.
 pub fn write_lines(
     t: &ClassTable,
     rows: &PropertyTable,
@@ -116,9 +117,10 @@ pub fn write_lines(
     requires { ⌜ Lists (now rows) ⌝ }
     requires { ⌜ length (now s) ≤ limit.octets ⌝ }
     requires { ⌜ (length (unfolded (now s)) ≤ length (now copy)) × (length (recordsFrom edition 0 (rawLines (unfolded (now s)))) ≤ length (now out)) ⌝ }
+    requires { ⌜ ((k : ℕ) → foldAt (drop k (unfolded (now s))) ≡ false) ⌝ }
     ensures { λ _. ⌜ now (copy .exit) ≡ overlay (unfolded (now (s .entry))) (now (copy .entry)) ⌝ }
     ensures { λ _. ⌜ now (out .exit) ≡ overlay (recordsFrom edition 0 (rawLines (unfolded (now (s .entry))))) (now (out .entry)) ⌝ }
 {
-    let n = line_unfolding::unfold(s, copy);
+    let n = line_unfolding::unfold_text(s, copy);
     write_records(t, rows, edition, &copy[..n], out);
 }

@@ -129,6 +129,9 @@ pub fn settle(step: Step, s: &[u8], at: usize) -> Step
 // An input of at most so many octets is judged with a scratch of as many, since the scratch is made at each call.
 const SHORT: usize = 1024;
 
+// So is one of at most so many, which is a small card.
+const SHORTEST: usize = 256;
+
 // Judges the lines one after the other, up to the first refusal, with a scratch that holds them all.
 fn walk_in(
     t: &ClassTable,
@@ -165,6 +168,10 @@ pub fn walk(t: &ClassTable, rows: &PropertyTable, steps: &[u8], edition: Edition
     requires { ⌜ length (now s) ≤ limit.octets ⌝ }
     ensures { λ r. ⌜ ((store : List ℕ) × (stepOf store r ≡ judgeLines edition (rawLines (now (s .entry))) 0 freshCard)) ⌝ }
 {
+    if s.len() <= SHORTEST {
+        let mut scratch = [0u8; SHORTEST];
+        return walk_in(t, rows, steps, edition, s, &mut scratch);
+    }
     if s.len() <= SHORT {
         let mut scratch = [0u8; SHORT];
         return walk_in(t, rows, steps, edition, s, &mut scratch);

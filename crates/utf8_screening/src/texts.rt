@@ -59,5 +59,5 @@ pub fn first_bad(s: &[u8], lf: bool) -> usize
         }
     }
     let t = octets::classes::table();
-    crate::units::first_bad(&t, s, lf)
+    crate::units::first_unfit(&t, s, lf)
 }

@@ -44,8 +44,8 @@ fn stride(t: &ClassTable, s: &[u8], i: usize, lf: bool) -> usize
     unit_length(t, s, i, lf)
 }
 
-// The exact scan of first_bad.
-fn first_unfit(t: &ClassTable, s: &[u8], lf: bool) -> usize
+// The exact scan of first_bad; a text of a call of its own is scanned by it at once, so that first_bad is compiled into the walk over lines.
+pub(crate) fn first_unfit(t: &ClassTable, s: &[u8], lf: bool) -> usize
     requires { ⌜ Classes (now t) ⌝ }
     ensures { λ r. ⌜ r ≡ firstBad (allowed lf) (now (s .entry)) ⌝ }
 {

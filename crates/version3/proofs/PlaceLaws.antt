@@ -18,7 +18,7 @@ use Rattle.version3.specs.declared.sheet.Tried.the-variants.{Done, Cramp
 use Rattle.line_folds.specs.Folds.{lineLength, unfolded}
 use Rattle.folder_line.specs.Pieces.{folded}
 use Rattle.version3.specs.Card.{turnOf, formOf, cardText}
-use Rattle.version3.specs.Places.{placed, share, Within, joinedBy, Grown, Shared, Overfull, first-over, second-over, others-over, Sorted, Narrow, line-over, first-narrow, second-narrow, others-narrow, TriedBy, Attempt}
+use Rattle.version3.specs.Places.{placed, share, Within, Lent, joinedBy, Grown, Shared, Overfull, first-over, second-over, others-over, Sorted, Halfway, Narrow, first-narrow, second-narrow, others-narrow, TriedBy, Attempt}
 use Rattle.version3.proofs.CardLaws.{card-places, places-turn, none-left, forms-none}
 
 share-own : (n turn : ℕ) (x : List ℕ) → turn ≡ n → share n turn x ≡ x
@@ -75,12 +75,11 @@ module _ (w : Way) (i : List ℕ) where
   pub joined-card : (e : Ends) (a b c : List ℕ) → Sorted w i e a b c → joinedBy e a b c ≡ cardText w i
   joined-card e a b c r = sym (card-places w i ∙ sym (rw (r .first-lines, r .second-lines, r .others-lines)))
 
-  -- with room for every line and every card a card that does not fit is over 16,384 octets
-  pub narrow-over : length i ≤ 16384 → Narrow w i 16384 16384 16384 16384 → 16384 < length (cardText w i)
-  narrow-over h (line-over k) = absurd (omega arith)
-  narrow-over h (first-narrow k) = k
-  narrow-over h (second-narrow k) = k
-  narrow-over h (others-narrow k) = k
+  -- with room for every card a card that does not fit is over 16,384 octets
+  pub narrow-over : Narrow w i 16384 16384 16384 → 16384 < length (cardText w i)
+  narrow-over (first-narrow k) = k
+  narrow-over (second-narrow k) = k
+  narrow-over (others-narrow k) = k
 
 -- what was written to each room, one after the other
 module _ (e : Ends) (a b c : List ℕ) (h : Within e a b c) where
@@ -99,24 +98,9 @@ module _ (e : Ends) (a b c : List ℕ) (h : Within e a b c) where
   pub joined-length : e .first + e .second + e .others ≡ length (joinedBy e a b c)
   joined-length = omega (arith, length-append (take (e .first) a ++ take (e .second) b) (take (e .others) c), both-length, others-length)
 
--- the lines before a place of the input stand in the rooms a, b and c, which were a₀, b₀ and c₀ at first
-pub record Halfway (w : Way) (s a₀ b₀ c₀ a b c : List ℕ) (at : ℕ) (e : Ends) : Type 0 where
-  pub first-same : length a ≡ length a₀
-  pub second-same : length b ≡ length b₀
-  pub others-same : length c ≡ length c₀
-  pub first-in : e .first ≤ length a
-  pub second-in : e .second ≤ length b
-  pub others-in : e .others ≤ length c
-  pub first-done : placed w 0 (logicalLines s) ≡ take (e .first) a ++ placed w 0 (logicalLines (drop at s))
-  pub second-done : placed w 1 (logicalLines s) ≡ take (e .second) b ++ placed w 1 (logicalLines (drop at s))
-  pub others-done : placed w 2 (logicalLines s) ≡ take (e .others) c ++ placed w 2 (logicalLines (drop at s))
-
-pub begun : (w : Way) (s a b c : List ℕ) → Halfway w s a b c a b c 0 (record { first = 0; second = 0; others = 0 })
+pub begun : (w : Way) (s a b c : List ℕ) → Halfway w s a b c 0 (record { first = 0; second = 0; others = 0 })
 begun w s a b c =
     record {
-      first-same = refl;
-      second-same = refl;
-      others-same = refl;
       first-in = omega arith;
       second-in = omega arith;
       others-in = omega arith;
@@ -125,22 +109,26 @@ begun w s a b c =
       others-done = refl;
     }
 
-module _ {w : Way} {s a₀ b₀ c₀ a b c : List ℕ} {at : ℕ} {e : Ends} (h : Halfway w s a₀ b₀ c₀ a b c at e) where
+module _ {w : Way} {s a b c : List ℕ} {at : ℕ} {e : Ends} (h : Halfway w s a b c at e) where
+  pub within : Lent a b c → Within e a b c
+  within m =
+      record {
+        first-in = h .first-in;
+        second-in = h .second-in;
+        others-in = h .others-in;
+        first-most = m .0;
+        second-most = m .1;
+        others-most = m .2;
+      }
+
   all-done : (n : ℕ) (all room : List ℕ) (k : ℕ) → length s ≤ at → all ≡ take k room ++ placed w n (logicalLines (drop at s)) → take k room ≡ all
   all-done n all room k z q =
       sym (q ∙ ap (λ (r : List ℕ). take k room ++ r) (ap (placed w n) (none-left s at z) ∙ forms-none w n) ∙ append-nil (take k room))
 
-  pub ended : length s ≤ at → (length a₀ ≤ 16384) × (length b₀ ≤ 16384) × (length c₀ ≤ 16384) → Sorted w s e a b c
+  pub ended : length s ≤ at → Lent a b c → Sorted w s e a b c
   ended z m =
       record {
-        within = record {
-          first-in = h .first-in;
-          second-in = h .second-in;
-          others-in = h .others-in;
-          first-most = omega (arith, h .first-same, m .0);
-          second-most = omega (arith, h .second-same, m .1);
-          others-most = omega (arith, h .others-same, m .2);
-        };
+        within = within m;
         first-lines = all-done 0 _ a (e .first) z (h .first-done);
         second-lines = all-done 1 _ b (e .second) z (h .second-done);
         others-lines = all-done 2 _ c (e .others) z (h .others-done);
@@ -159,12 +147,9 @@ module _ {w : Way} {s a₀ b₀ c₀ a b c : List ℕ} {at : ℕ} {e : Ends} (h 
     split n all room k q = q ∙ ap (λ (r : List ℕ). take k room ++ r) (places-turn s at t lt he le w n)
 
     module _ (a′ b′ c′ : List ℕ) (sa : length a′ ≡ length a) (sb : length b′ ≡ length b) (sc : length c′ ≡ length c) where
-      pub onward : (m : Ends) → Shared (turnOf l) (folded (formOf w l)) e m a b c a′ b′ c′ → Halfway w s a₀ b₀ c₀ a′ b′ c′ (t + 2) m
+      pub onward : (m : Ends) → Shared (turnOf l) (folded (formOf w l)) e m a b c a′ b′ c′ → Halfway w s a′ b′ c′ (t + 2) m
       onward m r =
           record {
-            first-same = sa ∙ h .first-same;
-            second-same = sb ∙ h .second-same;
-            others-same = sc ∙ h .others-same;
             first-in = r .first-share .inside;
             second-in = r .second-share .inside;
             others-in = r .others-share .inside;
@@ -173,17 +158,17 @@ module _ {w : Way} {s a₀ b₀ c₀ a b c : List ℕ} {at : ℕ} {e : Ends} (h 
             others-done = grow _ (gets 2) (placed w 2 (logicalLines (drop (t + 2) s))) c (e .others) (split 2 _ c (e .others) (h .others-done)) c′ (m .others) (r .others-share);
           }
 
-      pub cramped : (most : ℕ) → Overfull (turnOf l) (folded (formOf w l)) e a b c → Narrow w s most (length a′) (length b′) (length c′)
-      cramped most (first-over o) =
+      pub cramped : Overfull (turnOf l) (folded (formOf w l)) e a b c → Narrow w s (length a′) (length b′) (length c′)
+      cramped (first-over o) =
           first-narrow (first-size w s (length a′) (rw sa (outgrown _ (gets 0) (placed w 0 (logicalLines (drop (t + 2) s))) a (e .first) (split 0 _ a (e .first) (h .first-done)) (h .first-in) o)))
-      cramped most (second-over o) =
+      cramped (second-over o) =
           second-narrow (second-size w s (length b′) (rw sb (outgrown _ (gets 1) (placed w 1 (logicalLines (drop (t + 2) s))) b (e .second) (split 1 _ b (e .second) (h .second-done)) (h .second-in) o)))
-      cramped most (others-over o) =
+      cramped (others-over o) =
           others-narrow (others-size w s (length c′) (rw sc (outgrown _ (gets 2) (placed w 2 (logicalLines (drop (t + 2) s))) c (e .others) (split 2 _ c (e .others) (h .others-done)) (h .others-in) o)))
 
-pub narrowed : {w : Way} {i : List ℕ} {most a b c a′ b′ c′ : ℕ} → Narrow w i most a b c → a ≡ a′ → b ≡ b′ → c ≡ c′ → Narrow w i most a′ b′ c′
+pub narrowed : {w : Way} {i : List ℕ} {a b c a′ b′ c′ : ℕ} → Narrow w i a b c → a ≡ a′ → b ≡ b′ → c ≡ c′ → Narrow w i a′ b′ c′
 narrowed n p q r = rw (← p, ← q, ← r) n
 
-pub attempted : (w : Way) (i : List ℕ) (most a b c : ℕ) (before after : List ℕ) (r : Tried) → TriedBy w i most a b c before after r → Attempt w i before after r
-attempted w i most a b c before after (Done r) h = h
-attempted w i most a b c before after Untried h = h .0
+pub attempted : (w : Way) (i : List ℕ) (a b c : ℕ) (before after : List ℕ) (r : Tried) → TriedBy w i a b c before after r → Attempt w i before after r
+attempted w i a b c before after (Done r) h = h
+attempted w i a b c before after Untried h = h .0

@@ -4,7 +4,7 @@ use Prim.Native.Nat.{ℕ, _+_, _<_, _≤_}
 use mathlib.Core.Path.{_≡_}
 use mathlib.Core.List.{List, [], _++_}
 use lib.Dec.{eqb}
-use lib.ListN.{length, take}
+use lib.ListN.{length, take, drop}
 use Rattle.numbers.specs.Limits as limit
 use Rattle.octets.specs.Pick.{pick}
 use Rattle.octets.specs.Room.{filled, fillBounded}
@@ -16,6 +16,8 @@ use Rattle.version3.specs.declared.sheet.Added.the-variants.{Upto, Over}
 use Rattle.version3.specs.declared.sheet.Ends.{Ends}
 use Rattle.version3.specs.declared.sheet.Sheet.{Sheet}
 use Rattle.version3.specs.declared.sheet.Sheet.the-variants.{Placed, Cramped}
+use Rattle.version3.specs.declared.sheet.Reached.{Reached}
+use Rattle.version3.specs.declared.sheet.Reached.the-variants.{End, Long, Cramped as Stuck}
 use Rattle.version3.specs.declared.sheet.Tried.{Tried}
 use Rattle.version3.specs.declared.sheet.Tried.the-variants.{Done, Cramped as Untried}
 use Rattle.version3.specs.Card.{forms, cardText}
@@ -27,6 +29,10 @@ placed w n ls = foldedLines (forms w n ls)
 -- what a place gets of a line that stands in place turn
 unfoldable pub share : ℕ → ℕ → List ℕ → List ℕ
 share n turn x = pick (eqb turn n) x []
+
+-- rooms that are no larger than a card
+abbrev pub Lent : List ℕ → List ℕ → List ℕ → Type 0
+Lent first second others = (length first ≤ limit.octets) × (length second ≤ limit.octets) × (length others ≤ limit.octets)
 
 -- so many octets of each room, which is no larger than a card
 pub record Within (e : Ends) (first second others : List ℕ) : Type 0 where
@@ -73,21 +79,35 @@ pub record Sorted (w : Way) (i : List ℕ) (e : Ends) (a b c : List ℕ) : Type 
   pub second-lines : take (e .second) b ≡ placed w 1 (logicalLines i)
   pub others-lines : take (e .others) c ≡ placed w 2 (logicalLines i)
 
--- the input is longer than the longest line that has room, or the card is longer than some room
-pub data Narrow (w : Way) (i : List ℕ) (most a b c : ℕ) : Type 0 where
-  line-over : most < length i → Narrow w i most a b c
-  first-narrow : a < length (cardText w i) → Narrow w i most a b c
-  second-narrow : b < length (cardText w i) → Narrow w i most a b c
-  others-narrow : c < length (cardText w i) → Narrow w i most a b c
+-- the lines before a place of the input stand there
+pub record Halfway (w : Way) (i : List ℕ) (a b c : List ℕ) (at : ℕ) (e : Ends) : Type 0 where
+  pub first-in : e .first ≤ length a
+  pub second-in : e .second ≤ length b
+  pub others-in : e .others ≤ length c
+  pub first-done : placed w 0 (logicalLines i) ≡ take (e .first) a ++ placed w 0 (logicalLines (drop at i))
+  pub second-done : placed w 1 (logicalLines i) ≡ take (e .second) b ++ placed w 1 (logicalLines (drop at i))
+  pub others-done : placed w 2 (logicalLines i) ≡ take (e .others) c ++ placed w 2 (logicalLines (drop at i))
 
-abbrev pub SheetBy : Way → List ℕ → ℕ → List ℕ → List ℕ → List ℕ → Sheet → Type 0
-SheetBy w i most a b c (Placed e) = Sorted w i e a b c
-SheetBy w i most a b c Cramped = Narrow w i most (length a) (length b) (length c)
+-- the card is longer than some room
+pub data Narrow (w : Way) (i : List ℕ) (a b c : ℕ) : Type 0 where
+  first-narrow : a < length (cardText w i) → Narrow w i a b c
+  second-narrow : b < length (cardText w i) → Narrow w i a b c
+  others-narrow : c < length (cardText w i) → Narrow w i a b c
+
+abbrev pub SheetBy : Way → List ℕ → List ℕ → List ℕ → List ℕ → Sheet → Type 0
+SheetBy w i a b c (Placed e) = Sorted w i e a b c
+SheetBy w i a b c Cramped = Narrow w i (length a) (length b) (length c)
+
+-- all lines stand there, or those before a line of n octets, more than so many, do
+abbrev pub ReachedBy : Way → List ℕ → ℕ → List ℕ → List ℕ → List ℕ → Reached → Type 0
+ReachedBy w i most a b c (End e) = Sorted w i e a b c
+ReachedBy w i most a b c (Long at n e) = (most < n) × (n ≤ length i) × Halfway w i a b c at e
+ReachedBy w i most a b c Stuck = Narrow w i (length a) (length b) (length c)
 
 -- the card was written, or nothing, since some room is too small
-abbrev pub TriedBy : Way → List ℕ → ℕ → ℕ → ℕ → ℕ → List ℕ → List ℕ → Tried → Type 0
-TriedBy w i most a b c before after (Done r) = filled r after ≡ fillBounded (cardText w i) before
-TriedBy w i most a b c before after Untried = (after ≡ before) × Narrow w i most a b c
+abbrev pub TriedBy : Way → List ℕ → ℕ → ℕ → ℕ → List ℕ → List ℕ → Tried → Type 0
+TriedBy w i a b c before after (Done r) = filled r after ≡ fillBounded (cardText w i) before
+TriedBy w i a b c before after Untried = (after ≡ before) × Narrow w i a b c
 
 abbrev pub Attempt : Way → List ℕ → List ℕ → List ℕ → Tried → Type 0
 Attempt w i before after (Done r) = filled r after ≡ fillBounded (cardText w i) before

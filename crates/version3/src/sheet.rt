@@ -10,7 +10,7 @@ ghost use Rattle.line_folds.specs.Folds.{unfolded};
 ghost use Rattle.property_table.specs.Rows.{Lists};
 ghost use Rattle.folder_line.specs.Pieces.{folded, Clean};
 ghost use Rattle.version3.specs.Card.{turnOfRow, clear, cardText, Formed};
-ghost use Rattle.version3.specs.Places.{Within, joinedBy, AddedBy, PlacedBy, SheetBy, TriedBy, Attempt};
+ghost use Rattle.version3.specs.Places.{Within, Lent, joinedBy, AddedBy, PlacedBy, Halfway, SheetBy, ReachedBy, TriedBy, Attempt};
 use card_line::LineParts;
 use numbers::limit;
 use numbers::property;
@@ -22,25 +22,34 @@ use property_table::rows::PropertyTable;
 use version3_parameters::Way;
 
 // An input of at most so many octets is written with less room, since that room is made at each call.
+const SMALL: usize = 672;
+
 const SHORT: usize = 1024;
 
-// The longest line for which there is room at first: of a short input, and of any.
-const SHORT_LINE: usize = 672;
-
+// The longest line for which there is room at first in any other input, and then.
 const LINE: usize = 2048;
 
+const LONG_LINE: usize = 6144;
+
 // Room for such a line as the other version has it, and for any line.
-const SHORT_FORM: usize = 3 * SHORT_LINE + 20;
+const SMALL_FORM: usize = 3 * SMALL + 20;
+
+const SHORT_FORM: usize = 3 * SHORT + 20;
 
 const FORM: usize = 3 * LINE + 20;
 
-const LONG_FORM: usize = 3 * limit::OCTETS + 20;
+const LONG_FORM: usize = 3 * LONG_LINE + 20;
+
+const ANY_FORM: usize = 3 * limit::OCTETS + 20;
 
 // Room for the lines of the first place, and for those of the second.
 const HEAD: usize = 64;
 
-// Room for the other lines of a short input.
-const SHORT_CARD: usize = 2048;
+// Room for the other lines of a small input, and of a short one: over twice as much as it has, since a line grows to twice its length at most
+// and is folded.
+const SMALL_CARD: usize = 1536;
+
+const SHORT_CARD: usize = 2304;
 
 // The places of lines in a card: BEGIN first, VERSION second, then all others.
 const FIRST: usize = 0;
@@ -143,6 +152,14 @@ pub enum Sheet {
     Cramped,
 }
 
+// What was written when the lines came to their end, or to a line that is too long for the rooms of a line: where it starts, and how long it
+// is; or that the room of some place is too small.
+pub enum Reached {
+    End(Ends),
+    Long(usize, usize, Ends),
+    Cramped,
+}
+
 // What was answered and written, or that some room is too small for trying.
 pub enum Tried {
     Done(Written),
@@ -207,36 +224,35 @@ fn place_line(
     }
 }
 
-// Writes the lines of a card, each of at most so many octets, to the rooms of their places.
+// Writes the lines from `from` on to the rooms of their places, up to the first that has more than so many octets.
 fn place_lines(
     way: Way,
     t: &ClassTable,
     rows: &PropertyTable,
     s: &[u8],
+    from: usize,
+    ends: Ends,
     most: usize,
     scratch: &mut [u8],
     form: &mut [u8],
     first: &mut [u8],
     second: &mut [u8],
     others: &mut [u8],
-) -> Sheet
+) -> Reached
     requires { ⌜ Classes (now t) × Lists (now rows) ⌝ }
     requires { ⌜ (length (now s) ≤ limit.octets) × (most ≤ length (now scratch)) × (3 * most + 20 ≤ length (now form)) ⌝ }
-    requires { ⌜ (length (now first) ≤ limit.octets) × (length (now second) ≤ limit.octets) × (length (now others) ≤ limit.octets) ⌝ }
-    ensures { λ r. ⌜ SheetBy way (now (s .entry)) most (now (first .exit)) (now (second .exit)) (now (others .exit)) r ⌝ }
+    requires { ⌜ Lent (now first) (now second) (now others) ⌝ }
+    requires { ⌜ Halfway way (now s) (now first) (now second) (now others) from ends ⌝ }
+    ensures { λ r. ⌜ ReachedBy way (now (s .entry)) most (now (first .exit)) (now (second .exit)) (now (others .exit)) r ⌝ }
 {
-    let mut at: usize = 0;
-    let mut e = Ends {
-        first: 0,
-        second: 0,
-        others: 0,
-    };
+    let mut at = from;
+    let mut e = ends;
     while at < s.len() {
         let span = line_folds::spans::line_at(s, at);
         let end = span.end;
         let folds = span.cr != end;
         if most < end - at {
-            return Sheet::Cramped;
+            return Reached::Long(at, end - at, e);
         }
         let f = form_span(way, t, rows, &s[at..end], folds, scratch, form);
         let length = f.length;
@@ -247,11 +263,159 @@ fn place_lines(
                 at = end + 2;
             }
             Sheet::Cramped => {
-                return Sheet::Cramped;
+                return Reached::Cramped;
             }
         }
     }
-    Sheet::Placed(e)
+    Reached::End(e)
+}
+
+// The same with room for long lines.
+fn place_long(
+    way: Way,
+    t: &ClassTable,
+    rows: &PropertyTable,
+    s: &[u8],
+    from: usize,
+    ends: Ends,
+    first: &mut [u8],
+    second: &mut [u8],
+    others: &mut [u8],
+) -> Reached
+    requires { ⌜ Classes (now t) × Lists (now rows) ⌝ }
+    requires { ⌜ length (now s) ≤ limit.octets ⌝ }
+    requires { ⌜ Lent (now first) (now second) (now others) ⌝ }
+    requires { ⌜ Halfway way (now s) (now first) (now second) (now others) from ends ⌝ }
+    ensures { λ r. ⌜ ReachedBy way (now (s .entry)) 6144 (now (first .exit)) (now (second .exit)) (now (others .exit)) r ⌝ }
+{
+    let mut scratch = [0u8; LONG_LINE];
+    let mut form = [0u8; LONG_FORM];
+    place_lines(
+        way,
+        t,
+        rows,
+        s,
+        from,
+        ends,
+        LONG_LINE,
+        &mut scratch,
+        &mut form,
+        first,
+        second,
+        others,
+    )
+}
+
+// The same with room for every line.
+fn place_any(
+    way: Way,
+    t: &ClassTable,
+    rows: &PropertyTable,
+    s: &[u8],
+    from: usize,
+    ends: Ends,
+    first: &mut [u8],
+    second: &mut [u8],
+    others: &mut [u8],
+) -> Sheet
+    requires { ⌜ Classes (now t) × Lists (now rows) ⌝ }
+    requires { ⌜ length (now s) ≤ limit.octets ⌝ }
+    requires { ⌜ Lent (now first) (now second) (now others) ⌝ }
+    requires { ⌜ Halfway way (now s) (now first) (now second) (now others) from ends ⌝ }
+    ensures { λ r. ⌜ SheetBy way (now (s .entry)) (now (first .exit)) (now (second .exit)) (now (others .exit)) r ⌝ }
+{
+    let mut scratch = [0u8; limit::OCTETS];
+    let mut form = [0u8; ANY_FORM];
+    match place_lines(
+        way,
+        t,
+        rows,
+        s,
+        from,
+        ends,
+        limit::OCTETS,
+        &mut scratch,
+        &mut form,
+        first,
+        second,
+        others,
+    ) {
+        Reached::End(e) => Sheet::Placed(e),
+        Reached::Long(at, n, e) => Sheet::Cramped,
+        Reached::Cramped => Sheet::Cramped,
+    }
+}
+
+// Writes the lines from a long one of n octets on to the rooms of their places.
+fn place_rest(
+    way: Way,
+    t: &ClassTable,
+    rows: &PropertyTable,
+    s: &[u8],
+    from: usize,
+    n: usize,
+    ends: Ends,
+    first: &mut [u8],
+    second: &mut [u8],
+    others: &mut [u8],
+) -> Sheet
+    requires { ⌜ Classes (now t) × Lists (now rows) ⌝ }
+    requires { ⌜ length (now s) ≤ limit.octets ⌝ }
+    requires { ⌜ Lent (now first) (now second) (now others) ⌝ }
+    requires { ⌜ Halfway way (now s) (now first) (now second) (now others) from ends ⌝ }
+    ensures { λ r. ⌜ SheetBy way (now (s .entry)) (now (first .exit)) (now (second .exit)) (now (others .exit)) r ⌝ }
+{
+    if LONG_LINE < n {
+        return place_any(way, t, rows, s, from, ends, first, second, others);
+    }
+    match place_long(way, t, rows, s, from, ends, first, second, others) {
+        Reached::End(e) => Sheet::Placed(e),
+        Reached::Long(at, more, e) => place_any(way, t, rows, s, at, e, first, second, others),
+        Reached::Cramped => Sheet::Cramped,
+    }
+}
+
+// Writes the lines of a card to the rooms of their places: those before the first that has more than so many octets, and then the others, so that
+// no line is written twice.
+fn place_card(
+    way: Way,
+    s: &[u8],
+    most: usize,
+    scratch: &mut [u8],
+    form: &mut [u8],
+    first: &mut [u8],
+    second: &mut [u8],
+    others: &mut [u8],
+) -> Sheet
+    requires { ⌜ (length (now s) ≤ limit.octets) × (most ≤ length (now scratch)) × (3 * most + 20 ≤ length (now form)) ⌝ }
+    requires { ⌜ Lent (now first) (now second) (now others) ⌝ }
+    ensures { λ r. ⌜ SheetBy way (now (s .entry)) (now (first .exit)) (now (second .exit)) (now (others .exit)) r ⌝ }
+{
+    let t = octets::classes::table();
+    let rows = property_table::table();
+    let none = Ends {
+        first: 0,
+        second: 0,
+        others: 0,
+    };
+    match place_lines(
+        way,
+        &t,
+        &rows,
+        s,
+        0,
+        none,
+        most,
+        scratch,
+        form,
+        first,
+        second,
+        others,
+    ) {
+        Reached::End(e) => Sheet::Placed(e),
+        Reached::Long(at, n, e) => place_rest(way, &t, &rows, s, at, n, e, first, second, others),
+        Reached::Cramped => Sheet::Cramped,
+    }
 }
 
 // Writes what stands in the three places one after the other: 16 where that is over 16,384 octets, 15 where out is too small for it, else the
@@ -277,7 +441,7 @@ fn join(e: Ends, first: &[u8], second: &[u8], others: &[u8], out: &mut [u8]) -> 
     Written::Wrote(n)
 }
 
-// Writes the card with rooms for its places, and for a line of at most so many octets.
+// Writes the card with rooms for its places, and at first for a line of at most so many octets.
 fn write_in(
     way: Way,
     s: &[u8],
@@ -290,42 +454,29 @@ fn write_in(
     out: &mut [u8],
 ) -> Tried
     requires { ⌜ (length (now s) ≤ limit.octets) × (most ≤ length (now scratch)) × (3 * most + 20 ≤ length (now form)) ⌝ }
-    requires { ⌜ (length (now first) ≤ limit.octets) × (length (now second) ≤ limit.octets) × (length (now others) ≤ limit.octets) ⌝ }
-    ensures { λ r. ⌜ TriedBy way (now (s .entry)) most (length (now (first .entry))) (length (now (second .entry))) (length (now (others .entry))) (now (out .entry)) (now (out .exit)) r ⌝ }
+    requires { ⌜ Lent (now first) (now second) (now others) ⌝ }
+    ensures { λ r. ⌜ TriedBy way (now (s .entry)) (length (now (first .entry))) (length (now (second .entry))) (length (now (others .entry))) (now (out .entry)) (now (out .exit)) r ⌝ }
 {
-    let t = octets::classes::table();
-    let rows = property_table::table();
-    match place_lines(
-        way,
-        &t,
-        &rows,
-        s,
-        most,
-        scratch,
-        form,
-        first,
-        second,
-        others,
-    ) {
+    match place_card(way, s, most, scratch, form, first, second, others) {
         Sheet::Placed(e) => Tried::Done(join(e, first, second, others, out)),
         Sheet::Cramped => Tried::Cramped,
     }
 }
 
-// The same with little room, for a short input.
-fn write_short(way: Way, s: &[u8], out: &mut [u8]) -> Tried
+// The same with little room, for a small input.
+fn write_small(way: Way, s: &[u8], out: &mut [u8]) -> Tried
     requires { ⌜ length (now s) ≤ limit.octets ⌝ }
     ensures { λ r. ⌜ Attempt way (now (s .entry)) (now (out .entry)) (now (out .exit)) r ⌝ }
 {
-    let mut scratch = [0u8; SHORT_LINE];
-    let mut form = [0u8; SHORT_FORM];
+    let mut scratch = [0u8; SMALL];
+    let mut form = [0u8; SMALL_FORM];
     let mut first = [0u8; HEAD];
     let mut second = [0u8; HEAD];
-    let mut others = [0u8; SHORT_CARD];
+    let mut others = [0u8; SMALL_CARD];
     write_in(
         way,
         s,
-        SHORT_LINE,
+        SMALL,
         &mut scratch,
         &mut form,
         &mut first,
@@ -335,7 +486,30 @@ fn write_short(way: Way, s: &[u8], out: &mut [u8]) -> Tried
     )
 }
 
-// The same with room for all but long lines.
+// The same for a short input.
+fn write_short(way: Way, s: &[u8], out: &mut [u8]) -> Tried
+    requires { ⌜ length (now s) ≤ limit.octets ⌝ }
+    ensures { λ r. ⌜ Attempt way (now (s .entry)) (now (out .entry)) (now (out .exit)) r ⌝ }
+{
+    let mut scratch = [0u8; SHORT];
+    let mut form = [0u8; SHORT_FORM];
+    let mut first = [0u8; HEAD];
+    let mut second = [0u8; HEAD];
+    let mut others = [0u8; SHORT_CARD];
+    write_in(
+        way,
+        s,
+        SHORT,
+        &mut scratch,
+        &mut form,
+        &mut first,
+        &mut second,
+        &mut others,
+        out,
+    )
+}
+
+// The same for any input: BEGIN and VERSION of a card that was judged good have room.
 fn write_usual(way: Way, s: &[u8], out: &mut [u8]) -> Tried
     requires { ⌜ length (now s) ≤ limit.octets ⌝ }
     ensures { λ r. ⌜ Attempt way (now (s .entry)) (now (out .entry)) (now (out .exit)) r ⌝ }
@@ -358,20 +532,20 @@ fn write_usual(way: Way, s: &[u8], out: &mut [u8]) -> Tried
     )
 }
 
-// The same with room for every line.
+// The same with room for any BEGIN and VERSION.
 fn write_all(way: Way, s: &[u8], out: &mut [u8]) -> Written
     requires { ⌜ length (now s) ≤ limit.octets ⌝ }
     ensures { λ r. ⌜ filled r (now (out .exit)) ≡ fillBounded (cardText way (now (s .entry))) (now (out .entry)) ⌝ }
 {
-    let mut scratch = [0u8; limit::OCTETS];
-    let mut form = [0u8; LONG_FORM];
+    let mut scratch = [0u8; LINE];
+    let mut form = [0u8; FORM];
     let mut first = [0u8; limit::OCTETS];
     let mut second = [0u8; limit::OCTETS];
     let mut others = [0u8; limit::OCTETS];
     match write_in(
         way,
         s,
-        limit::OCTETS,
+        LINE,
         &mut scratch,
         &mut form,
         &mut first,
@@ -384,15 +558,18 @@ fn write_all(way: Way, s: &[u8], out: &mut [u8]) -> Written
     }
 }
 
-// Writes a card with room for all but long lines, and else with room for every line.
-fn write_long(way: Way, s: &[u8], out: &mut [u8]) -> Written
+// Writes the card with room by the length of the input.
+fn write_by_length(way: Way, s: &[u8], out: &mut [u8]) -> Tried
     requires { ⌜ length (now s) ≤ limit.octets ⌝ }
-    ensures { λ r. ⌜ filled r (now (out .exit)) ≡ fillBounded (cardText way (now (s .entry))) (now (out .entry)) ⌝ }
+    ensures { λ r. ⌜ Attempt way (now (s .entry)) (now (out .entry)) (now (out .exit)) r ⌝ }
 {
-    match write_usual(way, s, out) {
-        Tried::Done(w) => w,
-        Tried::Cramped => write_all(way, s, out),
+    if s.len() <= SMALL {
+        return write_small(way, s, out);
     }
+    if s.len() <= SHORT {
+        return write_short(way, s, out);
+    }
+    write_usual(way, s, out)
 }
 
 // Writes the card: 16 where it has over 16,384 octets, 15 where out is too small for it, else the octets written.
@@ -400,11 +577,8 @@ pub fn write_card(way: Way, s: &[u8], out: &mut [u8]) -> Written
     requires { ⌜ length (now s) ≤ limit.octets ⌝ }
     ensures { λ r. ⌜ filled r (now (out .exit)) ≡ fillBounded (cardText way (now (s .entry))) (now (out .entry)) ⌝ }
 {
-    if SHORT < s.len() {
-        return write_long(way, s, out);
-    }
-    match write_short(way, s, out) {
+    match write_by_length(way, s, out) {
         Tried::Done(w) => w,
-        Tried::Cramped => write_long(way, s, out),
+        Tried::Cramped => write_all(way, s, out),
     }
 }

@@ -1,7 +1,7 @@
 -- Text unescaped and escaped anew, octet by octet: `\N` becomes `\n`, and where a semicolon parts nothing a bare one becomes `\;`; all else
 -- stays. A backslash takes the next octet along. Assumes nothing.
 use Prim.Native.Nat.{ℕ}
-use mathlib.Core.Bool.{Bool, _&&_}
+use mathlib.Core.Bool.{Bool, not, _&&_}
 use mathlib.Core.List.{List, [], _∷_}
 use lib.Dec.{eqb, ltb}
 use lib.ListN.{length, getD}
@@ -16,6 +16,10 @@ pairAt l = eqb (getD l 0 0) ascii.backslash && ltb 1 (length l)
 -- what follows the backslash of an escape that is written anew
 unfoldable pub small : ℕ → ℕ
 small b = pick (eqb b ascii.capitalN) ascii.smallN b
+
+-- neither a backslash nor a semicolon
+unfoldable pub unmarked : ℕ → Bool
+unmarked b = not (eqb b ascii.backslash) && not (eqb b ascii.semicolon)
 
 -- how many octets the escape or the octet has that stands here
 unfoldable pub passed : List ℕ → ℕ

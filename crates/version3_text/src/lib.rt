@@ -8,6 +8,8 @@ ghost use Rattle.octets.specs.Ascii as ascii;
 ghost use Rattle.octets.specs.Room.{overlay};
 ghost use Rattle.version3_text.specs.Renewed.{pairAt, small, renewed, semicolons};
 
+mod marks;
+
 // Whether a backslash stands at i, and an octet after it.
 fn is_pair(s: &[u8], i: usize) -> bool
     requires { ⌜ i < length (now s) ⌝ }
@@ -40,7 +42,7 @@ fn is_marked(b: u8, whole: bool) -> bool
 }
 
 // Writes a text anew to the start of `out`, and answers how many octets that are: `\N` as `\n`, and a bare semicolon as `\;` in a text that is
-// `whole`, not parted by semicolons.
+// `whole`, not parted by semicolons. The octets up to the next backslash or semicolon are written at once.
 pub fn renew(whole: bool, text: &[u8], out: &mut [u8]) -> usize
     requires { ⌜ length (renewed whole (now text)) ≤ length (now out) ⌝ }
     ensures { λ r. ⌜ (r ≡ length (renewed whole (now (text .entry)))) × (now (out .exit) ≡ overlay (renewed whole (now (text .entry))) (now (out .entry))) ⌝ }
@@ -59,9 +61,10 @@ pub fn renew(whole: bool, text: &[u8], out: &mut [u8]) -> usize
             j += 2;
             i += 1;
         } else {
-            out[j] = text[i];
-            j += 1;
-            i += 1;
+            let end = marks::next_mark(text, i + 1);
+            octets::copying::copy_in(&mut out[j..], &text[i..end]);
+            j += end - i;
+            i = end;
         }
     }
     j
@@ -80,7 +83,7 @@ pub fn count_semicolons(text: &[u8]) -> usize
             n += 1;
             i += 1;
         } else {
-            i += 1;
+            i = marks::next_mark(text, i + 1);
         }
     }
     n

@@ -1,6 +1,6 @@
 -- What a chunk makes of a state with no fault known, and of its buffer. Assumes nothing.
 use mathlib.Core.Path.{_≡_, refl, sym, ap, subst, _∙_}
-use mathlib.Core.Bool.{Bool, true, false, _||_, false≢true}
+use mathlib.Core.Bool.{Bool, true, false, _||_}
 use mathlib.Core.List.{List, [], _∷_, _++_, append-assoc, append-nil}
 use Prim.Native.Nat.{ℕ, zero, suc, _+_, _-_, _<_, _≤_}
 use native.Mathlib.Omega.{arith}
@@ -22,16 +22,15 @@ use Rattle.card_state.proofs.Step.{the-type}
 use Rattle.card_state.proofs.KeptLaws.{card-front}
 use Rattle.desk_pool.specs.Pools.{patch}
 use Rattle.reader.specs.Outcome.{verdictOf}
-use Rattle.reader_walk.specs.Walk.{onward, settled, judgeLines}
+use Rattle.reader_walk.specs.Walk.{onward, judgeLines}
 use Rattle.watch_buffer.specs.Buffer.{padded}
 use Rattle.watch_buffer.proofs.BufferLaws.{append-padded, clear-padded, padded-front, padded-rest}
 use Rattle.watch_arrivals.specs.Arrivals.{tailFrom, loneFrom, nextFrom}
 use Rattle.watch_arrivals.proofs.ArrivalLaws.{lone-append, tail-append}
 use Rattle.watch_lines.specs.Parting.{Parting, withLine, opened, parted, endedLines, openLine}
-use Rattle.watch_lines.specs.Values.{halted, valuesOn, valuesNext, valuesFrom}
-use Rattle.watch_lines.specs.Taking.{kept, judgement, valuesAfter, Took, Within, Went}
-use Rattle.watch_lines.proofs.TakingLaws.{Rest, rest-start, rest-refused, rest-next, within-next, stopped-never}
-use Rattle.watch_lines.proofs.RunLaws.{sizes, judge-append, values-append, halted-values, open-law, ended-all, open-all, none-ends, some-ends, two-there, ends-size, line-ends}
+use Rattle.watch_lines.specs.Values.{halted, valuesOn, valuesFrom}
+use Rattle.watch_lines.specs.Taking.{kept, joinedLine, Within, Went}
+use Rattle.watch_lines.proofs.RunLaws.{sizes, judge-append, values-append, halted-values, open-law, ended-all, open-all, none-ends, some-ends, two-there, line-ends}
 use Rattle.watch.specs.Octets.{judged, altidOctets, known, used, bufferAfter}
 use Rattle.watch.specs.declared.Watch.{Watch}
 use Rattle.watch.specs.State.{quietState, openState, stoppedState, claims, Sound, Live, Quiet, Faulty, Stands, After}
@@ -63,16 +62,6 @@ pub padded-before : (u x : List ℕ) (n : ℕ) → n ≡ length u → take n (pa
 unfolding padded
 padded-before u x n e = ap (take n) (append-assoc u x (replicate (16384 - length (u ++ x)) 0)) ∙ take-at u (x ++ replicate (16384 - length (u ++ x)) 0) n (sym e)
 
-settled-halted : (p : ℕ) (l : List ℕ) (x : Step) → halted (settled p l x) ≡ halted x
-settled-halted p l (Next c) = refl
-settled-halted p l (Refused n q) = refl
-settled-halted p l (Flawed n o) = refl
-
-values-none : (x : Step) (f : Card → List ℕ) → halted x ≡ true → valuesOn x f ≡ []
-values-none (Next c) f h = absurd (false≢true h)
-values-none (Refused n q) f h = refl
-values-none (Flawed n o) f h = refl
-
 abbrev Stopped : KeptStep → Type 0
 Stopped j = OneOf (1 ∷ 2 ∷ []) (tagOf the-type j)
 
@@ -95,19 +84,6 @@ module _ (i b : List ℕ) (n tail : ℕ) (short : length i ≤ 16384) (fine : Fi
     stands = faulty (record { known = refl; short = short; fine = fine; fault = (ap halted j, λ m. ap (verdictOf m) j); quiet = record { start = size; line = refl; card = refl }; tail = ends });
     holds = z ∙ sym (buffer-zero i (known-line i (ap halted j)));
   }
-
--- the state after the line that the first k octets of a chunk end keeps within the octets so far
-pub joined-within : (w : Watch) (b c b₁ : List ℕ) (k to : ℕ) (d : Kept) → Within (w .card) (w .start) → k ≤ length c → 2 ≤ w .«open» + k → claims w ≤ length b
-    → Took (w .card) (take (w .«open» + length (take k c) - 2) (take (w .«open») (drop (w .card .used) b) ++ take k c)) b b₁ (w .start) to (next d)
-    → Within d (w .start + w .«open» + k)
-joined-within w b c b₁ k to d win h two low t =
-    let line = take (w .«open») (drop (w .card .used) b) ++ take k c in
-    let n : length (take k c) ≡ k = length-take-le k c h in
-    let m : length (take (w .«open») (drop (w .card .used) b)) ≡ w .«open» = length-take-le (w .«open») (drop (w .card .used) b) (rw length-drop (omega arith)) in
-    let size : length (take (w .«open» + length (take k c) - 2) line) ≡ w .«open» + length (take k c) - 2 =
-    length-take-le (w .«open» + length (take k c) - 2) line (rw (length-append (take (w .«open») (drop (w .card .used) b)) (take k c)) (omega (arith, m))) in
-    let on : w .start + length (take (w .«open» + length (take k c) - 2) line) + 2 ≡ w .start + w .«open» + k = omega (arith, size, n, two) in
-    subst (Within d) on (within-next (w .card) d (take (w .«open» + length (take k c) - 2) line) b b₁ (w .start) to win t)
 
 -- a chunk c after the octets i, with no fault of 1 or 3 known
 module _ (w : Watch) (b i c : List ℕ) (l : Live w b i) (holds : b ≡ bufferAfter i) (room : w .start + w .«open» + length c ≤ 16384)
@@ -221,12 +197,9 @@ module _ (w : Watch) (b i c : List ℕ) (l : Live w b i) (holds : b ≡ bufferAf
     first-ends : parted (o ++ c) ≡ withLine s (parted m)
     first-ends = subst (λ (e : ℕ). parted (o ++ c) ≡ withLine (take (length o + e - 2) (o ++ c)) (parted (drop e c))) (sym at-is) (some-ends i c there)
 
-    first-size : length s + 2 + length m ≡ length (o ++ c)
-    first-size = subst (λ (e : ℕ). length (take (length o + e - 2) (o ++ c)) + 2 + length (drop e c) ≡ length (o ++ c)) (sym at-is) (ends-size i c there)
-
     -- the line as it is joined
     abbrev joined-line : List ℕ
-    joined-line = take (w .«open» + length (take k c) - 2) (take (w .«open») (drop (w .card .used) b) ++ take k c)
+    joined-line = joinedLine (w .card) (w .«open») b (take k c)
 
     same-line : joined-line ≡ s
     same-line =
@@ -236,62 +209,35 @@ module _ (w : Watch) (b i c : List ℕ) (l : Live w b i) (holds : b ≡ bufferAf
         ∙ ap (λ (z : ℕ). take z (o ++ take k c)) e
         ∙ subst (λ (z : ℕ). take (length o + z - 2) (o ++ take z c) ≡ take (length o + z - 2) (o ++ c)) (sym at-is) (line-ends i c there)
 
-    abbrev to : ℕ
-    to = w .card .used + (w .«open» + length (take k c))
-
     two-octets : 2 ≤ length o + k
     two-octets = subst (λ (e : ℕ). 2 ≤ length o + e) (sym at-is) (two-there i c there)
 
-    s-size : length s ≡ length o + k - 2
-    s-size = length-take-le (length o + k - 2) (o ++ c) (omega (arith, length-append o c))
+    line-size : length joined-line + 2 ≡ w .«open» + k
+    line-size = omega (arith, ap length same-line, length-take-le (length o + k - 2) (o ++ c) (omega (arith, length-append o c)), l .line, two-octets)
 
-    to-is : to ≡ w .card .used + length s + 2
-    to-is = omega (arith, s-size, two-octets, l .line, length-take-le k c (omega arith))
+    zero-behind : drop (w .card .used + length joined-line + 2) b ≡ replicate (16384 - (w .card .used + length joined-line + 2)) 0
+    zero-behind =
+        let n = w .card .used + length joined-line + 2 in
+        ap (drop n) buffer-is ∙ padded-rest (a ++ o) n (omega (arith, used-low, line-size))
 
-    zero-behind : drop to b ≡ replicate (16384 - to) 0
-    zero-behind = ap (drop to) buffer-is ∙ padded-rest (a ++ o) to (omega (arith, used-low))
+    ended-is : endedLines (o ++ c) ≡ joined-line ∷ endedLines m
+    ended-is = ap (λ (q : Parting). q .ended) first-ends ∙ ap (λ (x : List ℕ). x ∷ endedLines m) (sym same-line)
 
-    so-far : Rest (w .card) (o ++ c) b (w .start) (w .card) (o ++ c) b (w .start)
-    so-far = rest-start (w .card) (o ++ c) b (w .start) (omega (arith, l .within .used, room, full))
-
-    -- it was refused
-    pub after-refused : (r : KeptStep) → Stopped r → (b₁ : List ℕ) → Took (w .card) joined-line b b₁ (w .start) to r
-        → (n tail : ℕ) → n ≡ w .start + w .«open» + length c → tail ≡ tailFrom (w .tail) c → After (stoppedState r n tail) b₁ (i ++ c)
-    after-refused r h b₁ t n tail size ends =
-        let t′ = subst (λ (x : List ℕ). Took (w .card) x b b₁ (w .start) to r) same-line t in
-        let e = rest-refused (w .card) (o ++ c) b (w .start) (w .card) (o ++ c) b (w .start) so-far s m first-ends b₁ to to-is first-size r (stopped-never r h) t′ in
-        let z : halted (judgement (w .card) b s (w .start)) ≡ true = sym (settled-halted (w .start) s (judgement (w .card) b s (w .start))) ∙ ap halted (sym (t′ .step)) ∙ halts r h b₁ in
-        after-stopped (i ++ c) b₁ n tail all-short all-fine (omega (arith, size, l .count, all-long)) (ends ∙ all-tail) r h (judged-all ∙ sym (e .0))
-        (t′ .buffer zero-behind ∙ ap padded (values-none (judgement (w .card) b s (w .start)) (valuesNext (kept (w .card) b) (cardOf (w .card) b) s) z))
-
-    -- it led to the state d, and the lines after it were judged
-    module _ (d : Kept) (b₁ : List ℕ) (t : Took (w .card) joined-line b b₁ (w .start) to (next d)) (low : d .used ≤ length b₁)
-        (r : KeptStep) (b₂ : List ℕ) (at : ℕ) (g : Went d m b₁ b₂ (w .start + w .«open» + k) r (drop at c)) (at-low : k ≤ at) (at-high : at ≤ length c) where
-      led : Took (w .card) s b b₁ (w .start) to (next d)
-      led = subst (λ (x : List ℕ). Took (w .card) x b b₁ (w .start) to (next d)) same-line t
-
-      on : Rest (w .card) (o ++ c) b (w .start) d m b₁ (w .start + w .«open» + k)
-      on =
-          let p : w .start + length s + 2 ≡ w .start + w .«open» + k = omega (arith, s-size, l .line, two-octets) in
-          subst (Rest (w .card) (o ++ c) b (w .start) d m b₁) p
-          (rest-next (w .card) (o ++ c) b (w .start) (w .card) (o ++ c) b (w .start) so-far s m first-ends b₁ to to-is first-size d low led)
-
-      pads : b₁ ≡ padded (kept d b₁)
-      pads = led .buffer zero-behind ∙ ap padded (sym (led .front d refl .1))
-
+    -- the lines that end with the chunk were judged
+    module _ (r : KeptStep) (b₂ : List ℕ) (at : ℕ) (g : Went (w .card) joined-line m b b₂ (w .start) r (drop at c)) (at-low : k ≤ at) (at-high : at ≤ length c) where
       abbrev values : List ℕ
-      values = valuesFrom (endedLines m) (w .start + w .«open» + k) (cardOf d b₁) (kept d b₁)
+      values = valuesFrom (joined-line ∷ endedLines m) (w .start) (cardOf (w .card) b) (kept (w .card) b)
 
       values-are : altidOctets (i ++ c) ≡ values
-      values-are = values-all ∙ on .values
+      values-are = values-all ∙ ap (λ (ls : List (List ℕ)). valuesFrom ls (w .start) (cardOf (w .card) b) (kept (w .card) b)) ended-is
 
       judged-are : judged (i ++ c) ≡ stepOf b₂ r
-      judged-are = judged-all ∙ on .judged ∙ sym (g .step)
+      judged-are = judged-all ∙ ap (λ (ls : List (List ℕ)). judgeLines First ls (w .start) (cardOf (w .card) b)) ended-is ∙ sym (g .step)
 
-      pub after-later : Stopped r → (n tail : ℕ) → n ≡ w .start + w .«open» + length c → tail ≡ tailFrom (w .tail) c → After (stoppedState r n tail) b₂ (i ++ c)
-      after-later h n tail size ends =
-          let none : values ≡ [] = halted-values (endedLines m) (w .start + w .«open» + k) (cardOf d b₁) (kept d b₁) (ap halted (sym (g .step)) ∙ halts r h b₂) in
-          after-stopped (i ++ c) b₂ n tail all-short all-fine (omega (arith, size, l .count, all-long)) (ends ∙ all-tail) r h judged-are (g .buffer pads ∙ ap padded none)
+      pub after-refused : Stopped r → (n tail : ℕ) → n ≡ w .start + w .«open» + length c → tail ≡ tailFrom (w .tail) c → After (stoppedState r n tail) b₂ (i ++ c)
+      after-refused h n tail size ends =
+          let none : values ≡ [] = halted-values (joined-line ∷ endedLines m) (w .start) (cardOf (w .card) b) (kept (w .card) b) (ap halted (sym (g .step)) ∙ halts r h b₂) in
+          after-stopped (i ++ c) b₂ n tail all-short all-fine (omega (arith, size, l .count, all-long)) (ends ∙ all-tail) r h judged-are (g .buffer zero-behind ∙ ap padded none)
 
       pub after-kept : (f : Kept) → r ≡ next f → (tail : ℕ) → tail ≡ tailFrom (w .tail) c → (b₃ : List ℕ) → b₃ ≡ patch b₂ (f .used) (drop at c)
           → After (openState (w .start + w .«open» + at) (length c - at) tail f) b₃ (i ++ c)
@@ -301,15 +247,15 @@ module _ (w : Watch) (b i c : List ℕ) (l : Live w b i) (holds : b ≡ bufferAf
           let n : length left ≡ length c - at = length-drop at c in
           let size : f .used ≡ length values = g .sized f e in
           let rest = g .rest f e in
-          let p : w .start + w .«open» + k + (length m - length left) ≡ w .start + w .«open» + at = omega (arith, n, length-drop k c) in
+          let p : w .start + (length joined-line + 2) + (length m - length left) ≡ w .start + w .«open» + at = omega (arith, n, length-drop k c, line-size) in
           let win : Within f (w .start + w .«open» + at) = subst (Within f) p (rest .1) in
           let put : b₃ ≡ padded (values ++ left) =
-          laid ∙ ap (λ (x : List ℕ). patch x (f .used) left) (g .buffer pads) ∙ ap (λ (z : ℕ). patch (padded values) z left) size
+          laid ∙ ap (λ (x : List ℕ). patch x (f .used) left) (g .buffer zero-behind) ∙ ap (λ (z : ℕ). patch (padded values) z left) size
           ∙ append-padded values left (omega (arith, size, n, win .used, room)) in
           let same-front : take (f .used) b₂ ≡ take (f .used) b₃ =
-          ap (take (f .used)) (g .buffer pads ∙ ap padded (sym (append-nil values))) ∙ padded-before values [] (f .used) size ∙ sym (ap (take (f .used)) put ∙ padded-before values left (f .used) size) in
+          ap (take (f .used)) (g .buffer zero-behind ∙ ap padded (sym (append-nil values))) ∙ padded-before values [] (f .used) size ∙ sym (ap (take (f .used)) put ∙ padded-before values left (f .used) size) in
           let j : judged (i ++ c) ≡ Next (cardOf f b₃) = judged-are ∙ ap (stepOf b₂) e ∙ ap Next (card-front f b₂ b₃ (win .lies) same-front) in
-          let line : openLine (i ++ c) ≡ left = open-all i c ∙ on .opens ∙ sym (rest .0) in
+          let line : openLine (i ++ c) ≡ left = open-all i c ∙ ap (λ (q : Parting). q .left) first-ends ∙ sym (rest .0) in
           record {
             stands = live (record {
               known = refl;

@@ -27,11 +27,10 @@ use Rattle.watch_arrivals.specs.Arrivals.{tailStep, tailFrom, loneFrom, nextFro
 use Rattle.watch_arrivals.proofs.ArrivalLaws.{tail-append, tail-short, next-tail}
 use Rattle.watch_lines.specs.Parting.{endedLines, openLine}
 use Rattle.watch_lines.specs.Values.{valuesFrom, buffersFrom}
-use Rattle.watch_lines.specs.Taking.{kept, judgement, Took, Within, Went}
+use Rattle.watch_lines.specs.Taking.{kept, judgement, joinedLine, Within, Went}
 use Rattle.watch_lines.proofs.RunLaws.{open-law}
-use Rattle.watch_lines.proofs.TakingLaws.{judged-next, values-next, buffers-next, judged-stop, buffers-stop, stopped-never}
 use Rattle.watch.specs.State.{quietState, openState, stoppedState, claims, Sound}
-use Rattle.watch.specs.Outcome.{View, viewOf, quietView, openView, Came, came, count, cleared, joinedLine, newLines, afterLines, linesCame, octetsCame, chunkCame, begun, Comes, lastLine, endCame}
+use Rattle.watch.specs.Outcome.{View, viewOf, quietView, openView, Came, came, count, cleared, newLines, afterLines, linesCame, octetsCame, chunkCame, begun, Comes, lastLine, endCame}
 use Rattle.watch.specs.declared.Watch.{Watch}
 
 abbrev Stopped : KeptStep → Type 0
@@ -83,13 +82,7 @@ open-tail t c h =
 module _ (w : Watch) (b c : List ℕ) (k : ℕ) (k-is : k ≡ nextFrom (w .tail) c) (low-tail : w .tail ≤ w .«open») (win : Within (w .card) (w .start)) (room : w .start + w .«open» + length c ≤ 16384) (full : length b ≡ 16384)
     (two : 2 ≤ w .«open» + k) (inside : k < length c) where
   abbrev line : List ℕ
-  line = joinedLine w b (take k c)
-
-  abbrev to : ℕ
-  to = w .card .used + (w .«open» + length (take k c))
-
-  abbrev later : List (List ℕ)
-  later = endedLines (drop k c)
+  line = joinedLine (w .card) (w .«open») b (take k c)
 
   taken : length (take k c) ≡ k
   taken = length-take-le k c (omega arith)
@@ -100,14 +93,9 @@ module _ (w : Watch) (b c : List ℕ) (k : ℕ) (k-is : k ≡ nextFrom (w .tail)
       length-take-le (w .«open» + length (take k c) - 2) (take (w .«open») (drop (w .card .used) b) ++ take k c)
       (rw (length-append (take (w .«open») (drop (w .card .used) b)) (take k c)) (omega (arith, m)))
 
-  to-is : to ≡ w .card .used + length line + 2
-  to-is = omega (arith, line-size, taken, two)
-
-  place-is : w .start + length line + 2 ≡ w .start + w .«open» + k
-  place-is = omega (arith, line-size, taken, two)
-
-  sized : w .card .used ≤ length b
-  sized = omega (arith, win .used, room, full)
+  -- the line with its CR LF
+  pub line-long : length line + 2 ≡ w .«open» + k
+  line-long = omega (arith, line-size, taken, two)
 
   module _ (n tail : ℕ) (n-is : n ≡ count w + length c) (tail-is : tail ≡ tailFrom (w .tail) c) where
     by-judgement : (x : Step) (a d : List ℕ) → judgeLines First (newLines w b c k) (w .start) (cardOf (w .card) b) ≡ x
@@ -136,37 +124,13 @@ module _ (w : Watch) (b c : List ℕ) (k : ℕ) (k-is : k ≡ nextFrom (w .tail)
     stopped-comes (refused m p) h a d e = quiet-comes 1 m p n tail (stoppedState (refused m p) n tail) d (linesCame w b c k) (stopped-sound m p) refl e
     stopped-comes (flawed m o) h a d e = quiet-comes 1 m o n tail (stoppedState (flawed m o) n tail) d (linesCame w b c k) (stopped-sound m o) refl e
 
-    -- the first line was refused
-    pub comes-refused : (r : KeptStep) → Stopped r → (b₁ : List ℕ) → Took (w .card) line b b₁ (w .start) to r → Comes (stoppedState r n tail) b₁ (linesCame w b c k)
-    comes-refused r h b₁ t =
-        let none = stopped-never r h in
-        let v = valuesFrom (newLines w b c k) (w .start) (cardOf (w .card) b) (kept (w .card) b) in
-        stopped-comes r h v b₁
-        (by-judgement (stepOf b₁ r) v b₁ (judged-stop (w .card) line b b₁ (w .start) to sized to-is later r none t) refl (buffers-stop (w .card) line b b₁ (w .start) to sized to-is later r none t))
-
-    -- it led to the state d, and the lines after it to r
-    module _ (d : Kept) (b₁ : List ℕ) (t : Took (w .card) line b b₁ (w .start) to (next d)) (r : KeptStep) (b₂ : List ℕ) (at : ℕ)
-        (g : Went d (drop k c) b₁ b₂ (w .start + w .«open» + k) r (drop at c)) where
+    -- they led to r
+    module _ (r : KeptStep) (b₂ : List ℕ) (at : ℕ) (g : Went (w .card) line (drop k c) b b₂ (w .start) r (drop at c)) where
       abbrev values : List ℕ
-      values = valuesFrom later (w .start + w .«open» + k) (cardOf d b₁) (kept d b₁)
+      values = valuesFrom (newLines w b c k) (w .start) (cardOf (w .card) b) (kept (w .card) b)
 
-      step-is : judgeLines First (newLines w b c k) (w .start) (cardOf (w .card) b) ≡ stepOf b₂ r
-      step-is =
-          judged-next (w .card) line b b₁ (w .start) to sized to-is later d t
-          ∙ ap (λ (p : ℕ). judgeLines First later p (cardOf d b₁)) place-is ∙ sym (g .step)
-
-      values-is : valuesFrom (newLines w b c k) (w .start) (cardOf (w .card) b) (kept (w .card) b) ≡ values
-      values-is =
-          values-next (w .card) line b b₁ (w .start) to sized to-is later d t
-          ∙ ap (λ (p : ℕ). valuesFrom later p (cardOf d b₁) (kept d b₁)) place-is
-
-      buffers-is : buffersFrom (newLines w b c k) (w .start) (cardOf (w .card) b) (kept (w .card) b) b ≡ b₂
-      buffers-is =
-          buffers-next (w .card) line b b₁ (w .start) to sized to-is later d t
-          ∙ ap (λ (p : ℕ). buffersFrom later p (cardOf d b₁) (kept d b₁) b₁) place-is ∙ sym (g .whole)
-
-      pub comes-later : Stopped r → Comes (stoppedState r n tail) b₂ (linesCame w b c k)
-      comes-later h = stopped-comes r h values b₂ (by-judgement (stepOf b₂ r) values b₂ step-is values-is buffers-is)
+      pub comes-refused : Stopped r → Comes (stoppedState r n tail) b₂ (linesCame w b c k)
+      comes-refused h = stopped-comes r h values b₂ (by-judgement (stepOf b₂ r) values b₂ (sym (g .step)) refl (sym (g .whole)))
 
       pub comes-kept : (f : Kept) → r ≡ next f → k ≤ at → at ≤ length c → length b₂ ≡ 16384 → (b₃ : List ℕ) → b₃ ≡ patch b₂ (f .used) (drop at c)
           → Comes (openState (w .start + w .«open» + at) (length c - at) tail f) b₃ (linesCame w b c k)
@@ -177,12 +141,12 @@ module _ (w : Watch) (b c : List ℕ) (k : ℕ) (k-is : k ≡ nextFrom (w .tail)
           let left : length l ≡ length c - at = length-drop at c in
           let p : n - length l ≡ w .start + w .«open» + at = omega (arith, left, n-is, high) in
           let all : linesCame w b c k ≡ came (openView (n - length l) (length l) tail (f .used) (cardOf f b₂)) (patch b₂ (f .used) l) =
-          by-judgement (Next (cardOf f b₂)) values b₂ (step-is ∙ ap (stepOf b₂) e) values-is buffers-is
+          by-judgement (Next (cardOf f b₂)) values b₂ (sym (g .step) ∙ ap (stepOf b₂) e) refl (sym (g .whole))
           ∙ ap (λ (x : List ℕ). afterLines (Next (cardOf f b₂)) n tail values b₂ x) (sym (rest .0))
           ∙ ap (λ (m : ℕ). came (openView (n - length l) (length l) tail m (cardOf f b₂)) (patch b₂ m l)) (sym (g .sized f e)) in
-          let fits : f .used ≤ length b₂ = omega (arith, rest .1 .used, full₂, room, left, length-drop k c, low, high) in
+          let fits : f .used ≤ length b₂ = omega (arith, rest .1 .used, full₂, room, left, length-drop k c, line-long, low, high) in
           let same : cardOf f b₃ ≡ cardOf f b₂ = ap (cardOf f) laid ∙ card-put f b₂ l (f .used) (rest .1 .lies) (omega arith) fits in
-          let place : w .start + w .«open» + k + (length (drop k c) - length l) ≡ w .start + w .«open» + at = omega (arith, left, length-drop k c, low, high) in
+          let place : w .start + (length line + 2) + (length (drop k c) - length l) ≡ w .start + w .«open» + at = omega (arith, left, length-drop k c, line-long, low, high) in
           let short : tail ≤ length c - at =
           subst (λ (m : ℕ). tail ≤ m) (sym (ap length (rest .0)) ∙ left)
           (subst (λ (m : ℕ). tail ≤ length (openLine (drop m c))) (sym k-is) (omega (arith, tail-is, open-tail (w .tail) c (omega (arith, k-is, inside))))) in

@@ -18,7 +18,7 @@ use Rattle.reader_walk.specs.Walk.{settled, judgeLines}
 use Rattle.watch_arrivals.specs.Arrivals.{afterOther, afterCr, afterCrLf, tailFrom, loneFrom, nextFrom}
 use Rattle.watch_lines.specs.Parting.{endedLines, openLine}
 use Rattle.watch_lines.specs.Values.{valuesFrom, buffersFrom}
-use Rattle.watch_lines.specs.Taking.{kept, judgement}
+use Rattle.watch_lines.specs.Taking.{kept, judgement, joinedLine}
 use Rattle.watch.specs.State.{isNone, isLine, isBreak, isOver, claims, Sound, After, Reached}
 use Rattle.watch.specs.declared.Watch.{Watch}
 use Rattle.watch.specs.declared.Arrived.{Arrived}
@@ -71,13 +71,9 @@ count w = w .start + w .«open»
 abbrev pub cleared : Watch → List ℕ → List ℕ
 cleared w b = patch b 0 (replicate (claims w) 0)
 
--- the open line, as it stands in the buffer, with the octets of a chunk that end it, without its CR LF
-abbrev pub joinedLine : Watch → List ℕ → List ℕ → List ℕ
-joinedLine w b x = take (w .«open» + length x - 2) (take (w .«open») (drop (w .card .used) b) ++ x)
-
 -- the lines that have ended with a chunk, the first before its octet k
 abbrev pub newLines : Watch → List ℕ → List ℕ → ℕ → List (List ℕ)
-newLines w b c k = joinedLine w b (take k c) ∷ endedLines (drop k c)
+newLines w b c k = joinedLine (w .card) (w .«open») b (take k c) ∷ endedLines (drop k c)
 
 -- what their judgement leads to, after n octets: with the values a at the front of the buffer b, and the line l that is open then
 abbrev pub afterLines : Step → ℕ → ℕ → List ℕ → List ℕ → List ℕ → Came

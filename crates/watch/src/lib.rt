@@ -240,11 +240,7 @@ fn take_lines_with(
     let n = base + chunk.len();
     let t = octets::classes::table();
     let rows = property_table::table();
-    let j = watch_lines::judge_open(&t, &rows, steps, buffer, w.open, &chunk[..next], w.start, c);
-    let Step::Next(first) = j else {
-        return stopped(j, n, tail);
-    };
-    let l = watch_lines::judge_lines(&t, &rows, steps, chunk, next, buffer, base, first);
+    let l = watch_lines::judge_chunk(&t, &rows, steps, buffer, w.open, chunk, next, w.start, c);
     let at = l.at;
     let last = l.step;
     let Step::Next(card) = last else {

@@ -334,25 +334,12 @@ tail-last t l h =
 pub rest : (a : ℕ) (l : List ℕ) → take (length l - a) (drop a l) ≡ drop a l
 rest a l = take-all (length l - a) (drop a l) (rw length-drop (omega arith))
 
-pub first-fits : (s : List ℕ) (from k : ℕ) → k ≡ firstLone (take (length s - from) (drop from s)) → from ≤ length s
-    → (k ≡ firstLone (drop from s)) × (from + k ≤ length s)
+-- the reader's first lone CR or LF in a part of a list
+pub first-low : (s : List ℕ) (from to : ℕ) → to ≤ length s → firstLone (take (to - from) (drop from s)) ≤ to - from
 unfolding firstLone
-first-fits s from k e h =
-    let q : k ≡ firstLone (drop from s) = rw (rest from s) at e in
-    (q, omega (arith, q, scan-le loneStep (drop from s) 0, length-drop from s))
-
--- the first lone CR or LF from a place on, by whether it is a CR that is the last octet
-pub break-at : (s : List ℕ) (from k : ℕ) (b : Bool) → k ≡ firstLone (drop from s) → from ≤ length s
-    → b ≡ (eqb (from + k + 1) (length s) && eqb (getD s (from + k) 0) 13)
-    → pick b (length s + 1) (from + k + 1) ≡ from + loneFrom 0 (drop from s)
-break-at s from k b e h q =
-    let n : length (drop from s) ≡ length s - from = length-drop from s in
-    let same : eqb (k + 1) (length s - from) ≡ eqb (from + k + 1) (length s) =
-    by (eqb (from + k + 1) (length s))
-    (λ p. rw p (eq-eqb (k + 1) (length s - from) (omega (arith, eqb-true (from + k + 1) (length s) p))))
-    (λ p. rw p (ne-eqb (k + 1) (length s - from) (λ z. eqb-false (from + k + 1) (length s) p (omega (arith, z))))) in
-    rw (lone-first (drop from s), ← e, getD-drop from s k 0, n, same, ← q)
-    (by b (λ p. rw p (omega arith)) (λ p. rw p (omega arith)))
+first-low s from to h =
+    let m = take (to - from) (drop from s) in
+    omega (arith, scan-le loneStep m 0, length-take-le (to - from) (drop from s) (rw length-drop (omega arith)))
 
 -- a chunk that starts with LF after a CR
 pub break-lf : (t : ℕ) (s : List ℕ) → t ≡ 1 → 0 < length s → getD s 0 0 ≡ 10 → loneFrom t s ≡ 1 + loneFrom 0 (drop 1 s)
@@ -707,3 +694,80 @@ lone-least t (x ∷ xs) =
     by (eqb t 1)
     (λ p. omega (arith, eqb-true t 1 p))
     (λ p. by (eqb x 10) (λ q. rw (p, q) (omega arith)) (λ q. rw (p, q) (omega arith)))
+
+-- an octet that no CR is ends a list: the reader's first lone CR or LF is known
+lone-plain-end : (l : List ℕ) → (getD l (length l - 1) 0 ≡ 13 → ⊥) → loneFrom 0 l ≡ firstLone l + 1
+lone-plain-end l h =
+    by (eqb (firstLone l + 1) (length l) && eqb (getD l (firstLone l) 0) 13)
+    (λ p.
+    let b = and-both (eqb (firstLone l + 1) (length l)) (eqb (getD l (firstLone l) 0) 13) p in
+    let k : firstLone l ≡ length l - 1 = omega (arith, eqb-true (firstLone l + 1) (length l) (b .0)) in
+    absurd (h (ap (λ (i : ℕ). getD l i 0) (sym k) ∙ eqb-true (getD l (firstLone l) 0) 13 (b .1))))
+    (λ p. lone-first l ∙ rw p)
+
+-- a CR ends it: the first one before that CR is known, and the CR is not
+lone-cr-end : (m : List ℕ) → loneFrom 0 (m ++ (13 ∷ [])) ≡ pick (ltb (firstLone m) (length m)) (firstLone m + 1) (length m + 2)
+unfolding loneFrom firstLone tailStep
+lone-cr-end m =
+    let k = firstLone m in
+    let low : k ≤ length m = scan-le loneStep m 0 in
+    by (ltb k (length m))
+    (λ p.
+    let lt = ltb-true k (length m) p in
+    by (eqb (k + 1) (length m) && eqb (getD m k 0) 13)
+    (λ q.
+    let b = and-both (eqb (k + 1) (length m)) (eqb (getD m k 0) 13) q in
+    let n : k + 1 ≡ length m = eqb-true (k + 1) (length m) (b .0) in
+    let i : k ≡ length m - 1 = omega (arith, n) in
+    let t : tailFrom 0 m ≡ 1 = ends-cr 0 m (omega (arith, n)) (ap (λ (j : ℕ). getD m j 0) (sym i) ∙ eqb-true (getD m k 0) 13 (b .1)) in
+    let f : loneFrom 0 m ≡ length m + 1 = lone-first m ∙ rw q in
+    rw (p, lone-append 0 m (13 ∷ []) f, t) (omega (arith, n)))
+    (λ q.
+    let f : loneFrom 0 m ≡ k + 1 = lone-first m ∙ rw q in
+    rw p (lone-known 0 m (13 ∷ []) (omega (arith, f, lt)) ∙ f)))
+    (λ p.
+    let n : k ≡ length m = omega (arith, ltb-false k (length m) p, low) in
+    let f : loneFrom 0 m ≡ length m + 1 =
+    by (eqb (k + 1) (length m) && eqb (getD m k 0) 13)
+    (λ q. lone-first m ∙ rw q)
+    (λ q. let g : loneFrom 0 m ≡ k + 1 = lone-first m ∙ rw q in omega (arith, g, n)) in
+    rw (p, lone-append 0 m (13 ∷ []) f, lone-other (tailFrom 0 m) (13 ∷ []) (no-last m n)) (omega arith))
+
+-- the first lone CR or LF from a place on, by the octets up to a last CR, or up to the end
+module _ (s : List ℕ) (from : ℕ) (lt : from < length s) where
+  abbrev l : List ℕ
+  l = drop from s
+
+  l-long : length l ≡ length s - from
+  l-long = length-drop from s
+
+  l-last : getD l (length l - 1) 0 ≡ getD s (length s - 1) 0
+  l-last =
+      let i : from + (length l - 1) ≡ length s - 1 = omega (arith, l-long) in
+      getD-drop from s (length l - 1) 0 ∙ ap (λ (j : ℕ). getD s j 0) i
+
+  pub break-plain : (getD s (length s - 1) 0 ≡ 13 → ⊥)
+      → pick (ltb (firstLone (take (length s - from) l)) (length s - from)) (from + firstLone (take (length s - from) l) + 1) (length s + 1) ≡ from + loneFrom 0 l
+  unfolding firstLone
+  break-plain h =
+      let e : loneFrom 0 l ≡ firstLone l + 1 = lone-plain-end l (λ z. h (sym l-last ∙ z)) in
+      rw (rest from s, e)
+      (by (ltb (firstLone l) (length s - from))
+      (λ p. rw p (omega arith))
+      (λ p. rw p (omega (arith, ltb-false (firstLone l) (length s - from) p, scan-le loneStep l 0, l-long))))
+
+  pub break-last : getD s (length s - 1) 0 ≡ 13
+      → pick (ltb (firstLone (take (length s - 1 - from) l)) (length s - 1 - from)) (from + firstLone (take (length s - 1 - from) l) + 1) (length s + 1) ≡ from + loneFrom 0 l
+  break-last h =
+      let m = take (length s - 1 - from) l in
+      let n : length m ≡ length s - 1 - from = length-take-le (length s - 1 - from) l (omega (arith, l-long)) in
+      let j : suc (length s - 1 - from) ≡ length l = omega (arith, l-long) in
+      let i : length s - 1 - from ≡ length l - 1 = omega (arith, l-long) in
+      let g : getD l (length s - 1 - from) 0 ≡ 13 = ap (λ (k : ℕ). getD l k 0) i ∙ l-last ∙ h in
+      let e : l ≡ m ++ (13 ∷ []) =
+      sym (take-length l) ∙ ap (λ (k : ℕ). take k l) (sym j) ∙ take-suc l (length s - 1 - from) 0 (omega (arith, l-long)) ∙ ap (λ (x : ℕ). m ++ (x ∷ [])) g in
+      let f : loneFrom 0 l ≡ pick (ltb (firstLone m) (length s - 1 - from)) (firstLone m + 1) (length m + 2) = ap (loneFrom 0) e ∙ lone-cr-end m ∙ rw n in
+      rw f
+      (by (ltb (firstLone m) (length s - 1 - from))
+      (λ p. rw p (omega arith))
+      (λ p. rw p (omega (arith, n))))

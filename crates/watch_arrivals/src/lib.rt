@@ -1,11 +1,11 @@
 // The octets of a chunk as they arrive: how the input ends so far, a lone CR or LF, and where the next line starts.
 
 ghost use mathlib.Core.Path.{_≡_};
-ghost use Prim.Native.Nat.{_+_, _≤_};
-ghost use mathlib.Core.Bool.{_&&_};
-ghost use lib.Dec.{eqb};
-ghost use lib.ListN.{length, getD, drop};
-ghost use Rattle.octets.specs.Ascii as ascii;
+ghost use Prim.Native.Nat.{_+_, _-_, _≤_};
+ghost use lib.Dec.{ltb};
+ghost use lib.ListN.{length, take, drop};
+ghost use Rattle.octets.specs.Pick.{pick};
+ghost use Rattle.line_breaks.specs.Lone.{firstLone};
 ghost use Rattle.watch_arrivals.specs.Arrivals.{tailFrom, loneFrom, blank, nextFrom};
 
 // How the input ends so far: with another octet, with CR, or with CR LF.
@@ -41,15 +41,16 @@ pub fn tail_after(tail: u32, chunk: &[u8]) -> u32
     AFTER_OTHER
 }
 
-// Whether octet i is the last one, and a CR.
-fn is_last_cr(s: &[u8], i: usize) -> bool
-    requires { ⌜ i ≤ length (now s) ⌝ }
-    ensures { λ r. ⌜ r ≡ (eqb (i + 1) (length (now (s .entry))) && eqb (getD (now (s .entry)) i 0) ascii.cr) ⌝ }
+// The first lone CR or LF of the octets from `from` up to `to`, counted from 1 over the chunk; past the chunk's last octet where there is none.
+fn lone_within(chunk: &[u8], from: usize, to: usize) -> usize
+    requires { ⌜ (from ≤ to) × (to ≤ length (now chunk)) ⌝ }
+    ensures { λ r. ⌜ r ≡ pick (ltb (firstLone (take (to - from) (drop from (now (chunk .entry))))) (to - from)) (from + firstLone (take (to - from) (drop from (now (chunk .entry)))) + 1) (length (now (chunk .entry)) + 1) ⌝ }
 {
-    if s.len() - i != 1 {
-        return false;
+    let lone = from + line_breaks::first_lone(&chunk[from..to]);
+    if lone < to {
+        return lone + 1;
     }
-    s[i] == b'\r'
+    chunk.len() + 1
 }
 
 // The first lone CR or LF from `from` on, counted from 1; a CR that is the last octet is not one yet. Past the last octet where there is none.
@@ -57,12 +58,15 @@ fn break_from(chunk: &[u8], from: usize) -> usize
     requires { ⌜ from ≤ length (now chunk) ⌝ }
     ensures { λ r. ⌜ r ≡ from + loneFrom 0 (drop from (now (chunk .entry))) ⌝ }
 {
-    let lone = from + line_breaks::first_lone(&chunk[from..]);
-    let waits = is_last_cr(chunk, lone);
-    if waits {
-        return chunk.len() + 1;
+    let n = chunk.len();
+    if n == from {
+        return n + 1;
     }
-    lone + 1
+    let last = n - 1;
+    if chunk[last] == b'\r' {
+        return lone_within(chunk, from, last);
+    }
+    lone_within(chunk, from, n)
 }
 
 // The first lone CR or LF that a chunk makes known: 0 is the octet before the chunk, then its octets from 1 on; past the last where there is none.

@@ -253,54 +253,99 @@ module _ (c : Kept) (s b b′ : List ℕ) (p to : ℕ) (sized : c .used ≤ leng
         halt-buffer (judgement c b s p) refuses (λ (y : Card). buffersFrom ls (p + length s + 2) y (values-then y) (laidIn n (values-then y) b)) (laidIn n [] b)
         ∙ ap (λ (m : ℕ). laidIn m [] b) front-size ∙ ap (λ (x : List ℕ). laidIn to x b) (sym values-gone) ∙ sym (t .whole)
 
--- lines judged one after the other: from the lines of l₀ at p₀, with the state c₀ and the buffer b₀, those of l at p are left, with c and b
-pub record Rest (c₀ : Kept) (l₀ b₀ : List ℕ) (p₀ : ℕ) (c : Kept) (l b : List ℕ) (p : ℕ) : Type 0 where
-  pub judged : judgeLines First (endedLines l₀) p₀ (cardOf c₀ b₀) ≡ judgeLines First (endedLines l) p (cardOf c b)
-  pub opens : openLine l₀ ≡ openLine l
-  pub pads : b₀ ≡ padded (kept c₀ b₀) → b ≡ padded (kept c b)
-  pub values : valuesFrom (endedLines l₀) p₀ (cardOf c₀ b₀) (kept c₀ b₀) ≡ valuesFrom (endedLines l) p (cardOf c b) (kept c b)
-  pub buffers : buffersFrom (endedLines l₀) p₀ (cardOf c₀ b₀) (kept c₀ b₀) b₀ ≡ buffersFrom (endedLines l) p (cardOf c b) (kept c b) b
-  pub sized : c .used ≤ length b
-  pub place : p + length l ≡ p₀ + length l₀
+-- a buffer is 0 from n on
+abbrev pub Blank : ℕ → List ℕ → Type 0
+Blank n b = drop n b ≡ replicate (16384 - n) 0
 
-pub rest-start : (c : Kept) (l b : List ℕ) (p : ℕ) → c .used ≤ length b → Rest c l b p c l b p
-rest-start c l b p h = record { judged = refl; opens = refl; pads = λ z. z; values = refl; buffers = refl; sized = h; place = refl }
+-- lines judged one after the other: of the line s₀ at p₀ and the lines of l₀, with the state c₀ and the buffer b₀, the line s at p and those of l are left,
+-- with c and b
+pub record Hand (c₀ : Kept) (s₀ l₀ b₀ : List ℕ) (p₀ : ℕ) (c : Kept) (s l b : List ℕ) (p : ℕ) : Type 0 where
+  pub judged : judgeLines First (s₀ ∷ endedLines l₀) p₀ (cardOf c₀ b₀) ≡ judgeLines First (s ∷ endedLines l) p (cardOf c b)
+  pub opens : openLine l₀ ≡ openLine l
+  pub pads : Blank (c₀ .used + length s₀ + 2) b₀ → Blank (c .used + length s + 2) b
+  pub values : valuesFrom (s₀ ∷ endedLines l₀) p₀ (cardOf c₀ b₀) (kept c₀ b₀) ≡ valuesFrom (s ∷ endedLines l) p (cardOf c b) (kept c b)
+  pub buffers : buffersFrom (s₀ ∷ endedLines l₀) p₀ (cardOf c₀ b₀) (kept c₀ b₀) b₀ ≡ buffersFrom (s ∷ endedLines l) p (cardOf c b) (kept c b) b
+  pub sized : c .used ≤ length b
+  pub place : p + (length s + 2 + length l) ≡ p₀ + (length s₀ + 2 + length l₀)
+
+pub hand-start : (c : Kept) (s l b : List ℕ) (p : ℕ) → c .used ≤ length b → Hand c s l b p c s l b p
+hand-start c s l b p h = record { judged = refl; opens = refl; pads = λ z. z; values = refl; buffers = refl; sized = h; place = refl }
+
+-- the lines of l at p are left
+pub record Rest (c₀ : Kept) (s₀ l₀ b₀ : List ℕ) (p₀ : ℕ) (c : Kept) (l b : List ℕ) (p : ℕ) : Type 0 where
+  pub judged : judgeLines First (s₀ ∷ endedLines l₀) p₀ (cardOf c₀ b₀) ≡ judgeLines First (endedLines l) p (cardOf c b)
+  pub opens : openLine l₀ ≡ openLine l
+  pub pads : Blank (c₀ .used + length s₀ + 2) b₀ → b ≡ padded (kept c b)
+  pub values : valuesFrom (s₀ ∷ endedLines l₀) p₀ (cardOf c₀ b₀) (kept c₀ b₀) ≡ valuesFrom (endedLines l) p (cardOf c b) (kept c b)
+  pub buffers : buffersFrom (s₀ ∷ endedLines l₀) p₀ (cardOf c₀ b₀) (kept c₀ b₀) b₀ ≡ buffersFrom (endedLines l) p (cardOf c b) (kept c b) b
+  pub sized : c .used ≤ length b
+  pub place : p + length l ≡ p₀ + (length s₀ + 2 + length l₀)
 
 -- the octets behind the values are 0
 pad-zero : (c : Kept) (b : List ℕ) (to : ℕ) → c .used ≤ length b → c .used ≤ to → b ≡ padded (kept c b) → drop to b ≡ replicate (16384 - to) 0
 pad-zero c b to h g z = ap (drop to) z ∙ padded-rest (kept c b) to (omega (arith, length-take-le (c .used) b h))
 
-module _ (c₀ : Kept) (l₀ b₀ : List ℕ) (p₀ : ℕ) (c : Kept) (l b : List ℕ) (p : ℕ) (so-far : Rest c₀ l₀ b₀ p₀ c l b p)
-    (s es : List ℕ) (first : parted l ≡ withLine s (parted es)) (b′ : List ℕ) (to : ℕ) (to-is : to ≡ c .used + length s + 2) (size : length s + 2 + length es ≡ length l) where
-  ended-is : endedLines l ≡ s ∷ endedLines es
-  ended-is = ap (λ (x : Parting). x .ended) first
+-- the line at hand is judged
+module _ (c₀ : Kept) (s₀ l₀ b₀ : List ℕ) (p₀ : ℕ) (c : Kept) (s l b : List ℕ) (p : ℕ) (so-far : Hand c₀ s₀ l₀ b₀ p₀ c s l b p)
+    (b′ : List ℕ) (to : ℕ) (to-is : to ≡ c .used + length s + 2) where
+  blank-to : Blank (c₀ .used + length s₀ + 2) b₀ → Blank to b
+  blank-to z = subst (λ (n : ℕ). Blank n b) (sym to-is) (so-far .pads z)
 
-  -- the line was refused
-  pub rest-refused : (r : KeptStep) → ((d : Kept) → r ≡ next d → ⊥) → Took c s b b′ p to r
-      → (stepOf b′ r ≡ judgeLines First (endedLines l₀) p₀ (cardOf c₀ b₀))
-      × (b₀ ≡ padded (kept c₀ b₀) → b′ ≡ padded (valuesFrom (endedLines l₀) p₀ (cardOf c₀ b₀) (kept c₀ b₀)))
-      × (b′ ≡ buffersFrom (endedLines l₀) p₀ (cardOf c₀ b₀) (kept c₀ b₀) b₀)
-  rest-refused r none t = (
-    sym (so-far .judged ∙ ap (λ (ls : List (List ℕ)). judgeLines First ls p (cardOf c b)) ended-is ∙ judged-stop c s b b′ p to (so-far .sized) to-is (endedLines es) r none t),
-    λ z.
-        t .buffer (pad-zero c b to (so-far .sized) (omega arith) (so-far .pads z))
-        ∙ ap padded
-        (sym (so-far .values ∙ ap (λ (ls : List (List ℕ)). valuesFrom ls p (cardOf c b) (kept c b)) ended-is
-        ∙ values-stop c s b b′ p to (so-far .sized) to-is (endedLines es) r none t)),
-    sym (so-far .buffers ∙ ap (λ (ls : List (List ℕ)). buffersFrom ls p (cardOf c b) (kept c b) b) ended-is ∙ buffers-stop c s b b′ p to (so-far .sized) to-is (endedLines es) r none t),
-  )
+  -- it was refused
+  pub hand-refused : (r : KeptStep) → ((d : Kept) → r ≡ next d → ⊥) → Took c s b b′ p to r → (left : List ℕ) → Went c₀ s₀ l₀ b₀ b′ p₀ r left
+  hand-refused r none t left = record {
+    step = sym (so-far .judged ∙ judged-stop c s b b′ p to (so-far .sized) to-is (endedLines l) r none t);
+    rest = λ d q. absurd (none d q);
+    buffer = λ z. t .buffer (blank-to z) ∙ ap padded (sym (so-far .values ∙ values-stop c s b b′ p to (so-far .sized) to-is (endedLines l) r none t));
+    sized = λ d q. absurd (none d q);
+    whole = sym (so-far .buffers ∙ buffers-stop c s b b′ p to (so-far .sized) to-is (endedLines l) r none t);
+  }
 
   -- it led to the state d
-  pub rest-next : (d : Kept) → d .used ≤ length b′ → Took c s b b′ p to (next d) → Rest c₀ l₀ b₀ p₀ d es b′ (p + length s + 2)
-  rest-next d low t = record {
-    judged = so-far .judged ∙ ap (λ (ls : List (List ℕ)). judgeLines First ls p (cardOf c b)) ended-is ∙ judged-next c s b b′ p to (so-far .sized) to-is (endedLines es) d t;
-    opens = so-far .opens ∙ ap (λ (x : Parting). x .left) first;
-    pads = λ z. t .buffer (pad-zero c b to (so-far .sized) (omega arith) (so-far .pads z)) ∙ ap padded (sym (t .front d refl .1));
-    values = so-far .values ∙ ap (λ (ls : List (List ℕ)). valuesFrom ls p (cardOf c b) (kept c b)) ended-is ∙ values-next c s b b′ p to (so-far .sized) to-is (endedLines es) d t;
-    buffers = so-far .buffers ∙ ap (λ (ls : List (List ℕ)). buffersFrom ls p (cardOf c b) (kept c b) b) ended-is ∙ buffers-next c s b b′ p to (so-far .sized) to-is (endedLines es) d t;
+  pub hand-next : (d : Kept) → d .used ≤ length b′ → Took c s b b′ p to (next d) → Rest c₀ s₀ l₀ b₀ p₀ d l b′ (p + length s + 2)
+  hand-next d low t = record {
+    judged = so-far .judged ∙ judged-next c s b b′ p to (so-far .sized) to-is (endedLines l) d t;
+    opens = so-far .opens;
+    pads = λ z. t .buffer (blank-to z) ∙ ap padded (sym (t .front d refl .1));
+    values = so-far .values ∙ values-next c s b b′ p to (so-far .sized) to-is (endedLines l) d t;
+    buffers = so-far .buffers ∙ buffers-next c s b b′ p to (so-far .sized) to-is (endedLines l) d t;
     sized = low;
-    place = omega (arith, so-far .place, size);
+    place = omega (arith, so-far .place);
   }
+
+-- the lines that are left: one of them has ended, or none
+module _ (c₀ : Kept) (s₀ l₀ b₀ : List ℕ) (p₀ : ℕ) (c : Kept) (l b : List ℕ) (p : ℕ) (so-far : Rest c₀ s₀ l₀ b₀ p₀ c l b p) where
+  pub rest-hand : (s es : List ℕ) → parted l ≡ withLine s (parted es) → length s + 2 + length es ≡ length l → Hand c₀ s₀ l₀ b₀ p₀ c s es b p
+  rest-hand s es first size =
+      let ended : endedLines l ≡ s ∷ endedLines es = ap (λ (x : Parting). x .ended) first in
+      record {
+        judged = so-far .judged ∙ ap (λ (ls : List (List ℕ)). judgeLines First ls p (cardOf c b)) ended;
+        opens = so-far .opens ∙ ap (λ (x : Parting). x .left) first;
+        pads = λ z. pad-zero c b (c .used + length s + 2) (so-far .sized) (omega arith) (so-far .pads z);
+        values = so-far .values ∙ ap (λ (ls : List (List ℕ)). valuesFrom ls p (cardOf c b) (kept c b)) ended;
+        buffers = so-far .buffers ∙ ap (λ (ls : List (List ℕ)). buffersFrom ls p (cardOf c b) (kept c b) b) ended;
+        sized = so-far .sized;
+        place = omega (arith, so-far .place, size);
+      }
+
+  pub rest-open : parted l ≡ opened l → Within c p → length l ≤ length l₀ → Went c₀ s₀ l₀ b₀ b p₀ (next c) l
+  unfolding judgeLines valuesFrom buffersFrom stepOf
+  rest-open e w h =
+      let none : endedLines l ≡ [] = ap (λ (x : Parting). x .ended) e in
+      let values = so-far .values ∙ ap (λ (ls : List (List ℕ)). valuesFrom ls p (cardOf c b) (kept c b)) none in
+      record {
+        step = sym (so-far .judged ∙ ap (λ (ls : List (List ℕ)). judgeLines First ls p (cardOf c b)) none);
+        rest = λ d q.
+            let z : c ≡ d = cc in
+            let at : p ≡ p₀ + (length s₀ + 2) + (length l₀ - length l) = omega (arith, so-far .place) in
+            (sym (so-far .opens ∙ ap (λ (x : Parting). x .left) e), subst (λ (x : Kept). Within x (p₀ + (length s₀ + 2) + (length l₀ - length l))) z (subst (Within c) at w));
+        buffer = λ z. so-far .pads z ∙ ap padded (sym values);
+        sized = λ d q.
+            let z : c ≡ d = cc in
+            subst (λ (x : Kept). x .used ≡ length (valuesFrom (s₀ ∷ endedLines l₀) p₀ (cardOf c₀ b₀) (kept c₀ b₀))) z
+            (sym (length-take-le (c .used) b (so-far .sized)) ∙ ap length (sym values));
+        whole = sym (so-far .buffers ∙ ap (λ (ls : List (List ℕ)). buffersFrom ls p (cardOf c b) (kept c b) b) none);
+      }
 
 -- the state after a line keeps within the octets so far
 pub within-next : (c d : Kept) (s b b′ : List ℕ) (p to : ℕ) → Within c p → Took c s b b′ p to (next d) → Within d (p + length s + 2)
@@ -315,48 +360,13 @@ within-next c d s b b′ p to w t =
       lines = omega (arith, w .lines, more .0);
     }
 
--- the lines that have ended are all judged
-module _ (c₀ : Kept) (l₀ b₀ : List ℕ) (p₀ : ℕ) (c : Kept) (l b : List ℕ) (p : ℕ) (so-far : Rest c₀ l₀ b₀ p₀ c l b p) where
-  pub went-open : parted l ≡ opened l → Within c p → p₀ ≤ p → Went c₀ l₀ b₀ b p₀ (next c) l
-  unfolding judgeLines valuesFrom buffersFrom stepOf
-  went-open e w h =
-      let none : endedLines l ≡ [] = ap (λ (x : Parting). x .ended) e in
-      let values = so-far .values ∙ ap (λ (ls : List (List ℕ)). valuesFrom ls p (cardOf c b) (kept c b)) none in
-      record {
-        step = sym (so-far .judged ∙ ap (λ (ls : List (List ℕ)). judgeLines First ls p (cardOf c b)) none);
-        rest = λ d q.
-            let z : c ≡ d = cc in
-            let at : p ≡ p₀ + (length l₀ - length l) = omega (arith, so-far .place) in
-            (sym (so-far .opens ∙ ap (λ (x : Parting). x .left) e), subst (λ (x : Kept). Within x (p₀ + (length l₀ - length l))) z (subst (Within c) at w));
-        buffer = λ z. so-far .pads z ∙ ap padded (sym values);
-        sized = λ d q.
-            let z : c ≡ d = cc in
-            subst (λ (x : Kept). x .used ≡ length (valuesFrom (endedLines l₀) p₀ (cardOf c₀ b₀) (kept c₀ b₀))) z
-            (sym (length-take-le (c .used) b (so-far .sized)) ∙ ap length (sym values));
-        whole = sym (so-far .buffers ∙ ap (λ (ls : List (List ℕ)). buffersFrom ls p (cardOf c b) (kept c b) b) none);
-      }
-
--- a line was refused
-pub went-refused : (c₀ : Kept) (l₀ b₀ : List ℕ) (p₀ : ℕ) (b : List ℕ) (r : KeptStep) (l : List ℕ) → ((d : Kept) → r ≡ next d → ⊥)
-    → (stepOf b r ≡ judgeLines First (endedLines l₀) p₀ (cardOf c₀ b₀))
-    × (b₀ ≡ padded (kept c₀ b₀) → b ≡ padded (valuesFrom (endedLines l₀) p₀ (cardOf c₀ b₀) (kept c₀ b₀)))
-    × (b ≡ buffersFrom (endedLines l₀) p₀ (cardOf c₀ b₀) (kept c₀ b₀) b₀)
-    → Went c₀ l₀ b₀ b p₀ r l
-went-refused c₀ l₀ b₀ p₀ b r l none e = record {
-  step = e .0;
-  rest = λ d q. absurd (none d q);
-  buffer = e .1;
-  sized = λ d q. absurd (none d q);
-  whole = e .2;
-}
-
 pub stopped-never : (j : KeptStep) → Stopped j → (d : Kept) → j ≡ next d → ⊥
 stopped-never (next c) h d q = absurd (miss (1 ∷ 2 ∷ []) 0 tt h)
 stopped-never (refused n p) h d q = let y : _≡_ {A = ℕ} 0 1 = cc in absurd (omega arith)
 stopped-never (flawed n o) h d q = let y : _≡_ {A = ℕ} 0 1 = cc in absurd (omega arith)
 
 -- the line at a place of a chunk ends at e: it has ended where more than its CR LF stands after it
-module _ (s : List ℕ) (at e : ℕ) (lt : at < length s) (he : e ≡ at + lineLength (drop at s)) (le : e ≤ length s)
+module _ (s : List ℕ) (at e : ℕ) (low : at ≤ length s) (he : e ≡ at + lineLength (drop at s)) (le : e ≤ length s)
     (fine : loneFrom 0 (drop at s) ≡ length (drop at s) + 1) where
   next-is : pick (ltb (e + 2) (length s)) (e + 2) (length s) ≡ at + nextFrom 0 (drop at s)
   next-is = line-next s at e (omega arith) fine he
@@ -392,11 +402,24 @@ module _ (s : List ℕ) (at e : ℕ) (lt : at < length s) (he : e ≡ at + lineL
 
     -- the line, its CR LF and the rest
     pub turn-size : length (take (e - at) (drop at s)) + 2 + length (drop (e + 2) s) ≡ length (drop at s)
-    turn-size = rw (part-length s at e lt he le, length-drop (e + 2) s, length-drop at s) (omega (arith, he))
+    turn-size = rw (part-length s at e (omega (arith, he, more)) he le, length-drop (e + 2) s, length-drop at s) (omega (arith, he))
 
 -- past the end nothing is left
-pub end-parted : (l : List ℕ) → length l ≡ 0 → parted l ≡ opened l
+end-parted : (l : List ℕ) → length l ≡ 0 → parted l ≡ opened l
 end-parted l h = parted-open l (omega arith)
+
+-- a line with no lines after it
+alone : (x : Step) (p : ℕ) → onward x (judgeLines First [] p) ≡ x
+unfolding judgeLines
+alone (Next d) p = refl
+alone (Refused n q) p = refl
+alone (Flawed n o) p = refl
+
+pub judged-alone : (s l : List ℕ) (p : ℕ) (c : Card) → length l ≡ 0 → judgeLines First (s ∷ endedLines l) p c ≡ settled p s (judgeLine First c p (unfolded s))
+unfolding judgeLines
+judged-alone s l p c h =
+    let none : endedLines l ≡ [] = ap (λ (x : Parting). x .ended) (end-parted l h) in
+    ap (λ (ls : List (List ℕ)). judgeLines First (s ∷ ls) p c) none ∙ alone (settled p s (judgeLine First c p (unfolded s))) (p + length s + 2)
 
 -- two parts copied one behind the other
 pub joined-front : (line x rest line′ : List ℕ) (n : ℕ) → length x ≡ n → line′ ≡ overlay x line → take (n + length rest) (patch line′ n rest) ≡ x ++ rest

@@ -1,7 +1,7 @@
 -- What a line that is judged, and the lines of a chunk, make of the card's state and the buffer. Assumes nothing.
 use Prim.Native.Nat.{ℕ, _+_, _-_, _≤_}
 use mathlib.Core.Path.{_≡_}
-use mathlib.Core.List.{List}
+use mathlib.Core.List.{List, _∷_, _++_}
 use lib.ListN.{length, take, drop, replicate}
 use Rattle.numbers.specs.Limits as limit
 use Rattle.line_folds.specs.Folds.{unfolded}
@@ -44,10 +44,16 @@ pub record Within (c : Kept) (n : ℕ) : Type 0 where
   pub cards : c .cards ≤ c .lines
   pub lines : c .lines ≤ n
 
--- the lines of l that have ended were judged, with l at `at` in the input: what they led to, the octets of the line that has not ended, and the buffer
-pub record Went (c : Kept) (l b b′ : List ℕ) (at : ℕ) (r : KeptStep) (left : List ℕ) : Type 0 where
-  pub step : stepOf b′ r ≡ judgeLines First (endedLines l) at (cardOf c b)
-  pub rest : (d : Kept) → r ≡ nextKept d → (left ≡ openLine l) × Within d (at + (length l - length left))
-  pub buffer : b ≡ padded (kept c b) → b′ ≡ padded (valuesFrom (endedLines l) at (cardOf c b) (kept c b))
-  pub sized : (d : Kept) → r ≡ nextKept d → d .used ≡ length (valuesFrom (endedLines l) at (cardOf c b) (kept c b))
-  pub whole : b′ ≡ buffersFrom (endedLines l) at (cardOf c b) (kept c b) b
+-- the open line, which stands in the buffer behind the values, with the octets x that end it, without its CR LF
+abbrev pub joinedLine : Kept → ℕ → List ℕ → List ℕ → List ℕ
+joinedLine c left b x = take (left + length x - 2) (take left (drop (c .used) b) ++ x)
+
+-- the line s, at `at` in the input, and the lines of l after it that have ended were judged: what they led to, the octets of the line that has not
+-- ended, and the buffer, which holds the values alone where it was 0 behind the octets of s with its CR LF
+pub record Went (c : Kept) (s l b b′ : List ℕ) (at : ℕ) (r : KeptStep) (left : List ℕ) : Type 0 where
+  pub step : stepOf b′ r ≡ judgeLines First (s ∷ endedLines l) at (cardOf c b)
+  pub rest : (d : Kept) → r ≡ nextKept d → (left ≡ openLine l) × Within d (at + (length s + 2) + (length l - length left))
+  pub buffer : drop (c .used + length s + 2) b ≡ replicate (limit.octets - (c .used + length s + 2)) 0
+      → b′ ≡ padded (valuesFrom (s ∷ endedLines l) at (cardOf c b) (kept c b))
+  pub sized : (d : Kept) → r ≡ nextKept d → d .used ≡ length (valuesFrom (s ∷ endedLines l) at (cardOf c b) (kept c b))
+  pub whole : b′ ≡ buffersFrom (s ∷ endedLines l) at (cardOf c b) (kept c b) b

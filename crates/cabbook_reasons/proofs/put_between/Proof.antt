@@ -44,18 +44,15 @@ slice-aggregate-closes-with-2 c = search needs
 closes-with-requires-2 : tie.Need-closes-with-requires-2
 closes-with-requires-2 c κs = search needs
 
-slice-aggregate-put-all-3 : tie.Need-slice-aggregate-put-all-3
-slice-aggregate-put-all-3 c = search needs
-
-put-all-requires-3 : tie.Need-put-all-requires-3
-put-all-requires-3 c κs = search needs
+put-version-requires : tie.Need-put-version-requires
+put-version-requires c κs = search needs
 
 same-length-3 : tie.Need-same-length-3
 same-length-3 c = search needs
 
 returns-3 : tie.Need-returns-3
 unfolding betweenWords octets
-returns-3 c = rw (ne-eqb _ _ (c .before .before .before .before .before .before .before .before .before .before .before .if1 .left), ← c .before .before .before .before .before .before .before .before .before .closes-with .ensures, c .before .before .before .before .before .before .before .before .if2 .left, ← c .before .before .before .before .before .before .closes-with2 .ensures, c .before .before .before .before .before .if3 .taken) (c .before .before .put-all3 .ensures)
+returns-3 c = rw (ne-eqb _ _ (c .before .before .before .before .before .before .before .before .before .before .if1 .left), ← c .before .before .before .before .before .before .before .before .closes-with .ensures, c .before .before .before .before .before .before .before .if2 .left, ← c .before .before .before .before .before .closes-with2 .ensures, c .before .before .before .before .if3 .taken) (c .before .before .put-version .ensures)
 
 put-inner-requires : tie.Need-put-inner-requires
 put-inner-requires c κs = search needs
@@ -83,8 +80,7 @@ put-between-spec =
     returns-2
     slice-aggregate-closes-with-2
     closes-with-requires-2
-    slice-aggregate-put-all-3
-    put-all-requires-3
+    put-version-requires
     same-length-3
     returns-3
     put-inner-requires

@@ -1,21 +1,21 @@
 -- `merge_partners::look` meets its contract. Assumes nothing.
-use Rattle.merge_partners.proofs.LookLaws.{look-same}
+use lib.ListN.{length}
+use Rattle.merge_partners.proofs.HeadLaws.{look-same}
 use borrow.Author.Needs.{needs}
 use Rattle.merge_partners.proofs.look.Statement.{statement}
 use Rattle.merge_partners.proofs.look.Tie as tie
-use Rattle.merge_partners.proofs.look.Reads as reads
-use Rattle.merge_partners.proofs.look.Lts as lts
-use Rattle.merge_sides.proofs.same_property.Reads as same-property-reads
 
 returns : tie.Need-returns
 returns c =
-    look-same (c .before .before .before .before .before .before .args .ca .now) (c .before .before .before .before .before .before .args .ra .now) (c .before .before .before .before .before .before .args .i) (c .before .before .before .before .before .before .args .cb .now) (c .before .before .before .before .before .before .args .rb .now) (c .before .before .before .before .before .before .args .last) (c .before .before .before .before .before .before .args .j) (c .before .before .before .before .before .before .pre .1) (c .before .before .before .before .before .before .pre .0) (c .if1 .taken)
+    let a = c .before .before .before .before .before .before .before .args in
+    look-same (a .ca .now) (a .ra .now) (length (a .digests .now)) (a .c .now) (a .rs .now) (a .last) (a .j) (c .before .before .before .before .before .before .before .pre .1 .1) (c .before .before .before .before .before .before .before .pre .0) (c .if1 .taken)
 
-same-property-requires : tie.Need-same-property-requires
-same-property-requires c κs = search needs
+head-of-requires : tie.Need-head-of-requires
+head-of-requires c κs =
+    c .before .before .before .before .before .before .before .pre .1 .0
 
 returns-2 : tie.Need-returns-2
 returns-2 c = search needs
 
 pub look-spec : {M : Type 1} → statement M
-look-spec = tie.close (tie.spec returns same-property-requires returns-2)
+look-spec = tie.close (tie.spec returns head-of-requires returns-2)

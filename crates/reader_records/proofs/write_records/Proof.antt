@@ -6,12 +6,13 @@ use Prim.Native.Nat.{ℕ, _+_, _-_, _≤_}
 use native.Mathlib.Omega.{arith}
 use lib.ListN.{length, take, drop, length-append}
 use Rattle.octets.proofs.Writes.{Written, start, room, put, finish}
+use Rattle.line_folds.specs.Folds.{lineLength}
 use Rattle.line_folds.specs.Logical.{rawLines}
 use Rattle.line_folds.proofs.LineLaws.{lines-end}
 use Rattle.line_folds.proofs.SpanLaws.{part-length}
 use Rattle.property_table.specs.declared.Edition.{Edition}
 use Rattle.reader_records.specs.Records.{recordOf, recordsFrom}
-use Rattle.reader_records.proofs.RecordLaws.{record-length, records-turn}
+use Rattle.reader_records.proofs.RecordLaws.{ends-at-cr, record-length, records-turn}
 use Rattle.reader_records.proofs.write_records.Statement.{statement}
 use Rattle.reader_records.proofs.write_records.Tie as tie
 
@@ -22,7 +23,7 @@ abbrev μ-loop : tie.MeasureT-loop
 μ-loop t rows ed s out₀ at₀ k₀ out at k = length s - at
 
 -- the line of this turn
-module _ (c : tie.After-line-at Inv-loop μ-loop) where
+module _ (c : tie.After-next-cr Inv-loop μ-loop) where
   abbrev S : List ℕ
   S = c .before .before .before .before .before .args .s .now
 
@@ -33,25 +34,28 @@ module _ (c : tie.After-line-at Inv-loop μ-loop) where
   P = c .before .before .loop .at
 
   abbrev E : ℕ
-  E = c .line-at .result .end
+  E = c .next-cr .result
 
   abbrev X : List ℕ
   X = take (E - P) (drop P S)
 
+  he : E ≡ P + lineLength (drop P S)
+  he = ends-at-cr S P E (c .before .before .before .before .before .pre .1 .1 .1 .1) (c .next-cr .ensures .1)
+
   turn : recordsFrom D P (rawLines (drop P S)) ≡ recordOf D P X ++ recordsFrom D (E + 2) (rawLines (drop (E + 2) S))
-  turn = records-turn D S P E (c .before .loop-test .taken) (c .line-at .ensures .1) (c .line-at .ensures .2)
+  turn = records-turn D S P E (c .before .loop-test .taken) he (c .next-cr .ensures .0)
 
   inside : (P ≤ E) × (E ≤ length S) × (length S ≤ 16384)
-  inside = (omega (arith, c .line-at .ensures .1), c .line-at .ensures .2, c .before .before .before .before .before .pre .1 .1 .0)
+  inside = (omega (arith, he), c .next-cr .ensures .0, c .before .before .before .before .before .pre .1 .1 .0)
 
   len : length X ≡ E - P
-  len = part-length S P E (c .before .loop-test .taken) (c .line-at .ensures .1) (c .line-at .ensures .2)
+  len = part-length S P E (c .before .loop-test .taken) he (c .next-cr .ensures .0)
 
   fits : c .before .before .loop .k + 8 ≤ length (c .before .before .loop .out)
   fits =
       omega (
         arith,
-        room (c .before .before .loop .inv) (c .before .before .before .before .before .pre .1 .1 .1),
+        room (c .before .before .loop .inv) (c .before .before .before .before .before .pre .1 .1 .1 .0),
         ap length turn ∙ length-append (recordOf D P X) (recordsFrom D (E + 2) (rawLines (drop (E + 2) S))),
         record-length D P X,
       )
@@ -59,8 +63,8 @@ module _ (c : tie.After-line-at Inv-loop μ-loop) where
 loop-holds : tie.Need-loop-holds Inv-loop μ-loop
 loop-holds c = start _ _
 
-line-at-requires : tie.Need-line-at-requires Inv-loop μ-loop
-line-at-requires c κs = search needs
+next-cr-requires : tie.Need-next-cr-requires Inv-loop μ-loop
+next-cr-requires c κs = search needs
 
 sub-record-of : tie.Need-sub-record-of Inv-loop μ-loop
 sub-record-of c = omega (arith, inside c)
@@ -119,7 +123,7 @@ write-records-spec =
     Inv-loop
     μ-loop
     loop-holds
-    line-at-requires
+    next-cr-requires
     sub-record-of
     part-record-of-start
     part-record-of-end

@@ -18,12 +18,21 @@ slice-aggregate-walk-in-2 : tie.Need-slice-aggregate-walk-in-2
 slice-aggregate-walk-in-2 c = search needs
 
 walk-in-requires-2 : tie.Need-walk-in-requires-2
-walk-in-requires-2 c κs =
-    let p = c .before .before .before .before .pre in
-    (p .0, (p .1, (simp length-replicate (omega (arith, p .1)), simp length-replicate (omega arith))))
+walk-in-requires-2 c κs = search needs
 
 returns-2 : tie.Need-returns-2
 returns-2 c = search needs
+
+slice-aggregate-walk-in-3 : tie.Need-slice-aggregate-walk-in-3
+slice-aggregate-walk-in-3 c = search needs
+
+walk-in-requires-3 : tie.Need-walk-in-requires-3
+walk-in-requires-3 c κs =
+    let p = c .before .before .before .before .before .pre in
+    (p .0, (p .1, (simp length-replicate (omega (arith, p .1)), simp length-replicate (omega arith))))
+
+returns-3 : tie.Need-returns-3
+returns-3 c = search needs
 
 pub walk-spec : {M : Type 1} → statement M
 walk-spec =
@@ -34,4 +43,7 @@ walk-spec =
     returns
     slice-aggregate-walk-in-2
     walk-in-requires-2
-    returns-2)
+    returns-2
+    slice-aggregate-walk-in-3
+    walk-in-requires-3
+    returns-3)

@@ -1,5 +1,4 @@
 -- `watch::last_line` meets its contract. Assumes nothing.
-use native.Mathlib.Omega.{arith}
 use mathlib.Core.Path.{refl}
 use borrow.Author.Needs.{needs}
 use Rattle.watch.proofs.last_line.Statement.{statement}
@@ -17,11 +16,9 @@ slice-aggregate-judge-last c = refl
 judge-last-requires : tie.Need-judge-last-requires
 judge-last-requires c κs =
     let r = c .before .before .before .before .before in
-    let p = r .before .before .before .before .pre in
-    let q = p .0 .counts in
-    let w = p .0 .card in (
+    let p = r .before .before .before .before .pre in (
       (r .before .table .ensures, r .table2 .ensures, record { whole = λ h. absurd (h refl) }),
-      (((w .cards, omega (arith, w .lines, q .short, p .2)), w .lies), (omega (arith, w .used, q .short), p .1, p .2, q .short)),
+      (p .0 .card, (p .1, p .2, p .0 .counts .short)),
     )
 
 returns : tie.Need-returns
@@ -36,11 +33,9 @@ slice-aggregate-judge-last-2 c = search needs
 judge-last-requires-2 : tie.Need-judge-last-requires-2
 judge-last-requires-2 c κs =
     let r = c .before .before .before .before .before .before in
-    let p = r .before .before .before .before .pre in
-    let q = p .0 .counts in
-    let w = p .0 .card in (
+    let p = r .before .before .before .before .pre in (
       (r .before .table .ensures, r .table2 .ensures, c .before .before .before .table3 .ensures),
-      (((w .cards, omega (arith, w .lines, q .short, p .2)), w .lies), (omega (arith, w .used, q .short), p .1, p .2, q .short)),
+      (p .0 .card, (p .1, p .2, p .0 .counts .short)),
     )
 
 returns-2 : tie.Need-returns-2

@@ -1,60 +1,51 @@
 -- `watch_arrivals::break_from` meets its contract. Assumes nothing.
 use native.Mathlib.Omega.{arith}
-use Rattle.watch_arrivals.proofs.ArrivalLaws.{first-fits, break-at}
+use mathlib.Core.Path.{_∙_}
+use lib.ListN.{length, drop, length-drop}
+use Rattle.watch_arrivals.proofs.ArrivalLaws.{break-none, break-plain, break-last}
 use borrow.Author.Needs.{needs}
 use Rattle.watch_arrivals.proofs.break_from.Statement.{statement}
 use Rattle.watch_arrivals.proofs.break_from.Tie as tie
-
-sub-first-lone : tie.Need-sub-first-lone
-sub-first-lone c = search needs
-
-part-first-lone-start : tie.Need-part-first-lone-start
-part-first-lone-start c = search needs
-
-part-first-lone-end : tie.Need-part-first-lone-end
-part-first-lone-end c = search needs
-
-first-lone-requires : tie.Need-first-lone-requires
-first-lone-requires c κs = search needs
-
-add-lone : tie.Need-add-lone
-add-lone c =
-    let k = first-fits (c .before .before .before .args .chunk .now) (c .before .before .before .args .from) (c .first-lone .result) (c .first-lone .ensures) (c .before .before .before .pre) in omega (arith, k .1)
-
-is-last-cr-requires : tie.Need-is-last-cr-requires
-is-last-cr-requires c κs =
-    let k = first-fits (c .before .before .before .args .chunk .now) (c .before .before .before .args .from) (c .first-lone .result) (c .first-lone .ensures) (c .before .before .before .pre) in omega (arith, k .1)
 
 add-result : tie.Need-add-result
 add-result c = search needs
 
 returns : tie.Need-returns
 returns c =
-    let k = first-fits (c .before .before .before .before .before .args .chunk .now) (c .before .before .before .before .before .args .from) (c .before .before .first-lone .result) (c .before .before .first-lone .ensures) (c .before .before .before .before .before .pre) in
-    let b = break-at (c .before .before .before .before .before .args .chunk .now) (c .before .before .before .before .before .args .from) (c .before .before .first-lone .result) (c .before .is-last-cr .result) (k .0) (c .before .before .before .before .before .pre) (c .before .is-last-cr .ensures) in
-    rw (c .if1 .taken) at b
+    let a = c .before .before .args in
+    omega (arith, break-none 0 (drop (a .from) (a .chunk .now)) (length-drop (a .from) (a .chunk .now) ∙ omega (arith, c .if1 .taken)), c .if1 .taken)
 
-add-result-2 : tie.Need-add-result-2
-add-result-2 c =
-    let k = first-fits (c .before .before .before .before .before .args .chunk .now) (c .before .before .before .before .before .args .from) (c .before .before .first-lone .result) (c .before .before .first-lone .ensures) (c .before .before .before .before .before .pre) in omega (arith, k .1)
+sub-last : tie.Need-sub-last
+sub-last c = search needs
+
+shared-slice-read-if2 : tie.Need-shared-slice-read-if2
+shared-slice-read-if2 c = search needs
+
+lone-within-requires : tie.Need-lone-within-requires
+lone-within-requires c κs = search needs
 
 returns-2 : tie.Need-returns-2
 returns-2 c =
-    let k = first-fits (c .before .before .before .before .before .args .chunk .now) (c .before .before .before .before .before .args .from) (c .before .before .first-lone .result) (c .before .before .first-lone .ensures) (c .before .before .before .before .before .pre) in
-    let b = break-at (c .before .before .before .before .before .args .chunk .now) (c .before .before .before .before .before .args .from) (c .before .before .first-lone .result) (c .before .is-last-cr .result) (k .0) (c .before .before .before .before .before .pre) (c .before .is-last-cr .ensures) in
-    rw (c .if1 .left) at b
+    let a = c .before .before .before .before .before .args in
+    c .lone-within .ensures ∙ break-last (a .chunk .now) (a .from) (omega (arith, c .before .before .before .if1 .left, c .before .before .before .before .before .pre)) (c .before .if2 .taken)
+
+lone-within-requires-2 : tie.Need-lone-within-requires-2
+lone-within-requires-2 c κs = search needs
+
+returns-3 : tie.Need-returns-3
+returns-3 c =
+    let a = c .before .before .before .before .before .args in
+    c .lone-within2 .ensures ∙ break-plain (a .chunk .now) (a .from) (omega (arith, c .before .before .before .if1 .left, c .before .before .before .before .before .pre)) (c .before .if2 .left)
 
 pub break-from-spec : {M : Type 1} → statement M
 break-from-spec =
     tie.close
     (tie.spec
-    sub-first-lone
-    part-first-lone-start
-    part-first-lone-end
-    first-lone-requires
-    add-lone
-    is-last-cr-requires
     add-result
     returns
-    add-result-2
-    returns-2)
+    sub-last
+    shared-slice-read-if2
+    lone-within-requires
+    returns-2
+    lone-within-requires-2
+    returns-3)

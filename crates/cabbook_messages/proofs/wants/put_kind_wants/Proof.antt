@@ -18,6 +18,18 @@ slice-aggregate-put-all-2 c = search needs
 put-all-requires-2 : tie.Need-put-all-requires-2
 put-all-requires-2 c κs = search needs
 
+slice-aggregate-put-parts : tie.Need-slice-aggregate-put-parts
+slice-aggregate-put-parts c = search needs
+
+put-parts-requires : tie.Need-put-parts-requires
+put-parts-requires c κs = search needs
+
+slice-aggregate-put-parts-2 : tie.Need-slice-aggregate-put-parts-2
+slice-aggregate-put-parts-2 c = search needs
+
+put-parts-requires-2 : tie.Need-put-parts-requires-2
+put-parts-requires-2 c κs = search needs
+
 slice-aggregate-put-all-3 : tie.Need-slice-aggregate-put-all-3
 slice-aggregate-put-all-3 c = search needs
 
@@ -30,47 +42,8 @@ slice-aggregate-put-all-4 c = search needs
 put-all-requires-4 : tie.Need-put-all-requires-4
 put-all-requires-4 c κs = search needs
 
-slice-aggregate-put-all-5 : tie.Need-slice-aggregate-put-all-5
-slice-aggregate-put-all-5 c = search needs
-
-put-all-requires-5 : tie.Need-put-all-requires-5
-put-all-requires-5 c κs = search needs
-
-slice-aggregate-put-all-6 : tie.Need-slice-aggregate-put-all-6
-slice-aggregate-put-all-6 c = search needs
-
-put-all-requires-6 : tie.Need-put-all-requires-6
-put-all-requires-6 c κs = search needs
-
-slice-aggregate-put-all-7 : tie.Need-slice-aggregate-put-all-7
-slice-aggregate-put-all-7 c = search needs
-
-put-all-requires-7 : tie.Need-put-all-requires-7
-put-all-requires-7 c κs = search needs
-
-slice-aggregate-put-all-8 : tie.Need-slice-aggregate-put-all-8
-slice-aggregate-put-all-8 c = search needs
-
-put-all-requires-8 : tie.Need-put-all-requires-8
-put-all-requires-8 c κs = search needs
-
-slice-aggregate-put-all-9 : tie.Need-slice-aggregate-put-all-9
-slice-aggregate-put-all-9 c = search needs
-
-put-all-requires-9 : tie.Need-put-all-requires-9
-put-all-requires-9 c κs = search needs
-
-slice-aggregate-put-all-10 : tie.Need-slice-aggregate-put-all-10
-slice-aggregate-put-all-10 c = search needs
-
-put-all-requires-10 : tie.Need-put-all-requires-10
-put-all-requires-10 c κs = search needs
-
-slice-aggregate-put-all-11 : tie.Need-slice-aggregate-put-all-11
-slice-aggregate-put-all-11 c = search needs
-
-put-all-requires-11 : tie.Need-put-all-requires-11
-put-all-requires-11 c κs = search needs
+put-other-wants-requires : tie.Need-put-other-wants-requires
+put-other-wants-requires c κs = search needs
 
 same-length : tie.Need-same-length
 same-length c = search needs
@@ -94,7 +67,7 @@ same-length-3 c = search needs
 returns-3 : tie.Need-returns-3
 unfolding octets kindWants
 returns-3 c =
-    rw (c .before .before .before .before .before .match .keys3) (c .before .before .put-all3 .ensures)
+    rw (c .before .before .before .before .before .match .keys3) (c .before .before .put-parts .ensures)
 
 same-length-4 : tie.Need-same-length-4
 same-length-4 c = search needs
@@ -102,7 +75,7 @@ same-length-4 c = search needs
 returns-4 : tie.Need-returns-4
 unfolding octets kindWants
 returns-4 c =
-    rw (c .before .before .before .before .before .match .keys4) (c .before .before .put-all4 .ensures)
+    rw (c .before .before .before .before .before .match .keys4) (c .before .before .put-parts2 .ensures)
 
 same-length-5 : tie.Need-same-length-5
 same-length-5 c = search needs
@@ -110,7 +83,7 @@ same-length-5 c = search needs
 returns-5 : tie.Need-returns-5
 unfolding octets kindWants
 returns-5 c =
-    rw (c .before .before .before .before .before .match .keys5) (c .before .before .put-all5 .ensures)
+    rw (c .before .before .before .before .before .match .keys5) (c .before .before .put-all3 .ensures)
 
 same-length-6 : tie.Need-same-length-6
 same-length-6 c = search needs
@@ -118,7 +91,7 @@ same-length-6 c = search needs
 returns-6 : tie.Need-returns-6
 unfolding octets kindWants
 returns-6 c =
-    rw (c .before .before .before .before .before .match .keys6) (c .before .before .put-all6 .ensures)
+    rw (c .before .before .before .before .before .match .keys6) (c .before .before .put-all4 .ensures)
 
 same-length-7 : tie.Need-same-length-7
 same-length-7 c = search needs
@@ -126,41 +99,9 @@ same-length-7 c = search needs
 returns-7 : tie.Need-returns-7
 unfolding octets kindWants
 returns-7 c =
-    rw (c .before .before .before .before .before .match .keys7) (c .before .before .put-all7 .ensures)
-
-same-length-8 : tie.Need-same-length-8
-same-length-8 c = search needs
-
-returns-8 : tie.Need-returns-8
-unfolding octets kindWants
-returns-8 c =
-    rw (c .before .before .before .before .before .match .keys8) (c .before .before .put-all8 .ensures)
-
-same-length-9 : tie.Need-same-length-9
-same-length-9 c = search needs
-
-returns-9 : tie.Need-returns-9
-unfolding octets kindWants
-returns-9 c =
-    rw (c .before .before .before .before .before .match .keys9) (c .before .before .put-all9 .ensures)
-
-same-length-10 : tie.Need-same-length-10
-same-length-10 c = search needs
-
-returns-10 : tie.Need-returns-10
-unfolding octets kindWants
-returns-10 c =
-    rw (c .before .before .before .before .before .match .keys10) (c .before .before .put-all10 .ensures)
-
-same-length-11 : tie.Need-same-length-11
-same-length-11 c = search needs
-
-returns-11 : tie.Need-returns-11
-unfolding octets kindWants
-returns-11 c =
-    let at-match = c .before .before .before .before .before in
-    let a = c .before .before .before .before .before .before .before .args in
-    rw (ne-eqb (a .kind) 1 (at-match .match .rest .0 .0 .0 .0 .0 .0 .0 .0 .0 .1), ne-eqb (a .kind) 3 (at-match .match .rest .0 .0 .0 .0 .0 .0 .0 .0 .1), ne-eqb (a .kind) 4 (at-match .match .rest .0 .0 .0 .0 .0 .0 .0 .1), ne-eqb (a .kind) 5 (at-match .match .rest .0 .0 .0 .0 .0 .0 .1), ne-eqb (a .kind) 6 (at-match .match .rest .0 .0 .0 .0 .0 .1), ne-eqb (a .kind) 7 (at-match .match .rest .0 .0 .0 .0 .1), ne-eqb (a .kind) 8 (at-match .match .rest .0 .0 .0 .1), ne-eqb (a .kind) 9 (at-match .match .rest .0 .0 .1), ne-eqb (a .kind) 10 (at-match .match .rest .0 .1), ne-eqb (a .kind) 11 (at-match .match .rest .1)) (c .before .before .put-all11 .ensures)
+    let at-match = c .before .before .before .before in
+    let a = c .before .before .before .before .before .before .args in
+    rw (ne-eqb (a .kind) 1 (at-match .match .rest .0 .0 .0 .0 .0 .1), ne-eqb (a .kind) 3 (at-match .match .rest .0 .0 .0 .0 .1), ne-eqb (a .kind) 4 (at-match .match .rest .0 .0 .0 .1), ne-eqb (a .kind) 5 (at-match .match .rest .0 .0 .1), ne-eqb (a .kind) 6 (at-match .match .rest .0 .1), ne-eqb (a .kind) 7 (at-match .match .rest .1)) (c .before .before .put-other-wants .ensures)
 
 pub put-kind-wants-spec : {M : Type 1} → statement M
 put-kind-wants-spec =
@@ -170,24 +111,15 @@ put-kind-wants-spec =
     put-all-requires
     slice-aggregate-put-all-2
     put-all-requires-2
+    slice-aggregate-put-parts
+    put-parts-requires
+    slice-aggregate-put-parts-2
+    put-parts-requires-2
     slice-aggregate-put-all-3
     put-all-requires-3
     slice-aggregate-put-all-4
     put-all-requires-4
-    slice-aggregate-put-all-5
-    put-all-requires-5
-    slice-aggregate-put-all-6
-    put-all-requires-6
-    slice-aggregate-put-all-7
-    put-all-requires-7
-    slice-aggregate-put-all-8
-    put-all-requires-8
-    slice-aggregate-put-all-9
-    put-all-requires-9
-    slice-aggregate-put-all-10
-    put-all-requires-10
-    slice-aggregate-put-all-11
-    put-all-requires-11
+    put-other-wants-requires
     same-length
     returns
     same-length-2
@@ -201,12 +133,4 @@ put-kind-wants-spec =
     same-length-6
     returns-6
     same-length-7
-    returns-7
-    same-length-8
-    returns-8
-    same-length-9
-    returns-9
-    same-length-10
-    returns-10
-    same-length-11
-    returns-11)
+    returns-7)

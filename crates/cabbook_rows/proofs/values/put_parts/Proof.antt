@@ -19,6 +19,12 @@ part-requires-2 c κs = search needs
 ends-in-escape-requires : tie.Need-ends-in-escape-requires
 ends-in-escape-requires c κs = search needs
 
+part-requires-3 : tie.Need-part-requires-3
+part-requires-3 c κs = search needs
+
+parts-requires : tie.Need-parts-requires
+parts-requires c κs = search needs
+
 put-wants-requires : tie.Need-put-wants-requires
 put-wants-requires c κs = search needs
 
@@ -27,8 +33,8 @@ same-length c = search needs
 
 returns : tie.Need-returns
 returns c =
-    let a = c .before .before .before .before .before .before .before .before .before .before .before .before .before .args in
-    (piece _ (piece _ (nothing (page (a .at) (a .room .now))) (added-same (cut nameMost) _ (c .before .before .before .before .before .before .before .before .before .part .ensures) (c .before .before .before .before .before .before .before .before .put-cut .ensures))) (rw (c .before .before .before .before .ends-in-escape .ensures, c .before .before .before .before .before .part2 .ensures) at (c .before .before .put-wants .ensures))) .sum
+    let a = c .before .before .before .before .before .before .before .before .before .before .before .before .before .before .before .args in
+    (piece _ (piece _ (nothing (page (a .at) (a .room .now))) (added-same (cut nameMost) _ (c .before .before .before .before .before .before .before .before .before .before .before .part .ensures) (c .before .before .before .before .before .before .before .before .before .before .put-cut .ensures))) (rw (c .before .before .before .before .parts .ensures, c .before .before .before .before .before .part3 .ensures, c .before .before .before .before .before .before .ends-in-escape .ensures, c .before .before .before .before .before .before .before .part2 .ensures) at (c .before .before .put-wants .ensures))) .sum
 
 pub put-parts-spec : {M : Type 1} → statement M
 put-parts-spec =
@@ -38,6 +44,8 @@ put-parts-spec =
     put-cut-requires
     part-requires-2
     ends-in-escape-requires
+    part-requires-3
+    parts-requires
     put-wants-requires
     same-length
     returns)

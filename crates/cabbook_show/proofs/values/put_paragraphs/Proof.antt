@@ -18,17 +18,17 @@ loop-holds c = search needs
 find-requires : tie.Need-find-requires Inv-loop μ-loop
 find-requires c κs = search needs
 
-sub-put-visible : tie.Need-sub-put-visible Inv-loop μ-loop
-sub-put-visible c = search needs
+sub-put-line : tie.Need-sub-put-line Inv-loop μ-loop
+sub-put-line c = search needs
 
-part-put-visible-start : tie.Need-part-put-visible-start Inv-loop μ-loop
-part-put-visible-start c = search needs
+part-put-line-start : tie.Need-part-put-line-start Inv-loop μ-loop
+part-put-line-start c = search needs
 
-part-put-visible-end : tie.Need-part-put-visible-end Inv-loop μ-loop
-part-put-visible-end c = search needs
+part-put-line-end : tie.Need-part-put-line-end Inv-loop μ-loop
+part-put-line-end c = search needs
 
-put-visible-requires : tie.Need-put-visible-requires Inv-loop μ-loop
-put-visible-requires c κs = search needs
+put-line-requires : tie.Need-put-line-requires Inv-loop μ-loop
+put-line-requires c κs = search needs
 
 put-indent-requires : tie.Need-put-indent-requires Inv-loop μ-loop
 put-indent-requires c κs = search needs
@@ -56,10 +56,10 @@ put-paragraphs-spec =
     μ-loop
     loop-holds
     find-requires
-    sub-put-visible
-    part-put-visible-start
-    part-put-visible-end
-    put-visible-requires
+    sub-put-line
+    part-put-line-start
+    part-put-line-end
+    put-line-requires
     put-indent-requires
     add-from
     loop-less

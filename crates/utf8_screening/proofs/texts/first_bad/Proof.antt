@@ -19,11 +19,11 @@ returns c =
 table-requires : tie.Need-table-requires
 table-requires c κs = search needs
 
-first-bad-requires : tie.Need-first-bad-requires
-first-bad-requires c κs = c .before .table .ensures
+first-unfit-requires : tie.Need-first-unfit-requires
+first-unfit-requires c κs = c .before .table .ensures
 
 returns-2 : tie.Need-returns-2
-returns-2 c = c .first-bad .ensures
+returns-2 c = c .first-unfit .ensures
 
 pub first-bad-spec : {M : Type 1} → statement M
-first-bad-spec = tie.close (tie.spec reach-requires returns table-requires first-bad-requires returns-2)
+first-bad-spec = tie.close (tie.spec reach-requires returns table-requires first-unfit-requires returns-2)

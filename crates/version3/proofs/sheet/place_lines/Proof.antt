@@ -10,18 +10,18 @@ use Rattle.line_folds.proofs.FoldLaws.{unfold-shorter}
 use Rattle.line_folds.proofs.SpanLaws.{whole, part-length}
 use Rattle.folder_line.specs.Pieces.{Clean}
 use Rattle.version3.specs.Card.{formOf}
-use Rattle.version3.specs.Places.{line-over}
+use Rattle.version3.specs.Places.{Halfway}
 use Rattle.version3.proofs.CardLaws.{form-clean, form-most, turn-place}
-use Rattle.version3.proofs.PlaceLaws.{Halfway, begun, ended, onward, cramped}
+use Rattle.version3.proofs.PlaceLaws.{within, ended, onward, cramped}
 use Rattle.version3.proofs.sheet.place_lines.Statement.{statement}
 use Rattle.version3.proofs.sheet.place_lines.Tie as tie
 
 abbrev Inv-loop : tie.InvT-loop
-Inv-loop way t rows s most scratch₀ form₀ first₀ second₀ others₀ at₀ e₀ scratch form first second others at e =
-    (length scratch ≡ length scratch₀) × (length form ≡ length form₀) × Halfway way s first₀ second₀ others₀ first second others at e
+Inv-loop way t rows s from most scratch₀ form₀ first₀ second₀ others₀ at₀ e₀ scratch form first second others at e =
+    (length scratch ≡ length scratch₀) × (length form ≡ length form₀) × (length first ≡ length first₀) × (length second ≡ length second₀) × (length others ≡ length others₀) × Halfway way s first second others at e
 
 abbrev μ-loop : tie.MeasureT-loop
-μ-loop way t rows s most scratch₀ form₀ first₀ second₀ others₀ at₀ e₀ scratch form first second others at e =
+μ-loop way t rows s from most scratch₀ form₀ first₀ second₀ others₀ at₀ e₀ scratch form first second others at e =
     length s - at
 
 -- after the form of the line at hand was written
@@ -38,13 +38,16 @@ module _ (c : tie.After-form-span Inv-loop μ-loop) where
 
 loop-holds : tie.Need-loop-holds Inv-loop μ-loop
 loop-holds c =
-    (refl, refl, begun _ _ _ _ _)
+    (refl, refl, refl, refl, refl, c .before .before .before .before .before .before .pre .1 .1 .1)
 
 line-at-requires : tie.Need-line-at-requires Inv-loop μ-loop
 line-at-requires c κs = search needs
 
 sub-if1 : tie.Need-sub-if1 Inv-loop μ-loop
 sub-if1 c = search needs
+
+sub-t24 : tie.Need-sub-t24 Inv-loop μ-loop
+sub-t24 c = search needs
 
 same-length : tie.Need-same-length Inv-loop μ-loop
 same-length c =
@@ -56,19 +59,19 @@ same-length-2 c =
 
 same-length-3 : tie.Need-same-length-3 Inv-loop μ-loop
 same-length-3 c =
-    c .before .before .before .before .loop .inv .2 .first-same
+    c .before .before .before .before .loop .inv .2
 
 same-length-4 : tie.Need-same-length-4 Inv-loop μ-loop
 same-length-4 c =
-    c .before .before .before .before .loop .inv .2 .second-same
+    c .before .before .before .before .loop .inv .3
 
 same-length-5 : tie.Need-same-length-5 Inv-loop μ-loop
 same-length-5 c =
-    c .before .before .before .before .loop .inv .2 .others-same
+    c .before .before .before .before .loop .inv .4
 
 returns : tie.Need-returns Inv-loop μ-loop
 returns c =
-    line-over (omega (arith, c .if1 .taken, c .before .before .line-at .ensures .2))
+    (c .if1 .taken, omega (arith, c .before .before .line-at .ensures .2), c .before .before .before .before .loop .inv .5)
 
 sub-form-span : tie.Need-sub-form-span Inv-loop μ-loop
 sub-form-span c = search needs
@@ -97,8 +100,8 @@ slice-aggregate-place-line c =
 
 place-line-requires : tie.Need-place-line-requires Inv-loop μ-loop
 place-line-requires c κs =
-    let h = c .before .before .before .before .before .before .before .before .before .before .before .before .before .before .before .before .loop .inv .2 in
-    (subst Clean (sym (c .before .before .before .before .before .before .before .before .form-span .ensures .text)) (form-clean (c .before .before .before .before .before .before .before .before .before .before .before .before .before .before .before .before .before .before .before .before .before .before .before .args .way) (unfolded (line (c .before .before .before .before .before .before .before .before)))), omega (arith, c .before .before .before .before .before .before .before .before .form-span .ensures .turn, turn-place (unfolded (line (c .before .before .before .before .before .before .before .before)))), record { first-in = h .first-in; second-in = h .second-in; others-in = h .others-in; first-most = omega (arith, h .first-same, c .before .before .before .before .before .before .before .before .before .before .before .before .before .before .before .before .before .before .before .before .before .before .before .pre .1 .1 .0); second-most = omega (arith, h .second-same, c .before .before .before .before .before .before .before .before .before .before .before .before .before .before .before .before .before .before .before .before .before .before .before .pre .1 .1 .1); others-most = omega (arith, h .others-same, c .before .before .before .before .before .before .before .before .before .before .before .before .before .before .before .before .before .before .before .before .before .before .before .pre .1 .1 .2) })
+    let h = c .before .before .before .before .before .before .before .before .before .before .before .before .before .before .before .before .loop .inv .5 in
+    (subst Clean (sym (c .before .before .before .before .before .before .before .before .form-span .ensures .text)) (form-clean (c .before .before .before .before .before .before .before .before .before .before .before .before .before .before .before .before .before .before .before .before .before .before .before .args .way) (unfolded (line (c .before .before .before .before .before .before .before .before)))), omega (arith, c .before .before .before .before .before .before .before .before .form-span .ensures .turn, turn-place (unfolded (line (c .before .before .before .before .before .before .before .before)))), within h (omega (arith, c .before .before .before .before .before .before .before .before .before .before .before .before .before .before .before .before .loop .inv .2, c .before .before .before .before .before .before .before .before .before .before .before .before .before .before .before .before .before .before .before .before .before .before .before .pre .1 .1 .0 .0), omega (arith, c .before .before .before .before .before .before .before .before .before .before .before .before .before .before .before .before .loop .inv .3, c .before .before .before .before .before .before .before .before .before .before .before .before .before .before .before .before .before .before .before .before .before .before .before .pre .1 .1 .0 .1), omega (arith, c .before .before .before .before .before .before .before .before .before .before .before .before .before .before .before .before .loop .inv .4, c .before .before .before .before .before .before .before .before .before .before .before .before .before .before .before .before .before .before .before .before .before .before .before .pre .1 .1 .0 .2)))
 
 enum-known-placed : tie.Need-enum-known-placed Inv-loop μ-loop
 enum-known-placed c = search needs
@@ -114,7 +117,7 @@ loop-less c =
 loop-again : tie.Need-loop-again Inv-loop μ-loop
 loop-again c =
     let v = c .before .before .before .before .before .before .before .before .before .before .before .before .before .before .before .before .before .before .before .before .before .before .before .before .line-at in
-    (omega (arith, c .before .before .before .before .before .before .before .before .before .before .before .before .before .before .before .before .before .before .form-span, c .before .before .before .before .before .before .before .before .before .before .before .before .before .before .before .before .before .before .before .before .before .before .before .before .before .before .loop .inv .0), omega (arith, c .before .before .before .before .before .before .before .before .before .before .before .before .before .before .before .before .before .before .form-span, c .before .before .before .before .before .before .before .before .before .before .before .before .before .before .before .before .before .before .before .before .before .before .before .before .before .before .loop .inv .1), onward (c .before .before .before .before .before .before .before .before .before .before .before .before .before .before .before .before .before .before .before .before .before .before .before .before .before .before .loop .inv .2) (v .result .end) (c .before .before .before .before .before .before .before .before .before .before .before .before .before .before .before .before .before .before .before .before .before .before .before .before .before .loop-test .taken) (v .ensures .1) (v .ensures .2) _ _ _ (omega (arith, c .before .before .before .before .before .before .before .before .before .place-line)) (omega (arith, c .before .before .before .before .before .before .before .before .before .place-line)) (omega (arith, c .before .before .before .before .before .before .before .before .before .place-line)) (c .before .placed .given .0 .0) (rw (c .before .placed .given .1, c .before .before .before .before .before .before .before .before .before .before .before .before .before .before .before .before .before .before .form-span .ensures .turn, c .before .before .before .before .before .before .before .before .before .before .before .before .before .before .before .before .before .before .form-span .ensures .text) at (c .before .before .before .before .before .before .before .before .before .place-line .ensures)))
+    (omega (arith, c .before .before .before .before .before .before .before .before .before .before .before .before .before .before .before .before .before .before .form-span, c .before .before .before .before .before .before .before .before .before .before .before .before .before .before .before .before .before .before .before .before .before .before .before .before .before .before .loop .inv .0), omega (arith, c .before .before .before .before .before .before .before .before .before .before .before .before .before .before .before .before .before .before .form-span, c .before .before .before .before .before .before .before .before .before .before .before .before .before .before .before .before .before .before .before .before .before .before .before .before .before .before .loop .inv .1), omega (arith, c .before .before .before .before .before .before .before .before .before .place-line, c .before .before .before .before .before .before .before .before .before .before .before .before .before .before .before .before .before .before .before .before .before .before .before .before .before .before .loop .inv .2), omega (arith, c .before .before .before .before .before .before .before .before .before .place-line, c .before .before .before .before .before .before .before .before .before .before .before .before .before .before .before .before .before .before .before .before .before .before .before .before .before .before .loop .inv .3), omega (arith, c .before .before .before .before .before .before .before .before .before .place-line, c .before .before .before .before .before .before .before .before .before .before .before .before .before .before .before .before .before .before .before .before .before .before .before .before .before .before .loop .inv .4), onward (c .before .before .before .before .before .before .before .before .before .before .before .before .before .before .before .before .before .before .before .before .before .before .before .before .before .before .loop .inv .5) (v .result .end) (c .before .before .before .before .before .before .before .before .before .before .before .before .before .before .before .before .before .before .before .before .before .before .before .before .before .loop-test .taken) (v .ensures .1) (v .ensures .2) _ _ _ (omega (arith, c .before .before .before .before .before .before .before .before .before .place-line)) (omega (arith, c .before .before .before .before .before .before .before .before .before .place-line)) (omega (arith, c .before .before .before .before .before .before .before .before .before .place-line)) (c .before .placed .given .0 .0) (rw (c .before .placed .given .1, c .before .before .before .before .before .before .before .before .before .before .before .before .before .before .before .before .before .before .form-span .ensures .turn, c .before .before .before .before .before .before .before .before .before .before .before .before .before .before .before .before .before .before .form-span .ensures .text) at (c .before .before .before .before .before .before .before .before .before .place-line .ensures)))
 
 enum-told : tie.Need-enum-told Inv-loop μ-loop
 enum-told c = search needs
@@ -129,20 +132,20 @@ same-length-7 c =
 
 same-length-8 : tie.Need-same-length-8 Inv-loop μ-loop
 same-length-8 c =
-    omega (arith, c .before .before .before .before .before .before .before .before .place-line, c .before .before .before .before .before .before .before .before .before .before .before .before .before .before .before .before .before .before .before .before .before .before .before .before .before .loop .inv .2 .first-same)
+    omega (arith, c .before .before .before .before .before .before .before .before .place-line, c .before .before .before .before .before .before .before .before .before .before .before .before .before .before .before .before .before .before .before .before .before .before .before .before .before .loop .inv .2)
 
 same-length-9 : tie.Need-same-length-9 Inv-loop μ-loop
 same-length-9 c =
-    omega (arith, c .before .before .before .before .before .before .before .before .place-line, c .before .before .before .before .before .before .before .before .before .before .before .before .before .before .before .before .before .before .before .before .before .before .before .before .before .loop .inv .2 .second-same)
+    omega (arith, c .before .before .before .before .before .before .before .before .place-line, c .before .before .before .before .before .before .before .before .before .before .before .before .before .before .before .before .before .before .before .before .before .before .before .before .before .loop .inv .3)
 
 same-length-10 : tie.Need-same-length-10 Inv-loop μ-loop
 same-length-10 c =
-    omega (arith, c .before .before .before .before .before .before .before .before .place-line, c .before .before .before .before .before .before .before .before .before .before .before .before .before .before .before .before .before .before .before .before .before .before .before .before .before .loop .inv .2 .others-same)
+    omega (arith, c .before .before .before .before .before .before .before .before .place-line, c .before .before .before .before .before .before .before .before .before .before .before .before .before .before .before .before .before .before .before .before .before .before .before .before .before .loop .inv .4)
 
 returns-2 : tie.Need-returns-2 Inv-loop μ-loop
 returns-2 c =
     let v = c .before .before .before .before .before .before .before .before .before .before .before .before .before .before .before .before .before .before .before .before .before .before .before .line-at in
-    cramped (c .before .before .before .before .before .before .before .before .before .before .before .before .before .before .before .before .before .before .before .before .before .before .before .before .before .loop .inv .2) (v .result .end) (c .before .before .before .before .before .before .before .before .before .before .before .before .before .before .before .before .before .before .before .before .before .before .before .before .loop-test .taken) (v .ensures .1) (v .ensures .2) (c .before .before .before .before .before .before .before .before .place-line .last .1 .1 .1 .0) (c .before .before .before .before .before .before .before .before .place-line .last .1 .1 .1 .1 .0) (c .before .before .before .before .before .before .before .before .place-line .last .1 .1 .1 .1 .1 .0) (omega (arith, c .before .before .before .before .before .before .before .before .place-line)) (omega (arith, c .before .before .before .before .before .before .before .before .place-line)) (omega (arith, c .before .before .before .before .before .before .before .before .place-line)) (c .before .before .before .before .before .before .before .before .before .before .before .before .before .before .before .before .before .before .before .before .before .before .before .before .before .before .before .before .before .before .before .before .args .most) (rw (c .enum-told .given .1, c .before .before .before .before .before .before .before .before .before .before .before .before .before .before .before .before .before .form-span .ensures .turn, c .before .before .before .before .before .before .before .before .before .before .before .before .before .before .before .before .before .form-span .ensures .text) at (c .before .before .before .before .before .before .before .before .place-line .ensures))
+    cramped (c .before .before .before .before .before .before .before .before .before .before .before .before .before .before .before .before .before .before .before .before .before .before .before .before .before .loop .inv .5) (v .result .end) (c .before .before .before .before .before .before .before .before .before .before .before .before .before .before .before .before .before .before .before .before .before .before .before .before .loop-test .taken) (v .ensures .1) (v .ensures .2) (c .before .before .before .before .before .before .before .before .place-line .last .1 .1 .1 .0) (c .before .before .before .before .before .before .before .before .place-line .last .1 .1 .1 .1 .0) (c .before .before .before .before .before .before .before .before .place-line .last .1 .1 .1 .1 .1 .0) (omega (arith, c .before .before .before .before .before .before .before .before .place-line)) (omega (arith, c .before .before .before .before .before .before .before .before .place-line)) (omega (arith, c .before .before .before .before .before .before .before .before .place-line)) (rw (c .enum-told .given .1, c .before .before .before .before .before .before .before .before .before .before .before .before .before .before .before .before .before .form-span .ensures .turn, c .before .before .before .before .before .before .before .before .before .before .before .before .before .before .before .before .before .form-span .ensures .text) at (c .before .before .before .before .before .before .before .before .place-line .ensures))
 
 same-length-11 : tie.Need-same-length-11 Inv-loop μ-loop
 same-length-11 c =
@@ -154,19 +157,19 @@ same-length-12 c =
 
 same-length-13 : tie.Need-same-length-13 Inv-loop μ-loop
 same-length-13 c =
-    c .before .loop .inv .2 .first-same
+    c .before .loop .inv .2
 
 same-length-14 : tie.Need-same-length-14 Inv-loop μ-loop
 same-length-14 c =
-    c .before .loop .inv .2 .second-same
+    c .before .loop .inv .3
 
 same-length-15 : tie.Need-same-length-15 Inv-loop μ-loop
 same-length-15 c =
-    c .before .loop .inv .2 .others-same
+    c .before .loop .inv .4
 
 returns-3 : tie.Need-returns-3 Inv-loop μ-loop
 returns-3 c =
-    ended (c .before .loop .inv .2) (c .loop-test .left) (c .before .before .before .before .before .before .before .before .pre .1 .1)
+    ended (c .before .loop .inv .5) (c .loop-test .left) (omega (arith, c .before .loop .inv .2, c .before .before .before .before .before .before .before .before .pre .1 .1 .0 .0), omega (arith, c .before .loop .inv .3, c .before .before .before .before .before .before .before .before .pre .1 .1 .0 .1), omega (arith, c .before .loop .inv .4, c .before .before .before .before .before .before .before .before .pre .1 .1 .0 .2))
 
 pub place-lines-spec : {M : Type 1} → statement M
 place-lines-spec =
@@ -177,6 +180,7 @@ place-lines-spec =
     loop-holds
     line-at-requires
     sub-if1
+    sub-t24
     same-length
     same-length-2
     same-length-3

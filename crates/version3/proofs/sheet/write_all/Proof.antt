@@ -49,7 +49,7 @@ returns-2 : tie.Need-returns-2
 returns-2 c =
     let a = c .before .before .before .before .before .before .before .before .before .before .before .before .before .before .before .before .before .before .args in
     let r = rw (c .enum-told .given .1) at (c .before .before .before .before .before .before .before .before .before .write-in .ensures) in
-    ap (λ (o : List ℕ). refuse 16 16384 o) (r .0) ∙ bound-over (cardText (a .way) (a .s .now)) (a .out .now) (narrow-over (a .way) (a .s .now) (c .before .before .before .before .before .before .before .before .before .before .before .before .before .before .before .before .before .before .pre) (narrowed (r .1) (simp length-replicate) (simp length-replicate) (simp length-replicate)))
+    ap (λ (o : List ℕ). refuse 16 16384 o) (r .0) ∙ bound-over (cardText (a .way) (a .s .now)) (a .out .now) (narrow-over (a .way) (a .s .now) (narrowed (r .1) (simp length-replicate) (simp length-replicate) (simp length-replicate)))
 
 pub write-all-spec : {M : Type 1} → statement M
 write-all-spec =

@@ -9,21 +9,15 @@ use borrow.Author.Needs.{needs}
 use Rattle.version3.proofs.sheet.write_in.Statement.{statement}
 use Rattle.version3.proofs.sheet.write_in.Tie as tie
 
-table-requires : tie.Need-table-requires
-table-requires c κs = search needs
-
-table-requires-2 : tie.Need-table-requires-2
-table-requires-2 c κs = search needs
-
-place-lines-requires : tie.Need-place-lines-requires
-place-lines-requires c κs = search needs
+place-card-requires : tie.Need-place-card-requires
+place-card-requires c κs = search needs
 
 enum-known-e : tie.Need-enum-known-e
 enum-known-e c = search needs
 
 join-requires : tie.Need-join-requires
 join-requires c κs =
-    let r = rw (c .before .before .before .before .before .e .given .1) at (c .before .before .before .before .before .before .before .before .before .before .before .before .before .before .before .before .before .place-lines .ensures) in
+    let r = rw (c .before .before .before .before .before .e .given .1) at (c .before .before .before .before .before .before .before .before .before .before .before .before .before .before .before .before .before .place-card .ensures) in
     r .within
 
 enum-told : tie.Need-enum-told
@@ -49,7 +43,7 @@ same-length-6 c = search needs
 
 returns : tie.Need-returns
 returns c =
-    c .before .before .join .ensures ∙ ap (λ (x : List ℕ). fillBounded x (c .before .before .before .before .before .before .before .before .before .before .before .before .before .before .before .before .before .before .before .before .before .before .before .before .before .before .before .before .before .before .before .before .before .before .before .before .before .args .out .now)) (joined-card (c .before .before .before .before .before .before .before .before .before .before .before .before .before .before .before .before .before .before .before .before .before .before .before .before .before .before .before .before .before .before .before .before .before .before .before .before .before .args .way) (c .before .before .before .before .before .before .before .before .before .before .before .before .before .before .before .before .before .before .before .before .before .before .before .before .before .before .before .before .before .before .before .before .before .before .before .before .before .args .s .now) _ _ _ _ (rw (c .before .before .before .before .before .before .before .before .e .given .1) at (c .before .before .before .before .before .before .before .before .before .before .before .before .before .before .before .before .before .before .before .before .place-lines .ensures)))
+    c .before .before .join .ensures ∙ ap (λ (x : List ℕ). fillBounded x (c .before .before .before .before .before .before .before .before .before .before .before .before .before .before .before .before .before .before .before .before .before .before .before .before .before .before .before .before .before .before .before .before .before .args .out .now)) (joined-card (c .before .before .before .before .before .before .before .before .before .before .before .before .before .before .before .before .before .before .before .before .before .before .before .before .before .before .before .before .before .before .before .before .before .args .way) (c .before .before .before .before .before .before .before .before .before .before .before .before .before .before .before .before .before .before .before .before .before .before .before .before .before .before .before .before .before .before .before .before .before .args .s .now) _ _ _ _ (rw (c .before .before .before .before .before .before .before .before .e .given .1) at (c .before .before .before .before .before .before .before .before .before .before .before .before .before .before .before .before .before .before .before .before .place-card .ensures)))
 
 same-length-7 : tie.Need-same-length-7
 same-length-7 c = search needs
@@ -68,15 +62,13 @@ same-length-11 c = search needs
 
 returns-2 : tie.Need-returns-2
 returns-2 c =
-    (refl, narrowed (rw (c .enum-told .given .1) at (c .before .before .before .before .before .before .before .before .before .before .before .before .place-lines .ensures)) (omega (arith, c .before .before .before .before .before .before .before .before .before .before .before .before .place-lines)) (omega (arith, c .before .before .before .before .before .before .before .before .before .before .before .before .place-lines)) (omega (arith, c .before .before .before .before .before .before .before .before .before .before .before .before .place-lines)))
+    (refl, narrowed (rw (c .enum-told .given .1) at (c .before .before .before .before .before .before .before .before .before .before .before .before .place-card .ensures)) (omega (arith, c .before .before .before .before .before .before .before .before .before .before .before .before .place-card)) (omega (arith, c .before .before .before .before .before .before .before .before .before .before .before .before .place-card)) (omega (arith, c .before .before .before .before .before .before .before .before .before .before .before .before .place-card)))
 
 pub write-in-spec : {M : Type 1} → statement M
 write-in-spec =
     tie.close
     (tie.spec
-    table-requires
-    table-requires-2
-    place-lines-requires
+    place-card-requires
     enum-known-e
     join-requires
     enum-told
