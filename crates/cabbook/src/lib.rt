@@ -1,4 +1,5 @@
 // cabbook: the workshop's command-line tool as one function for a C `main`, which ends with the status that it answers.
+#![tactic(auto)]
 ghost use Rattle.std.specs.Prelude.{◌≤◌};
 ghost use Rattle.cabbook_tables.specs.Statuses as status;
 

@@ -1,4 +1,5 @@
 // `check`: a row a file, and under each refusal its logical line and what would help; or an object of JSON; or nothing but the status.
+#![tactic(auto)]
 mod json;
 
 ghost use Rattle.cabbook_output.specs.Ends.{Status};
@@ -12,7 +13,7 @@ use property_table::Edition;
 use reader::Verdict;
 
 // What is printed: rows, objects of JSON, or nothing.
-#[derive(Drop)]
+#[derive(Clone, Copy)]
 pub enum Manner {
     Rows,
     Json,

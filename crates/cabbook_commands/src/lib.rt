@@ -1,4 +1,5 @@
 // The commands of the workshop's tool, over the reader, the folder, text, labels, the desk and the report.
+#![tactic(auto)]
 mod reporting;
 mod usage;
 mod writing;
@@ -19,7 +20,7 @@ use version3_parameters::Way;
 use writing::Form;
 
 // What is done with the octets of a file.
-#[derive(Drop)]
+#[derive(Clone, Copy)]
 enum Command {
     Check(Edition, Manner),
     CheckAll(Edition, Manner),

@@ -15,7 +15,7 @@ use report::{Answer, Report};
 const PAGE: usize = 8192;
 
 // The report so far, and the exit status of what could not be counted.
-#[derive(Drop)]
+#[derive(Clone, Copy)]
 struct Gathered {
     report: Report,
     status: u8,

@@ -10,7 +10,7 @@ use octets::rooms::Written;
 use property_table::Edition;
 
 // The form in which octets are written.
-#[derive(Drop)]
+#[derive(Clone, Copy)]
 pub enum Form {
     Folded(Edition, Style),
     Escaped,

@@ -10,7 +10,7 @@ const WIDTH: usize = 38;
 const MARK: usize = 2;
 
 // What was shown so far: pairs of one value and of two, lines that stand on both sides alike, lines on one side alone, and whether all was written.
-#[derive(Drop)]
+#[derive(Clone, Copy)]
 pub struct Tally {
     pub same: usize,
     pub other: usize,

@@ -9,7 +9,7 @@ use numbers::{limit, refusal};
 use reader::Verdict;
 
 // An upload: the argument that names its file, 0 where there is no upload, the file's descriptor, and the ticket.
-#[derive(Drop)]
+#[derive(Clone, Copy)]
 pub struct Upload {
     pub file: usize,
     pub fd: i32,
@@ -17,7 +17,7 @@ pub struct Upload {
 }
 
 // The desk and the uploads at it, the argument from which on the next file is looked for, how many arguments there are, the one that ends the options, how many uploads run, the chunks' size, the width of the column of names, what was counted, and the tick of this round with the ticks of a round.
-#[derive(Drop)]
+#[derive(Clone, Copy)]
 pub struct Morning {
     pub desk: Desk,
     pub uploads: [Upload; limit::SLOTS],

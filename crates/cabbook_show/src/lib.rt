@@ -1,4 +1,5 @@
 // `show`: the cards of a file as a table, from the records.
+#![tactic(auto)]
 mod dates;
 mod values;
 
@@ -85,7 +86,7 @@ fn put_row(room: &mut [u8], copy: &[u8], r: &[u32], again: bool) -> usize {
 }
 
 // What came so far: the bits of the properties that this card has once, the cards, and whether all rows were written.
-#[derive(Drop)]
+#[derive(Clone, Copy)]
 struct Shown {
     seen: u64,
     cards: usize,

@@ -1,4 +1,5 @@
 // How large a file is that is too long for a book: its octets and its cards, counted by reading it again where it can be.
+#![tactic(auto)]
 use cabbook_messages::sentences;
 use libc::{SEEK_END, SEEK_SET, STDOUT_FILENO};
 use numbers::limit;
@@ -12,7 +13,7 @@ use program_output::put_all;
 const START: usize = 12;
 
 // What was counted so far: octets, cards, how many octets of a card's start came last, and whether more may come.
-#[derive(Drop)]
+#[derive(Clone, Copy)]
 struct Size {
     octets: usize,
     cards: usize,

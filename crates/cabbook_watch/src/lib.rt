@@ -1,4 +1,5 @@
 // `watch`: files that are judged while they arrive, so many octets at a time, with a line on a terminal that tells how far that is.
+#![tactic(auto)]
 ghost use Rattle.cabbook_output.specs.Ends.{Status};
 
 use cabbook_messages::sentences;
@@ -19,7 +20,7 @@ const USUAL_CHUNK: usize = 4096;
 const TURNS: usize = limit::READ_ROOM + 1;
 
 // What came of a file: the verdict, how many octets, and whether it could be read.
-#[derive(Drop)]
+#[derive(Clone, Copy)]
 pub struct Came {
     pub verdict: Verdict,
     pub octets: usize,

@@ -1,4 +1,5 @@
 // The console: answers each request line of standard input by calling the entry that it names.
+#![tactic(auto)]
 mod dispatch;
 mod input;
 

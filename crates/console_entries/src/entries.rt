@@ -25,7 +25,7 @@ const SECOND_EDITION: usize = 2;
 const LINE_END: usize = 2;
 
 // The entries that write octets to room.
-#[derive(Drop)]
+#[derive(Clone, Copy)]
 pub enum Writer {
     Fold,
     Escape,

@@ -1,4 +1,5 @@
 // The requests of the reader of chunks, and its state and buffer, which are kept beside desk, output and report.
+#![tactic(auto)]
 ghost use Rattle.std.specs.Prelude.{◌≡◌, true, ◌≤◌, length};
 ghost use Rattle.program_output.specs.Pages.{page, added};
 ghost use Rattle.console_watch.specs.WatchAnswers.{most_buffer, watching_of, with_buffer, first, session, shown_at, lent_length, says_bad, begin_answer, buffer_answer, claim_answer, done_line, claims, arrived_text, next_of, ChunkLent, ChunkTurn, EndTurn};
@@ -12,7 +13,7 @@ use watch::{Arrived, Watch};
 pub const BUFFER: usize = 20000;
 
 // What is kept from request to request: desk, output and report, the state of the reader of chunks, and how many octets of buffer are lent to it.
-#[derive(Drop)]
+#[derive(Clone, Copy)]
 pub struct Session {
     pub kept: Kept,
     pub watch: Watch,

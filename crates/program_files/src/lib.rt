@@ -1,4 +1,5 @@
 // Files: one is opened by its name, `-` for standard input, and its octets are read.
+#![tactic(auto)]
 ghost use Rattle.program_files.specs.Inputs.{Fetched, Descriptor};
 
 use libc::{STDERR_FILENO, STDIN_FILENO};
@@ -7,7 +8,7 @@ use octets::slices::part;
 use program_output::put_all;
 
 // How many octets were read to the start of a room, or that this failed.
-#[derive(Drop)]
+#[derive(Clone, Copy)]
 pub enum Input {
     Octets(usize),
     Unread,

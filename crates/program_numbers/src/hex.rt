@@ -13,7 +13,7 @@ const LETTERS: u8 = b'a' - 10;
 const NO_DIGIT: u8 = 16;
 
 // How many octets a word stands for, or that it stands for none.
-#[derive(Drop)]
+#[derive(Clone, Copy)]
 pub enum Octets {
     Are(usize),
     Bad,

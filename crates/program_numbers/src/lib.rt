@@ -1,3 +1,4 @@
 // What digits stand for: a number in decimal ones, and octets as pairs of hexadecimal ones.
+#![tactic(auto)]
 pub mod decimal;
 pub mod hex;
