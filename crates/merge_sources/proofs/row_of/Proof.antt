@@ -215,7 +215,7 @@ module _ {M : Type 1} {𝓤 : Ura M} (𝓛 : Logic 𝓤) (mem : Memory → SProp
   abbrev body : Body
   body = seq (assign (place 4 []) (rv_opd (copy (place 1 (field 1 ∷ []))))) (seq (call #merge-sources·empty (copy (place 4 []) ∷ []) (place 2 [])) loopy)
 
-  module _ (𝓣 : Tables 𝓤 H) (known_at_lem : Triple 𝓤 (𝓣.C #merge-sources·at) (At 𝓛 mem run)) (known-with : Triple 𝓤 (𝓣.C #merge-sources·with-entry) (With 𝓛 mem run)) (p : Is (ShrSlice (named 0) κ T.the_row) s (v ∷ [])) (l₀ l₁ l₂ l₃ l₄ l₅ l₆ : ℕ) where
+  module _ (𝓣 : Tables 𝓤 H) (known_at : Triple 𝓤 (𝓣.C #merge-sources·at) (At 𝓛 mem run)) (known-with : Triple 𝓤 (𝓣.C #merge-sources·with-entry) (With 𝓛 mem run)) (p : Is (ShrSlice (named 0) κ T.the_row) s (v ∷ [])) (l₀ l₁ l₂ l₃ l₄ l₅ l₆ : ℕ) where
     abbrev C : Calls 𝓤 H
     C = 𝓣.C
 
@@ -246,7 +246,7 @@ module _ {M : Type 1} {𝓤 : Ura M} (𝓛 : Logic 𝓤) (mem : Memory → SProp
         (λ less. skips ! $ exec ! C Λ En more (any_q (Turned i)) $
         move ! (14 ∷ 15 ∷ []) $ use2 𝓛 (raw ((At 𝓛 mem run).pre (to_at i.0)) ⊛ ‵ Own) (goes_at i.0 (small less)) $ split ! $
         -- [what `at` asks; what m owns; room for _6; …; _5; …; _4; …; _3; …; _2; …; _1; …; room for _0; …]
-        calls_at ! fm (At 𝓛 mem run) known_at_lem (to_at i.0) (and_then ! (load ! (from ! (stop !)) (look ! 12 refl)) (and_then ! (load ! (from ! (stop !)) (look ! 8 refl)) (no_more !))) (λ u.
+        calls_at ! fm (At 𝓛 mem run) known_at (to_at i.0) (and_then ! (load ! (from ! (stop !)) (look ! 12 refl)) (and_then ! (load ! (from ! (stop !)) (look ! 8 refl)) (no_more !))) (λ u.
         use1 𝓛 (later (some (λ (e : Source). ((‵ (flft κ q) ⊛ ‵ ftrue) ⊛ ‵ ((T.the_row).own_val e (u ∷ []))) ⊛ raw (ensured 𝓛 at.ended (at.clauses 𝓛 mem run) (κ, tt) (s, (i.0, tt)) tt e)))) (id⊢ 𝓤 _) $ await ! tt $ pick ! (λ e.
         split ! $ move ! (1 ∷ []) $ use1 𝓛 (raw (fact 𝓤 (e ≡ get_or ys i.0 none))) (at_said i.0 e) $ heard ! (e ≡ get_or ys i.0 none) (λ is-entry. split ! $ move ! (1 ∷ []) $
         -- [what the entry owns; the token; what m owns; room for _6; …]
@@ -312,20 +312,20 @@ module _ {M : Type 1} {𝓤 : Ura M} (𝓛 : Logic 𝓤) (mem : Memory → SProp
 
   walk : (𝓣 : Tables 𝓤 H) → Triple 𝓤 (𝓣.C #merge-sources·at) (At 𝓛 mem run) → Triple 𝓤 (𝓣.C #merge-sources·empty) (Empty 𝓛 mem run) → Triple 𝓤 (𝓣.C #merge-sources·with-entry) (With 𝓛 mem run)
       → Is (ShrSlice (named 0) κ T.the_row) s (v ∷ []) → ent 𝓤 (on_entry 𝓛 f.signature (κ, tt) (q, tt) (s, tt) (v ∷ [], tt)) (WpFn 𝓤 H 𝓣.C 𝓣.Λ code.function (v ∷ []) Post)
-  walk 𝓣 known_at_lem known-empty known-with p =
+  walk 𝓣 known_at known-empty known-with p =
       qed 𝓛 ((‵ (flft κ q) ⊛ ‵ ftrue) ∷ ‵ (owns (ShrSlice (named 0) κ T.the_row ∷ []) (s, tt) (v ∷ [], tt)) ∷ []) ∵ enter ! 𝓣.C 𝓣.Λ code.function (v ∷ []) _ $
       alloc1 ! (λ l₀. alloc1 ! (λ l₁. alloc1 ! (λ l₂. alloc1 ! (λ l₃. alloc1 ! (λ l₄. alloc1 ! (λ l₅. alloc1 ! (λ l₆. alloc0 ! $ params1 ! $
       pass1 ! (init ! 10 refl ((shr_slice_Lawful 𝓛 (named 0) κ T.the_row).typed s (v ∷ []) p).0) $ pass0 ! $
       move ! (15 ∷ []) $ fsplit ! $ keep ! (2 ∷ 3 ∷ 4 ∷ 5 ∷ 6 ∷ 7 ∷ 8 ∷ 9 ∷ 10 ∷ 11 ∷ 12 ∷ 13 ∷ 14 ∷ 15 ∷ 16 ∷ 0 ∷ []) $
-      starts 𝓣 known_at_lem known-with p l₀ l₁ l₂ l₃ l₄ l₅ l₆ known-empty)))))))
+      starts 𝓣 known_at known-with p l₀ l₁ l₂ l₃ l₄ l₅ l₆ known-empty)))))))
 
 module _ {M : Type 1} {𝓤 : Ura M} (𝓛 : Logic 𝓤) (mem : Memory → SProp 𝓤) (run : Routine → Fun 𝓤) (𝓣 : Tables 𝓤 𝓛.H)
-    (known_at_lem : Triple 𝓤 (𝓣.C #merge-sources·at) (At 𝓛 mem run)) (known-empty : Triple 𝓤 (𝓣.C #merge-sources·empty) (Empty 𝓛 mem run)) (known-with : Triple 𝓤 (𝓣.C #merge-sources·with-entry) (With 𝓛 mem run)) where
+    (known_at : Triple 𝓤 (𝓣.C #merge-sources·at) (At 𝓛 mem run)) (known-empty : Triple 𝓤 (𝓣.C #merge-sources·empty) (Empty 𝓛 mem run)) (known-with : Triple 𝓤 (𝓣.C #merge-sources·with-entry) (With 𝓛 mem run)) where
   open 𝓛 use {H}
 
   row_of_walks : Walks 𝓛 f.ended stayed (WpFn 𝓤 H 𝓣.C 𝓣.Λ code.function) (f.clauses 𝓛 mem run)
   row_of_walks = walked 𝓛 f.ended stayed (f.clauses 𝓛 mem run) (WpFn 𝓤 H 𝓣.C 𝓣.Λ code.function) (λ κs. (shr_slice_vals, tt)) (λ κs. (shr_slice_Tells (named 0) κs.0 T.the_row, tt))
-      (λ κs qs bounds a g are. via 𝓤 _ (fst∗ 𝓤 _ (emp 𝓤)) (walk 𝓛 mem run κs.0 qs.0 a.0 𝓣 known_at_lem known-empty known-with are.0))
+      (λ κs qs bounds a g are. via 𝓤 _ (fst∗ 𝓤 _ (emp 𝓤)) (walk 𝓛 mem run κs.0 qs.0 a.0 𝓣 known_at known-empty known-with are.0))
 
   row_of_meets : Meets 𝓛 f.signature (WpFn 𝓤 H 𝓣.C 𝓣.Λ code.function) (f.spec 𝓛 mem run)
   row_of_meets = walk_Meets 𝓛 f.ended stayed (Goes-none_slice 𝓛 1 (0 ∷ []) tt (plain (λ _. T.the_row)) yes, tt) (f.clauses 𝓛 mem run) (WpFn 𝓤 H 𝓣.C 𝓣.Λ code.function) (WpFn-mono 𝓤 H 𝓛.laws 𝓣 code.function) row_of_walks
