@@ -9,7 +9,7 @@ use Rattle.report_lines.proofs.HeadLaws.{NameAt, name_at, nameless}
 use Rattle.report_lines.proofs.row_of.Goals as goal
 
 pub returns-in_default : goal.returns-in_default
-returns-in_default c = (nameless _ _ c.read_head-head.ensures c.in_default.keys2, omega arith)
+returns-in_default c = (nameless _ _ c.read_head-head.ensures c.in_default-own.keys2, omega arith)
 
 pub name_start-start-requires : goal.name_start-start-requires
 name_start-start-requires c = 
