@@ -28,25 +28,18 @@ returns-then-spells c =
 pub next_chosen-row-requires : goal.next_chosen-row-requires
 next_chosen-row-requires c = record { lists = search rules; row_lt_all = c.loop-row.invariant.low }
 
--- the turn's start, and the name
-abbrev start : tie.Else1 invariant-loop decreases-loop → tie.At-loop invariant-loop decreases-loop
-start c = c.before.before.before
-
-abbrev sought : tie.At-loop invariant-loop decreases-loop → List ℕ
-sought l = l.before.before.before.args.name.now
-
 pub loop-row-smaller : goal.loop-row-smaller
 loop-row-smaller c =
-    let onward : Onward (sought (start c)) (suc (start c).loop.row) (next_of (start c).loop.row) = let l = start c in
-    onward_next (sought l) l.loop.row c.loop-row-test.true l.loop.inv (sym c.spells.ensures ∙ c.if-spells.false) in
-    let l = (start c).loop in
+    let onward : Onward c.args.name.now (suc c.loop-row.row) (next_of c.loop-row.row) =
+    onward_next c.args.name.now c.loop-row.row c.loop-row-test.true c.loop-row.invariant (sym c.spells.ensures ∙ c.if-spells.false) in
+    let l = c.loop-row in
     let on = onward in
-    rw c.next_chosen-row.ensures (falls l.row (next_of l.row) c.loop-row-test.true l.inv.low on.on.low on.after)
+    rw c.next_chosen-row.ensures (falls l.row (next_of l.row) c.loop-row-test.true l.invariant.low on.on.low on.after)
 
 pub loop-row-preserved : goal.loop-row-preserved
 loop-row-preserved c =
-    let onward : Onward (sought (start c)) (suc (start c).loop.row) (next_of (start c).loop.row) = let l = start c in
-    onward_next (sought l) l.loop.row c.loop-row-test.true l.loop.inv (sym c.spells.ensures ∙ c.if-spells.false) in
+    let onward : Onward c.args.name.now (suc c.loop-row.row) (next_of c.loop-row.row) =
+    onward_next c.args.name.now c.loop-row.row c.loop-row-test.true c.loop-row.invariant (sym c.spells.ensures ∙ c.if-spells.false) in
     rw c.next_chosen-row.ensures onward.on
 
 pub returns : goal.returns

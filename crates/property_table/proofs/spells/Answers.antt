@@ -29,14 +29,14 @@ returns-then-name-i c =
     let as_long : length (row_at c.args.row).name ≡ length c.args.name.now = (agree_both c.args.name.now (row_at c.args.row) c.requires.row_value).0 in
     let a = c.args in
     let p = c.requires in
-    sym (c.loop-i.invariant.0 ∙ spelt_other a.rows.now a.name.now a.row c.loop-i.i p.0 p.1.0 as_long c.loop-i.invariant.1 (omega arith) (omega (arith, c.type_inv.name c.loop-i.i)) c.if-name-i.true)
+    sym (c.loop-i.invariant.0 ∙ spelt_other a.rows.now a.name.now a.row c.loop-i.i p.lists p.row_lt_all as_long c.loop-i.invariant.1 (omega arith) (omega (arith, c.type_inv.name c.loop-i.i)) c.if-name-i.true)
 
 pub loop-i-preserved : goal.loop-i-preserved
 loop-i-preserved c =
     let as_long : length (row_at c.args.row).name ≡ length c.args.name.now = (agree_both c.args.name.now (row_at c.args.row) c.requires.row_value).0 in
     let a = c.args in
     let p = c.requires in
-    (c.loop-i.invariant.0 ∙ spelt_next a.rows.now a.name.now a.row c.loop-i.i p.0 p.1.0 as_long c.loop-i.invariant.1 (omega arith) (omega (arith, c.type_inv.name c.loop-i.i)) c.if-name-i.false, omega arith)
+    (c.loop-i.invariant.0 ∙ spelt_next a.rows.now a.name.now a.row c.loop-i.i p.lists p.row_lt_all as_long c.loop-i.invariant.1 (omega arith) (omega (arith, c.type_inv.name c.loop-i.i)) c.if-name-i.false, omega arith)
 
 pub returns : goal.returns
 returns c =

@@ -24,13 +24,15 @@ returns-then-b-eq240 c =
       eq-eqb _ _ c.if-b-eq240.true,
     ) c.in_range-then-b-eq240.ensures
 
--- after the first three tests
-others : (c : goal.Else-b-eq240) → let a = c.args in second a.b a.c ≡ pick (eqb a.b 0xf4) (within 0x80 0x8f a.c) (within 0x80 0xbf a.c)
-unfolding second
-others c = simp (ne_eqb _ _ c.if-b-eq224.false, ne_eqb _ _ c.if-b-eq237.false, ne_eqb _ _ c.if-b-eq240.false)
 
 pub returns-then-b-eq244 : goal.returns-then-b-eq244
-returns-then-b-eq244 c = c.in_range-then-b-eq244.ensures ∙ sym (others c ∙ simp (eq-eqb _ _ c.if-b-eq244.true))
+unfolding second
+returns-then-b-eq244 c =
+    let others : let a = c.args in second a.b a.c ≡ pick (eqb a.b 0xf4) (within 0x80 0x8f a.c) (within 0x80 0xbf a.c) = simp (ne_eqb _ _ c.if-b-eq224.false, ne_eqb _ _ c.if-b-eq237.false, ne_eqb _ _ c.if-b-eq240.false) in
+    c.in_range-then-b-eq244.ensures ∙ sym (others ∙ simp (eq-eqb _ _ c.if-b-eq244.true))
 
 pub returns : goal.returns
-returns c = c.in_range-2.ensures ∙ sym (others c ∙ simp (ne_eqb _ _ c.if-b-eq244.false))
+unfolding second
+returns c =
+    let others : let a = c.args in second a.b a.c ≡ pick (eqb a.b 0xf4) (within 0x80 0x8f a.c) (within 0x80 0xbf a.c) = simp (ne_eqb _ _ c.if-b-eq224.false, ne_eqb _ _ c.if-b-eq237.false, ne_eqb _ _ c.if-b-eq240.false) in
+    c.in_range-2.ensures ∙ sym (others ∙ simp (ne_eqb _ _ c.if-b-eq244.false))

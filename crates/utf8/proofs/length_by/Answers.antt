@@ -18,16 +18,21 @@ pub returns-then-b-lt224 : goal.returns-then-b-lt224
 unfolding length_by
 returns-then-b-lt224 c = simp (le-ltb _ _ c.if-b-lt128.false, le-ltb _ _ c.if-b-lt194.false, lt-ltb _ _ c.if-b-lt224.true)
 
--- after the first three tests
-long : (c : goal.Else-b-lt224) → let b = c.args.b in length_by b ≡ pick (ltb b 0xf0) 3 (pick (ltb b 0xf5) 4 0)
-unfolding length_by
-long c = simp (le-ltb _ _ c.if-b-lt128.false, le-ltb _ _ c.if-b-lt194.false, le-ltb _ _ c.if-b-lt224.false)
 
 pub returns-then-b-lt240 : goal.returns-then-b-lt240
-returns-then-b-lt240 c = sym (long c ∙ simp (lt-ltb _ _ c.if-b-lt240.true))
+unfolding length_by
+returns-then-b-lt240 c =
+    let long : let b = c.args.b in length_by b ≡ pick (ltb b 0xf0) 3 (pick (ltb b 0xf5) 4 0) = simp (le-ltb _ _ c.if-b-lt128.false, le-ltb _ _ c.if-b-lt194.false, le-ltb _ _ c.if-b-lt224.false) in
+    sym (long ∙ simp (lt-ltb _ _ c.if-b-lt240.true))
 
 pub returns-then-b-lt245 : goal.returns-then-b-lt245
-returns-then-b-lt245 c = sym (long c ∙ simp (le-ltb _ _ c.if-b-lt240.false, lt-ltb _ _ c.if-b-lt245.true))
+unfolding length_by
+returns-then-b-lt245 c =
+    let long : let b = c.args.b in length_by b ≡ pick (ltb b 0xf0) 3 (pick (ltb b 0xf5) 4 0) = simp (le-ltb _ _ c.if-b-lt128.false, le-ltb _ _ c.if-b-lt194.false, le-ltb _ _ c.if-b-lt224.false) in
+    sym (long ∙ simp (le-ltb _ _ c.if-b-lt240.false, lt-ltb _ _ c.if-b-lt245.true))
 
 pub returns : goal.returns
-returns c = sym (long c ∙ simp (le-ltb _ _ c.if-b-lt240.false, le-ltb _ _ c.if-b-lt245.false))
+unfolding length_by
+returns c =
+    let long : let b = c.args.b in length_by b ≡ pick (ltb b 0xf0) 3 (pick (ltb b 0xf5) 4 0) = simp (le-ltb _ _ c.if-b-lt128.false, le-ltb _ _ c.if-b-lt194.false, le-ltb _ _ c.if-b-lt224.false) in
+    sym (long ∙ simp (le-ltb _ _ c.if-b-lt240.false, le-ltb _ _ c.if-b-lt245.false))

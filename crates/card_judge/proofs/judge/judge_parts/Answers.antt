@@ -52,11 +52,11 @@ unfolding once_flag
 settle-requires c =
     let o = c.once_of-once.ensures in
     let p = c.requires in (
-      p.0.0,
+      p.tables.0,
       (
-        p.1.0,
+        p.parted,
         (
-          (p.1.1.0.0, o),
+          (p.row_lt_all.0, o),
           (
             c.is_again-again.ensures ∙ ap (λ (k : ℕ). is_seen (flag_of k) c.args.c.seen) c.once_of-once.ensures.value,
             p.1.1.1.1,
