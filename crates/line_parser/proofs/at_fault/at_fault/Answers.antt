@@ -2,7 +2,7 @@
 use mathlib.Core.Path.{sym, ap, ◌∙◌}
 use mathlib.Core.Bool.{true, false}
 use Prim.Native.Nat.{ℕ}
-use Rattle.line_parser.specs.AtFault.{word_from, name_from, after_name, at_fault}
+use Rattle.line_parser.specs.AtFault.{word_from, after_name, at_fault}
 use Rattle.line_parser.specs.declared.at_fault.AtFault.{AtFault}
 use Rattle.line_parser.proofs.FaultSteps.{after_none, after_other_lem, after_param}
 use Rattle.line_parser.proofs.at_fault.at_fault.Goals as goal

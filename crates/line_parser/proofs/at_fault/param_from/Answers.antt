@@ -17,7 +17,7 @@ returns-in_default c =
     let s = c.args.s.now in
     let l = c.loop-at in
     let pos : 0 < l.invariant.0 = omega arith in
-    place_fault (l.at + 1) (param (drop (l.at + 1) s)) c.read_param-p.ensures c.in_default.keys2 (λ x q.
+    place_fault (l.at + 1) (param (drop (l.at + 1) s)) c.read_param-p.ensures c.in_default.not-Upto (λ x q.
     sym (l.invariant.2 ∙ param_bad s l.at l.invariant.0 pos c.loop-at-test.true x q))
 
 pub loop-at-smaller : goal.loop-at-smaller

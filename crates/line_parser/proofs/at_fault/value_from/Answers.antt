@@ -18,7 +18,7 @@ pub returns-in_default : goal.returns-in_default
 returns-in_default c =
     let s = c.args.s.now in
     let l = c.loop-start in
-    place_fault l.start (value (drop l.start s)) c.read_value-v.ensures c.in_default.keys2 (λ x q.
+    place_fault l.start (value (drop l.start s)) c.read_value-v.ensures c.in_default.not-Upto (λ x q.
     sym (l.invariant.2 ∙ value_bad s l.start l.invariant.0 c.loop-start-test.true x q))
 
 pub returns-then-octet_at-ne44 : goal.returns-then-octet_at-ne44

@@ -11,7 +11,7 @@ use Rattle.line_parser.proofs.rule.read_head.Goals as goal
 pub returns-in_default : goal.returns-in_default
 returns-in_default c =
     let s = c.args.s.now in
-    hand_up 0 (word 40 s) c.read_word-first.ensures c.in_default.keys2 (λ x q. head_bad s x q)
+    hand_up 0 (word 40 s) c.read_word-first.ensures c.in_default.not-Upto (λ x q. head_bad s x q)
 
 pub returns-then-s-end : goal.returns-then-s-end
 returns-then-s-end c =
@@ -32,7 +32,7 @@ returns-in_default-second c =
     let s = c.args.s.now in
     let n = c.in-Upto.end in
     place_first (word 40 s) c.read_word-first.ensures c.in-Upto.is (λ w q.
-    hand_up (n + 1) (word 40 (drop (n + 1) s)) c.read_word-second.ensures c.in_default-second.keys2 (λ x p.
+    hand_up (n + 1) (word 40 (drop (n + 1) s)) c.read_word-second.ensures c.in_default-second.not-Upto (λ x p.
     head_bad_name s w n q x c.if-s-end-ne46.false p))
 
 pub returns : goal.returns

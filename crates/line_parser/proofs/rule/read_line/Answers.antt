@@ -9,7 +9,7 @@ use Rattle.line_parser.proofs.rule.read_line.Goals as goal
 pub returns-in_default : goal.returns-in_default
 returns-in_default c =
     let s = c.args.s.now in
-    headed_up (head s) c.read_head-first.ensures c.in_default.keys2 (λ x q. line_bad s x q)
+    headed_up (head s) c.read_head-first.ensures c.in_default.not-Named (λ x q. line_bad s x q)
 
 pub returns-in_default-rest : goal.returns-in_default-rest
 returns-in_default-rest c =
@@ -17,7 +17,7 @@ returns-in_default-rest c =
     let n = c.in-Named.name_end in
     let m = params (suc (length (drop n s))) (drop n s) in
     let r = c.read_params-rest.ensures in
-    let keys = c.in_default-rest.keys2 in
+    let keys = c.in_default-rest.not-Listed in
     headed_named (head s) c.read_head-first.ensures c.in-Named.is (λ h q g.
     listed_up 0 n m r keys (λ x p. line_bad_params s h n q x p))
 

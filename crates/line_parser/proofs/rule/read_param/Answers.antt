@@ -12,7 +12,7 @@ pub returns-in_default : goal.returns-in_default
 returns-in_default c =
     let a = c.args in
     let s = a.s.now in
-    hand_up a.at (word 41 (drop a.at s)) c.read_word-name.ensures c.in_default.keys2 (λ x q. param_bad s a.at x q)
+    hand_up a.at (word 41 (drop a.at s)) c.read_word-name.ensures c.in_default.not-Upto (λ x q. param_bad s a.at x q)
 
 pub returns-then-s-name_end : goal.returns-then-s-name_end
 returns-then-s-name_end c =

@@ -33,7 +33,7 @@ returns-in_default c =
     let s = c.args.s.now in
     let l = c.loop-at in
     let pos : 0 < l.invariant.0 = omega arith in
-    hand_up (l.at + 1) (param (drop (l.at + 1) s)) c.read_param-p.ensures c.in_default.keys2 (λ x q.
+    hand_up (l.at + 1) (param (drop (l.at + 1) s)) c.read_param-p.ensures c.in_default.not-Upto (λ x q.
     l.invariant.3 ∙ params_bad s l.at l.count l.invariant.0 pos x c.if-b-ne59.false q)
 
 pub loop-at-smaller : goal.loop-at-smaller

@@ -12,7 +12,7 @@ pub returns-in_default : goal.returns-in_default
 returns-in_default c =
     let a = c.args in
     let s = a.s.now in
-    hand_up a.from (value (drop a.from s)) c.read_value-first.ensures c.in_default.keys2 (λ x q. values_bad s a.from x q)
+    hand_up a.from (value (drop a.from s)) c.read_value-first.ensures c.in_default.not-Upto (λ x q. values_bad s a.from x q)
 
 pub loop-at-init : goal.loop-at-init
 loop-at-init c =
@@ -51,7 +51,7 @@ returns-in_default-v c =
     let s = c.args.s.now in
     let l = c.loop-at in
     let pos : 0 < l.invariant.0 = omega arith in
-    hand_up (l.at + 1) (value (drop (l.at + 1) s)) c.read_value-v.ensures c.in_default-v.keys2 (λ x q.
+    hand_up (l.at + 1) (value (drop (l.at + 1) s)) c.read_value-v.ensures c.in_default-v.not-Upto (λ x q.
     l.invariant.2 ∙ more_bad s l.at l.invariant.0 pos x c.if-b-ne44.false q)
 
 pub loop-at-smaller : goal.loop-at-smaller
