@@ -180,7 +180,7 @@ pub fn put_read_answer(
     put_read_fresh(edition, r, k, input, out, at)
 }
 
-// Adds the answer to `read_in_lem EDITION COPYROOM RECORDROOM OCTETS`.
+// Adds the answer to `read-in EDITION COPYROOM RECORDROOM OCTETS`.
 pub fn put_read_in_answer(
     edition: usize,
     r: usize,

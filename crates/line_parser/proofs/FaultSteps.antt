@@ -100,8 +100,8 @@ module _ (s : List ℕ) where
     pub after_none : w.end ≤ w.start → w ≡ after_name w s
     after_none h = rw (le-ltb w.start w.end h)
 
-    pub after_other_lem : w.start < w.end → (hd (drop w.end s) ≡ 59 → ⊥) → w ≡ after_name w s
-    after_other_lem h q = rw (lt-ltb w.start w.end h, ne_eqb (hd (drop w.end s)) 59 q)
+    pub after_other : w.start < w.end → (hd (drop w.end s) ≡ 59 → ⊥) → w ≡ after_name w s
+    after_other h q = rw (lt-ltb w.start w.end h, ne_eqb (hd (drop w.end s)) 59 q)
 
     pub after_param : w.start < w.end → hd (drop w.end s) ≡ 59 → word_from true (param_from (suc (length s)) w.end s) s ≡ after_name w s
     after_param h q = rw (lt-ltb w.start w.end h, eq-eqb (hd (drop w.end s)) 59 q)

@@ -130,8 +130,8 @@ module _ (s : List ℕ) (at a b : ℕ) where
   pub goes_on : at < length s → or_end a b (drop at s) ≡ a
   goes_on h = rw (lt-ltb 0 (length (drop at s)) (rw length-drop (omega arith)))
 
-  pub is_over_lem : length s ≤ at → or_end a b (drop at s) ≡ b
-  is_over_lem h = rw (le-ltb 0 (length (drop at s)) (rw length-drop (omega arith)))
+  pub is_over : length s ≤ at → or_end a b (drop at s) ≡ b
+  is_over h = rw (le-ltb 0 (length (drop at s)) (rw length-drop (omega arith)))
 
 -- one turn of a loop over parts
 module _ {A : Type 0} (c : ℕ) (p : List ℕ → Parse A) (ok : ℕ → Bool) (e : List ℕ → ℕ) (s : List ℕ) (at n : ℕ) (pos : 0 < n) where
@@ -199,7 +199,7 @@ module _ (s : List ℕ) (at : ℕ) where
     more_end h =
         let t : ends (hd (drop at s)) ≡ false = rw (isnt s at 59 (past s at 59 (omega arith) h), isnt s at 58 (past s at 58 (omega arith) h)) in
         ap (place at) (turn_end 44 value ends (or_end 42 43) s at n pos (past s at 44 (omega arith) h) ∙ guard_no _ _ t)
-        ∙ ap Fault (is_over_lem s at 42 43 h)
+        ∙ ap Fault (is_over s at 42 43 h)
 
 -- the parameters
 module _ (s : List ℕ) (at c n : ℕ) (pos : 0 < n) where
@@ -231,7 +231,7 @@ module _ (s : List ℕ) (at c n : ℕ) (pos : 0 < n) where
   params_end h =
       ap (listed c at) (turn_end 59 param is_colon (or_end 40 43) s at n pos (past s at 59 (omega arith) h)
       ∙ guard_no _ _ (isnt s at 58 (past s at 58 (omega arith) h)))
-      ∙ ap Fault (is_over_lem s at 40 43 h)
+      ∙ ap Fault (is_over s at 40 43 h)
 
 -- one parameter
 module _ (s : List ℕ) (at : ℕ) where

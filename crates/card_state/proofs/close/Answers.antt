@@ -8,6 +8,7 @@ use Rattle.card_state.specs.State.{closed}
 use Rattle.card_state.specs.Kept.{places_of, end_of, tag_at, Inside, card_of, step_of, Holds}
 use Rattle.card_state.proofs.KeptLaws.{none_lie}
 use Rattle.card_state.proofs.close.Goals as goal
+use Rattle.card_state.proofs.close.Goals.{then-c+else-not-c-2, else-c}
 
 pub returns-then-not-c : goal.returns-then-not-c
 unfolding closed card_of step_of Holds
@@ -22,14 +23,15 @@ returns-then-not-c-2 c =
 pub returns : goal.returns
 unfolding closed card_of step_of places_of tag_at Holds Inside end_of
 returns c =
-    let kept : (c.args.c.has_member && not c.args.c.is_group) ≡ false = let k = c.args.c in
-    ⊎_elim
-    (λ w. simp (not-false k.is_group w.2.left, and-false))
-    (λ w. simp w.left)
-    c.if-c.branch in
+    let k = c.args.c in
+    let kept : (k.has_member && not k.is_group) ≡ false =
+    elim c.if-c.branch [
+      then-c+else-not-c-2 w ↦ simp (not-false k.is_group w.if-not-c-2.false, and-false)
+    | else-c w ↦ simp w.if-c.false
+    ] in
     record { by_index = λ store.
       simp (
         not-false c.args.c.has_fn c.if-not-c.false,
         kept,
         c.fresh-next.ensures,
-      ); holds = (rw c.fresh-next.ensures (none_lie, omega arith), ) }
+      ); holds = rw c.fresh-next.ensures (none_lie, omega arith) }

@@ -1,6 +1,6 @@
 -- `line_parameters::param_first` meets its contract. Assumes nothing.
 use Rattle.line_parser.proofs.Steps.{place_upto, place_fault, past}
-use Rattle.line_parameters.proofs.FirstSteps.{NameEnd, first_none, first_bad_lem, name_end_lem, first_hit, first_on}
+use Rattle.line_parameters.proofs.FirstSteps.{NameEnd, first_none, first_bad, name_end_lem, first_hit, first_on}
 use Rattle.line_parameters.specs.First.{find_first}
 use Rattle.line_parser.specs.Parse.{got}
 use Rattle.line_parser.specs.Grammar.{Param}
@@ -50,7 +50,7 @@ returns-in_default c =
     let s = a.s.now in
     let l = c.loop-at in
     place_fault (l.at + 1) (param (drop (l.at + 1) s)) c.read_param-p.ensures c.in_default.keys2 (λ x q.
-    sym (l.invariant.2 ∙ first_bad_lem a.name.now s l.at l.invariant.0 x c.if-s-at-ne59.false q))
+    sym (l.invariant.2 ∙ first_bad a.name.now s l.at l.invariant.0 x c.if-s-at-ne59.false q))
 
 pub value_span-requires : goal.value_span-requires
 value_span-requires c = record { classes = (taken c (λ p k q h w. let i = w.within_line in search rules)).0; at_in_bounds = (taken c (λ p k q h w. let i = w.within_line in search rules)).1 }

@@ -9,7 +9,7 @@ use Rattle.merge_pids.specs.Marks.{marked, put_all, params_marks}
 use Rattle.merge_sides.specs.Lines.{field_at}
 use Rattle.merge_sides.specs.Sources.{narrowed}
 use Rattle.merge_sides.specs.Marks.{behind_name, line_marks}
-use Rattle.merge_sides.proofs.Walks.{part_at, sum_at_lem}
+use Rattle.merge_sides.proofs.Walks.{part_at, sum_at}
 use Rattle.merge_sides.proofs.put_line.Goals as goal
 
 pub returns-then-field_at-eq0 : goal.returns-then-field_at-eq0
@@ -28,7 +28,7 @@ put_params-requires c = c.requires
 pub returns : goal.returns
 unfolding line_marks behind_name
 returns c =
-    let l : c.part-l.result.now ≡ behind_name c.args.c.now c.args.rs.now c.args.i = c.part-l.ensures ∙ part_at c.args.c.now (sum_at_lem c.name_start.ensures.value c.field_at-2.ensures.value) (sum_at_lem c.field_at-start.ensures.value c.field_at-3.ensures.value) in
+    let l : c.part-l.result.now ≡ behind_name c.args.c.now c.args.rs.now c.args.i = c.part-l.ensures ∙ part_at c.args.c.now (sum_at c.name_start.ensures.value c.field_at-2.ensures.value) (sum_at c.field_at-start.ensures.value c.field_at-3.ensures.value) in
     rw (ne_eqb (field_at c.args.rs.now c.args.i 5) 0 (λ e. c.if-field_at-eq0.false (c.field_at.ensures.value ∙ e)))
     (c.put_params.ensures
     ∙ ap (λ (k : ℕ). put_all (marked c.args.at c.args.out.now) (params_marks k (suc (length c.part-l.result.now)) c.part-l.result.now)) c.narrow.ensures

@@ -6,7 +6,7 @@ use Prim.Native.Nat.{ℕ}
 use native.Mathlib.Omega.{arith}
 use Rattle.octets.specs.Cases.{same}
 use Rattle.merge_sides.specs.Lines.{field_at, name_at, same_property}
-use Rattle.merge_sides.proofs.Walks.{part_at, sum_at_lem}
+use Rattle.merge_sides.proofs.Walks.{part_at, sum_at}
 use Rattle.merge_sides.proofs.same_property.Goals as goal
 
 pub returns-then-row-field_at : goal.returns-then-row-field_at
@@ -26,7 +26,7 @@ overflow_add-b c = omega (arith, c.name_start-b.ensures.upper_bound, c.field_at-
 pub returns : goal.returns
 unfolding same_property name_at
 returns c =
-    let x : c.part-x.result.now ≡ name_at c.args.ca.now c.args.ra.now c.args.i = c.part-x.ensures ∙ part_at c.args.ca.now c.name_start-a.ensures.value (sum_at_lem c.name_start-a.ensures.value c.field_at-2.ensures.value) in
-    let y : c.part-y.result.now ≡ name_at c.args.cb.now c.args.rb.now c.args.j = c.part-y.ensures ∙ part_at c.args.cb.now c.name_start-b.ensures.value (sum_at_lem c.name_start-b.ensures.value c.field_at-3.ensures.value) in
+    let x : c.part-x.result.now ≡ name_at c.args.ca.now c.args.ra.now c.args.i = c.part-x.ensures ∙ part_at c.args.ca.now c.name_start-a.ensures.value (sum_at c.name_start-a.ensures.value c.field_at-2.ensures.value) in
+    let y : c.part-y.result.now ≡ name_at c.args.cb.now c.args.rb.now c.args.j = c.part-y.ensures ∙ part_at c.args.cb.now c.name_start-b.ensures.value (sum_at c.name_start-b.ensures.value c.field_at-3.ensures.value) in
     rw (eq-eqb (field_at c.args.ra.now c.args.i 0) (field_at c.args.rb.now c.args.j 0) (sym c.field_at-row.ensures.value ∙ c.if-row-field_at.false ∙ c.field_at.ensures.value), eq-eqb (field_at c.args.ra.now c.args.i 0) 0 (sym c.field_at-row.ensures.value ∙ c.if-row-ne-OTHER.false))
     (c.same_name.ensures ∙ ap (λ (m : List ℕ). same m c.part-y.result.now) x ∙ ap (same (name_at c.args.ca.now c.args.ra.now c.args.i)) y)

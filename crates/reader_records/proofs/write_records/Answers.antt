@@ -11,7 +11,7 @@ use Rattle.line_folds.proofs.LineLaws.{lines_end}
 use Rattle.line_folds.proofs.SpanLaws.{part_length}
 use Rattle.property_table.specs.declared.Edition.{Edition}
 use Rattle.reader_records.specs.Records.{record_of, records_from}
-use Rattle.reader_records.proofs.RecordLaws.{ends_at_cr, record_length_lem, records_turn}
+use Rattle.reader_records.proofs.RecordLaws.{ends_at_cr, record_length, records_turn}
 use Rattle.reader_records.proofs.write_records.Goals as goal
 
 -- the line of this turn
@@ -49,7 +49,7 @@ module _ (c : tie.After-next-cr invariant-loop decreases-loop) where
         arith,
         room c.before.before.loop.invariant c.before.before.before.before.before.requires.1.1.1.0,
         ap length turn ∙ length-append (record_of D P X) (records_from D (E + 2) (raw_lines (drop (E + 2) S))),
-        record_length_lem D P X,
+        record_length D P X,
       )
 
 pub loop-at-init : goal.loop-at-init
@@ -82,7 +82,7 @@ loop-at-smaller c = omega (arith, inside c, c.loop-at-test.true)
 pub loop-at-preserved : goal.loop-at-preserved
 loop-at-preserved c =
     let l = c.loop-at in
-    let eight = record_length_lem (D c) (P c) (X c) in
+    let eight = record_length (D c) (P c) (X c) in
     rw eight at (put l.invariant (record_of (D c) (P c) (X c)) _ _ (turn c) (rw eight (fits c))
     (c.put_record.ensures ∙ ap (λ (x : List ℕ). take l.k l.out ++ x ++ drop (l.k + 8) l.out) c.record_of-r.ensures
     ∙ ap (λ (n : ℕ). take l.k l.out ++ record_of (D c) (P c) (X c) ++ drop (l.k + n) l.out) (sym eight)))

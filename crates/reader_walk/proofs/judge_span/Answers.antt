@@ -13,7 +13,7 @@ use Rattle.card_state.specs.Kept.{card_of}
 use Rattle.card_state.proofs.KeptLaws.{holds_more}
 use Rattle.card_judge.specs.Judge.{part, read_by, judge_line, added_by, Keeping}
 use Rattle.reader_walk.specs.Walk.{behind}
-use Rattle.reader_walk.proofs.ScratchLaws.{store_is, laid_length, hand_room, hand_line_lem, hand_judged, hand_left}
+use Rattle.reader_walk.proofs.ScratchLaws.{store_is, laid_length, hand_room, hand_line, hand_judged, hand_left}
 use Rattle.reader_walk.proofs.judge_span.Goals as goal
 
 pub lay_behind-n-requires : goal.lay_behind-n-requires
@@ -88,7 +88,7 @@ heard c =
     let j = c.judge-at-hand in
     let l = unfolded a.s.now in
     let lies = s.pre.1.1.0.lies in
-    let line = hand_line_lem a.c a.scratch.now a.s.now l lies (fits s) a.folded (plain s) in
+    let line = hand_line a.c a.scratch.now a.s.now l lies (fits s) a.folded (plain s) in
     let store = store_is a.c a.scratch.now (hand c) (length (hand c)) lies (laid_room s) refl in
     (rw (u.ensures.1, u.ensures.0, line, store) at j.ensures.0, rw (u.ensures.1, u.ensures.0, line) at j.ensures.1)
 

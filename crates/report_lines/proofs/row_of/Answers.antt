@@ -5,12 +5,12 @@ use native.Mathlib.Omega.{arith}
 use lib.ListN.{take, drop}
 use Rattle.property_table.specs.declared.Edition.TheVariants.{First}
 use Rattle.property_table.specs.Rows.{row_of}
-use Rattle.report_lines.proofs.HeadLaws.{NameAt, name_at_lem, nameless}
+use Rattle.report_lines.proofs.HeadLaws.{NameAt, name_at, nameless}
 use Rattle.report_lines.proofs.row_of.Goals as goal
 
 here : (c : tie.After-known-told)
     → NameAt c.before.before.before.before.before.args.s.now c.before.head.given.0.0 c.before.head.given.0.1.0
-here c = name_at_lem _ _ _ _ c.before.before.before.read_head.ensures c.before.head.given.1
+here c = name_at _ _ _ _ c.before.before.before.read_head.ensures c.before.head.given.1
 
 pub returns-in_default : goal.returns-in_default
 returns-in_default c = (nameless _ _ c.read_head-head.ensures c.in_default.keys2, omega arith)

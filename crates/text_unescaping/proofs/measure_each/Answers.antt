@@ -7,7 +7,7 @@ use native.Mathlib.Omega.{arith}
 use lib.ListN.{length}
 use borrow.Author.Tests.{not-true, not-false}
 use Rattle.text_unescaping.proofs.UnescapeLaws.{escape_inside, escape_not, step_backslash, step_comma, fault_escape, fault_octet, fault_stop, fault_end, unescaped_escape, unescaped_octet, unescaped_end}
-use Rattle.text_unescaping.proofs.MeasureLaws.{at_fault_lem, at_end}
+use Rattle.text_unescaping.proofs.MeasureLaws.{at_fault, at_end}
 use Rattle.text_unescaping.proofs.measure_each.Goals as goal
 
 pub loop-i-init : goal.loop-i-init
@@ -18,7 +18,7 @@ returns-then-not-whole c =
     let s = c.args.text.now in
     let l = c.loop-i in
     let e = sym c.escape_at-whole.ensures ∙ not-true _ c.if-not-whole.true-raw in
-    at_fault_lem s l.i (sym (l.invariant.2 ∙ fault_stop s l.i (step_backslash s l.i e c.if-text-i-eq92.true))) c.loop-i-test.true
+    at_fault s l.i (sym (l.invariant.2 ∙ fault_stop s l.i (step_backslash s l.i e c.if-text-i-eq92.true))) c.loop-i-test.true
 
 pub overflow_add-i : goal.overflow_add-i
 overflow_add-i c =
@@ -42,7 +42,7 @@ pub returns-then-text-i-eq44 : goal.returns-then-text-i-eq44
 returns-then-text-i-eq44 c =
     let s = c.args.text.now in
     let l = c.loop-i in
-    at_fault_lem s l.i (sym (l.invariant.2 ∙ fault_stop s l.i (step_comma s l.i (escape_not s l.i c.if-text-i-eq92.false) c.if-text-i-eq92.false c.if-text-i-eq44.true))) c.loop-i-test.true
+    at_fault s l.i (sym (l.invariant.2 ∙ fault_stop s l.i (step_comma s l.i (escape_not s l.i c.if-text-i-eq92.false) c.if-text-i-eq92.false c.if-text-i-eq44.true))) c.loop-i-test.true
 
 pub loop-i-preserved : goal.loop-i-preserved
 loop-i-preserved c =

@@ -111,23 +111,23 @@ loop-i-preserved-then-is_pair c =
 
 pub bounds-out-j-then-is_marked : goal.bounds-out-j-then-is_marked
 bounds-out-j-then-is_marked c =
-    let mark_room_lem : c.loop-i.j + 2 ≤ length c.loop-i.out = two_room c.loop-i.invariant.1 c.requires _ _ _ (mark_next c) in
-    omega (arith, mark_room_lem)
+    let mark_room : c.loop-i.j + 2 ≤ length c.loop-i.out = two_room c.loop-i.invariant.1 c.requires _ _ _ (mark_next c) in
+    omega (arith, mark_room)
 
 pub overflow_add-out-then-is_marked : goal.overflow_add-out-then-is_marked
 overflow_add-out-then-is_marked c =
-    let mark_room_lem : c.loop-i.j + 2 ≤ length c.loop-i.out = two_room c.loop-i.invariant.1 c.requires _ _ _ (mark_next c) in
-    omega (arith, mark_room_lem, c.loop-i.invariant.1.same)
+    let mark_room : c.loop-i.j + 2 ≤ length c.loop-i.out = two_room c.loop-i.invariant.1 c.requires _ _ _ (mark_next c) in
+    omega (arith, mark_room, c.loop-i.invariant.1.same)
 
 pub bounds-out-j-then-is_marked-2 : goal.bounds-out-j-then-is_marked-2
 bounds-out-j-then-is_marked-2 c =
-    let mark_room_lem : c.loop-i.j + 2 ≤ length c.loop-i.out = two_room c.loop-i.invariant.1 c.requires _ _ _ (mark_next c) in
-    simp length-set (omega (arith, mark_room_lem))
+    let mark_room : c.loop-i.j + 2 ≤ length c.loop-i.out = two_room c.loop-i.invariant.1 c.requires _ _ _ (mark_next c) in
+    simp length-set (omega (arith, mark_room))
 
 pub overflow_add-j-then-is_marked : goal.overflow_add-j-then-is_marked
 overflow_add-j-then-is_marked c =
-    let mark_room_lem : c.loop-i.j + 2 ≤ length c.loop-i.out = two_room c.loop-i.invariant.1 c.requires _ _ _ (mark_next c) in
-    omega (arith, mark_room_lem, c.loop-i.invariant.1.same)
+    let mark_room : c.loop-i.j + 2 ≤ length c.loop-i.out = two_room c.loop-i.invariant.1 c.requires _ _ _ (mark_next c) in
+    omega (arith, mark_room, c.loop-i.invariant.1.same)
 
 pub loop-i-preserved-then-is_marked : goal.loop-i-preserved-then-is_marked
 loop-i-preserved-then-is_marked c =

@@ -15,12 +15,12 @@ returns c =
     let both-kept = c.both_kept in
     let put-taken = c.put_taken-end in
     let part = c.part in
-    let copy_length_lem = c.copy_length-n in
+    let copy_length = c.copy_length-n in
     let numbers = c.numbers-taken in
     let Numbers-of = c.numbers_of-k in
     let a = c.args in
     let o = page a.at a.out.now in
     then (taken_text part.result.now numbers.result.now) (room_end both-kept.result) o put-taken.ensures put-room-end.ensures
     ∙ ap (λ (t : List ℕ). added t o)
-    (rooms_text_lem a.copy.now a.records.now part.result.now numbers.result.now a.lines copy_length_lem.result Numbers-of.result both-kept.result
-    Numbers-of.ensures numbers.ensures copy_length_lem.ensures part.ensures both-kept.ensures)
+    (rooms_text_lem a.copy.now a.records.now part.result.now numbers.result.now a.lines copy_length.result Numbers-of.result both-kept.result
+    Numbers-of.ensures numbers.ensures copy_length.ensures part.ensures both-kept.ensures)

@@ -12,12 +12,6 @@ use Rattle.octets.proofs.Runs.{has_not, has_yes}
 use Rattle.utf8.proofs.Chars.{ascii, unit_not, unit_no_lf, unit_lf, unit_yes}
 use Rattle.utf8_screening.proofs.units.unit_length.Goals as goal
 
-abbrev S : tie.Start → List ℕ
-S c = c.args.s.now
-
-abbrev B : tie.Start → ℕ
-B c = get_or (S c) c.args.i 0
-
 pub overflow_cast-b : goal.overflow_cast-b
 overflow_cast-b c = omega (arith, c.type_inv.s c.args.i)
 
@@ -30,7 +24,7 @@ at s i n f g e u = sym u ∙ ap (λ (t : Bool). unit (allowed t) (drop i s)) (sy
 
 pub returns-then-not-lf : goal.returns-then-not-lf
 returns-then-not-lf c =
-    let no : has value_mask (B c) ≡ false = let a = c.args in
+    let no : has value_mask (get_or c.args.s.now c.args.i 0) ≡ false = let a = c.args in
     has_not a.t.now 32 (get_or a.s.now a.i 0) c.requires.classes
     (omega (arith, c.type_inv.s a.i)) c.if-t-b-eq0.true in
     let a = c.args in
@@ -38,7 +32,7 @@ returns-then-not-lf c =
 
 pub returns-then-b-ne10 : goal.returns-then-b-ne10
 returns-then-b-ne10 c =
-    let no : has value_mask (B c) ≡ false = let a = c.args in
+    let no : has value_mask (get_or c.args.s.now c.args.i 0) ≡ false = let a = c.args in
     has_not a.t.now 32 (get_or a.s.now a.i 0) c.requires.classes
     (omega (arith, c.type_inv.s a.i)) c.if-t-b-eq0.true in
     let a = c.args in
@@ -46,7 +40,7 @@ returns-then-b-ne10 c =
 
 pub returns-then-t-b-eq0 : goal.returns-then-t-b-eq0
 returns-then-t-b-eq0 c =
-    let no : has value_mask (B c) ≡ false = let a = c.args in
+    let no : has value_mask (get_or c.args.s.now c.args.i 0) ≡ false = let a = c.args in
     has_not a.t.now 32 (get_or a.s.now a.i 0) c.requires.classes
     (omega (arith, c.type_inv.s a.i)) c.if-t-b-eq0.true in
     let a = c.args in
@@ -56,7 +50,7 @@ returns-then-t-b-eq0 c =
 
 pub returns-then-b-lt128 : goal.returns-then-b-lt128
 returns-then-b-lt128 c =
-    let yes : has value_mask (B c) ≡ true = let a = c.args in
+    let yes : has value_mask (get_or c.args.s.now c.args.i 0) ≡ true = let a = c.args in
     has_yes a.t.now 32 (get_or a.s.now a.i 0) c.requires.classes
     (omega (arith, c.type_inv.s a.i)) c.if-t-b-eq0.false in
     let a = c.args in
@@ -65,7 +59,7 @@ returns-then-b-lt128 c =
 
 pub returns : goal.returns
 returns c =
-    let yes : has value_mask (B c) ≡ true = let a = c.args in
+    let yes : has value_mask (get_or c.args.s.now c.args.i 0) ≡ true = let a = c.args in
     has_yes a.t.now 32 (get_or a.s.now a.i 0) c.requires.classes
     (omega (arith, c.type_inv.s a.i)) c.if-t-b-eq0.false in
     let a = c.args in
