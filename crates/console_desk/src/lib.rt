@@ -10,7 +10,7 @@ use desk::{Desk, Turn};
 use numbers::limit;
 
 // What is kept from request to request: the desk, how many octets of pool are lent to it, and where the output stands.
-#[derive(Drop)]
+#[derive(Clone, Copy)]
 pub struct Console {
     pub desk: Desk,
     pub size: usize,
@@ -18,7 +18,7 @@ pub struct Console {
 }
 
 // The calls that hand the next desk back.
-#[derive(Drop)]
+#[derive(Clone, Copy)]
 pub enum Change {
     Open,
     Add,
@@ -26,7 +26,7 @@ pub enum Change {
 }
 
 // The calls that leave the desk as it is.
-#[derive(Drop)]
+#[derive(Clone, Copy)]
 pub enum Look {
     Check,
     Show,

@@ -16,7 +16,7 @@ use report::{Answer, Report};
 const ROOM: usize = 70000;
 
 // What is kept from request to request: desk and output, and the report.
-#[derive(Drop)]
+#[derive(Clone, Copy)]
 pub struct Kept {
     pub console: Console,
     pub report: Report,

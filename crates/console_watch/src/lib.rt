@@ -12,7 +12,7 @@ use watch::{Arrived, Watch};
 pub const BUFFER: usize = 20000;
 
 // What is kept from request to request: desk, output and report, the state of the reader of chunks, and how many octets of buffer are lent to it.
-#[derive(Drop)]
+#[derive(Clone, Copy)]
 pub struct Session {
     pub kept: Kept,
     pub watch: Watch,
@@ -199,7 +199,7 @@ fn answer_lent(s: Session, chunk: &[u8], lent: &mut [u8], out: &mut [u8]) -> Ses
     octets::copying::copy_in(&mut before, lent);
     let w = s.watch;
     let a = w.chunk(lent, chunk);
-    let kept = check::same(&before[0..n], lent);
+    let kept = program_numbers::same(&before[0..n], lent);
     let at = put_arrived(out, s.at(), a, kept);
     let next = s.with_output(at);
     let k = next.kept;
