@@ -1,4 +1,6 @@
 // `check`: a row a file, and under each refusal its logical line and what would help; or an object of JSON; or nothing but the status.
+#![tactic(auto)]
+
 mod json;
 
 ghost use Rattle.cabbook_output.specs.Ends.{Status};

@@ -1,4 +1,6 @@
 // Text in columns of a lent page.
+#![tactic(auto)]
+
 ghost use Rattle.std.specs.Prelude.{◌≡◌, ◌-◌, replicate};
 ghost use Rattle.program_output.specs.Pages.{page, added};
 ghost use Rattle.cabbook_columns.specs.Columns.{at_left, at_right};

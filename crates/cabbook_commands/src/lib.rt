@@ -1,4 +1,6 @@
 // The commands of the workshop's tool, over the reader, the folder, text, labels, the desk and the report.
+#![tactic(auto)]
+
 mod reporting;
 mod usage;
 mod writing;

@@ -1,4 +1,6 @@
 // `merge`: two edits of one card side by side, by the pairs of lines that the planner proposes; or why no plan passes.
+#![tactic(auto)]
+
 mod clash;
 mod reasons;
 mod sheet;

@@ -1,4 +1,6 @@
 // A morning: many files as uploads on one desk, as many at a time as it has slots, each opened with identifier 0, and a row for each.
+#![tactic(auto)]
+
 mod depot;
 mod options;
 mod printing;

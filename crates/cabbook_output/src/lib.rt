@@ -1,4 +1,6 @@
 // What a command prints: pages, the lines on a refusal, and the exit status where output can't be written.
+#![tactic(auto)]
+
 ghost use Rattle.std.specs.Prelude.{◌≡◌};
 ghost use Rattle.octets.specs.Pick.{pick};
 ghost use Rattle.cabbook_output.specs.Ends.{Status, unwritten};

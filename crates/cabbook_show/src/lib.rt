@@ -1,4 +1,6 @@
 // `show`: the cards of a file as a table, from the records.
+#![tactic(auto)]
+
 mod dates;
 mod values;
 

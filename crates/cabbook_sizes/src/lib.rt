@@ -1,4 +1,6 @@
 // How large a file is that is too long for a book: its octets and its cards, counted by reading it again where it can be.
+#![tactic(auto)]
+
 use cabbook_messages::sentences;
 use numbers::limit;
 use octets::cases::same_name;

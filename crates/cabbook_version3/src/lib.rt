@@ -1,4 +1,6 @@
 // `v3in` and `v3out`: a card of version 3 as one of version 4, and back; and why a card does not go over, by what stands there.
+#![tactic(auto)]
+
 mod reasons;
 
 ghost use Rattle.cabbook_output.specs.Ends.{Status};

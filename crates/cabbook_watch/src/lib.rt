@@ -1,4 +1,6 @@
 // `watch`: files that are judged while they arrive, so many octets at a time, with a line on a terminal that tells how far that is.
+#![tactic(auto)]
+
 ghost use Rattle.cabbook_output.specs.Ends.{Status};
 
 use cabbook_messages::sentences;

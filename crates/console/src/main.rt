@@ -1,10 +1,13 @@
 // The console: answers each request line of standard input by calling the entry that it names.
+#![tactic(auto)]
+
 mod dispatch;
 mod input;
 
 use console_watch::Session;
 use input::{Input, Line};
 use numbers::limit;
+use std::io;
 use std::io::{Print, Read, Stdin, Stdout};
 
 // The most octets of an answer: all of the pool, two digits an octet, and LF.
@@ -17,23 +20,23 @@ const INPUT: usize = 262144;
 const OUTPUT: usize = 2097152;
 
 // Sends on what waits, and answers that nothing waits any more.
-fn send(to: Stdout, out: &[u8], at: usize) -> usize {
-    let _ = to.write_all(octets::slices::part(out, 0, at));
-    0
+fn send(to: Stdout, out: &[u8], at: usize) -> io::Result<usize> {
+    to.write_all(octets::slices::part(out, 0, at))?;
+    Ok(0)
 }
 
 // Makes room for an answer: what waits is sent on where there is less.
-fn make_room(to: Stdout, s: Session, out: &[u8]) -> Session {
+fn make_room(to: Stdout, s: Session, out: &[u8]) -> io::Result<Session> {
     let k = s.kept;
     let c = k.console;
     let at = c.at;
     if at > out.len() {
-        return s.with_output(0);
+        return Ok(s.with_output(0));
     }
     if out.len() - at < ANSWER {
-        return s.with_output(send(to, out, at));
+        return Ok(s.with_output(send(to, out, at)?));
     }
-    s
+    Ok(s)
 }
 
 // Answers a line, or one that is too long; where there is no line the output is sent on.
@@ -46,18 +49,18 @@ fn answer(
     pool: &mut [u8],
     watched: &mut [u8],
     out: &mut [u8],
-) -> Session {
+) -> io::Result<Session> {
     if !line.found {
         let k = s.kept;
         let c = k.console;
-        return s.with_output(send(to, out, c.at));
+        return Ok(s.with_output(send(to, out, c.at)?));
     }
-    let ready = make_room(to, s, out);
+    let ready = make_room(to, s, out)?;
     if long {
-        return ready.answer_bad(out);
+        return Ok(ready.answer_bad(out));
     }
     let text = console_words::without_cr(octets::slices::part(buffer, line.from, line.to));
-    dispatch::answer_line(ready, text, pool, watched, out)
+    Ok(dispatch::answer_line(ready, text, pool, watched, out))
 }
 
 // Moves the octets from `from` up to `to` to the front, and answers how many they are.
@@ -125,26 +128,27 @@ fn serve(
     pool: &mut [u8],
     watched: &mut [u8],
     out: &mut [u8],
-) {
+) -> io::Result<()> {
     let mut i = Input::new();
     let mut s = Session::new();
     let mut turns = u64::MAX;
     while turns > 0 {
         let line = input::line_of(buffer, i);
-        s = answer(to, s, line, i.long, buffer, pool, watched, out);
+        s = answer(to, s, line, i.long, buffer, pool, watched, out)?;
         if line.last {
             let k = s.kept;
             let c = k.console;
-            send(to, out, c.at);
-            return;
+            send(to, out, c.at)?;
+            return Ok(());
         }
         i = advance(source, buffer, i, line);
         turns -= 1;
     }
+    Ok(())
 }
 
 // Lends each buffer once; the pool is that of a desk with all its slots.
-fn main(rt: HostRuntime) {
+fn main(rt: HostRuntime) -> io::Result<()> {
     let mut buffer = [0u8; INPUT];
     let mut pool = [0u8; limit::POOL];
     let mut watched = [0u8; console_watch::BUFFER];
@@ -156,5 +160,5 @@ fn main(rt: HostRuntime) {
         &mut pool,
         &mut watched,
         &mut out,
-    );
+    )
 }

@@ -1,4 +1,6 @@
 // The requests of the reader of chunks, and its state and buffer, which are kept beside desk, output and report.
+#![tactic(auto)]
+
 ghost use Rattle.std.specs.Prelude.{◌≡◌, true, ◌≤◌, length};
 ghost use Rattle.program_output.specs.Pages.{page, added};
 ghost use Rattle.console_watch.specs.WatchAnswers.{most_buffer, watching_of, with_buffer, first, session, shown_at, lent_length, says_bad, begin_answer, buffer_answer, claim_answer, done_line, claims, arrived_text, next_of, ChunkLent, ChunkTurn, EndTurn};

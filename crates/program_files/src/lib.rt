@@ -1,4 +1,6 @@
 // Files: one is opened by its name, `-` for standard input, and its octets are read.
+#![tactic(auto)]
+
 ghost use Rattle.program_files.specs.Inputs.{Fetched, Descriptor};
 
 use octets::cases::same_name;
