@@ -1,4 +1,5 @@
 // The routines that C firmware calls, on byte ranges, one number as the answer of each.
+#![tactic(auto)]
 ghost use Rattle.std.specs.Prelude.{◌≡◌, ◌<◌};
 ghost use Rattle.numbers.specs.Limits as limit;
 ghost use Rattle.reader.specs.Outcome.{judge_of};
