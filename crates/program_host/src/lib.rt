@@ -4,7 +4,8 @@
 mod failure;
 mod odd;
 
-ghost use Rattle.std.specs.Prelude.{◌≤◌, ◌≡◌, length};
+ghost use Rattle.std.specs.Prelude.{◌≤◌, ◌≡◌, length, IfSome};
+ghost use Rattle.program_host.specs.Numbers.{Opened};
 ghost use Rattle.std.specs.Io.{ReadsAtMost};
 
 use std::env::{Env, FillError};
@@ -99,7 +100,9 @@ impl Host {
     }
 
     // Puts argument i at the start of the room, and answers its length, or that it is missing or longer than the room.
-    pub fn whole_arg(&mut self, i: usize, room: &mut [u8]) -> Option<usize> {
+    pub fn whole_arg(&mut self, i: usize, room: &mut [u8]) -> Option<usize>
+        ensures { IfSome result (λ n. n ≤ length room.new) }
+    {
         match self.rt.arg(i, room) {
             Ok(n) => Some(n),
             Err(FillError::TooLong) => {
@@ -126,7 +129,9 @@ impl Host {
     }
 
     // Opens the file of that name for reading, and answers its number, or -1.
-    pub fn open_read(&mut self, path: &[u8]) -> i32 {
+    pub fn open_read(&mut self, path: &[u8]) -> i32
+        ensures { Opened result }
+    {
         let k = self.free_place();
         if k >= FILES {
             self.error = io::Error::from_raw_os_error(failure::TOO_MANY);
@@ -169,7 +174,9 @@ impl Host {
     }
 
     // Reads once, from standard input or a file that is open, and answers how many octets, or that this failed.
-    pub fn read(&mut self, fd: i32, room: &mut [u8]) -> Option<usize> {
+    pub fn read(&mut self, fd: i32, room: &mut [u8]) -> Option<usize>
+        ensures { IfSome result (λ n. n ≤ length room.new) }
+    {
         match self.read_some(fd, room) {
             Ok(n) => Some(n),
             Err(e) => {
