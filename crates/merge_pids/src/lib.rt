@@ -1,5 +1,6 @@
 // The PID values of a line, and numbers up to 65,535 in digits. A larger number is read as 65,536.
 #![tactic(auto)]
+
 ghost use Rattle.std.specs.Prelude.{◌≡◌, suc, ◌+◌, ◌-◌, ◌≤◌, ◌<◌, length, take, drop};
 ghost use Rattle.numbers.specs.Limits.{source_number};
 ghost use Rattle.octets.specs.Classes.{Classes, run, digit};

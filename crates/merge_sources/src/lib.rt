@@ -1,5 +1,6 @@
 // A card's source map: the host's row of entries as a slice of structs, and the same row as a value, which all other functions take.
 #![tactic(auto)]
+
 ghost use Rattle.std.specs.Prelude.{◌≡◌, [], ◌+◌, ◌<◌, ◌≤◌, min, get_or, take};
 ghost use Rattle.numbers.specs.Limits as limit;
 ghost use Rattle.merge_sources.specs.Row.{none, filled, put, row_of, least, first_in, same_entry, same_row};

@@ -1,6 +1,5 @@
 -- `merge_pids::digits_end` meets its contract. Assumes nothing.
 use mathlib.Core.Path.{refl, sym, ◌∙◌}
-use Prim.Native.Nat.{◌-◌}
 use Rattle.octets.specs.Classes.{digit}
 use Rattle.octets.proofs.Runs.{run_stop, run_step, run_end}
 use Rattle.merge_pids.proofs.NumberLaws.{digit_low, digit_high, digit_in}

@@ -28,7 +28,7 @@ shape_of-out-in_default c = c.loop-place.invariant.2
 pub returns-in_default : goal.returns-in_default
 unfolding put_all
 returns-in_default c =
-    place_fault (c.loop-place.place + 1) (param (drop (c.loop-place.place + 1) c.args.s.now)) c.read_param-p.ensures c.in_default.keys2 (λ x q.
+    place_fault (c.loop-place.place + 1) (param (drop (c.loop-place.place + 1) c.args.s.now)) c.read_param-p.ensures c.in_default.not-Upto (λ x q.
     sym (c.loop-place.invariant.3 ∙ rw (params_bad c.args.line c.args.s.now c.loop-place.place c.loop-place.invariant.0 x c.if-s-place-ne59.false q)))
 
 pub span-name_end-requires : goal.span-name_end-requires
@@ -47,7 +47,7 @@ loop-place-preserved c =
     place_upto (l.place + 1) (param (drop (l.place + 1) s)) c.read_param-p.ensures c.in-Upto.is (λ p k q h. (
       l.invariant.0 - 1,
       omega (arith, h, l.invariant.1, c.loop-place-test.true),
-      c.put_named-next.auto.1.1.1.1.1.0 ∙ l.invariant.2,
+      c.put_named-next.auto.out ∙ l.invariant.2,
       l.invariant.3 ∙ params_on c.args.line s l.place l.invariant.0 p k c.span-name_end.result (marked l.next l.out) (omega (arith, l.invariant.1)) c.if-s-place-ne59.false q c.span-name_end.ensures.value
           ∙ ap (λ (st : Marked). put_all st (params_marks c.args.line (l.invariant.0 - 1) (drop (l.place + 1 + k) s))) (sym c.put_named-next.ensures)
           ∙ ap (λ (e : ℕ). put_all (marked c.put_named-next.result c.put_named-next.new.out) (params_marks c.args.line (l.invariant.0 - 1) (drop e s))) (sym h),

@@ -15,7 +15,7 @@ pub put_line-next-requires : goal.put_line-next-requires
 put_line-next-requires c = c.requires
 
 pub loop-i-preserved : goal.loop-i-preserved
-loop-i-preserved c = (omega arith, c.put_line-next.auto.1.1.1.1.0 ∙ c.loop-i.invariant.1, c.loop-i.invariant.2 ∙ marks_turn (marked c.loop-i.next c.loop-i.out) c.args.c.now c.args.rs.now c.args.n c.loop-i.i c.loop-i-test.true ∙ ap (λ (st : Marked). put_all st (marks_from c.args.c.now c.args.rs.now (c.loop-i.i + 1) (c.args.n - (c.loop-i.i + 1)))) (sym c.put_line-next.ensures))
+loop-i-preserved c = (omega arith, c.put_line-next.auto.out ∙ c.loop-i.invariant.1, c.loop-i.invariant.2 ∙ marks_turn (marked c.loop-i.next c.loop-i.out) c.args.c.now c.args.rs.now c.args.n c.loop-i.i c.loop-i-test.true ∙ ap (λ (st : Marked). put_all st (marks_from c.args.c.now c.args.rs.now (c.loop-i.i + 1) (c.args.n - (c.loop-i.i + 1)))) (sym c.put_line-next.ensures))
 
 pub shape_of-out : goal.shape_of-out
 shape_of-out c = c.loop-i.invariant.1

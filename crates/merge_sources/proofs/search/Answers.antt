@@ -13,10 +13,10 @@ limit-end-requires c = tt
 
 pub loop-i-init : goal.loop-i-init
 loop-i-init c =
-    let l : least c.args.t1.count ≤ 16 = least_16 c.args.t1.count in
-    let e : c.limit-end.result ≡ least c.args.t1.count = search rules in
-    let d : least c.args.t1.count ≡ c.limit-end.result - 0 = omega arith in
-    (omega arith, omega arith, ap (λ k. first_in c.args.t1.entries 0 k c.args.number) d)
+    let l : least c.args.r.count ≤ 16 = least_16 c.args.r.count in
+    let e : c.limit-end.result ≡ least c.args.r.count = search rules in
+    let d : least c.args.r.count ≡ c.limit-end.result - 0 = omega arith in
+    (omega arith, omega arith, ap (λ k. first_in c.args.r.entries 0 k c.args.number) d)
 
 pub offset_bounds-r-i : goal.offset_bounds-r-i
 offset_bounds-r-i c = omega arith
@@ -25,7 +25,7 @@ pub bounds-r-i : goal.bounds-r-i
 bounds-r-i c = omega arith
 
 pub returns-then-e-number : goal.returns-then-e-number
-returns-then-e-number c = sym (c.loop-i.invariant.2 ∙ first_hit c.args.t1.entries c.limit-end.result c.loop-i.i c.args.number (search rules) (eq-eqb _ _ c.if-e-number.true))
+returns-then-e-number c = sym (c.loop-i.invariant.2 ∙ first_hit c.args.r.entries c.limit-end.result c.loop-i.i c.args.number (search rules) (eq-eqb _ _ c.if-e-number.true))
 
 pub overflow_add-i : goal.overflow_add-i
 overflow_add-i c = omega arith
@@ -34,7 +34,7 @@ pub loop-i-smaller : goal.loop-i-smaller
 loop-i-smaller c = omega arith
 
 pub loop-i-preserved : goal.loop-i-preserved
-loop-i-preserved c = (omega arith, search rules, c.loop-i.invariant.2 ∙ first_miss c.args.t1.entries c.limit-end.result c.loop-i.i c.args.number (search rules) (ne_eqb _ _ c.if-e-number.false))
+loop-i-preserved c = (omega arith, search rules, c.loop-i.invariant.2 ∙ first_miss c.args.r.entries c.limit-end.result c.loop-i.i c.args.number (search rules) (ne_eqb _ _ c.if-e-number.false))
 
 pub returns : goal.returns
-returns c = sym (c.loop-i.invariant.2 ∙ first_none c.args.t1.entries c.limit-end.result c.loop-i.i c.args.number (search rules))
+returns c = sym (c.loop-i.invariant.2 ∙ first_none c.args.r.entries c.limit-end.result c.loop-i.i c.args.number (search rules))

@@ -5,7 +5,7 @@ use native.Mathlib.Omega.{arith}
 use lib.ListN.{take, drop}
 use Rattle.property_table.specs.declared.Edition.TheVariants.{First}
 use Rattle.property_table.specs.Rows.{row_of}
-use Rattle.report_lines.proofs.HeadLaws.{NameAt, name_at, nameless}
+use Rattle.report_lines.proofs.HeadLaws.{NameAt, name_at_lem, nameless}
 use Rattle.report_lines.proofs.row_of.Goals as goal
 
 pub returns-in_default : goal.returns-in_default
