@@ -5,29 +5,29 @@ use native.Mathlib.Omega.{arith}
 use lib.ListN.{take, drop}
 use Rattle.property_table.specs.declared.Edition.TheVariants.{First}
 use Rattle.property_table.specs.Rows.{row_of}
-use Rattle.report_lines.proofs.HeadLaws.{NameAt, name_at_lem, nameless}
+use Rattle.report_lines.proofs.HeadLaws.{name_at, nameless}
 use Rattle.report_lines.proofs.row_of.Goals as goal
 
 pub returns-in_default : goal.returns-in_default
-returns-in_default c = (nameless _ _ c.read_head-head.ensures c.in_default-own.keys2, omega arith)
+returns-in_default c = (nameless _ _ c.read_head-head.ensures c.in_default.not-Named, omega arith)
 
 pub name_start-start-requires : goal.name_start-start-requires
-name_start-start-requires c = 
+name_start-start-requires c =
     let h = name_at _ _ _ _ c.read_head-head.ensures c.in-Named.is in
     omega (arith, h.group, h.inside, c.requires.s_len_bound)
 
 pub slice_bounds-find_row-count : goal.slice_bounds-find_row-count
-slice_bounds-find_row-count c = 
+slice_bounds-find_row-count c =
     let h = name_at _ _ _ _ c.read_head-head.ensures c.in-Named.is in
     omega (arith, h.order, c.name_start-start.ensures)
 
 pub slice_bounds-find_row-start : goal.slice_bounds-find_row-start
-slice_bounds-find_row-start c = 
+slice_bounds-find_row-start c =
     let h = name_at _ _ _ _ c.read_head-head.ensures c.in-Named.is in
     omega (arith, h.order, c.name_start-start.ensures)
 
 pub slice_bounds-find_row-end : goal.slice_bounds-find_row-end
-slice_bounds-find_row-end c = 
+slice_bounds-find_row-end c =
     let h = name_at _ _ _ _ c.read_head-head.ensures c.in-Named.is in
     omega (arith, h.inside)
 
