@@ -1,5 +1,6 @@
 // The calls of the desk, and what is kept from one to the next.
 #![tactic(auto)]
+
 ghost use Rattle.std.specs.Prelude.{◌≡◌, true, ◌+◌, ◌≤◌, length};
 ghost use Rattle.numbers.specs.Limits as limit;
 ghost use Rattle.desk.specs.Steps.{turned};

@@ -1,5 +1,6 @@
 // The requests of the report, and the report that is kept beside desk and output.
 #![tactic(auto)]
+
 ghost use Rattle.std.specs.Prelude.{◌≡◌, ◌++◌, ◌≤◌};
 ghost use Rattle.program_output.specs.Pages.{page, added};
 ghost use Rattle.console_entries.specs.Rooms.{most_room, octet_room};

@@ -1,5 +1,6 @@
 // A request line of the console: its words, the request that the first one names, and the numbers and octets of the others.
 #![tactic(auto)]
+
 mod names;
 
 ghost use Rattle.std.specs.Prelude.{◌≡◌, ◌+◌, ◌≤◌, ◌<◌};

@@ -100,7 +100,7 @@ fn is_row(t: &[u8], row: usize, word: &[u8], after: usize) -> bool
     }
     let base = row * ROW;
     let end = base + wide(t[base + LENGTH]);
-    check::same(word, &t[base..end])
+    program_numbers::same(word, &t[base..end])
 }
 
 // The row of the request that has this name and so many words after it, or that of no request.

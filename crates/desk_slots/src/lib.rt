@@ -1,5 +1,6 @@
 // One search along the entries of a desk: whether the desk is sound, and the slot of a ticket, the lowest free one or the idle one to take.
 #![tactic(auto)]
+
 ghost use Rattle.std.specs.Prelude.{◌≡◌, ◌≤◌};
 ghost use Rattle.numbers.specs.Limits as limit;
 ghost use Rattle.desk_slots.specs.Sound.{bounds};

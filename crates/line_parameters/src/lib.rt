@@ -1,5 +1,6 @@
 // The first value of a parameter, by its name.
 #![tactic(auto)]
+
 ghost use Rattle.std.specs.Prelude.{◌≡◌, suc, ◌≤◌, length, drop};
 ghost use Rattle.octets.specs.Classes.{Classes};
 ghost use Rattle.line_parameters.specs.First.{spanned, find_first};

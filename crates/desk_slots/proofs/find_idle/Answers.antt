@@ -1,5 +1,4 @@
 -- `desk_slots::find_idle` meets its contract. Assumes nothing.
-use Prim.Native.Nat.{◌-◌}
 use mathlib.Core.Path.{◌≡◌, sym, ap, ◌∙◌}
 use native.Mathlib.Omega.{arith}
 use Rattle.desk_entries.specs.Search.{lowest_of}
@@ -32,22 +31,23 @@ pub loop-i-preserved : goal.loop-i-preserved
 loop-i-preserved c =
     let l = c.loop-i in
     let a = c.args in
-    let f = idle_at a.t1 a.stamps.now a.at in
+    let f = idle_at a.entries a.stamps.now a.at in
     (omega arith, c.lower-lowest.ensures ∙ rw (l.invariant.1, c.idle_ticket-u.ensures) (sym (lowest_of_more f l.i)))
-
--- what is found once all slots were looked at
-found : (c : tie.After-struct-known invariant-loop decreases-loop)
-    → let a = c.before.before.before.args in c.before.before.loop.lowest ≡ lowest_of (idle_at a.t1 a.stamps.now a.at) a.slots
-found c =
-    let l = c.before.before.loop in
-    let a = c.before.before.before.args in
-    let e : l.i ≡ a.slots = omega arith in
-    l.invariant.1 ∙ ap (lowest_of (idle_at a.t1 a.stamps.now a.at)) e
 
 pub returns-then-lowest-eq0 : goal.returns-then-lowest-eq0
 unfolding idle_of
-returns-then-lowest-eq0 c = lowest_none _ _ _ (found c) c.if-lowest-eq0.true
+returns-then-lowest-eq0 c =
+    let l = c.loop-i in
+    let a = c.args in
+    let e : l.i ≡ a.slots = omega arith in
+    let found = l.invariant.1 ∙ ap (lowest_of (idle_at a.entries a.stamps.now a.at)) e in
+    lowest_none _ _ _ found c.if-lowest-eq0.true
 
 pub returns : goal.returns
 unfolding idle_of
-returns c = lowest_some _ _ _ (found c) c.if-lowest-eq0.false
+returns c =
+    let l = c.loop-i in
+    let a = c.args in
+    let e : l.i ≡ a.slots = omega arith in
+    let found = l.invariant.1 ∙ ap (lowest_of (idle_at a.entries a.stamps.now a.at)) e in
+    lowest_some _ _ _ found c.if-lowest-eq0.false

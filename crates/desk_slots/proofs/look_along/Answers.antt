@@ -1,5 +1,4 @@
 -- `desk_slots::look_along` meets its contract. Assumes nothing.
-use Prim.Native.Nat.{◌-◌}
 use mathlib.Core.Path.{◌≡◌, sym, ◌∙◌}
 use mathlib.Core.Bool.{true}
 use native.Mathlib.Omega.{arith}
@@ -11,7 +10,7 @@ use Rattle.desk_slots.proofs.look_along.Goals as goal
 pub returns-then-not-in_bounds : goal.returns-then-not-in_bounds
 returns-then-not-in_bounds c =
     let a = c.args in
-    c.unsound.ensures ∙ looked_unsound a.t1 a.slots a.next a.stamps.now a.tick a.t (unbounded a.t1 a.slots a.next a.stamps.now a.tick (sym c.in_bounds.ensures ∙ not-true _ c.if-not-in_bounds.true-raw))
+    c.unsound.ensures ∙ looked_unsound a.entries a.slots a.next a.stamps.now a.tick a.t (unbounded a.entries a.slots a.next a.stamps.now a.tick (sym c.in_bounds.ensures ∙ not-true _ c.if-not-in_bounds.true-raw))
 
 pub loop-i-init : goal.loop-i-init
 loop-i-init c = looked_none _ _ _ _ _ _
@@ -32,13 +31,13 @@ pub loop-i-preserved-in-Free : goal.loop-i-preserved-in-Free
 loop-i-preserved-in-Free c =
     let a = c.args in
     let l = c.loop-i in
-    looked_free a.t1 a.slots a.next a.stamps.now a.tick a.t l.ts l.highest l.slot l.run l.i l.invariant (omega arith) c.in-Free.is
+    looked_free a.entries a.slots a.next a.stamps.now a.tick a.t l.ts l.highest l.slot l.run l.i l.invariant (omega arith) c.in-Free.is
 
 pub returns-then-not-fits : goal.returns-then-not-fits
 returns-then-not-fits c =
     let a = c.args in
     let l = c.loop-i in
-    c.unsound-then-not-fits.ensures ∙ looked_unsound a.t1 a.slots a.next a.stamps.now a.tick a.t (looked_unfit a.t1 a.slots a.next a.stamps.now a.tick a.t l.ts l.highest l.slot l.run l.i l.invariant (omega arith) (sym c.fits2.ensures ∙ not-true _ c.if-not-fits.true-raw))
+    c.unsound-then-not-fits.ensures ∙ looked_unsound a.entries a.slots a.next a.stamps.now a.tick a.t (looked_unfit a.entries a.slots a.next a.stamps.now a.tick a.t l.ts l.highest l.slot l.run l.i l.invariant (omega arith) (sym c.fits.ensures ∙ not-true _ c.if-not-fits.true-raw))
 
 pub offset_bounds-stamps-i : goal.offset_bounds-stamps-i
 offset_bounds-stamps-i c = omega arith
@@ -50,8 +49,8 @@ pub returns-then-tick-stamps : goal.returns-then-tick-stamps
 returns-then-tick-stamps c =
     let a = c.args in
     let l = c.loop-i in
-    let s = c.s-1.given in
-    c.unsound-then-tick-stamps.ensures ∙ looked_unsound a.t1 a.slots a.next a.stamps.now a.tick a.t (looked_ahead a.t1 a.slots a.next a.stamps.now a.tick a.t l.ts l.highest l.slot l.run l.i l.invariant (omega arith) s.0.0 s.1 (sym c.fits2.ensures ∙ not-false _ c.if-not-fits.false-raw) c.if-tick-stamps.true)
+    let s = c.in-Open in
+    c.unsound-then-tick-stamps.ensures ∙ looked_unsound a.entries a.slots a.next a.stamps.now a.tick a.t (looked_ahead a.entries a.slots a.next a.stamps.now a.tick a.t l.ts l.highest l.slot l.run l.i l.invariant (omega arith) s.o s.is (sym c.fits.ensures ∙ not-false _ c.if-not-fits.false-raw) c.if-tick-stamps.true)
 
 pub repeats-requires : goal.repeats-requires
 repeats-requires c = (omega arith, c.loop-i.invariant.most)
@@ -60,8 +59,8 @@ pub returns-then-repeats : goal.returns-then-repeats
 returns-then-repeats c =
     let a = c.args in
     let l = c.loop-i in
-    let s = c.s-1.given in
-    c.unsound-then-repeats.ensures ∙ looked_unsound a.t1 a.slots a.next a.stamps.now a.tick a.t (looked_repeated a.t1 a.slots a.next a.stamps.now a.tick a.t l.ts l.highest l.slot l.run l.i l.invariant (omega arith) s.0.0 s.1 (sym c.fits2.ensures ∙ not-false _ c.if-not-fits.false-raw) (sym c.repeats.ensures ∙ c.if-repeats.true))
+    let s = c.in-Open in
+    c.unsound-then-repeats.ensures ∙ looked_unsound a.entries a.slots a.next a.stamps.now a.tick a.t (looked_repeated a.entries a.slots a.next a.stamps.now a.tick a.t l.ts l.highest l.slot l.run l.i l.invariant (omega arith) s.o s.is (sym c.fits.ensures ∙ not-false _ c.if-not-fits.false-raw) (sym c.repeats.ensures ∙ c.if-repeats.true))
 
 pub offset_bounds-ts-i : goal.offset_bounds-ts-i
 offset_bounds-ts-i c = omega arith
@@ -82,8 +81,8 @@ pub loop-i-preserved : goal.loop-i-preserved
 loop-i-preserved c =
     let a = c.args in
     let l = c.loop-i in
-    let s = c.s-1.given in
-    let g = looked_open a.t1 a.slots a.next a.stamps.now a.tick a.t l.ts l.highest l.slot l.run l.i l.invariant (omega arith) s.0.0 s.1 (sym c.fits2.ensures ∙ not-false _ c.if-not-fits.false-raw) c.if-tick-stamps.false (sym c.repeats.ensures ∙ c.if-repeats.false) in
+    let s = c.in-Open in
+    let g = looked_open a.entries a.slots a.next a.stamps.now a.tick a.t l.ts l.highest l.slot l.run l.i l.invariant (omega arith) s.o s.is (sym c.fits.ensures ∙ not-false _ c.if-not-fits.false-raw) c.if-tick-stamps.false (sym c.repeats.ensures ∙ c.if-repeats.false) in
     rw (c.higher-highest.ensures, c.met-slot.ensures, c.longer-run.ensures) g
 
 pub returns : goal.returns
@@ -91,4 +90,4 @@ returns c =
     let a = c.args in
     let l = c.loop-i in
     let b : bounds a.slots a.next ≡ true = sym c.in_bounds.ensures ∙ not-false _ c.if-not-in_bounds.false-raw in
-    looked_all a.t1 a.slots a.next a.stamps.now a.tick a.t l.ts l.highest l.slot l.run l.i b (omega arith) l.invariant
+    looked_all a.entries a.slots a.next a.stamps.now a.tick a.t l.ts l.highest l.slot l.run l.i b (omega arith) l.invariant

@@ -5,6 +5,10 @@ use Rattle.line_parameters.specs.First.{find_first}
 use Rattle.line_parser.specs.Parse.{got}
 use Rattle.line_parser.specs.Grammar.{Param}
 use Rattle.line_parser.specs.Rule.{param}
+use Rattle.line_parser.specs.Places.{place}
+use Rattle.line_parser.specs.declared.rule.Part.{Part}
+use Rattle.line_parser.specs.declared.rule.Part.TheVariants.{Upto}
+use Rattle.octets.specs.Classes.{run, has, name_mask}
 use mathlib.Core.List.{List}
 use lib.ListN.{length, drop, length-drop}
 use native.Mathlib.Omega.{arith}
@@ -14,24 +18,10 @@ use borrow.Author.Rules.{rules}
 use Rattle.line_parameters.proofs.param_first.Goals as goal
 
 -- after a parameter that was read, and the end of its name
-module _ (m : tie.After-span invariant-loop decreases-loop) where
-  abbrev R : tie.After-read-param invariant-loop decreases-loop
-  R = m.before.before.before.before
-
-  abbrev L : tie.At-loop invariant-loop decreases-loop
-  L = R.before.before.before.before
-
-  abbrev S : List ℕ
-  S = L.before.before.before.args.s.now
-
-  abbrev At : ℕ
-  At = L.loop.at
-
-  taken : {C : Type 0}
-      → ((p : Param) (k : ℕ) → param (drop (At + 1) S) ≡ got p k → m.before.before.p.given.0.0 ≡ At + 1 + k → NameEnd S (At + 1) p m.span.result → C) → C
-  taken f =
-      place_upto (At + 1) (param (drop (At + 1) S)) R.read-param.ensures m.before.before.p.given.1 (λ p k q h.
-      f p k q h (name_end_lem S (At + 1) p k m.span.result q m.span.ensures.0))
+taken : {C : Type 0} (s : List ℕ) (at : ℕ) {r : Part} {j e : ℕ} → r ≡ place at (param (drop at s)) → r ≡ Upto j
+    → e ≡ at + run (has name_mask) (drop at s)
+    → ((p : Param) (k : ℕ) → param (drop at s) ≡ got p k → j ≡ at + k → NameEnd s at p e → C) → C
+taken s at {r} {j} {e} h u g f = place_upto at (param (drop at s)) h u (λ p k q i. f p k q i (name_end_lem s at p k e q g))
 
 pub loop-at-init : goal.loop-at-init
 loop-at-init c =
@@ -49,34 +39,40 @@ returns-in_default c =
     let a = c.args in
     let s = a.s.now in
     let l = c.loop-at in
-    place_fault (l.at + 1) (param (drop (l.at + 1) s)) c.read_param-p.ensures c.in_default.keys2 (λ x q.
+    place_fault (l.at + 1) (param (drop (l.at + 1) s)) c.read_param-p.ensures c.in_default.not-Upto (λ x q.
     sym (l.invariant.2 ∙ first_bad a.name.now s l.at l.invariant.0 x c.if-s-at-ne59.false q))
 
 pub value_span-requires : goal.value_span-requires
-value_span-requires c = record { classes = (taken c (λ p k q h w. let i = w.within_line in search rules)).0; at_in_bounds = (taken c (λ p k q h w. let i = w.within_line in search rules)).1 }
+value_span-requires c =
+    taken c.args.s.now (c.loop-at.at + 1) c.read_param-p.ensures c.in-Upto.is c.span-name_end.ensures.value (λ p k q h w.
+    let i = w.within_line in
+    record { classes = search rules; at_in_bounds = search rules })
 
 pub returns-then-same_name : goal.returns-then-same_name
 returns-then-same_name c =
-    let l = (L c).loop in
+    let s = c.args.s.now in
+    let l = c.loop-at in
     let found = sym c.same_name.ensures ∙ c.if-same_name.true in
-    taken c (λ p k q h w.
-    c.value_span.ensures ∙ sym (l.inv.2 ∙ first_hit _ (S c) l.at l.inv.0 (omega arith) (R c).before.if1.false p k q c.span-name_end.result w found))
+    taken s (l.at + 1) c.read_param-p.ensures c.in-Upto.is c.span-name_end.ensures.value (λ p k q h w.
+    c.value_span.ensures ∙ sym (l.invariant.2
+    ∙ first_hit _ s l.at l.invariant.0 (omega arith) c.if-s-at-ne59.false p k q c.span-name_end.result w found))
 
 pub loop-at-smaller : goal.loop-at-smaller
 loop-at-smaller c =
-    let lt = (R c).before.before.before.loop-test.true in
-    taken c (λ p k q h w. omega arith)
+    let lt = c.loop-at-test.true in
+    taken c.args.s.now (c.loop-at.at + 1) c.read_param-p.ensures c.in-Upto.is c.span-name_end.ensures.value (λ p k q h w. omega arith)
 
 pub loop-at-preserved : goal.loop-at-preserved
 loop-at-preserved c =
-    let l = (L c).loop in
-    let lt = (R c).before.before.before.loop-test.true in
+    let s = c.args.s.now in
+    let l = c.loop-at in
+    let lt = c.loop-at-test.true in
     let other = sym c.same_name.ensures ∙ c.if-same_name.false in
-    taken c (λ p k q h w. (
-      l.inv.0 - 1,
+    taken s (l.at + 1) c.read_param-p.ensures c.in-Upto.is c.span-name_end.ensures.value (λ p k q h w. (
+      l.invariant.0 - 1,
       omega arith,
-      l.inv.2 ∙ first_on _ (S c) l.at l.inv.0 (omega arith) (R c).before.if1.false p k q c.span-name_end.result w other
-          ∙ ap (λ (i : ℕ). find_first (L c).before.before.before.args.name.now i (l.inv.0 - 1) (drop i (S c))) (sym h),
+      l.invariant.2 ∙ first_on _ s l.at l.invariant.0 (omega arith) c.if-s-at-ne59.false p k q c.span-name_end.result w other
+          ∙ ap (λ (i : ℕ). find_first c.args.name.now i (l.invariant.0 - 1) (drop i s)) (sym h),
     ))
 
 pub returns : goal.returns

@@ -1,6 +1,6 @@
 -- `line_unfolding::skip_to_fold` meets its contract. Assumes nothing.
 use borrow.Author.Rules.{rules}
-use Prim.Native.Nat.{◌+◌, ◌-◌}
+use Prim.Native.Nat.{◌+◌}
 use native.Mathlib.Omega.{arith}
 use Rattle.line_folds.proofs.FoldLaws.{not_cr_lem}
 use Rattle.line_unfolding.proofs.RunLaws.{flat_none, flat_join, flat_sixteen, flat_run}

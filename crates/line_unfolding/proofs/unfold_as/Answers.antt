@@ -9,61 +9,42 @@ use lib.ListN.{length, take, drop, get_or, length-append, length-take, length-dr
 use lib.Seq.{length-take-le}
 use Rattle.octets.specs.Scan.{gather}
 use Rattle.octets.proofs.Scans.{gather_end}
-use Rattle.octets.proofs.Writes.{start, room, finish}
+use Rattle.octets.proofs.Writes.{Written, start, room, finish}
 use Rattle.line_folds.specs.Folds.{fold_at, passed, kept, unfolded}
 use Rattle.line_folds.proofs.FoldLaws.{not_cr_lem, fold_inside, fold_next, octet_next}
 use Rattle.line_unfolding.proofs.RunLaws.{flat_one, flat_join, flat_kept}
 use Rattle.line_unfolding.proofs.PutLaws.{put_octet, put_part}
 use Rattle.line_unfolding.proofs.unfold_as.Goals as goal
 
-module _ (l : tie.At-loop invariant-loop decreases-loop) where
-  abbrev S : List ℕ
-  S = l.before.before.before.args.s.now
-
-  abbrev I : ℕ
-  I = l.loop.i
-
+-- at the place i of s, of which the kept octets were written to the first j of d
+module _ (s : List ℕ) (i : ℕ) {d₀ d : List ℕ} {j : ℕ} (w : Written (gather passed kept s 0) (gather passed kept (drop i s) 0) d₀ d j)
+    (r : length (unfolded s) ≤ length d₀) where
   -- there is room for what is left
-  roomy : l.loop.j + length (gather passed kept (drop I S) 0) ≤ length l.loop.d
+  roomy : j + length (gather passed kept (drop i s) 0) ≤ length d
   unfolding unfolded
-  roomy = room l.loop.inv.1 l.before.before.before.pre
+  roomy = room w r
 
   -- an octet that starts no fold is written next
-  module _ (lt : I < length S) (flat : fold_at (drop I S) ≡ false) where
-    next : gather passed kept (drop I S) 0 ≡ (get_or S I 0 ∷ []) ++ gather passed kept (drop (I + 1) S) 0
-    next = octet_next S I lt flat
+  fits : i < length s → fold_at (drop i s) ≡ false → j < length d
+  fits lt flat = omega (arith, roomy, ap length (octet_next s i lt flat))
 
-    fits : l.loop.j < length l.loop.d
-    fits = omega (arith, roomy, ap length next)
-
--- a CR that starts no fold
-module _ (c : tie.Else2 invariant-loop decreases-loop) where
-  abbrev L : tie.At-loop invariant-loop decreases-loop
-  L = c.before.before.before.before.before
-
-  lone : fold_at (drop (I L) (S L)) ≡ false
-  lone = sym c.before.fold_at.ensures ∙ c.if2.false
-
--- the octets up to the next fold
-module _ (c : tie.After-skip invariant-loop decreases-loop) where
-  abbrev H : tie.At-loop invariant-loop decreases-loop
-  H = c.before.before.before.before.before
-
+-- the octets up to the next fold, which starts at e
+module _ (s : List ℕ) (i e : ℕ) (after : i + 1 ≤ e) (inside : e ≤ length s) where
   abbrev X : List ℕ
-  X = take (c.skip.result - I H) (drop (I H) (S H))
+  X = take (e - i) (drop i s)
 
-  run : gather passed kept (drop (I H) (S H)) 0 ≡ X ++ gather passed kept (drop c.skip.result (S H)) 0
-  run =
-      let e = c.skip.ensures in
-      let flat = flat_one (S H) (I H) (not_cr_lem (S H) (I H) c.before.before.if1.false) in
-      flat_kept (S H) (I H) c.skip.result (omega (arith, e.0)) e.1 (flat_join (S H) (I H) (I H + 1) c.skip.result flat e.2)
+  run : (get_or s i 0 ≡ 13 → ⊥) → ((k : ℕ) → i + 1 ≤ k → k < e → fold_at (drop k s) ≡ false)
+      → gather passed kept (drop i s) 0 ≡ X ++ gather passed kept (drop e s) 0
+  run h f = flat_kept s i e (omega arith) inside (flat_join s i (i + 1) e (flat_one s i (not_cr_lem s i h)) f)
 
-  run_length : length X ≡ c.skip.result - I H
-  run_length =
-      length-take-le (c.skip.result - I H) (drop (I H) (S H)) (rw (length-drop (I H) (S H)) (omega (arith, c.skip.ensures.1)))
+  run_length : length X ≡ e - i
+  run_length = length-take-le (e - i) (drop i s) (rw (length-drop i s) (omega arith))
 
-  run_fits : H.loop.j + length X ≤ length H.loop.d
-  run_fits = omega (arith, roomy H, ap length run ∙ length-append X (gather passed kept (drop c.skip.result (S H)) 0))
+  run_fits : {d₀ d : List ℕ} {j : ℕ} → Written (gather passed kept s 0) (gather passed kept (drop i s) 0) d₀ d j
+      → length (unfolded s) ≤ length d₀ → (get_or s i 0 ≡ 13 → ⊥) → ((k : ℕ) → i + 1 ≤ k → k < e → fold_at (drop k s) ≡ false)
+      → j + (e - i) ≤ length d
+  run_fits w r h f =
+      omega (arith, roomy s i w r, run_length, ap length (run h f) ∙ length-append X (gather passed kept (drop e s) 0))
 
 pub loop-i-init : goal.loop-i-init
 loop-i-init c = (search rules, start _ _)
@@ -82,38 +63,49 @@ loop-i-preserved-then-fold c =
     (fold_inside s l.i e, rw (fold_next s l.i c.loop-i-test.true e) at l.invariant.1)
 
 pub bounds-d-j : goal.bounds-d-j
-bounds-d-j c = fits c c.loop-i-test.true (lone c)
+bounds-d-j c = fits c.args.s.now c.loop-i.i c.loop-i.invariant.1 c.requires c.loop-i-test.true (sym c.fold_at-fold.ensures ∙ c.if-fold.false)
 
 pub overflow_add-j : goal.overflow_add-j
-overflow_add-j c = omega (arith, fits c c.loop-i-test.true (lone c))
+overflow_add-j c = omega (arith, fits c.args.s.now c.loop-i.i c.loop-i.invariant.1 c.requires c.loop-i-test.true (sym c.fold_at-fold.ensures ∙ c.if-fold.false))
 
 pub loop-i-preserved-else-fold : goal.loop-i-preserved-else-fold
 loop-i-preserved-else-fold c =
+    let s = c.args.s.now in
+    let l = c.loop-i in
     let h = c.loop-i-test.true in
-    let e = next (c) h (lone c) ∙ ap (λ (b : ℕ). (b ∷ []) ++ gather passed kept (drop (I (c) + 1) (S (c))) 0) c.if-s-i-eq13.true in
-    (omega arith, put_octet c.loop-i.invariant.1 13 _ e (fits (c) h (lone c)))
+    let lone = sym c.fold_at-fold.ensures ∙ c.if-fold.false in
+    let e = octet_next s l.i h lone ∙ ap (λ (b : ℕ). (b ∷ []) ++ gather passed kept (drop (l.i + 1) s) 0) c.if-s-i-eq13.true in
+    (omega arith, put_octet l.invariant.1 13 _ e (fits s l.i l.invariant.1 c.requires h lone))
 
 pub bounds-d-j-then-met-lt-ONE_BY_ONE : goal.bounds-d-j-then-met-lt-ONE_BY_ONE
-bounds-d-j-then-met-lt-ONE_BY_ONE c = fits c c.loop-i-test.true (not_cr_lem c.args.s.now c.loop-i.i c.if-s-i-eq13.false)
+bounds-d-j-then-met-lt-ONE_BY_ONE c = fits c.args.s.now c.loop-i.i c.loop-i.invariant.1 c.requires c.loop-i-test.true (not_cr_lem c.args.s.now c.loop-i.i c.if-s-i-eq13.false)
 
 pub overflow_add-j-then-met-lt-ONE_BY_ONE : goal.overflow_add-j-then-met-lt-ONE_BY_ONE
-overflow_add-j-then-met-lt-ONE_BY_ONE c = omega (arith, fits c c.loop-i-test.true (not_cr_lem c.args.s.now c.loop-i.i c.if-s-i-eq13.false))
+overflow_add-j-then-met-lt-ONE_BY_ONE c =
+    omega (arith, fits c.args.s.now c.loop-i.i c.loop-i.invariant.1 c.requires c.loop-i-test.true (not_cr_lem c.args.s.now c.loop-i.i c.if-s-i-eq13.false))
 
 pub loop-i-preserved-then-met-lt-ONE_BY_ONE : goal.loop-i-preserved-then-met-lt-ONE_BY_ONE
 loop-i-preserved-then-met-lt-ONE_BY_ONE c =
-    let a = c.args in
+    let s = c.args.s.now in
+    let l = c.loop-i in
     let h = c.loop-i-test.true in
-    let f = not_cr_lem a.s.now c.loop-i.i c.if-s-i-eq13.false in
-    (omega arith, put_octet c.loop-i.invariant.1 _ _ (next (c) h f) (fits (c) h f))
+    let f = not_cr_lem s l.i c.if-s-i-eq13.false in
+    (omega arith, put_octet l.invariant.1 _ _ (octet_next s l.i h f) (fits s l.i l.invariant.1 c.requires h f))
 
 pub slice_bounds-copy_in-count : goal.slice_bounds-copy_in-count
-slice_bounds-copy_in-count c = omega (arith, run_fits c)
+slice_bounds-copy_in-count c =
+    let e = c.skip-e.ensures in
+    omega (arith, run_fits c.args.s.now c.loop-i.i _ e.0 e.1 c.loop-i.invariant.1 c.requires c.if-s-i-eq13.false e.2)
 
 pub slice_bounds-copy_in-start : goal.slice_bounds-copy_in-start
-slice_bounds-copy_in-start c = omega (arith, run_fits c)
+slice_bounds-copy_in-start c =
+    let e = c.skip-e.ensures in
+    omega (arith, run_fits c.args.s.now c.loop-i.i _ e.0 e.1 c.loop-i.invariant.1 c.requires c.if-s-i-eq13.false e.2)
 
 pub slice_bounds-copy_in-end : goal.slice_bounds-copy_in-end
-slice_bounds-copy_in-end c = omega (arith, run_fits c)
+slice_bounds-copy_in-end c =
+    let e = c.skip-e.ensures in
+    omega (arith, run_fits c.args.s.now c.loop-i.i _ e.0 e.1 c.loop-i.invariant.1 c.requires c.if-s-i-eq13.false e.2)
 
 pub slice_bounds-copy_in-count-else-met-lt-ONE_BY_ONE : goal.slice_bounds-copy_in-count-else-met-lt-ONE_BY_ONE
 slice_bounds-copy_in-count-else-met-lt-ONE_BY_ONE c = omega (arith, c.skip-e.ensures.0)
@@ -125,19 +117,33 @@ pub slice_bounds-copy_in-end-else-met-lt-ONE_BY_ONE : goal.slice_bounds-copy_in-
 slice_bounds-copy_in-end-else-met-lt-ONE_BY_ONE c = omega (arith, c.skip-e.ensures.0, c.skip-e.ensures.1)
 
 pub copy_in-requires : goal.copy_in-requires
-copy_in-requires c = rw (run_length c) (simp (length-take, length-drop) (omega (arith, run_fits c, run_length c)))
+copy_in-requires c =
+    let e = c.skip-e.ensures in
+    let f = run_fits c.args.s.now c.loop-i.i _ e.0 e.1 c.loop-i.invariant.1 c.requires c.if-s-i-eq13.false e.2 in
+    simp (length-take, length-drop) (omega (arith, f))
 
 pub overflow_sub-j : goal.overflow_sub-j
 overflow_sub-j c = omega (arith, c.skip-e.ensures.0)
 
 pub overflow_add-j-else-met-lt-ONE_BY_ONE : goal.overflow_add-j-else-met-lt-ONE_BY_ONE
-overflow_add-j-else-met-lt-ONE_BY_ONE c = omega (arith, run_fits c, run_length c)
+overflow_add-j-else-met-lt-ONE_BY_ONE c =
+    let e = c.skip-e.ensures in
+    omega (arith, run_fits c.args.s.now c.loop-i.i _ e.0 e.1 c.loop-i.invariant.1 c.requires c.if-s-i-eq13.false e.2)
 
 pub loop-i-smaller : goal.loop-i-smaller
 loop-i-smaller c = omega (arith, c.skip-e.ensures.0, c.skip-e.ensures.1)
 
 pub loop-i-preserved : goal.loop-i-preserved
-loop-i-preserved c = (c.skip-e.ensures.1, rw (run_length c) at (put_part c.loop-i.invariant.1 (X c) _ _ (run c) (run_fits c) c.copy_in.ensures))
+loop-i-preserved c =
+    let s = c.args.s.now in
+    let i = c.loop-i.i in
+    let w = c.loop-i.invariant.1 in
+    let e = c.skip-e.ensures in
+    let n = c.skip-e.result in
+    let f = run_fits s i n e.0 e.1 w c.requires c.if-s-i-eq13.false e.2 in
+    let q = run_length s i n e.0 e.1 in
+    let room : c.loop-i.j + length (X s i n e.0 e.1) ≤ length c.loop-i.d = rw q f in
+    (e.1, rw q at (put_part w (X s i n e.0 e.1) _ _ (run s i n e.0 e.1 c.if-s-i-eq13.false e.2) room c.copy_in.ensures))
 
 pub shape_of-d : goal.shape_of-d
 shape_of-d c = c.loop-i.invariant.1.same

@@ -3,7 +3,7 @@ use borrow.Author.Rules.{rules}
 use mathlib.Core.Path.{◌≡◌, sym, ap, ◌∙◌}
 use mathlib.Core.List.{List}
 use mathlib.Core.Bool.{Bool, true, false}
-use Prim.Native.Nat.{ℕ, ◌≤◌, ◌+◌, ◌-◌, ◌*◌}
+use Prim.Native.Nat.{ℕ, ◌≤◌, ◌+◌, ◌*◌}
 use native.Mathlib.Nat.{zero-add}
 use native.Mathlib.Omega.{arith}
 use lib.ListN.{length, drop}
@@ -21,12 +21,6 @@ small l n e = rw e (by (fold_at l))
     by true = omega arith
     by false = omega arith
 
-abbrev S : tie.After-fold-bit invariant-loop decreases-loop → List ℕ
-S c = c.before.before.before.before.before.before.before.before.args.s.now
-
-abbrev I : tie.After-fold-bit invariant-loop decreases-loop → ℕ
-I c = c.before.before.before.before.before.loop.i
-
 pub returns-then-s-lt-FOLD_LENGTH : goal.returns-then-s-lt-FOLD_LENGTH
 returns-then-s-lt-FOLD_LENGTH c = omega (arith, count_law c.args.s.now, count_short c.args.s.now 0 (omega arith))
 
@@ -35,21 +29,21 @@ loop-i-init c = (omega arith, search rules, search rules, sym (zero-add _))
 
 pub overflow_cast-folds : goal.overflow_cast-folds
 overflow_cast-folds c =
-    let here : c.fold_bit.result ≡ bit (fold_at (drop (I c) (S c))) 1 = c.fold_bit.ensures ∙ ap (λ (t : Bool). bit t 1) (fold_three (S c) (I c)) in
-    let mark : c.fold_bit.result ≤ 1 = small (drop (I c) (S c)) c.fold_bit.result here in
+    let here : c.fold_bit.result ≡ bit (fold_at (drop c.loop-i.i c.args.s.now)) 1 = c.fold_bit.ensures ∙ ap (λ (t : Bool). bit t 1) (fold_three c.args.s.now c.loop-i.i) in
+    let mark : c.fold_bit.result ≤ 1 = small (drop c.loop-i.i c.args.s.now) c.fold_bit.result here in
     omega (arith, mark)
 
 pub overflow_add-folds : goal.overflow_add-folds
 overflow_add-folds c =
-    let here : c.fold_bit.result ≡ bit (fold_at (drop (I c) (S c))) 1 = c.fold_bit.ensures ∙ ap (λ (t : Bool). bit t 1) (fold_three (S c) (I c)) in
-    let mark : c.fold_bit.result ≤ 1 = small (drop (I c) (S c)) c.fold_bit.result here in
+    let here : c.fold_bit.result ≡ bit (fold_at (drop c.loop-i.i c.args.s.now)) 1 = c.fold_bit.ensures ∙ ap (λ (t : Bool). bit t 1) (fold_three c.args.s.now c.loop-i.i) in
+    let mark : c.fold_bit.result ≤ 1 = small (drop c.loop-i.i c.args.s.now) c.fold_bit.result here in
     omega (arith, mark)
 
 pub loop-i-preserved : goal.loop-i-preserved
 loop-i-preserved c =
-    let here : c.fold_bit.result ≡ bit (fold_at (drop (I c) (S c))) 1 = c.fold_bit.ensures ∙ ap (λ (t : Bool). bit t 1) (fold_three (S c) (I c)) in
-    let mark : c.fold_bit.result ≤ 1 = small (drop (I c) (S c)) c.fold_bit.result here in
-    let one : fold_count (drop (I c) (S c)) ≡ c.fold_bit.result + fold_count (drop (I c + 1) (S c)) = count_step (S c) (I c) c.fold_bit.result (omega arith) here in
+    let here : c.fold_bit.result ≡ bit (fold_at (drop c.loop-i.i c.args.s.now)) 1 = c.fold_bit.ensures ∙ ap (λ (t : Bool). bit t 1) (fold_three c.args.s.now c.loop-i.i) in
+    let mark : c.fold_bit.result ≤ 1 = small (drop c.loop-i.i c.args.s.now) c.fold_bit.result here in
+    let one : fold_count (drop c.loop-i.i c.args.s.now) ≡ c.fold_bit.result + fold_count (drop (c.loop-i.i + 1) c.args.s.now) = count_step c.args.s.now c.loop-i.i c.fold_bit.result (omega arith) here in
     (c.loop-i.invariant.0, omega arith, omega (arith, mark), omega (arith, c.loop-i.invariant.3, one))
 
 pub overflow_cast-result : goal.overflow_cast-result
@@ -60,14 +54,16 @@ overflow_mul-result c = omega arith
 
 pub overflow_sub-result : goal.overflow_sub-result
 overflow_sub-result c =
-    let total : length (unfolded c.args.s.now) + 3 * c.loop-i.folds ≡ length c.args.s.now = let s = c.args.s.now in
+    let total : length (unfolded c.args.s.now) + 3 * c.loop-i.folds ≡ length c.args.s.now =
+    let s = c.args.s.now in
     let l = c.loop-i in
     omega (arith, count_law s, l.invariant.3, count_short s l.i (omega arith)) in
     omega (arith, total)
 
 pub returns : goal.returns
 returns c =
-    let total : length (unfolded c.args.s.now) + 3 * c.loop-i.folds ≡ length c.args.s.now = let s = c.args.s.now in
+    let total : length (unfolded c.args.s.now) + 3 * c.loop-i.folds ≡ length c.args.s.now =
+    let s = c.args.s.now in
     let l = c.loop-i in
     omega (arith, count_law s, l.invariant.3, count_short s l.i (omega arith)) in
     omega (arith, total)

@@ -1,7 +1,7 @@
 -- `program_output::put_all` meets its contract. Assumes nothing.
 use mathlib.Core.Path.{refl, sym, ◌∙◌}
 use mathlib.Core.List.{List, [], ◌∷◌}
-use Prim.Native.Nat.{ℕ, ◌-◌}
+use Prim.Native.Nat.{ℕ}
 use Rattle.program_output.specs.Pages.{page}
 use Rattle.program_output.proofs.PageLaws.{turn, stop}
 use borrow.Author.Rules.{rules}

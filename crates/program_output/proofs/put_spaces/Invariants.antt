@@ -1,6 +1,5 @@
 -- `program_output::put_spaces` meets its contract. Assumes nothing.
 use mathlib.Core.Path.{◌≡◌}
-use Prim.Native.Nat.{◌-◌}
 use lib.ListN.{length, replicate}
 use Rattle.program_output.specs.Pages.{page, added}
 use Rattle.program_output.proofs.put_spaces.Given as goal

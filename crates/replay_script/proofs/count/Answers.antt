@@ -1,24 +1,18 @@
 -- `replay_script::count` meets its contract. Assumes nothing.
-use Prim.Native.Nat.{ℕ, ◌+◌, ◌-◌, ◌≤◌}
+use Prim.Native.Nat.{ℕ, ◌+◌, ◌<◌, ◌≤◌}
 use mathlib.Core.Path.{◌≡◌, sym, ap, ◌∙◌}
 use mathlib.Core.List.{List}
 use native.Mathlib.Omega.{arith}
-use lib.ListN.{drop, length-drop}
+use lib.ListN.{length, drop, length-drop}
 use Rattle.replay_script.specs.Scripts.{width, call_of}
 use Rattle.replay_script.specs.Counts.{shows}
 use Rattle.replay_script.proofs.ScriptLaws.{tail_is, Counting, count_start, count_step, count_stop, count_end}
 use Rattle.replay_script.proofs.count.Goals as goal
 
-step : (c : tie.After-count-show invariant-loop decreases-loop)
-    → let l = c.before.before.before.before.before.before in
-    Counting l.before.before.args.script.now (l.loop.at + c.before.before.before.width.result) (l.loop.calls + 1) (l.loop.shows + c.count-show.result)
-step c =
-    let l = c.before.before.before.before.before.before in
-    let s = l.before.before.args.script.now in
-    let w = wide c.before.before.before in
-    let k : c.count-show.result ≡ shows (call_of (drop l.loop.at s)) = c.count-show.ensures ∙ ap (λ (x : List ℕ). shows (call_of x)) (tail_is s l.loop.at) in
-    let p : 1 ≤ c.before.before.before.width.result = omega arith in
-    rw (w, k) (count_step l.loop.invariant c.before.before.before.before.before.loop-test.true (rw w at p))
+-- the count after one more call
+step : (s : List ℕ) (at calls n w k : ℕ) → Counting s at calls n → at < length s → w ≡ width (drop at s) → k ≡ shows (call_of (drop at s)) → 1 ≤ w
+    → Counting s (at + w) (calls + 1) (n + k)
+step s at calls n w k i less wide shown some = rw (wide, shown) (count_step i less (rw wide at some))
 
 pub loop-at-init : goal.loop-at-init
 loop-at-init c = count_start _
@@ -53,19 +47,48 @@ pub count_show-shows-requires : goal.count_show-shows-requires
 count_show-shows-requires c = rw (tail_is _ _, length-drop) (omega arith)
 
 pub overflow_add-shows : goal.overflow_add-shows
-overflow_add-shows c = let i = step c in omega arith
+overflow_add-shows c =
+    let l = c.loop-at in
+    let s = c.args.script.now in
+    let wide = c.width-w.ensures ∙ ap width (tail_is s l.at) in
+    let shown = c.count_show-shows.ensures ∙ ap (λ (x : List ℕ). shows (call_of x)) (tail_is s l.at) in
+    let i = step s l.at l.calls l.shows c.width-w.result c.count_show-shows.result l.invariant c.loop-at-test.true wide shown (omega arith) in
+    omega arith
 
 pub overflow_add-calls : goal.overflow_add-calls
-overflow_add-calls c = let i = step c in omega arith
+overflow_add-calls c =
+    let l = c.loop-at in
+    let s = c.args.script.now in
+    let wide = c.width-w.ensures ∙ ap width (tail_is s l.at) in
+    let shown = c.count_show-shows.ensures ∙ ap (λ (x : List ℕ). shows (call_of x)) (tail_is s l.at) in
+    let i = step s l.at l.calls l.shows c.width-w.result c.count_show-shows.result l.invariant c.loop-at-test.true wide shown (omega arith) in
+    omega arith
 
 pub overflow_add-at : goal.overflow_add-at
-overflow_add-at c = let i = step c in omega arith
+overflow_add-at c =
+    let l = c.loop-at in
+    let s = c.args.script.now in
+    let wide = c.width-w.ensures ∙ ap width (tail_is s l.at) in
+    let shown = c.count_show-shows.ensures ∙ ap (λ (x : List ℕ). shows (call_of x)) (tail_is s l.at) in
+    let i = step s l.at l.calls l.shows c.width-w.result c.count_show-shows.result l.invariant c.loop-at-test.true wide shown (omega arith) in
+    omega arith
 
 pub loop-at-smaller : goal.loop-at-smaller
-loop-at-smaller c = let i = step c in omega arith
+loop-at-smaller c =
+    let l = c.loop-at in
+    let s = c.args.script.now in
+    let wide = c.width-w.ensures ∙ ap width (tail_is s l.at) in
+    let shown = c.count_show-shows.ensures ∙ ap (λ (x : List ℕ). shows (call_of x)) (tail_is s l.at) in
+    let i = step s l.at l.calls l.shows c.width-w.result c.count_show-shows.result l.invariant c.loop-at-test.true wide shown (omega arith) in
+    omega arith
 
 pub loop-at-preserved : goal.loop-at-preserved
-loop-at-preserved c = step c
+loop-at-preserved c =
+    let l = c.loop-at in
+    let s = c.args.script.now in
+    let wide = c.width-w.ensures ∙ ap width (tail_is s l.at) in
+    let shown = c.count_show-shows.ensures ∙ ap (λ (x : List ℕ). shows (call_of x)) (tail_is s l.at) in
+    step s l.at l.calls l.shows c.width-w.result c.count_show-shows.result l.invariant c.loop-at-test.true wide shown (omega arith)
 
 pub returns : goal.returns
 returns c = count_end c.loop-at.invariant c.loop-at-test.false

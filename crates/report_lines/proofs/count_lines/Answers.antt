@@ -15,19 +15,14 @@ row_of_span-row-requires c =
     let l = c.loop-at in
     let v = c.line_at-span in
     let part = take (v.result.end - l.at) (drop l.at c.args.s.now) in
-    let n = part_length c.args.s.now l.at v.result.end c.loop-at-test.true v.ensures.1 v.ensures.2 in (
-      c.requires.classes,
-      (
-        c.requires.lists,
-        (
-          omega (arith, n, c.requires.s_len_bound),
-          (
-            omega (arith, unfold_shorter part, n, l.invariant.0, c.requires.s_len_bound),
-            whole c.args.s.now l.at v.result.cr v.result.end v.ensures.0,
-          ),
-        ),
-      ),
-    )
+    let n = part_length c.args.s.now l.at v.result.end c.loop-at-test.true v.ensures.1 v.ensures.2 in
+    record {
+      classes = c.requires.classes;
+      lists = c.requires.lists;
+      s_len_bound = omega (arith, n, c.requires.s_len_bound);
+      s_in_bounds = omega (arith, unfold_shorter part, n, l.invariant.0, c.requires.s_len_bound);
+      s_value = whole c.args.s.now l.at v.result.cr v.result.end v.ensures.0;
+    }
 
 pub overflow_add-counts : goal.overflow_add-counts
 overflow_add-counts c =

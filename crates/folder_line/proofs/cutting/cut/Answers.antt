@@ -8,16 +8,6 @@ use Rattle.utf8.specs.Characters.{tail}
 use Rattle.folder_line.proofs.Turns.{inside, cut_place, one_more}
 use Rattle.folder_line.proofs.cutting.cut.Goals as goal
 
-abbrev At : Type 0
-At = tie.Then1 invariant-loop decreases-loop
-
--- the octet at e is no first one, so that e lies behind the start
-behind : (c : At) → c.before.before.before.before.before.args.from < c.before.before.before.loop.e
-behind c =
-    let l = c.before.before.before in
-    let a = l.before.before.args in
-    inside a.s.now a.from l.before.before.requires.0 l.loop.e (omega arith) l.loop.invariant.0 (sym c.before.is-tail.ensures ∙ c.if1.true)
-
 pub overflow_add-e : goal.overflow_add-e
 overflow_add-e c = omega arith
 
@@ -28,15 +18,23 @@ pub bounds-s-e : goal.bounds-s-e
 bounds-s-e c = omega arith
 
 pub overflow_sub-e : goal.overflow_sub-e
-overflow_sub-e c = omega (arith, behind c)
+overflow_sub-e c =
+    -- the octet at e is no first one, so that e lies behind the start
+    let l = c.loop-e in
+    let b : c.args.from < l.e = inside c.args.s.now c.args.from c.requires.0 l.e (omega arith) l.invariant.0 (sym c.is_tail.ensures ∙ c.loop-e-test.true) in
+    omega arith
 
 pub loop-e-smaller : goal.loop-e-smaller
-loop-e-smaller c = omega (arith, behind c)
+loop-e-smaller c =
+    -- the octet at e is no first one, so that e lies behind the start
+    let l = c.loop-e in
+    let b : c.args.from < l.e = inside c.args.s.now c.args.from c.requires.0 l.e (omega arith) l.invariant.0 (sym c.is_tail.ensures ∙ c.loop-e-test.true) in
+    omega arith
 
 pub loop-e-preserved : goal.loop-e-preserved
 loop-e-preserved c =
     let a = c.args in
-    let b = behind c in
+    let b : a.from < c.loop-e.e = inside a.s.now a.from c.requires.0 c.loop-e.e (omega arith) c.loop-e.invariant.0 (sym c.is_tail.ensures ∙ c.loop-e-test.true) in
     let t = sym c.is_tail.ensures ∙ c.loop-e-test.true in
     (omega arith, omega arith, λ i p q. one_more (λ n. tail (get_or a.s.now n 0) ≡ true) c.loop-e.e i (omega arith) t (λ h. c.loop-e.invariant.2 i h q))
 

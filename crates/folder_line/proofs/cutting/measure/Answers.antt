@@ -6,14 +6,6 @@ use Rattle.folder_line.specs.Pieces.{pieces, folded}
 use Rattle.folder_line.proofs.Turns.{turn_fits, turn_clean, turn_length, last_length}
 use Rattle.folder_line.proofs.cutting.measure.Goals as goal
 
-abbrev At : Type 0
-At = tie.After-cut invariant-loop decreases-loop
-
-fits : (c : At) → (c.before.before.loop.a < c.cut.result) × (c.cut.result ≤ c.before.before.loop.a + c.before.before.loop.room) × (c.cut.result < length c.before.before.before.before.args.s.now)
-fits c =
-    let l = c.before.before in
-    turn_fits l.before.before.args.s.now l.loop.a l.loop.room c.cut.result l.loop.invariant.1 (omega arith) c.before.loop-test.true c.cut.ensures
-
 pub loop-room-init : goal.loop-room-init
 loop-room-init c = (omega arith, c.requires.0, omega arith, omega arith, omega arith, omega arith)
 
@@ -24,15 +16,21 @@ pub cut-a-requires : goal.cut-a-requires
 cut-a-requires c = (c.loop-room.invariant.1, omega arith)
 
 pub overflow_add-n : goal.overflow_add-n
-overflow_add-n c = omega (arith, fits c)
+overflow_add-n c =
+    let l = c.loop-room in
+    let f = turn_fits c.args.s.now l.a l.room c.cut-a.result l.invariant.1 (omega arith) c.loop-room-test.true c.cut-a.ensures in
+    omega arith
 
 pub loop-room-smaller : goal.loop-room-smaller
-loop-room-smaller c = omega (arith, (fits c).0, (fits c).2)
+loop-room-smaller c =
+    let l = c.loop-room in
+    let f = turn_fits c.args.s.now l.a l.room c.cut-a.result l.invariant.1 (omega arith) c.loop-room-test.true c.cut-a.ensures in
+    omega arith
 
 pub loop-room-preserved : goal.loop-room-preserved
 loop-room-preserved c =
     let s = c.args.s.now in
-    let f = fits c in
+    let f = turn_fits s c.loop-room.a c.loop-room.room c.cut-a.result c.loop-room.invariant.1 (omega arith) c.loop-room-test.true c.cut-a.ensures in
     let g : 4 ≤ c.loop-room.room = omega arith in
     let t = turn_length s c.loop-room.a c.loop-room.room c.cut-a.result c.loop-room.invariant.1 g c.loop-room-test.true c.cut-a.ensures in
     (omega arith, turn_clean s c.loop-room.a c.loop-room.room c.cut-a.result c.loop-room.invariant.1 g c.loop-room-test.true c.cut-a.ensures, omega arith, omega arith, omega arith, omega arith)

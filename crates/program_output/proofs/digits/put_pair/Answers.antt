@@ -2,7 +2,7 @@
 use mathlib.Core.Path.{ap, ◌∙◌}
 use Prim.Native.Nat.{ℕ, ◌/◌, ◌%◌}
 use mathlib.Core.List.{[], ◌∷◌}
-use Rattle.io.specs.Digits.{hex_digit_ascii}
+use Rattle.program_output.specs.Digits.{hex_digit_ascii}
 use Rattle.program_output.specs.Pages.{page, added}
 use Rattle.program_output.proofs.PageLaws.{then}
 use Rattle.program_output.proofs.digits.put_pair.Goals as goal
