@@ -25,7 +25,7 @@ returns-in-2 c = c.kind_by_calendar.ensures ∙ sym (rw (sym c.rule_of.ensures �
 pub returns-in_default : goal.returns-in_default
 unfolding line_kind
 returns-in_default c =
-    let o = c.in_default.rest in
+    let o = c.in_default.in_default-own.rest in
     let e = c.rule_of.ensures in
     let n = rule_at c.args.row in
     c.kind_by_zone.ensures ∙ sym (rw (ne_eqb n 0 (λ q. o.0.0.1 (e ∙ q)), ne_eqb n 1 (λ q. o.0.1 (e ∙ q)), ne_eqb n 2 (λ q. o.1 (e ∙ q))))

@@ -13,22 +13,27 @@ returns-in_default c =
     value_none a.own (first_value value_name a.s.now)
     (value_missing a.s.now a.name_end c.requires.accepted value_name (sym c.param_first-f.ensures ∙ c.in_default.is))
 
--- the part of the line that was found
-there : (c : goal.In-Between) → Part c.args.s.now c.in-Between.start c.in-Between.end (first_value value_name c.args.s.now)
-unfolding octets
-there c =
-    value_there c.args.s.now c.args.name_end c.requires.accepted value_name c.in-Between.start c.in-Between.end (sym c.param_first-f.ensures ∙ c.in-Between.is)
-
 pub slice_bounds-kind_named-count : goal.slice_bounds-kind_named-count
-slice_bounds-kind_named-count c = (there c).order
+unfolding octets
+slice_bounds-kind_named-count c =
+    let there : Part c.args.s.now c.in-Between.start c.in-Between.end (first_value value_name c.args.s.now) = value_there c.args.s.now c.args.name_end c.requires.accepted value_name c.in-Between.start c.in-Between.end (sym c.param_first-f.ensures ∙ c.in-Between.is) in
+    there.order
 
 pub slice_bounds-kind_named-start : goal.slice_bounds-kind_named-start
-slice_bounds-kind_named-start c = (there c).order
+unfolding octets
+slice_bounds-kind_named-start c =
+    let there : Part c.args.s.now c.in-Between.start c.in-Between.end (first_value value_name c.args.s.now) = value_there c.args.s.now c.args.name_end c.requires.accepted value_name c.in-Between.start c.in-Between.end (sym c.param_first-f.ensures ∙ c.in-Between.is) in
+    there.order
 
 pub slice_bounds-kind_named-end : goal.slice_bounds-kind_named-end
-slice_bounds-kind_named-end c = (there c).inside
+unfolding octets
+slice_bounds-kind_named-end c =
+    let there : Part c.args.s.now c.in-Between.start c.in-Between.end (first_value value_name c.args.s.now) = value_there c.args.s.now c.args.name_end c.requires.accepted value_name c.in-Between.start c.in-Between.end (sym c.param_first-f.ensures ∙ c.in-Between.is) in
+    there.inside
 
 pub returns : goal.returns
+unfolding octets
 returns c =
+    let there : Part c.args.s.now c.in-Between.start c.in-Between.end (first_value value_name c.args.s.now) = value_there c.args.s.now c.args.name_end c.requires.accepted value_name c.in-Between.start c.in-Between.end (sym c.param_first-f.ensures ∙ c.in-Between.is) in
     let a = c.args in
-    c.kind_named.ensures.value ∙ value_some a.own (first_value value_name a.s.now) _ (there c).octets
+    c.kind_named.ensures.value ∙ value_some a.own (first_value value_name a.s.now) _ there.octets

@@ -31,7 +31,7 @@ returns-in-6 c = rw c.in-6.is c.lacks-in-6.ensures
 pub returns-in_default : goal.returns-in_default
 unfolding fits_at_once
 returns-in_default c =
-    let o = c.in_default.rest in
+    let o = c.in_default.in_default-own.rest in
     let k = c.args.kind in
     simp (
       ne_eqb k 0 o.0.0.0.0.0.1,

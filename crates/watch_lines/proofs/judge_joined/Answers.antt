@@ -46,4 +46,4 @@ returns c =
     let n = length-take-le a.next a.chunk.now c.requires.next_in_bounds.0 in
     let m : a.«open» + a.next - 2 ≡ a.«open» + length x - 2 = omega (arith, n) in
     let e : take (a.«open» + a.next - 2) line ≡ joined_line a.c a.«open» a.buffer.now x =
-    ap (λ (i : ℕ). take i line) m ∙ joined_line_lem line (take a.«open» (drop a.c.used a.buffer.now) ++ x) (a.«open» + length x) c.join.ensures in record { went = subst (λ (s : List ℕ). Went a.c s (drop a.next a.chunk.now) a.buffer.now j.new.1.1.1.1.1.1.0 a.start j.result.step (drop j.result.at a.chunk.now)) e j.ensures.0; next_le_at = (j.ensures.1, ) }
+    ap (λ (i : ℕ). take i line) m ∙ joined_line_lem line (take a.«open» (drop a.c.used a.buffer.now) ++ x) (a.«open» + length x) c.join.ensures in record { went = subst (λ (s : List ℕ). Went a.c s (drop a.next a.chunk.now) a.buffer.now j.new.1.1.1.1.1.1.0 a.start j.result.step (drop j.result.at a.chunk.now)) e j.ensures.0; next_le_at = (j.ensures.1) }

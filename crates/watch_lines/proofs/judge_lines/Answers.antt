@@ -74,7 +74,7 @@ returns-in_default c =
     let l = c.loop-after in
     let j = c.take_line-j in
     let k = a.chunk.now in record { went = hand_refused a.c a.line.now (drop a.from k) a.buffer.now a.start l.card (hand_line l.first a.line.now k l.at l.end) (drop l.next k) l.buffer l.place l.invariant.6
-          j.new.1.1.1.1.1.1.1.0 (l.card.used + (l.n + 2)) (omega (arith, l.invariant.2)) j.result (stopped_never j.result c.in_default.keys2) j.ensures (drop l.next k); from_le_at = ((l.invariant.1.0, l.invariant.1.3), ) }
+          j.new.1.1.1.1.1.1.1.0 (l.card.used + (l.n + 2)) (omega (arith, l.invariant.2)) j.result (stopped_never j.result c.in_default.keys2) j.ensures (drop l.next k); from_le_at = ((l.invariant.1.0, l.invariant.1.3)) }
 
 pub line_at-span-requires : goal.line_at-span-requires
 line_at-span-requires c = c.loop-after.invariant.1.3
@@ -103,7 +103,7 @@ returns-then-chunk-span-le2 c =
     let m = length-drop a.from k in
     let full : length b ≡ 16384 = omega (arith, j, l.invariant.0) in
     let r = hand_next a.c a.line.now (drop a.from k) a.buffer.now a.start l.card s (drop l.next k) l.buffer l.place l.invariant.6 b to (omega (arith, l.invariant.2)) d (omega (arith, full, w.used, l.invariant.6.place, m, c.requires.from_in_bounds)) t in record { went = rest_open a.c a.line.now (drop a.from k) a.buffer.now a.start d (drop l.next k) b (l.place + length s + 2) r
-          (turn_last k l.next v.result.end l.invariant.1.3 v.ensures.1 v.ensures.2 l.invariant.4 c.if-chunk-span-le2.true) w (omega (arith, m, length-drop l.next k, l.invariant.1)); from_le_at = ((l.invariant.1.0, l.invariant.1.3), ) }
+          (turn_last k l.next v.result.end l.invariant.1.3 v.ensures.1 v.ensures.2 l.invariant.4 c.if-chunk-span-le2.true) w (omega (arith, m, length-drop l.next k, l.invariant.1)); from_le_at = ((l.invariant.1.0, l.invariant.1.3)) }
 
 pub overflow_add-place : goal.overflow_add-place
 overflow_add-place c =

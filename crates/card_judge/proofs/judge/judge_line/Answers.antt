@@ -62,4 +62,4 @@ returns-in-Fault c =
 pub returns-in-Line : goal.returns-in-Line
 returns-in-Line c =
     let a = c.args in record { s_value = c.judge_parts.ensures.s_value
-          ∙ judged a.edition (card_of a.c a.store.now) a.at a.s.now (rw (← c.first_bad-bad.ensures) c.if-bad-s.false) _ (there c); keeping = (subst (λ (q : List ℕ). Keeping a.c a.s.now q c.judge_parts.result) (added_line a.edition a.c.seen a.s.now _ (there c)) c.judge_parts.ensures.keeping, ) }
+          ∙ judged a.edition (card_of a.c a.store.now) a.at a.s.now (rw (← c.first_bad-bad.ensures) c.if-bad-s.false) _ (there c); keeping = (subst (λ (q : List ℕ). Keeping a.c a.s.now q c.judge_parts.result) (added_line a.edition a.c.seen a.s.now _ (there c)) c.judge_parts.ensures.keeping) }

@@ -66,4 +66,4 @@ settle-requires c =
     )
 
 pub returns : goal.returns
-returns c = record { s_value = c.settle.ensures.s_value ∙ simp (found c, c.if-misplaced.false-raw, c.if-laden.false, c.in_default.is); keeping = (c.settle.ensures.keeping, ) }
+returns c = record { s_value = c.settle.ensures.s_value ∙ simp (found c, c.if-misplaced.false-raw, c.if-laden.false, c.in_default.is); keeping = (c.settle.ensures.keeping) }

@@ -22,4 +22,4 @@ pub returns-then-s-i-eq13 : goal.returns-then-s-i-eq13
 returns-then-s-i-eq13 c = record { i_in_bounds = λ e. absurd (nope (sym e)); fact = λ e. absurd (nope (sym e)) }
 
 pub returns : goal.returns
-returns c = let a = c.args in record { i_in_bounds = λ e. (omega arith, fold_octets a.s.now a.i (omega arith) (omega arith) (omega arith) (omega arith)); fact = (λ e. (c.if-s-i-eq13.false, sym c.is_tail.ensures ∙ not-true _ e), ) }
+returns c = let a = c.args in record { i_in_bounds = λ e. (omega arith, fold_octets a.s.now a.i (omega arith) (omega arith) (omega arith) (omega arith)); fact = (λ e. (c.if-s-i-eq13.false, sym c.is_tail.ensures ∙ not-true _ e)) }

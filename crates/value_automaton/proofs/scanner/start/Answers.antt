@@ -59,7 +59,7 @@ returns-in-10 c = record { upper_bound = omega arith; result_value = rw c.in-10.
 pub returns-in_default : goal.returns-in_default
 unfolding state_shape states shape_in parts up_to spread
 returns-in_default c =
-    let o = c.in_default.rest in
+    let o = c.in_default.in_default-own.rest in
     let k = c.args.kind in
     let last = only k (up 10 k (up 9 k (up 8 k (up 7 k (up 6 k (up 5 k (up 4 k (up 3 k (up 2 k (up 1 k (up 0 k (omega arith) o.0.0.0.0.0.0.0.0.0.0.1) o.0.0.0.0.0.0.0.0.0.1) o.0.0.0.0.0.0.0.0.1) o.0.0.0.0.0.0.0.1) o.0.0.0.0.0.0.1) o.0.0.0.0.0.1) o.0.0.0.0.1) o.0.0.0.1) o.0.0.1) o.0.1) o.1) c.requires in
     record { upper_bound = omega arith; result_value = rw last }

@@ -18,6 +18,6 @@ returns-in-6 c = rw c.in-6.is c.all_settled-in-6.ensures
 pub returns-in_default : goal.returns-in_default
 unfolding fits_by_pairs
 returns-in_default c =
-    let o = c.in_default.rest in
+    let o = c.in_default.in_default-own.rest in
     let k = c.args.kind in
     simp (ne_eqb k 1 o.0.0.1, ne_eqb k 2 o.0.1, ne_eqb k 6 o.1)
