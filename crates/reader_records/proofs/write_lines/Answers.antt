@@ -34,4 +34,4 @@ write_records-requires c =
 pub returns : goal.returns
 returns c =
     let a = c.args in
-    let u = c.unfold_text-n in record { copy_after = u.ensures.1 ∙ ap (λ (n : ℕ). unfolded a.s.now ++ drop n a.copy.now) u.ensures.0; out_after = (c.write_records.ensures ∙ ap (λ (l : List ℕ). overlay (records_from a.edition 0 (raw_lines l)) a.out.now) (text c), ) }
+    let u = c.unfold_text-n in record { copy_after = u.ensures.1 ∙ ap (λ (n : ℕ). unfolded a.s.now ++ drop n a.copy.now) u.ensures.0; out_after = (c.write_records.ensures ∙ ap (λ (l : List ℕ). overlay (records_from a.edition 0 (raw_lines l)) a.out.now) (text c)) }

@@ -101,7 +101,7 @@ keep_part-requires c =
     ap length u.ensures.1
     ∙ laid_length c.args.c c.args.scratch.now (pick c.args.folded (unfolded c.args.s.now) []) _ c.requires.roomy.lies laid_room refl in
     let s = start c in
-    let k = (heard c).1 in record { from_le_to = (k.order, omega (arith, k.inside, fits s, long)); to_in_bounds = (λ e. omega (arith, k.inside, ap length (plain s e)), ) }
+    let k = (heard c).1 in record { from_le_to = (k.order, omega (arith, k.inside, fits s, long)); to_in_bounds = (λ e. omega (arith, k.inside, ap length (plain s e))) }
 
 pub returns : goal.returns
 returns c =
@@ -116,4 +116,4 @@ returns c =
     let there = subst (λ (x : List ℕ). m.new.1.1.0 ≡ behind a.c.used (part j.from j.to (pick a.folded (drop a.c.used x) a.s.now)) x) u.ensures.1 m.ensures in record { result_after = hand_judged a.c a.scratch.now a.s.now (unfolded a.s.now) s.pre.1.1.0.lies (fits s) a.edition a.folded (plain s) j a.at m.new.1.1.0 _ k.1 k.0 there; holds = ((
         holds_more j.step (a.c.used + (j.to - j.from)) (a.c.used + length a.s.now) (omega (arith, k.1.order, k.1.inside, unfold_shorter a.s.now)) k.1.holds,
         hand_left a.c a.scratch.now a.s.now (unfolded a.s.now) s.pre.1.1.0.lies (fits s) a.edition a.folded (plain s) refl j m.new.1.1.0 k.1 there,
-      ), ) }
+      )) }

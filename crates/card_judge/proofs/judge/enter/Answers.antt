@@ -12,8 +12,8 @@ returns-then-row-eq-END c =
     record { by_index = λ store. simp (eq-eqb _ _ c.if-row-eq-END.true) (c.close.ensures.by_index store); holds = ((
     holds_more c.close.result 0 c.args.c.used (omega arith) c.close.ensures.holds,
     end_keeps c.args.c c.args.at _ c.close.result (c.close.ensures.by_index []) c.close.ensures.holds,
-  ), ) }
+  )) }
 
 pub returns : goal.returns
 unfolding step_of Holds gone_on
-returns c = record { by_index = λ store. simp (ne_eqb _ _ c.if-row-eq-END.false, c.note.ensures, c.is_group-group.ensures); holds = (rw c.note.ensures ((c.requires.lies, omega arith), gone_keeps c.args.c _ _), ) }
+returns c = record { by_index = λ store. simp (ne_eqb _ _ c.if-row-eq-END.false, c.note.ensures, c.is_group-group.ensures); holds = (rw c.note.ensures ((c.requires.lies, omega arith), gone_keeps c.args.c _ _)) }
