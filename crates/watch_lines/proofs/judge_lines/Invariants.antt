@@ -6,7 +6,7 @@ use lib.ListN.{length, drop}
 use Rattle.line_folds.specs.Folds.{unfolded}
 use Rattle.watch_arrivals.specs.Arrivals.{lone_from}
 use Rattle.watch_lines.specs.Taking.{Within}
-use Rattle.watch_lines.proofs.TakingLaws.{Hand}
+use Rattle.watch_lines.proofs.TakingLaws.{Hand, hand_line}
 use Rattle.watch_lines.proofs.judge_lines.Given as goal
 
 abbrev pub invariant-loop-after : goal.invariant-loop-after
