@@ -32,4 +32,4 @@ pub returns-in_default : goal.returns-in_default
 unfolding octets kind_wants
 returns-in_default c =
     let a = c.args in
-    rw (ne_eqb a.kind 1 c.in_default.rest.0.0.0.0.0.1, ne_eqb a.kind 3 c.in_default.rest.0.0.0.0.1, ne_eqb a.kind 4 c.in_default.rest.0.0.0.1, ne_eqb a.kind 5 c.in_default.rest.0.0.1, ne_eqb a.kind 6 c.in_default.rest.0.1, ne_eqb a.kind 7 c.in_default.rest.1) c.put_other_wants.ensures
+    rw (ne_eqb a.kind 1 c.in_default.in_default-own.rest.0.0.0.0.0.1, ne_eqb a.kind 3 c.in_default.in_default-own.rest.0.0.0.0.1, ne_eqb a.kind 4 c.in_default.in_default-own.rest.0.0.0.1, ne_eqb a.kind 5 c.in_default.in_default-own.rest.0.0.1, ne_eqb a.kind 6 c.in_default.in_default-own.rest.0.1, ne_eqb a.kind 7 c.in_default.in_default-own.rest.1) c.put_other_wants.ensures

@@ -24,4 +24,4 @@ pub returns-in_default : goal.returns-in_default
 unfolding octets other_wants
 returns-in_default c =
     let a = c.args in
-    rw (ne_eqb a.kind 8 c.in_default.rest.0.0.0.1, ne_eqb a.kind 9 c.in_default.rest.0.0.1, ne_eqb a.kind 10 c.in_default.rest.0.1, ne_eqb a.kind 11 c.in_default.rest.1) c.put_all-in_default.ensures
+    rw (ne_eqb a.kind 8 c.in_default.in_default-own.rest.0.0.0.1, ne_eqb a.kind 9 c.in_default.in_default-own.rest.0.0.1, ne_eqb a.kind 10 c.in_default.in_default-own.rest.0.1, ne_eqb a.kind 11 c.in_default.in_default-own.rest.1) c.put_all-in_default.ensures

@@ -20,4 +20,4 @@ pub returns-in_default : goal.returns-in_default
 unfolding wants
 returns-in_default c =
     let a = c.args in
-    rw (ne_eqb a.row 1 c.in_default.rest.0.0.1, ne_eqb a.row 2 c.in_default.rest.0.1, ne_eqb a.row 34 c.in_default.rest.1) c.put_value_wants.ensures
+    rw (ne_eqb a.row 1 c.in_default.in_default-own.rest.0.0.1, ne_eqb a.row 2 c.in_default.in_default-own.rest.0.1, ne_eqb a.row 34 c.in_default.in_default-own.rest.1) c.put_value_wants.ensures
