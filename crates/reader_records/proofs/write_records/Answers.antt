@@ -1,11 +1,13 @@
 -- `reader_records::write_records` meets its contract. Assumes nothing.
 use mathlib.Core.Path.{◌≡◌, sym, ap, ◌∙◌}
 use mathlib.Core.List.{List, ◌++◌}
-use Prim.Native.Nat.{ℕ, ◌+◌, ◌-◌, ◌≤◌}
+use mathlib.Core.Bool.{false}
+use Prim.Native.Nat.{ℕ, ◌+◌, ◌-◌, ◌<◌, ◌≤◌}
 use native.Mathlib.Omega.{arith}
 use lib.ListN.{length, take, drop, length-append}
-use Rattle.octets.proofs.Writes.{start, room, put, finish}
-use Rattle.line_folds.specs.Folds.{line_length}
+use Rattle.octets.specs.Classes.{run}
+use Rattle.octets.proofs.Writes.{Written, start, room, put, finish}
+use Rattle.line_folds.specs.Folds.{fold_at, line_length, not_cr}
 use Rattle.line_folds.specs.Logical.{raw_lines}
 use Rattle.line_folds.proofs.LineLaws.{lines_end}
 use Rattle.line_folds.proofs.SpanLaws.{part_length}
@@ -14,78 +16,70 @@ use Rattle.reader_records.specs.Records.{record_of, records_from}
 use Rattle.reader_records.proofs.RecordLaws.{ends_at_cr, record_length, records_turn}
 use Rattle.reader_records.proofs.write_records.Goals as goal
 
--- the line of this turn
-module _ (c : tie.After-next-cr invariant-loop decreases-loop) where
-  abbrev S : List ℕ
-  S = c.before.before.before.before.before.args.s.now
-
-  abbrev D : Edition
-  D = c.before.before.before.before.before.args.edition
-
-  abbrev P : ℕ
-  P = c.before.before.loop.at
-
-  abbrev E : ℕ
-  E = c.next-cr.result
-
+-- the line of this turn, of s at its place p
+module _ (s : List ℕ) (d : Edition) (p e : ℕ) (lt : p < length s) (flat : (k : ℕ) → fold_at (drop k s) ≡ false) (within : e ≤ length s)
+    (end : e ≡ p + run not_cr (drop p s)) where
   abbrev X : List ℕ
-  X = take (E - P) (drop P S)
+  X = take (e - p) (drop p s)
 
-  he : E ≡ P + line_length (drop P S)
-  he = ends_at_cr S P E c.before.before.before.before.before.requires.1.1.1.1 c.next-cr.ensures.1
+  he : e ≡ p + line_length (drop p s)
+  he = ends_at_cr s p e flat end
 
-  turn : records_from D P (raw_lines (drop P S)) ≡ record_of D P X ++ records_from D (E + 2) (raw_lines (drop (E + 2) S))
-  turn = records_turn D S P E c.before.loop-test.true he c.next-cr.ensures.0
+  turn : records_from d p (raw_lines (drop p s)) ≡ record_of d p X ++ records_from d (e + 2) (raw_lines (drop (e + 2) s))
+  turn = records_turn d s p e lt he within
 
-  inside : (P ≤ E) × (E ≤ length S) × (length S ≤ 16384)
-  inside = (omega (arith, he), c.next-cr.ensures.0, c.before.before.before.before.before.requires.1.1.0)
+  from : p ≤ e
+  from = omega (arith, he)
 
-  len : length X ≡ E - P
-  len = part_length S P E c.before.loop-test.true he c.next-cr.ensures.0
+  len : length X ≡ e - p
+  len = part_length s p e lt he within
 
-  fits : c.before.before.loop.k + 8 ≤ length c.before.before.loop.out
-  fits =
+  fits : {out₀ out : List ℕ} {k : ℕ} → Written (records_from d 0 (raw_lines s)) (records_from d p (raw_lines (drop p s))) out₀ out k
+      → length (records_from d 0 (raw_lines s)) ≤ length out₀ → k + 8 ≤ length out
+  fits w fit =
       omega (
         arith,
-        room c.before.before.loop.invariant c.before.before.before.before.before.requires.1.1.1.0,
-        ap length turn ∙ length-append (record_of D P X) (records_from D (E + 2) (raw_lines (drop (E + 2) S))),
-        record_length D P X,
+        room w fit,
+        ap length turn ∙ length-append (record_of d p X) (records_from d (e + 2) (raw_lines (drop (e + 2) s))),
+        record_length d p X,
       )
 
 pub loop-at-init : goal.loop-at-init
 loop-at-init c = start _ _
 
 pub slice_bounds-record_of-count : goal.slice_bounds-record_of-count
-slice_bounds-record_of-count c = omega (arith, inside c)
+slice_bounds-record_of-count c = omega (arith, from c.args.s.now c.args.edition c.loop-at.at c.next_cr-end.result c.loop-at-test.true c.requires.by_index c.next_cr-end.ensures.0 c.next_cr-end.ensures.1, c.next_cr-end.ensures.0, c.requires.s_len_bound)
 
 pub slice_bounds-record_of-start : goal.slice_bounds-record_of-start
-slice_bounds-record_of-start c = omega (arith, inside c)
+slice_bounds-record_of-start c = omega (arith, from c.args.s.now c.args.edition c.loop-at.at c.next_cr-end.result c.loop-at-test.true c.requires.by_index c.next_cr-end.ensures.0 c.next_cr-end.ensures.1, c.next_cr-end.ensures.0, c.requires.s_len_bound)
 
 pub slice_bounds-record_of-end : goal.slice_bounds-record_of-end
-slice_bounds-record_of-end c = omega (arith, inside c)
+slice_bounds-record_of-end c = omega (arith, from c.args.s.now c.args.edition c.loop-at.at c.next_cr-end.result c.loop-at-test.true c.requires.by_index c.next_cr-end.ensures.0 c.next_cr-end.ensures.1, c.next_cr-end.ensures.0, c.requires.s_len_bound)
 
 pub record_of-r-requires : goal.record_of-r-requires
-record_of-r-requires c = record { classes = c.requires.classes; lists = c.requires.lists; l_bound = rw (len c) (omega (arith, inside c)) }
+record_of-r-requires c = record { classes = c.requires.classes; lists = c.requires.lists; l_bound = rw (len c.args.s.now c.args.edition c.loop-at.at c.next_cr-end.result c.loop-at-test.true c.requires.by_index c.next_cr-end.ensures.0 c.next_cr-end.ensures.1) (omega (arith, from c.args.s.now c.args.edition c.loop-at.at c.next_cr-end.result c.loop-at-test.true c.requires.by_index c.next_cr-end.ensures.0 c.next_cr-end.ensures.1, c.next_cr-end.ensures.0, c.requires.s_len_bound)) }
 
 pub put_record-requires : goal.put_record-requires
-put_record-requires c = fits c
+put_record-requires c = fits c.args.s.now c.args.edition c.loop-at.at c.next_cr-end.result c.loop-at-test.true c.requires.by_index c.next_cr-end.ensures.0 c.next_cr-end.ensures.1 c.loop-at.invariant c.requires.s_in_bounds
 
 pub overflow_add-k : goal.overflow_add-k
-overflow_add-k c = omega (arith, fits c, c.loop-at.invariant.same, c.well_formed)
+overflow_add-k c = omega (arith, fits c.args.s.now c.args.edition c.loop-at.at c.next_cr-end.result c.loop-at-test.true c.requires.by_index c.next_cr-end.ensures.0 c.next_cr-end.ensures.1 c.loop-at.invariant c.requires.s_in_bounds, c.loop-at.invariant.same, c.well_formed)
 
 pub overflow_add-at : goal.overflow_add-at
-overflow_add-at c = omega (arith, inside c)
+overflow_add-at c = omega (arith, from c.args.s.now c.args.edition c.loop-at.at c.next_cr-end.result c.loop-at-test.true c.requires.by_index c.next_cr-end.ensures.0 c.next_cr-end.ensures.1, c.next_cr-end.ensures.0, c.requires.s_len_bound)
 
 pub loop-at-smaller : goal.loop-at-smaller
-loop-at-smaller c = omega (arith, inside c, c.loop-at-test.true)
+loop-at-smaller c = omega (arith, from c.args.s.now c.args.edition c.loop-at.at c.next_cr-end.result c.loop-at-test.true c.requires.by_index c.next_cr-end.ensures.0 c.next_cr-end.ensures.1, c.next_cr-end.ensures.0, c.requires.s_len_bound, c.loop-at-test.true)
 
 pub loop-at-preserved : goal.loop-at-preserved
 loop-at-preserved c =
     let l = c.loop-at in
-    let eight = record_length (D c) (P c) (X c) in
-    rw eight at (put l.invariant (record_of (D c) (P c) (X c)) _ _ (turn c) (rw eight (fits c))
-    (c.put_record.ensures ∙ ap (λ (x : List ℕ). take l.k l.out ++ x ++ drop (l.k + 8) l.out) c.record_of-r.ensures
-    ∙ ap (λ (n : ℕ). take l.k l.out ++ record_of (D c) (P c) (X c) ++ drop (l.k + n) l.out) (sym eight)))
+    let d = c.args.edition in
+    let x : List ℕ = take (c.next_cr-end.result - l.at) (drop l.at c.args.s.now) in
+    let eight = record_length d l.at x in
+    rw eight at (put l.invariant (record_of d l.at x) _ _ (turn c.args.s.now c.args.edition c.loop-at.at c.next_cr-end.result c.loop-at-test.true c.requires.by_index c.next_cr-end.ensures.0 c.next_cr-end.ensures.1) (rw eight (fits c.args.s.now c.args.edition c.loop-at.at c.next_cr-end.result c.loop-at-test.true c.requires.by_index c.next_cr-end.ensures.0 c.next_cr-end.ensures.1 c.loop-at.invariant c.requires.s_in_bounds))
+    (c.put_record.ensures ∙ ap (λ (y : List ℕ). take l.k l.out ++ y ++ drop (l.k + 8) l.out) c.record_of-r.ensures
+    ∙ ap (λ (n : ℕ). take l.k l.out ++ record_of d l.at x ++ drop (l.k + n) l.out) (sym eight)))
 
 pub shape_of-out : goal.shape_of-out
 shape_of-out c = c.loop-at.invariant.same
