@@ -15,6 +15,7 @@ use Rattle.card_judge.proofs.CardLaws.{one_more}
 use Rattle.card_state.specs.State.{Card, Step, Next, Refused, Flawed}
 use Rattle.card_state.specs.Kept.{step_of}
 use Rattle.card_state.specs.declared.Step.{Step as KeptStep}
+use Rattle.card_state.specs.declared.Card.{Card as KeptCard}
 use Rattle.card_state.specs.declared.Step.TheVariants.{Next as next, Refused as refused, Flawed as flawed}
 use Rattle.card_state.specs.contracts.Step.{the_type}
 use Rattle.reader_walk.specs.Walk.{onward, settled, judge_lines}
@@ -31,19 +32,19 @@ module _ (ed : Edition) (s : List ℕ) (at e : ℕ) (lt : at < length s) (he : e
       ∙ ap (λ (q : Step). onward (settled at (take (e - at) (drop at s)) q) (judge_lines ed (raw_lines (drop (e + 2) s)) (e + 2))) (sym hr)
 
 -- a refusal is handed up with its place, and the lines after it are not judged
-pub stopped_step : (store : List ℕ) (p : ℕ) (l : List ℕ) (f : Card → Step) (r : KeptStep) → OneOf (1 ∷ 2 ∷ []) (tag_of the_type r)
+pub stopped_step : (store : List ℕ) (p : ℕ) (l : List ℕ) (f : Card → Step) (r : KeptStep) → ((x : KeptCard) → r ≡ next x → ⊥)
     → onward (settled p l (step_of store r)) f ≡ settled p l (step_of store r)
 unfolding step_of
-stopped_step store p l f (next c) h = absurd (miss (1 ∷ 2 ∷ []) 0 tt h)
+stopped_step store p l f (next c) h = absurd (h c refl)
 stopped_step store p l f (refused n q) h = refl
 stopped_step store p l f (flawed n o) h = refl
 
 -- a step that names no octet of the line is settled already
-pub settled_step : (store : List ℕ) (p : ℕ) (l : List ℕ) (r : KeptStep) → OneOf (0 ∷ 1 ∷ []) (tag_of the_type r) → step_of store r ≡ settled p l (step_of store r)
+pub settled_step : (store : List ℕ) (p : ℕ) (l : List ℕ) (r : KeptStep) → ((n o : ℕ) → r ≡ flawed n o → ⊥) → step_of store r ≡ settled p l (step_of store r)
 unfolding step_of
 settled_step store p l (next c) h = refl
 settled_step store p l (refused n q) h = refl
-settled_step store p l (flawed n o) h = absurd (miss (0 ∷ 1 ∷ []) 2 tt h)
+settled_step store p l (flawed n o) h = absurd (h n o refl)
 
 -- the place of an octet makes no card of a refusal
 pub settled_next : (p : ℕ) (l : List ℕ) (s : Step) (c : Card) → settled p l s ≡ Next c → s ≡ Next c

@@ -1,25 +1,21 @@
 -- What becomes of one parameter and of those that are left, by their names. Assumes nothing.
-use mathlib.Core.Path.{◌≡◌, refl, sym, ap, ◌∙◌, subst}
+use mathlib.Core.Path.{◌≡◌, refl, sym, ap, ◌∙◌}
 use mathlib.Core.Bool.{Bool, true, false, ◌&&◌, ◌||◌}
 use mathlib.Core.List.{List, [], ◌∷◌, ◌++◌, append-nil, append_assoc}
-use Prim.Native.Nat.{ℕ, suc, ◌+◌, ◌-◌, ◌<◌, ◌≤◌}
+use Prim.Native.Nat.{ℕ, ◌+◌, ◌-◌, ◌≤◌}
 use native.Mathlib.Omega.{arith}
-use lib.Dec.{eqb, ltb}
+use lib.Dec.{ltb}
 use lib.ListN.{length, take, drop, length-append}
-use lib.Seq.{take_at}
 use Rattle.octets.specs.Pick.{pick}
-use Rattle.octets.specs.Classes.{bit}
 use Rattle.octets.specs.Cases.{same}
-use Rattle.octets.specs.Room.{overlay}
 use Rattle.line_parser.specs.Parse.{Parse, got, bad}
-use Rattle.line_parser.specs.Grammar.{Value, Param, GoodValue, led, value_text, param_text}
+use Rattle.line_parser.specs.Grammar.{Param, led, param_text}
 use Rattle.line_parser.specs.Rule.{param}
-use Rattle.line_parser.specs.declared.rule.Part.{Part}
 use Rattle.line_parameters.proofs.FirstSteps.{NameEnd}
 use Rattle.version3_parameters.specs.declared.Way.{Way}
 use Rattle.version3_parameters.specs.declared.Way.TheVariants.{Inward, Outward}
 use Rattle.version3_parameters.specs.declared.Put.{Put}
-use Rattle.version3_parameters.specs.Params.{type_name, pref_name, is_pref_param, kept, any_pref, values_of, with_values, changed, prefers, changed_all, any_prefers, mark, new_params, params_text, lawful, one_value, all_lawful, prefs, prefs_fit}
+use Rattle.version3_parameters.specs.Params.{type_name, pref_name, is_pref_param, changed, prefers, changed_all, any_prefers, mark, new_params, params_text, lawful, all_lawful, prefs, prefs_fit}
 use Rattle.version3_parameters.specs.Places.{ParamAt, type_by, pref_by, named_by, lawful_by, text_by, prefers_by, one_written, Puts}
 use Rattle.version3_parameters.proofs.RestLaws.{param_values, values_text}
 use Rattle.version3_parameters.proofs.OneLaws.{one_law}

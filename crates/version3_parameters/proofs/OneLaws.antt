@@ -1,15 +1,15 @@
 -- The values of a parameter, as they are written, are 1 alone exactly where it has one value, and that is 1, quotes off. Assumes nothing.
-use mathlib.Core.Path.{◌≡◌, refl, sym, ap, ◌∙◌}
+use mathlib.Core.Path.{◌≡◌, refl, sym, ◌∙◌}
 use mathlib.Core.Bool.{Bool, and-true, true, false, not, ◌&&◌, ◌||◌}
 use mathlib.Core.List.{List, [], ◌∷◌, ◌++◌}
-use Prim.Native.Nat.{ℕ, suc, ◌+◌, ◌<◌, ◌≤◌}
+use Prim.Native.Nat.{ℕ, suc, ◌≤◌}
 use native.Mathlib.Omega.{arith}
 use lib.Dec.{eqb}
 use lib.ListN.{length, get_or, length-append}
 use borrow.Author.Tests.{eq-eqb, ne_eqb}
 use Rattle.octets.specs.Pick.{pick}
 use Rattle.octets.specs.Classes.{quoted, bare, valued}
-use Rattle.line_parser.specs.Grammar.{Value, plain, in_quotes, GoodValue, Each, Is, led, value_text}
+use Rattle.line_parser.specs.Grammar.{Value, plain, in_quotes, GoodValue, Each, led, value_text}
 use Rattle.line_parameters.specs.First.{value_octets}
 use Rattle.version3_parameters.specs.Params.{one_text, one_value}
 use Rattle.version3_parameters.specs.Places.{one_written}

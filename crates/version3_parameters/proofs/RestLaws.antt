@@ -1,17 +1,15 @@
 -- The parameters that are left of a line from a place on, and the values that are left of a parameter. Assumes nothing.
 use mathlib.Core.Path.{◌≡◌, refl, sym, ap, ◌∙◌, subst}
-use mathlib.Core.Bool.{Bool, true, false, ◌&&◌, ◌||◌, not}
+use mathlib.Core.Bool.{Bool, true, false, ◌||◌}
 use mathlib.Core.List.{List, [], ◌∷◌, ◌++◌, append-nil, append_assoc}
 use Prim.Native.Nat.{ℕ, suc, ◌+◌, ◌-◌, ◌<◌, ◌≤◌}
-use native.Mathlib.Nat.{add-zero}
 use native.Mathlib.Omega.{arith}
 use lib.Dec.{eqb}
 use borrow.Author.Tests.{ne_eqb}
 use lib.ListN.{length, get_or, take, drop, length-append, length-drop}
-use lib.Seq.{take_at, length-take-le, drop-drop, drop-append_seam, drop_at, get_or-drop}
-use Rattle.octets.proofs.Bools.{clash}
+use lib.Seq.{take_at, length-take-le, drop-drop, drop-append_seam}
 use Rattle.line_parser.specs.Parse.{Parse, got, bad, hd}
-use Rattle.line_parser.specs.Grammar.{Value, plain, in_quotes, Param, Line, Each, GoodValue, GoodParam, WellFormed, led, value_text, param_text, group_text, front, render, name_end}
+use Rattle.line_parser.specs.Grammar.{Value, Param, Each, GoodValue, GoodParam, led, value_text, param_text, group_text, front, render, name_end}
 use Rattle.line_parser.specs.Rule.{value, param, parse_line}
 use Rattle.line_parser.specs.declared.rule.Part.{Part}
 use Rattle.line_parser.specs.declared.rule.Part.TheVariants.{Upto}
@@ -21,10 +19,9 @@ use Rattle.line_parameters.proofs.Sound.{line_sound, param_sound}
 use Rattle.line_parameters.proofs.Complete.{AfterValue, comma, AfterParam, semicolon, colon, value_complete, param_complete}
 use Rattle.card_line.specs.Parts.{Accepted}
 use Rattle.octets.specs.Pick.{pick}
-use Rattle.line_parser.specs.Rule.{ends}
 use Rattle.line_parser.proofs.PartLaws.{param_parts}
 use Rattle.line_parameters.proofs.FirstSteps.{NameEnd}
-use Rattle.version3_parameters.specs.Params.{mark, pref_text, is_pref, kept, any_pref, values_of, with_values, params_text, changed, changed_all}
+use Rattle.version3_parameters.specs.Params.{mark, pref_text, is_pref, kept, any_pref, values_of, with_values, params_text}
 use Rattle.version3_parameters.specs.Places.{Holds, ParamAt, piece, type_by, pref_by, params_by, params_of}
 use Rattle.version3_parameters.specs.declared.ValueSpan.{ValueSpan}
 use Rattle.octets.specs.Cases.{same}

@@ -1,22 +1,21 @@
 -- Where a value that was read stands in a line, and where a parameter does. Assumes nothing.
 use mathlib.Core.Path.{◌≡◌, refl, sym, ap, ◌∙◌, subst}
 use mathlib.Core.Bool.{Bool, true, false, ◌||◌}
-use mathlib.Core.List.{List, [], ◌∷◌, ◌++◌, append-nil}
+use mathlib.Core.List.{List, [], ◌∷◌}
 use Prim.Native.Nat.{ℕ, suc, ◌+◌, ◌-◌, ◌<◌, ◌≤◌}
-use native.Mathlib.Nat.{add-zero}
 use native.Mathlib.Omega.{arith}
 use lib.Dec.{eqb}
-use lib.ListN.{length, get_or, take, drop, length-append, length-drop, drop_of_length-le}
+use lib.ListN.{length, get_or, take, drop, length-append, drop_of_length-le}
 use lib.Seq.{take_at, drop-drop, length-take-le}
-use borrow.Author.Tests.{eqb-true, eq-eqb, ne_eqb}
+use borrow.Author.Tests.{eqb-true}
 use Rattle.octets.specs.Classes.{run, quoted, bare, has, bare_mask, quoted_mask}
 use Rattle.octets.proofs.Runs.{run_has}
 use Rattle.octets.proofs.Masks.{has_bare, has_quoted}
 use Rattle.octets.proofs.Bools.{clash}
 use Rattle.line_parser.specs.Parse.{got, hd}
-use Rattle.line_parser.specs.Grammar.{Value, plain, in_quotes, Param, led, value_text, param_text}
+use Rattle.line_parser.specs.Grammar.{Value, plain, in_quotes, Param, value_text, param_text}
 use Rattle.line_parser.specs.Rule.{value, closing, param, ends}
-use Rattle.line_parser.proofs.ParseLaws.{guard_inv, pick_inv}
+use Rattle.line_parser.proofs.ParseLaws.{guard_inv}
 use Rattle.line_parser.proofs.PartLaws.{run_le, param_parts}
 use Rattle.line_parser.proofs.Steps.{is, isnt, inside}
 use Rattle.line_parameters.specs.First.{value_octets}

@@ -6,7 +6,7 @@ use Rattle.octets.specs.Cases.{same}
 use Rattle.octets.specs.Room.{overlay}
 use Rattle.line_parser.specs.Parse.{Parse, got, bad}
 use Rattle.line_parser.specs.Grammar.{Value, Param, Line, value_text}
-use Rattle.line_parser.specs.Rule.{value, param, parse_line}
+use Rattle.line_parser.specs.Rule.{param, parse_line}
 use Rattle.line_parameters.specs.First.{value_octets}
 use Rattle.version3_parameters.specs.declared.Way.{Way}
 use Rattle.version3_parameters.specs.declared.Put.{Put}

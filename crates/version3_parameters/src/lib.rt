@@ -1,5 +1,6 @@
 // The parameters of a line that is taken in from version 3 or given out to it: TYPE=pref and PREF=1.
 #![tactic(auto)]
+
 ghost use Rattle.std.specs.Prelude.{◌≡◌, false, ◌||◌, [], ◌∷◌, ℕ, ◌+◌, ◌-◌, ◌≤◌, length, take, drop};
 ghost use Rattle.octets.specs.Ascii as ascii;
 ghost use Rattle.octets.specs.Room.{overlay};

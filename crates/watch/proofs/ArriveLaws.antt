@@ -8,8 +8,6 @@ use lib.Dec.{eqb, ltb, leb}
 use lib.ListN.{length, take, drop, replicate, length-drop, length-append}
 use lib.Seq.{length-take-le, take_at, drop_at}
 use borrow.Author.Tests.{lt-ltb, le-ltb, le-leb, lt-leb}
-use denote.Enum.Declared.{tag_of}
-use types.Run.{OneOf, miss}
 use Rattle.octets.specs.Pick.{pick}
 use Rattle.octets.proofs.Bools.{by, or_right}
 use Rattle.property_table.specs.declared.Edition.TheVariants.{First}
@@ -18,7 +16,6 @@ use Rattle.card_state.specs.Kept.{Lies, card_of, step_of, fresh_kept}
 use Rattle.card_state.specs.declared.Card.{Card as Kept}
 use Rattle.card_state.specs.declared.Step.{Step as KeptStep}
 use Rattle.card_state.specs.declared.Step.TheVariants.{Next as next, Refused as refused, Flawed as flawed}
-use Rattle.card_state.specs.contracts.Step.{the_type}
 use Rattle.card_state.proofs.KeptLaws.{card_front}
 use Rattle.desk_pool.specs.Pools.{patch}
 use Rattle.reader.specs.Outcome.{verdict_of}
@@ -63,11 +60,11 @@ unfolding padded
 padded_before u x n e = ap (take n) (append_assoc u x (replicate (16384 - length (u ++ x)) 0)) ∙ take_at u (x ++ replicate (16384 - length (u ++ x)) 0) n (sym e)
 
 abbrev Stopped : KeptStep → Type 0
-Stopped j = OneOf (1 ∷ 2 ∷ []) (tag_of the_type j)
+Stopped j = (d : Kept) → j ≡ next d → ⊥
 
 pub halts : (r : KeptStep) → Stopped r → (b : List ℕ) → halted (step_of b r) ≡ true
 unfolding step_of
-halts (next c) h b = absurd (miss (1 ∷ 2 ∷ []) 0 tt h)
+halts (next c) h b = absurd (h c refl)
 halts (refused n p) h b = refl
 halts (flawed n o) h b = refl
 
@@ -75,7 +72,7 @@ halts (flawed n o) h b = refl
 module _ (i b : List ℕ) (n tail : ℕ) (short : length i ≤ 16384) (fine : Fine i) (size : n ≡ length i) (ends : tail ≡ tail_from 0 i) where
   pub after_stopped : (r : KeptStep) → Stopped r → judged i ≡ step_of b r → b ≡ padded [] → After (stopped_state r n tail) b i
   unfolding step_of verdict_of
-  after_stopped (next c) h j z = absurd (miss (1 ∷ 2 ∷ []) 0 tt h)
+  after_stopped (next c) h j z = absurd (h c refl)
   after_stopped (refused k p) h j z = record {
     stands = faulty (record { known = refl; short = short; fine = fine; fault = (ap halted j, λ m. ap (verdict_of m) j); quiet = record { start = size; line = refl; card = refl }; tail = ends });
     holds = z ∙ sym (buffer_zero i (known_line i (ap halted j)));

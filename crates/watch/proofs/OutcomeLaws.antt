@@ -7,8 +7,6 @@ use lib.Dec.{eqb, ltb, leb}
 use lib.ListN.{length, take, drop, replicate, length-drop, length-append, take-append-drop}
 use lib.Seq.{length-take-le, take-append-le, take-take}
 use borrow.Author.Tests.{eq-eqb, ne_eqb, lt-ltb, le-ltb, le-leb, lt-leb}
-use denote.Enum.Declared.{tag_of}
-use types.Run.{OneOf, miss}
 use Rattle.octets.specs.Room.{overlay}
 use Rattle.property_table.specs.declared.Edition.TheVariants.{First}
 use Rattle.card_state.specs.State.{Card, Step, Next}
@@ -16,7 +14,6 @@ use Rattle.card_state.specs.Kept.{places_of, tag_at, Lies, card_of, step_of}
 use Rattle.card_state.specs.declared.Card.{Card as Kept}
 use Rattle.card_state.specs.declared.Step.{Step as KeptStep}
 use Rattle.card_state.specs.declared.Step.TheVariants.{Next as next, Refused as refused, Flawed as flawed}
-use Rattle.card_state.specs.contracts.Step.{the_type}
 use Rattle.card_state.proofs.KeptLaws.{card_front, none_lie}
 use Rattle.desk_pool.specs.Pools.{patch}
 use Rattle.reader.specs.Outcome.{verdict_of}
@@ -34,7 +31,7 @@ use Rattle.watch.specs.Outcome.{View, view_of, quiet_view, open_view, Came, came
 use Rattle.watch.specs.declared.Watch.{Watch}
 
 abbrev Stopped : KeptStep → Type 0
-Stopped j = OneOf (1 ∷ 2 ∷ []) (tag_of the_type j)
+Stopped j = (d : Kept) → j ≡ next d → ⊥
 
 -- a state that claims nothing, as it is read
 quiet_view_lem : (known fault place n tail : ℕ) (b : List ℕ) → view_of (quiet_state known fault place n tail) b ≡ quiet_view known fault place n tail
@@ -120,7 +117,7 @@ module _ (w : Watch) (b c : List ℕ) (k : ℕ) (k-is : k ≡ next_from w.tail c
 
     stopped_comes : (r : KeptStep) → Stopped r → (a d : List ℕ) → lines_came w b c k ≡ after_lines (step_of d r) n tail a d (open_line (drop k c)) → Comes (stopped_state r n tail) d (lines_came w b c k)
     unfolding step_of
-    stopped_comes (next f) h a d e = absurd (miss (1 ∷ 2 ∷ []) 0 tt h)
+    stopped_comes (next f) h a d e = absurd (h f refl)
     stopped_comes (refused m p) h a d e = quiet_comes 1 m p n tail (stopped_state (refused m p) n tail) d (lines_came w b c k) (stopped_sound m p) refl e
     stopped_comes (flawed m o) h a d e = quiet_comes 1 m o n tail (stopped_state (flawed m o) n tail) d (lines_came w b c k) (stopped_sound m o) refl e
 

@@ -7,8 +7,6 @@ use native.Mathlib.Omega.{arith}
 use lib.Dec.{eqb, ltb}
 use lib.ListN.{length, take, drop, replicate, length-drop, length-append, length-replicate}
 use lib.Seq.{length-take-le, take_at, take-take, take-length, drop-drop}
-use denote.Enum.Declared.{tag_of}
-use types.Run.{OneOf, miss}
 use Rattle.octets.specs.Classes.{run}
 use Rattle.octets.specs.Pick.{pick}
 use Rattle.octets.specs.Room.{overlay}
@@ -23,7 +21,6 @@ use Rattle.card_state.specs.Kept.{Lies, card_of, step_of, Holds}
 use Rattle.card_state.specs.declared.Card.{Card as Kept}
 use Rattle.card_state.specs.declared.Step.{Step as KeptStep}
 use Rattle.card_state.specs.declared.Step.TheVariants.{Next as next, Refused as refused, Flawed as flawed}
-use Rattle.card_state.specs.contracts.Step.{the_type}
 use Rattle.card_state.proofs.KeptLaws.{card_front}
 use Rattle.card_judge.specs.Judge.{judge_line, added_by}
 use Rattle.card_judge.proofs.CardLaws.{one_more}
@@ -41,23 +38,23 @@ use Rattle.watch_lines.proofs.PartingLaws.{parted_step, parted_open}
 
 -- a step that is no card
 abbrev Stopped : KeptStep → Type 0
-Stopped j = OneOf (1 ∷ 2 ∷ []) (tag_of the_type j)
+Stopped j = (d : Kept) → j ≡ next d → ⊥
 
 no_store : (j : KeptStep) → Stopped j → (a b : List ℕ) → step_of a j ≡ step_of b j
 unfolding step_of
-no_store (next c) h a b = absurd (miss (1 ∷ 2 ∷ []) 0 tt h)
+no_store (next c) h a b = absurd (h c refl)
 no_store (refused n p) h a b = refl
 no_store (flawed n o) h a b = refl
 
 no_values : (j : KeptStep) → Stopped j → (b : List ℕ) (f : Card → List ℕ) → values_on (step_of b j) f ≡ []
 unfolding step_of
-no_values (next c) h b f = absurd (miss (1 ∷ 2 ∷ []) 0 tt h)
+no_values (next c) h b f = absurd (h c refl)
 no_values (refused n p) h b f = refl
 no_values (flawed n o) h b f = refl
 
 never : (j : KeptStep) → Stopped j → (at : ℕ) (s b : List ℕ) (r : KeptStep) → step_of b r ≡ settled at s (step_of b j) → (d : Kept) → r ≡ next d → ⊥
 unfolding step_of
-never (next c) h at s b r e d q = absurd (miss (1 ∷ 2 ∷ []) 0 tt h)
+never (next c) h at s b r e d q = absurd (h c refl)
 never (refused n p) h at s b r e d q =
     let z : Next (card_of d b) ≡ Refused n p = sym (ap (step_of b) q) ∙ e in
     let y : ◌≡◌ {A = ℕ} 0 1 = cc in absurd (omega arith)
@@ -359,11 +356,6 @@ within_next c d s b b' p to w t =
       cards = omega (arith, w.cards, more.0, more.1, more.2);
       lines = omega (arith, w.lines, more.0);
     }
-
-pub stopped_never : (j : KeptStep) → Stopped j → (d : Kept) → j ≡ next d → ⊥
-stopped_never (next c) h d q = absurd (miss (1 ∷ 2 ∷ []) 0 tt h)
-stopped_never (refused n p) h d q = let y : ◌≡◌ {A = ℕ} 0 1 = cc in absurd (omega arith)
-stopped_never (flawed n o) h d q = let y : ◌≡◌ {A = ℕ} 0 1 = cc in absurd (omega arith)
 
 -- the line at a place of a chunk ends at e: it has ended where more than its CR LF stands after it
 module _ (s : List ℕ) (at e : ℕ) (low : at ≤ length s) (he : e ≡ at + line_length (drop at s)) (le : e ≤ length s)

@@ -16,10 +16,16 @@ returns-in_default c =
     sym (ap (record_by a.w (length a.l.now)) (sym c.parts_of-parsed.ensures ∙ c.in_default.is))
 
 pub name_start-from-requires : goal.name_start-from-requires
-name_start-from-requires c = omega (arith, parts_fit c.args.edition c.args.l.now c.in-Line.x (sym c.parts_of-parsed.ensures ∙ c.in-Line.is), c.requires.l_bound)
+name_start-from-requires c =
+    let x = c.in-Line.x in
+    let within = parts_fit c.args.edition c.args.l.now x (sym c.parts_of-parsed.ensures ∙ c.in-Line.is) in
+    omega (arith, within, c.requires.l_bound)
 
 pub overflow_cast-result : goal.overflow_cast-result
-overflow_cast-result c = omega (arith, parts_fit c.args.edition c.args.l.now c.in-Line.x (sym c.parts_of-parsed.ensures ∙ c.in-Line.is))
+overflow_cast-result c =
+    let x = c.in-Line.x in
+    let within = parts_fit c.args.edition c.args.l.now x (sym c.parts_of-parsed.ensures ∙ c.in-Line.is) in
+    omega (arith, within)
 
 pub overflow_cast-result-2 : goal.overflow_cast-result-2
 overflow_cast-result-2 c = omega (arith, c.requires.l_bound)
@@ -28,7 +34,10 @@ pub overflow_cast-result-3 : goal.overflow_cast-result-3
 overflow_cast-result-3 c = omega (arith, c.requires.l_bound)
 
 pub overflow_cast-result-4 : goal.overflow_cast-result-4
-overflow_cast-result-4 c = omega (arith, parts_fit c.args.edition c.args.l.now c.in-Line.x (sym c.parts_of-parsed.ensures ∙ c.in-Line.is), c.requires.l_bound)
+overflow_cast-result-4 c =
+    let x = c.in-Line.x in
+    let within = parts_fit c.args.edition c.args.l.now x (sym c.parts_of-parsed.ensures ∙ c.in-Line.is) in
+    omega (arith, within, c.requires.l_bound)
 
 pub overflow_sub-result : goal.overflow_sub-result
 overflow_sub-result c =
@@ -36,19 +45,34 @@ overflow_sub-result c =
     omega (arith, c.name_start-from.ensures, long)
 
 pub overflow_cast-result-5 : goal.overflow_cast-result-5
-overflow_cast-result-5 c = omega (arith, parts_fit c.args.edition c.args.l.now c.in-Line.x (sym c.parts_of-parsed.ensures ∙ c.in-Line.is), c.requires.l_bound)
+overflow_cast-result-5 c =
+    let x = c.in-Line.x in
+    let within = parts_fit c.args.edition c.args.l.now x (sym c.parts_of-parsed.ensures ∙ c.in-Line.is) in
+    omega (arith, within, c.requires.l_bound)
 
 pub overflow_cast-result-6 : goal.overflow_cast-result-6
-overflow_cast-result-6 c = omega (arith, parts_fit c.args.edition c.args.l.now c.in-Line.x (sym c.parts_of-parsed.ensures ∙ c.in-Line.is), c.requires.l_bound)
+overflow_cast-result-6 c =
+    let x = c.in-Line.x in
+    let within = parts_fit c.args.edition c.args.l.now x (sym c.parts_of-parsed.ensures ∙ c.in-Line.is) in
+    omega (arith, within, c.requires.l_bound)
 
 pub overflow_add-result : goal.overflow_add-result
-overflow_add-result c = omega (arith, parts_fit c.args.edition c.args.l.now c.in-Line.x (sym c.parts_of-parsed.ensures ∙ c.in-Line.is), c.requires.l_bound)
+overflow_add-result c =
+    let x = c.in-Line.x in
+    let within = parts_fit c.args.edition c.args.l.now x (sym c.parts_of-parsed.ensures ∙ c.in-Line.is) in
+    omega (arith, within, c.requires.l_bound)
 
 pub overflow_cast-result-7 : goal.overflow_cast-result-7
-overflow_cast-result-7 c = omega (arith, parts_fit c.args.edition c.args.l.now c.in-Line.x (sym c.parts_of-parsed.ensures ∙ c.in-Line.is), c.requires.l_bound)
+overflow_cast-result-7 c =
+    let x = c.in-Line.x in
+    let within = parts_fit c.args.edition c.args.l.now x (sym c.parts_of-parsed.ensures ∙ c.in-Line.is) in
+    omega (arith, within, c.requires.l_bound)
 
 pub overflow_cast-result-8 : goal.overflow_cast-result-8
-overflow_cast-result-8 c = omega (arith, parts_fit c.args.edition c.args.l.now c.in-Line.x (sym c.parts_of-parsed.ensures ∙ c.in-Line.is))
+overflow_cast-result-8 c =
+    let x = c.in-Line.x in
+    let within = parts_fit c.args.edition c.args.l.now x (sym c.parts_of-parsed.ensures ∙ c.in-Line.is) in
+    omega (arith, within)
 
 pub returns : goal.returns
 unfolding record_of record_by

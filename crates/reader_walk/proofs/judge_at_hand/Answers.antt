@@ -31,7 +31,7 @@ pub returns-then-folded : goal.returns-then-folded
 returns-then-folded c =
     let a = c.args in
     let x = rest a.c.used a.buffer.now in
-    rw c.if-folded.true (rw x at c.judge_line.ensures.s_value, rw x at c.judge_line.ensures.keeping)
+    record { s_value = rw c.if-folded.true (rw x at c.judge_line.ensures.s_value); keeping = rw c.if-folded.true (rw x at c.judge_line.ensures.keeping) }
 
 pub judge_line-requires-2 : goal.judge_line-requires-2
 judge_line-requires-2 c =
@@ -39,4 +39,4 @@ judge_line-requires-2 c =
     record { tables = c.requires.tables; counted = c.requires.counted; stored = record { lies = c.requires.roomy.0.lies; all = all; short = c.requires.roomy.1 } }
 
 pub returns : goal.returns
-returns c = rw c.if-folded.false c.judge_line-2.ensures
+returns c = record { s_value = rw c.if-folded.false c.judge_line-2.ensures.s_value; keeping = rw c.if-folded.false c.judge_line-2.ensures.keeping }

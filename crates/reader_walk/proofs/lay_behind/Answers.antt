@@ -6,7 +6,7 @@ use Rattle.reader_walk.proofs.lay_behind.Goals as goal
 pub returns-then-folded : goal.returns-then-folded
 returns-then-folded c =
     let u = c.unfold_behind in
-    rw c.if-folded.true u.ensures
+    record { value = rw c.if-folded.true u.ensures.value; scratch_after = rw c.if-folded.true u.ensures.scratch_after }
 
 pub returns : goal.returns
-returns c = rw c.if-folded.false (refl, sym (behind_none c.args.used c.args.scratch.now))
+returns c = record { value = rw c.if-folded.false refl; scratch_after = rw c.if-folded.false (sym (behind_none c.args.used c.args.scratch.now)) }

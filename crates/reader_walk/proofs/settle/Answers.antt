@@ -4,7 +4,7 @@ use Rattle.reader_walk.proofs.WalkLaws.{settled_step}
 use Rattle.reader_walk.proofs.settle.Goals as goal
 
 pub returns-in_default : goal.returns-in_default
-returns-in_default c = λ store. settled_step store _ _ _ c.in_default.keys2
+returns-in_default c = λ store. settled_step store _ _ _ c.in_default.not-Flawed
 
 pub returns : goal.returns
 unfolding step_of

@@ -16,25 +16,6 @@ use Rattle.line_folds.proofs.SpanLaws.{whole, part_length}
 use Rattle.reader_walk.proofs.WalkLaws.{judged, stopped_step}
 use Rattle.reader_walk.proofs.walk_in.Goals as goal
 
--- the line at hand, as it came
-abbrev line : tie.After-judge-span invariant-loop decreases-loop → List ℕ
-line c =
-    let at = c.before.before.before.before.before.before.loop.at in
-    take (c.before.before.before.before.line_at.result.end - at) (drop at c.before.before.before.before.before.before.before.before.before.before.before.args.s.now)
-
-abbrev edition : tie.After-judge-span invariant-loop decreases-loop → Edition
-edition c = c.before.before.before.before.before.before.before.before.before.before.before.args.edition
-
--- one turn, judged
-turn : (c : tie.After-judge-span invariant-loop decreases-loop)
-    → judge_lines (edition c) (raw_lines c.before.before.before.before.before.before.before.before.before.before.before.args.s.now) 0 fresh_card
-    ≡ onward (settled c.before.before.before.before.before.before.loop.at (line c) (step_of c.judge-span.new.1.1.1.1.1.1.0 c.judge-span.result)) (judge_lines (edition c) (raw_lines (drop (c.before.before.before.before.line_at.result.end + 2) c.before.before.before.before.before.before.before.before.before.before.before.args.s.now)) (c.before.before.before.before.line_at.result.end + 2))
-turn c =
-    let l = c.before.before.before.before.before.before.loop in
-    let v = c.before.before.before.before.line_at in
-    let s = c.before.before.before.before.before.before.before.before.before.before.before.args.s.now in
-    l.invariant.5 ∙ judged (edition c) s l.at v.result.end c.before.before.before.before.before.loop-test.true v.ensures.1 v.ensures.2 (card_of l.c l.scratch) (step_of c.judge-span.new.1.1.1.1.1.1.0 c.judge-span.result) c.judge-span.ensures.0
-
 pub loop-at-init : goal.loop-at-init
 loop-at-init c =
     let f = c.fresh-c in
@@ -54,16 +35,13 @@ judge_span-j-requires c =
     let v = c.line_at-span in
     let z = c.requires in
     let part = take (v.result.end - l.at) (drop l.at a.s.now) in
-    let n = part_length a.s.now l.at v.result.end c.loop-at-test.true v.ensures.1 v.ensures.2 in (
-      c.requires.tables,
-      (
-        (l.invariant.1, omega (arith, l.invariant.2, c.requires.s_len_bound)),
-        (
-          record { lies = l.invariant.3; room = omega (arith, n, l.invariant.0, l.invariant.4, v.ensures.2, c.requires.s_in_bounds.0); short = omega (arith, l.invariant.0, c.requires.s_in_bounds.1) },
-          whole a.s.now l.at v.result.cr v.result.end v.ensures.0,
-        ),
-      ),
-    )
+    let n = part_length a.s.now l.at v.result.end c.loop-at-test.true v.ensures.1 v.ensures.2 in
+    record {
+      tables = c.requires.tables;
+      counted = (l.invariant.1, omega (arith, l.invariant.2, c.requires.s_len_bound));
+      roomy = record { lies = l.invariant.3; room = omega (arith, n, l.invariant.0, l.invariant.4, v.ensures.2, c.requires.s_in_bounds.0); short = omega (arith, l.invariant.0, c.requires.s_in_bounds.1) };
+      s_value = whole a.s.now l.at v.result.cr v.result.end v.ensures.0;
+    }
 
 pub settle-requires : goal.settle-requires
 settle-requires c =
@@ -75,8 +53,15 @@ settle-requires c =
 pub returns-in_default : goal.returns-in_default
 returns-in_default c =
     let j = c.judge_span-j in
-    let store = j.new.1.1.1.1.1.1.0 in
-    (store, c.settle.ensures store ∙ sym (turn c ∙ stopped_step store _ (line c) _ j.result c.in_default.keys2))
+    let l = c.loop-at in
+    let v = c.line_at-span in
+    let a = c.args in
+    let line = take (v.result.end - l.at) (drop l.at a.s.now) in
+    let turn : judge_lines a.edition (raw_lines a.s.now) 0 fresh_card
+        ≡ onward (settled l.at (take (v.result.end - l.at) (drop l.at a.s.now)) (step_of j.new.scratch j.result)) (judge_lines a.edition (raw_lines (drop (v.result.end + 2) a.s.now)) (v.result.end + 2)) =
+        l.invariant.5 ∙ judged a.edition a.s.now l.at v.result.end c.loop-at-test.true v.ensures.1 v.ensures.2 (card_of l.c l.scratch) (step_of j.new.scratch j.result) j.ensures.result_after in
+    let store = j.new.scratch in
+    (store, c.settle.ensures store ∙ sym (turn ∙ stopped_step store _ line _ j.result c.in_default.not-Next))
 
 pub overflow_add-at : goal.overflow_add-at
 overflow_add-at c =
@@ -93,14 +78,18 @@ loop-at-preserved c =
     let a = c.args in
     let j = c.judge_span-j in
     let n = part_length a.s.now l.at v.result.end c.loop-at-test.true v.ensures.1 v.ensures.2 in
-    let holds = subst (Holds (l.c.used + length (take (v.result.end - l.at) (drop l.at a.s.now)))) e j.ensures.1.0 in
-    let more = one_more a.edition (card_of l.c l.scratch) (card_of next j.new.1.1.1.1.1.1.0) l.at _ (sym j.ensures.0 ∙ ap (step_of j.new.1.1.1.1.1.1.0) e) in (
+    let line = take (v.result.end - l.at) (drop l.at a.s.now) in
+    let turn : judge_lines a.edition (raw_lines a.s.now) 0 fresh_card
+        ≡ onward (settled l.at (take (v.result.end - l.at) (drop l.at a.s.now)) (step_of j.new.scratch j.result)) (judge_lines a.edition (raw_lines (drop (v.result.end + 2) a.s.now)) (v.result.end + 2)) =
+        l.invariant.5 ∙ judged a.edition a.s.now l.at v.result.end c.loop-at-test.true v.ensures.1 v.ensures.2 (card_of l.c l.scratch) (step_of j.new.scratch j.result) j.ensures.result_after in
+    let holds = subst (Holds (l.c.used + length (take (v.result.end - l.at) (drop l.at a.s.now)))) e j.ensures.holds.0 in
+    let more = one_more a.edition (card_of l.c l.scratch) (card_of next j.new.scratch) l.at _ (sym j.ensures.result_after ∙ ap (step_of j.new.scratch) e) in (
       omega (arith, j, l.invariant.0),
       omega (arith, l.invariant.1, more.0, more.1, more.2),
       omega (arith, v.ensures.1, l.invariant.2, more.0),
       holds.0,
       omega (arith, holds.1, n, l.invariant.4, v.ensures.1),
-      turn c ∙ ap (λ (r : Step). onward (settled l.at (line c) r) (judge_lines a.edition (raw_lines (drop (v.result.end + 2) a.s.now)) (v.result.end + 2))) (ap (step_of j.new.1.1.1.1.1.1.0) e),
+      turn ∙ ap (λ (r : Step). onward (settled l.at line r) (judge_lines a.edition (raw_lines (drop (v.result.end + 2) a.s.now)) (v.result.end + 2))) (ap (step_of j.new.scratch) e),
     )
 
 pub returns : goal.returns

@@ -1,6 +1,5 @@
 -- `text_marks::see_each` meets its contract. Assumes nothing.
 use mathlib.Core.Path.{sym}
-use Prim.Native.Nat.{◌-◌}
 use native.Mathlib.Omega.{arith}
 use lib.Seq.{take_all}
 use Rattle.utf8_screening.specs.Plain.{odd}

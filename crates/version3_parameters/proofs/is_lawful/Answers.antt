@@ -1,15 +1,10 @@
 -- src/lib.rt:264:24
-use Prim.Native.Nat.{◌-◌}
 use native.Mathlib.Omega.{arith}
 use lib.ListN.{drop}
 use Rattle.line_parser.specs.Rule.{param}
 use Rattle.line_parameters.proofs.FirstSteps.{name_end_lem}
 use Rattle.version3_parameters.proofs.EachLaws.{lawful_in, lawful_out}
 use Rattle.version3_parameters.proofs.RestLaws.{name_within}
-use Rattle.version3_parameters.proofs.is_lawful.Reads as reads
-use Rattle.version3_parameters.proofs.is_lawful.Lts as lts
-use Rattle.octets.proofs.classes.span.Reads as span-reads
-use Rattle.version3_parameters.proofs.is_one.Reads as is-one-reads
 use Rattle.version3_parameters.proofs.is_lawful.Goals as goal
 
 -- src/lib.rt:266:26

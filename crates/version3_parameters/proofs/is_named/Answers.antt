@@ -1,15 +1,11 @@
 -- src/lib.rt:126:9
 use mathlib.Core.Path.{sym, ap, ◌∙◌}
 use mathlib.Core.List.{List}
-use Prim.Native.Nat.{ℕ, ◌-◌}
+use Prim.Native.Nat.{ℕ}
 use native.Mathlib.Omega.{arith}
 use Rattle.version3_parameters.specs.Places.{named_by}
 use Rattle.octets.specs.Cases.{same}
 use Rattle.line_parameters.proofs.FirstSteps.{name_end_lem}
-use Rattle.version3_parameters.proofs.is_named.Reads as reads
-use Rattle.version3_parameters.proofs.is_named.Lts as lts
-use Rattle.octets.proofs.cases.same_name.Reads as same-name-reads
-use Rattle.octets.proofs.classes.span.Reads as span-reads
 use Rattle.version3_parameters.proofs.is_named.Goals as goal
 
 pub span-name_end-requires : goal.span-name_end-requires

@@ -1,9 +1,5 @@
 -- src/lib.rt:243:16
-use mathlib.Core.Bool.{true, false}
-use Prim.Native.Nat.{◌-◌}
 use Rattle.version3_parameters.proofs.OneLaws.{one_alone, one_long, one_unquoted, one_other, one_quoted}
-use Rattle.version3_parameters.proofs.is_one.Reads as reads
-use Rattle.version3_parameters.proofs.is_one.Lts as lts
 use Rattle.version3_parameters.proofs.is_one.Goals as goal
 
 -- src/lib.rt:243:9

@@ -1,13 +1,9 @@
 -- src/lib.rt:45:5
 use mathlib.Core.Path.{refl, ap, ◌∙◌}
 use mathlib.Core.List.{[], ◌∷◌}
-use Prim.Native.Nat.{◌-◌}
 use native.Mathlib.Omega.{arith}
 use lib.ListN.{length, set, length-take, length-drop, length-set}
 use Rattle.version3_text.proofs.PutLaws.{overlay_length, two_pieces, lead_first}
-use Rattle.version3_parameters.proofs.put_after.Reads as reads
-use Rattle.version3_parameters.proofs.put_after.Lts as lts
-use Rattle.octets.proofs.copying.copy_in.Reads as copy-in-reads
 use Rattle.version3_parameters.proofs.put_after.Goals as goal
 
 -- src/lib.rt:46:30

@@ -9,11 +9,6 @@ use Rattle.line_parser.specs.Grammar.{Param}
 use Rattle.version3_parameters.specs.Params.{changed_all, any_prefers, params_text}
 use Rattle.version3_parameters.specs.Places.{params_of}
 use Rattle.version3_parameters.proofs.RestLaws.{Rest}
-use Rattle.version3_parameters.proofs.put_each.Reads as reads
-use Rattle.version3_parameters.proofs.put_each.Lts as lts
-use Rattle.line_parser.proofs.rule.read_param.Reads as read-param-reads
-use Rattle.version3_parameters.proofs.either.Reads as either-reads
-use Rattle.version3_parameters.proofs.put_param.Reads as put-param-reads
 use Rattle.version3_parameters.proofs.put_each.Given as goal
 
 abbrev pub invariant-loop-at : goal.invariant-loop-at

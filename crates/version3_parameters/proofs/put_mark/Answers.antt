@@ -1,12 +1,8 @@
 -- src/lib.rt:212:38
 use Rattle.version3_parameters.proofs.RestLaws.{mark_in, mark_out}
 use mathlib.Core.Path.{refl, ap}
-use Prim.Native.Nat.{◌-◌}
 use native.Mathlib.Omega.{arith}
 use lib.ListN.{length}
-use Rattle.version3_parameters.proofs.put_mark.Reads as reads
-use Rattle.version3_parameters.proofs.put_mark.Lts as lts
-use Rattle.octets.proofs.copying.copy_in.Reads as copy-in-reads
 use Rattle.version3_parameters.proofs.put_mark.Goals as goal
 
 -- src/lib.rt:212:13

@@ -1,19 +1,13 @@
 -- src/lib.rt:151:43
 use mathlib.Core.Path.{refl, sym, ap, ◌∙◌}
-use mathlib.Core.Bool.{true, false}
 use mathlib.Core.List.{List, ◌∷◌}
-use Prim.Native.Nat.{ℕ, ◌-◌}
+use Prim.Native.Nat.{ℕ}
 use native.Mathlib.Omega.{arith}
 use lib.ListN.{length, drop}
 use Rattle.octets.specs.Ascii.{octets}
 use Rattle.line_parser.specs.Rule.{param}
 use Rattle.version3_parameters.proofs.ValueLaws.{param_there, whole_fits}
 use Rattle.version3_parameters.proofs.EachLaws.{in_type, in_other, out_pref, out_other, puts_as}
-use Rattle.version3_parameters.proofs.put_param.Reads as reads
-use Rattle.version3_parameters.proofs.put_param.Lts as lts
-use Rattle.version3_parameters.proofs.is_named.Reads as is-named-reads
-use Rattle.version3_parameters.proofs.put_type.Reads as put-type-reads
-use Rattle.version3_parameters.proofs.put_whole.Reads as put-whole-reads
 use Rattle.version3_parameters.proofs.put_param.Goals as goal
 
 -- src/lib.rt:151:16

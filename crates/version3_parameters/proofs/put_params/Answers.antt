@@ -1,8 +1,6 @@
 -- src/lib.rt:230:9
 use mathlib.Core.Path.{sym, ap, ◌∙◌}
-use mathlib.Core.Bool.{true, false}
 use mathlib.Core.List.{[], ◌∷◌, ◌++◌}
-use Prim.Native.Nat.{◌+◌, ◌-◌}
 use native.Mathlib.Omega.{arith}
 use lib.ListN.{length, length-take, length-drop, length-append}
 use borrow.Author.Tests.{not-true, not-false}
@@ -10,10 +8,6 @@ use Rattle.version3_text.proofs.PutLaws.{overlay_length, two_pieces}
 use Rattle.version3_parameters.specs.Params.{changed_all, mark, params_text}
 use Rattle.version3_parameters.specs.Places.{params_of}
 use Rattle.version3_parameters.proofs.EachLaws.{marked_no, marked_yes, marked_long}
-use Rattle.version3_parameters.proofs.put_params.Reads as reads
-use Rattle.version3_parameters.proofs.put_params.Lts as lts
-use Rattle.version3_parameters.proofs.put_each.Reads as put-each-reads
-use Rattle.version3_parameters.proofs.put_mark.Reads as put-mark-reads
 use Rattle.version3_parameters.proofs.put_params.Goals as goal
 
 pub put_each-put-requires : goal.put_each-put-requires

@@ -1,15 +1,11 @@
 -- src/lib.rt:86:9
 use mathlib.Core.Path.{ap, ◌∙◌}
 use mathlib.Core.List.{◌∷◌}
-use Prim.Native.Nat.{◌-◌}
 use native.Mathlib.Omega.{arith}
 use lib.ListN.{length, length-take, length-drop, length-append}
 use borrow.Author.Tests.{not-true, not-false}
 use Rattle.version3_text.proofs.PutLaws.{overlay_length, two_pieces}
 use Rattle.version3_parameters.proofs.RestLaws.{piece_first, piece_later}
-use Rattle.version3_parameters.proofs.put_value.Reads as reads
-use Rattle.version3_parameters.proofs.put_value.Lts as lts
-use Rattle.version3_parameters.proofs.put_after.Reads as put-after-reads
 use Rattle.version3_parameters.proofs.put_value.Goals as goal
 
 pub put_after-requires : goal.put_after-requires

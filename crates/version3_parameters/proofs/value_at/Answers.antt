@@ -1,10 +1,5 @@
 -- src/lib.rt:57:9
-use mathlib.Core.Bool.{true, false}
-use Prim.Native.Nat.{◌-◌}
 use Rattle.version3_parameters.proofs.ValueLaws.{value_none, value_bare, value_quoted}
-use Rattle.version3_parameters.proofs.value_at.Reads as reads
-use Rattle.version3_parameters.proofs.value_at.Lts as lts
-use Rattle.octets.proofs.classes.span.Reads as span-reads
 use Rattle.version3_parameters.proofs.value_at.Goals as goal
 
 pub returns-then-s-at : goal.returns-then-s-at

@@ -6,4 +6,4 @@ pub slice_bounds-take_lines_with-end : goal.slice_bounds-take_lines_with-end
 slice_bounds-take_lines_with-end c = refl
 
 pub take_lines_with-requires : goal.take_lines_with-requires
-take_lines_with-requires c = let p = c.requires in (record { whole = λ h. absurd (h refl) }, p)
+take_lines_with-requires c = let p = c.requires in record { scanner = record { whole = λ h. absurd (h refl) }; sound = p.sound; tail_bound = p.tail_bound; next_value = p.next_value; chunk_value = p.chunk_value }

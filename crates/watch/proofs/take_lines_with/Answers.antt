@@ -17,41 +17,37 @@ use Rattle.watch.proofs.take_lines_with.Goals as goal
 pub judge_chunk-l-requires : goal.judge_chunk-l-requires
 judge_chunk-l-requires c =
     let a = c.args in
-    let p = c.requires.1 in
-    let inside = subst (λ (k : ℕ). k < length a.chunk.now) p.1.1.0.0 p.1.1.0.1 in
-    let two = next_two_least a.w.tail a.chunk.now inside in (
-      (c.table-t.ensures, c.table-rows.ensures, c.requires.scanner),
-      (
-        (omega (arith, p.1.1.0.1), omega (arith, p.1.0.1), p.0.1, omega (arith, two, p.1.0.0, p.1.1.0.0)),
-        (
-          p.0.0.card,
-          subst (λ (k : ℕ). lone_from 0 (drop k a.chunk.now) ≡ length (drop k a.chunk.now) + 1) (sym p.1.1.0.0) (fine_next a.w.tail a.chunk.now p.1.1.1 inside),
-        ),
-      ),
-    )
+    let p = c.requires in
+    let inside = subst (λ (k : ℕ). k < length a.chunk.now) p.next_value.0 p.next_value.1 in
+    let two = next_two_least a.w.tail a.chunk.now inside in record {
+      tables = (c.table-t.ensures, c.table-rows.ensures, p.scanner);
+      next_in_bounds = (omega (arith, p.next_value.1), omega (arith, p.tail_bound.1), p.sound.1, omega (arith, two, p.tail_bound.0, p.next_value.0));
+      within = p.sound.0.card;
+      chunk_value = subst (λ (k : ℕ). lone_from 0 (drop k a.chunk.now) ≡ length (drop k a.chunk.now) + 1) (sym p.next_value.0) (fine_next a.w.tail a.chunk.now p.chunk_value inside);
+    }
 
 pub returns-in_default : goal.returns-in_default
 returns-in_default c =
     let a = c.args in
-    let p = c.requires.1 in
+    let p = c.requires in
     let g = c.judge_chunk-l in
-    let b = g.new.1.1.1.0 in
-    let two = next_two_least a.w.tail a.chunk.now (subst (λ (k : ℕ). k < length a.chunk.now) p.1.1.0.0 p.1.1.0.1) in record { by_index = λ i l h e. subst (λ (x : Watch). After x b (i ++ a.chunk.now)) (sym c.stopped.ensures)
-          (after_refused a.w a.buffer.now i a.chunk.now l h p.1.0.1 p.1.1.1 a.next p.1.1.0.0 p.1.1.0.1 p.0.1
-          g.result.step b g.result.at g.ensures.0 g.ensures.1.0 g.ensures.1.1 c.in_default.in_default-own.keys2 _ a.tail refl e); comes = (λ e. subst (λ (x : Watch). Comes x b (lines_came a.w a.buffer.now a.chunk.now a.next)) (sym c.stopped.ensures)
-          (comes_refused a.w a.buffer.now a.chunk.now a.next p.1.1.0.0 p.1.0.0 p.0.0.card p.1.0.1 p.0.1 (omega (arith, two, p.1.0.0, p.1.1.0.0)) p.1.1.0.1 _ a.tail refl e
-          g.result.step b g.result.at g.ensures.0 c.in_default.in_default-own.keys2)) }
+    let b = g.new.buffer in
+    let two = next_two_least a.w.tail a.chunk.now (subst (λ (k : ℕ). k < length a.chunk.now) p.next_value.0 p.next_value.1) in record { by_index = λ i l h e. subst (λ (x : Watch). After x b (i ++ a.chunk.now)) (sym c.stopped.ensures)
+          (after_refused a.w a.buffer.now i a.chunk.now l h p.tail_bound.1 p.chunk_value a.next p.next_value.0 p.next_value.1 p.sound.1
+          g.result.step b g.result.at g.ensures.went g.ensures.next_le_at.0 g.ensures.next_le_at.1 c.in_default.not-Next _ a.tail refl e); comes = (λ e. subst (λ (x : Watch). Comes x b (lines_came a.w a.buffer.now a.chunk.now a.next)) (sym c.stopped.ensures)
+          (comes_refused a.w a.buffer.now a.chunk.now a.next p.next_value.0 p.tail_bound.0 p.sound.0.card p.tail_bound.1 p.sound.1 (omega (arith, two, p.tail_bound.0, p.next_value.0)) p.next_value.1 _ a.tail refl e
+          g.result.step b g.result.at g.ensures.went c.in_default.not-Next)) }
 
 pub append-requires : goal.append-requires
 append-requires c =
     let a = c.args in
-    let p = c.requires.1 in
+    let p = c.requires in
     let g = c.judge_chunk-l in
-    let two = next_two_least a.w.tail a.chunk.now (subst (λ (k : ℕ). k < length a.chunk.now) p.1.1.0.0 p.1.1.0.1) in
-    let size = line_long a.w a.buffer.now a.chunk.now a.next p.1.1.0.0 p.1.0.0 p.0.0.card p.1.0.1 p.0.1 (omega (arith, two, p.1.0.0, p.1.1.0.0)) p.1.1.0.1 in
-    let win = (g.ensures.0.rest c.in-Next.card c.in-Next.is).1 in
+    let two = next_two_least a.w.tail a.chunk.now (subst (λ (k : ℕ). k < length a.chunk.now) p.next_value.0 p.next_value.1) in
+    let size = line_long a.w a.buffer.now a.chunk.now a.next p.next_value.0 p.tail_bound.0 p.sound.0.card p.tail_bound.1 p.sound.1 (omega (arith, two, p.tail_bound.0, p.next_value.0)) p.next_value.1 in
+    let win = (g.ensures.went.rest c.in-Next.card c.in-Next.is).1 in
     rw (rest g.result.at a.chunk.now, length-drop g.result.at a.chunk.now)
-    (omega (arith, win.used, size, g.ensures.1, p.1.0.1, p.0.1, g, length-drop g.result.at a.chunk.now, length-drop a.next a.chunk.now))
+    (omega (arith, win.used, size, g.ensures.next_le_at, p.tail_bound.1, p.sound.1, g, length-drop g.result.at a.chunk.now, length-drop a.next a.chunk.now))
 
 pub overflow_add-result : goal.overflow_add-result
 overflow_add-result c = omega (arith, c.judge_chunk-l.ensures.next_le_at, c.requires.tail_bound.1)
@@ -62,13 +58,13 @@ shape_of-buffer c = omega (arith, c.append, c.judge_chunk-l)
 pub returns : goal.returns
 returns c =
     let a = c.args in
-    let p = c.requires.1 in
+    let p = c.requires in
     let g = c.judge_chunk-l in
-    let b = g.new.1.1.1.0 in
-    let two = next_two_least a.w.tail a.chunk.now (subst (λ (k : ℕ). k < length a.chunk.now) p.1.1.0.0 p.1.1.0.1) in
+    let b = g.new.buffer in
+    let two = next_two_least a.w.tail a.chunk.now (subst (λ (k : ℕ). k < length a.chunk.now) p.next_value.0 p.next_value.1) in
     let f = c.in-Next.card in
     let put = subst (λ (x : List ℕ). c.append.new.buffer ≡ patch b f.used x) (rest g.result.at a.chunk.now) c.append.ensures in record { by_index = λ i l h e.
-          after_kept a.w a.buffer.now i a.chunk.now l h p.1.0.1 p.1.1.1 a.next p.1.1.0.0 p.1.1.0.1 p.0.1
-          g.result.step b g.result.at g.ensures.0 g.ensures.1.0 g.ensures.1.1 f c.in-Next.is a.tail e c.append.new.buffer put; comes = (λ e.
-          comes_kept a.w a.buffer.now a.chunk.now a.next p.1.1.0.0 p.1.0.0 p.0.0.card p.1.0.1 p.0.1 (omega (arith, two, p.1.0.0, p.1.1.0.0)) p.1.1.0.1 _ a.tail refl e
-          g.result.step b g.result.at g.ensures.0 f c.in-Next.is g.ensures.1.0 g.ensures.1.1 (omega (arith, g, p.0.1)) c.append.new.buffer put) }
+          after_kept a.w a.buffer.now i a.chunk.now l h p.tail_bound.1 p.chunk_value a.next p.next_value.0 p.next_value.1 p.sound.1
+          g.result.step b g.result.at g.ensures.went g.ensures.next_le_at.0 g.ensures.next_le_at.1 f c.in-Next.is a.tail e c.append.new.buffer put; comes = (λ e.
+          comes_kept a.w a.buffer.now a.chunk.now a.next p.next_value.0 p.tail_bound.0 p.sound.0.card p.tail_bound.1 p.sound.1 (omega (arith, two, p.tail_bound.0, p.next_value.0)) p.next_value.1 _ a.tail refl e
+          g.result.step b g.result.at g.ensures.went f c.in-Next.is g.ensures.next_le_at.0 g.ensures.next_le_at.1 (omega (arith, g, p.sound.1)) c.append.new.buffer put) }

@@ -25,23 +25,29 @@ judge_span-requires c =
     let a = c.args in
     let p = c.requires in
     let e = ap (λ (f : Bool). pick f a.line.now a.other.now) c.if-first.true in
-    (c.requires.tables, (c.requires.counted, subst (Asks a.c a.folded a.buffer.now) e p.1.1))
+    let z = subst (Asks a.c a.folded a.buffer.now) e (p.roomy, p.other_value) in
+    record { tables = p.tables; counted = p.counted; roomy = z.0; s_value = z.1 }
 
 pub returns-then-first : goal.returns-then-first
 returns-then-first c =
     let a = c.args in
     let e = ap (λ (f : Bool). pick f a.line.now a.other.now) c.if-first.true in
-    subst (Says a.c a.at a.buffer.now c.judge_span.new.scratch c.judge_span.result) (sym e) c.judge_span.ensures
+    let r = c.judge_span in
+    let z = subst (Says a.c a.at a.buffer.now r.new.scratch r.result) (sym e) (r.ensures.result_after, r.ensures.holds) in
+    record { result_after = z.0; holds = z.1 }
 
 pub judge_span-requires-2 : goal.judge_span-requires-2
 judge_span-requires-2 c =
     let a = c.args in
     let p = c.requires in
     let e = ap (λ (f : Bool). pick f a.line.now a.other.now) c.if-first.false in
-    (c.requires.tables, (c.requires.counted, subst (Asks a.c a.folded a.buffer.now) e p.1.1))
+    let z = subst (Asks a.c a.folded a.buffer.now) e (p.roomy, p.other_value) in
+    record { tables = p.tables; counted = p.counted; roomy = z.0; s_value = z.1 }
 
 pub returns : goal.returns
 returns c =
     let a = c.args in
     let e = ap (λ (f : Bool). pick f a.line.now a.other.now) c.if-first.false in
-    subst (Says a.c a.at a.buffer.now c.judge_span-2.new.scratch c.judge_span-2.result) (sym e) c.judge_span-2.ensures
+    let r = c.judge_span-2 in
+    let z = subst (Says a.c a.at a.buffer.now r.new.scratch r.result) (sym e) (r.ensures.result_after, r.ensures.holds) in
+    record { result_after = z.0; holds = z.1 }

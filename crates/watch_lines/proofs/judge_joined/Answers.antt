@@ -28,13 +28,12 @@ pub judge_lines-requires : goal.judge_lines-requires
 judge_lines-requires c =
     let a = c.args in
     let z = c.requires in
-    let n = length-take-le (a.«open» + a.next - 2) c.join.new.line (omega (arith, c.join, c.requires.next_in_bounds_2)) in (
-      c.requires.tables,
-      (
-        (c.requires.next_in_bounds.0, omega (arith, n, c.requires.next_in_bounds), c.requires.next_in_bounds.2, omega (arith, c.requires.next_in_bounds)),
-        (c.requires.within, c.requires.chunk_value),
-      ),
-    )
+    let n = length-take-le (a.«open» + a.next - 2) c.join.new.line (omega (arith, c.join, c.requires.next_in_bounds_2)) in record {
+      tables = z.tables;
+      from_in_bounds = (z.next_in_bounds.0, omega (arith, n, z.next_in_bounds), z.next_in_bounds.2, omega (arith, z.next_in_bounds));
+      within = z.within;
+      chunk_value = z.chunk_value;
+    }
 
 pub returns : goal.returns
 returns c =
@@ -46,4 +45,4 @@ returns c =
     let n = length-take-le a.next a.chunk.now c.requires.next_in_bounds.0 in
     let m : a.«open» + a.next - 2 ≡ a.«open» + length x - 2 = omega (arith, n) in
     let e : take (a.«open» + a.next - 2) line ≡ joined_line a.c a.«open» a.buffer.now x =
-    ap (λ (i : ℕ). take i line) m ∙ joined_line_lem line (take a.«open» (drop a.c.used a.buffer.now) ++ x) (a.«open» + length x) c.join.ensures in record { went = subst (λ (s : List ℕ). Went a.c s (drop a.next a.chunk.now) a.buffer.now j.new.1.1.1.1.1.1.0 a.start j.result.step (drop j.result.at a.chunk.now)) e j.ensures.0; next_le_at = (j.ensures.1) }
+    ap (λ (i : ℕ). take i line) m ∙ joined_line_lem line (take a.«open» (drop a.c.used a.buffer.now) ++ x) (a.«open» + length x) c.join.ensures in record { went = subst (λ (s : List ℕ). Went a.c s (drop a.next a.chunk.now) a.buffer.now j.new.buffer a.start j.result.step (drop j.result.at a.chunk.now)) e j.ensures.went; next_le_at = j.ensures.from_le_at }

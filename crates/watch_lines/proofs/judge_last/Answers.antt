@@ -28,13 +28,12 @@ pub judge_lines-l-requires : goal.judge_lines-l-requires
 judge_lines-l-requires c =
     let a = c.args in
     let z = c.requires in
-    let n : length (take (a.c.used + a.«open» - 2 - a.c.used) (drop a.c.used a.buffer.now)) ≤ a.«open» - 2 = rw length-take (omega arith) in (
-      c.requires.tables,
-      (
-        (omega arith, omega (arith, n, c.requires.buffer_len), omega (arith, c.copy_in), omega arith),
-        (c.requires.within, break_none 0 (drop 0 (take 0 a.buffer.now)) refl),
-      ),
-    )
+    let n : length (take (a.c.used + a.«open» - 2 - a.c.used) (drop a.c.used a.buffer.now)) ≤ a.«open» - 2 = rw length-take (omega arith) in record {
+      tables = z.tables;
+      from_in_bounds = (omega arith, omega (arith, n, z.buffer_len), omega (arith, c.copy_in), omega arith);
+      within = z.within;
+      chunk_value = break_none 0 (drop 0 (take 0 a.buffer.now)) refl;
+    }
 
 pub returns : goal.returns
 returns c =
@@ -46,7 +45,7 @@ returns c =
     let b = a.buffer.now in
     let size : u + a.«open» - 2 - u ≡ a.«open» - 2 = omega (arith, c.requires.buffer_len) in
     let s = take (a.«open» - 2) (drop u b) in
-    let f : take u k.new.0 ≡ take u b = ap (take u) k.ensures ∙ take_at (take u b) _ u (length-take-le u b (omega (arith, c.requires.within.used, c.requires.buffer_len))) in
-    let card : card_of a.c k.new.0 ≡ card_of a.c b = card_front a.c k.new.0 b c.requires.within.lies f in
-    let led = j.ensures.0.step ∙ judged_alone (take (u + a.«open» - 2 - u) (drop u b)) (drop 0 (take 0 b)) a.at (card_of a.c k.new.0) refl in
-    (j.new.1.1.1.1.1.1.0, (rw size at led) ∙ ap (λ (x : Card). settled a.at s (judge_line First x a.at (unfolded s))) card)
+    let f : take u k.new.dst ≡ take u b = ap (take u) k.ensures ∙ take_at (take u b) _ u (length-take-le u b (omega (arith, c.requires.within.used, c.requires.buffer_len))) in
+    let card : card_of a.c k.new.dst ≡ card_of a.c b = card_front a.c k.new.dst b c.requires.within.lies f in
+    let led = j.ensures.went.step ∙ judged_alone (take (u + a.«open» - 2 - u) (drop u b)) (drop 0 (take 0 b)) a.at (card_of a.c k.new.dst) refl in
+    (j.new.buffer, (rw size at led) ∙ ap (λ (x : Card). settled a.at s (judge_line First x a.at (unfolded s))) card)

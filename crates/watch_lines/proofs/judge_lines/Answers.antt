@@ -9,7 +9,7 @@ use Rattle.octets.specs.Pick.{pick}
 use Rattle.card_state.specs.declared.Step.{Step as KeptStep}
 use Rattle.line_folds.proofs.SpanLaws.{whole, part_length}
 use Rattle.watch_lines.specs.Taking.{Took, Within}
-use Rattle.watch_lines.proofs.TakingLaws.{Hand, hand_start, hand_refused, hand_next, rest_hand, rest_open, within_next, stopped_never, turn_last, turn_next, turn_fine, turn_size, whole_line}
+use Rattle.watch_lines.proofs.TakingLaws.{Hand, hand_start, hand_refused, hand_next, rest_hand, rest_open, within_next, turn_last, turn_next, turn_fine, turn_size, whole_line}
 use Rattle.watch_lines.proofs.judge_lines.Goals as goal
 
 abbrev hand_line : Bool → List ℕ → List ℕ → ℕ → ℕ → List ℕ
@@ -54,16 +54,13 @@ take_line-j-requires c =
     let z = c.requires in
     let w = l.invariant.5 in
     let h = l.invariant.6.place in
-    let n = length-drop a.from a.chunk.now in (
-      c.requires.tables,
-      (
-        (w.cards, omega (arith, w.lines, h, n, c.requires.from_in_bounds)),
-        (
-          (record { lies = w.lies; room = omega (arith, w.used, h, n, l.invariant.0, c.requires.from_in_bounds); short = omega (arith, l.invariant.0) }, l.invariant.0),
-          (l.invariant.3, (omega (arith, l.invariant.2), omega (arith, l.invariant.2, w.used, h, n, c.requires.from_in_bounds), omega (arith, h, n, c.requires.from_in_bounds))),
-        ),
-      ),
-    )
+    let n = length-drop a.from a.chunk.now in record {
+      tables = z.tables;
+      counted = (w.cards, omega (arith, w.lines, h, n, z.from_in_bounds));
+      roomy = (record { lies = w.lies; room = omega (arith, w.used, h, n, l.invariant.0, z.from_in_bounds); short = omega (arith, l.invariant.0) }, l.invariant.0);
+      other_value = l.invariant.3;
+      other_bound = (omega (arith, l.invariant.2), omega (arith, l.invariant.2, w.used, h, n, z.from_in_bounds), omega (arith, h, n, z.from_in_bounds));
+    }
 
 pub shape_of-buffer-in_default : goal.shape_of-buffer-in_default
 shape_of-buffer-in_default c = omega (arith, c.take_line-j, c.loop-after.invariant.0, c.requires.from_in_bounds)
@@ -74,7 +71,7 @@ returns-in_default c =
     let l = c.loop-after in
     let j = c.take_line-j in
     let k = a.chunk.now in record { went = hand_refused a.c a.line.now (drop a.from k) a.buffer.now a.start l.card (hand_line l.first a.line.now k l.at l.end) (drop l.next k) l.buffer l.place l.invariant.6
-          j.new.1.1.1.1.1.1.1.0 (l.card.used + (l.n + 2)) (omega (arith, l.invariant.2)) j.result (stopped_never j.result c.in_default.in_default-own.keys2) j.ensures (drop l.next k); from_le_at = ((l.invariant.1.0, l.invariant.1.3)) }
+          j.new.buffer (l.card.used + (l.n + 2)) (omega (arith, l.invariant.2)) j.result c.in_default.not-Next j.ensures (drop l.next k); from_le_at = ((l.invariant.1.0, l.invariant.1.3)) }
 
 pub line_at-span-requires : goal.line_at-span-requires
 line_at-span-requires c = c.loop-after.invariant.1.3
@@ -93,7 +90,7 @@ returns-then-chunk-span-le2 c =
     let v = c.line_at-span in
     let k = a.chunk.now in
     let z = c.requires in
-    let b = j.new.1.1.1.1.1.1.1.0 in
+    let b = j.new.buffer in
     let s = hand_line l.first a.line.now k l.at l.end in
     let to = l.card.used + (l.n + 2) in
     let d = c.in-Next.after in
@@ -132,7 +129,7 @@ loop-after-preserved c =
     let v = c.line_at-span in
     let k = a.chunk.now in
     let z = c.requires in
-    let b = j.new.1.1.1.1.1.1.1.0 in
+    let b = j.new.buffer in
     let s = hand_line l.first a.line.now k l.at l.end in
     let to = l.card.used + (l.n + 2) in
     let d = c.in-Next.after in

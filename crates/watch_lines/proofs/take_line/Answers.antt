@@ -21,8 +21,8 @@ returns-in_default c =
     let a = c.args in
     let s = pick a.first a.line.now a.other.now in
     let j = c.judge_either-j in
-    took_refused a.c s a.buffer.now j.new.1.1.1.1.1.1.1.0 a.at a.to c.requires.roomy.1 (omega (arith, j)) c.requires.other_bound.0 c.requires.other_bound.1
-    j.result c.in_default.in_default-own.keys2 j.ensures.0 j.ensures.1.1 c.settle_either.result c.settle_either.ensures c.clear.new.buffer c.clear.ensures
+    took_refused a.c s a.buffer.now j.new.buffer a.at a.to c.requires.roomy.1 (omega (arith, j)) c.requires.other_bound.0 c.requires.other_bound.1
+    j.result c.in_default.not-Next j.ensures.result_after j.ensures.holds.1 c.settle_either.result c.settle_either.ensures c.clear.new.buffer c.clear.ensures
 
 pub clear-requires-2 : goal.clear-requires-2
 clear-requires-2 c =
@@ -30,7 +30,7 @@ clear-requires-2 c =
     let a = c.args in
     let s = pick a.first a.line.now a.other.now in
     let j = c.judge_either-j in
-    let low = kept_low (a.c.used + length s) j.result c.in-Next.next c.in-Next.is j.ensures.1.0 in
+    let low = kept_low (a.c.used + length s) j.result c.in-Next.next c.in-Next.is j.ensures.holds.0 in
     (omega (arith, low, c.requires.other_bound.0), omega (arith, j, c.requires.roomy.1, c.requires.other_bound.1))
 
 pub returns : goal.returns
@@ -39,11 +39,11 @@ returns c =
     let a = c.args in
     let s = pick a.first a.line.now a.other.now in
     let j = c.judge_either-j in
-    let b = j.new.1.1.1.1.1.1.1.0 in
+    let b = j.new.buffer in
     let e = c.in-Next.is in
     let d = c.in-Next.next in
     took_next a.c s a.buffer.now b a.at a.to c.requires.roomy.1 (omega (arith, j)) c.requires.other_bound.0 c.requires.other_bound.1 d
-    (subst (λ (x : KeptStep). step_of b x ≡ judgement a.c a.buffer.now s a.at) e j.ensures.0)
-    (subst (λ (x : KeptStep). Left First a.c s a.buffer.now b x) e j.ensures.1.1)
-    (subst (λ (x : KeptStep). Holds (a.c.used + length s) x) e j.ensures.1.0)
+    (subst (λ (x : KeptStep). step_of b x ≡ judgement a.c a.buffer.now s a.at) e j.ensures.result_after)
+    (subst (λ (x : KeptStep). Left First a.c s a.buffer.now b x) e j.ensures.holds.1)
+    (subst (λ (x : KeptStep). Holds (a.c.used + length s) x) e j.ensures.holds.0)
     c.clear-2.new.buffer c.clear-2.ensures
