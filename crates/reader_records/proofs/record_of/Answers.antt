@@ -1,22 +1,13 @@
 -- `reader_records::record_of` meets its contract. Assumes nothing.
 use mathlib.Core.Path.{sym, ap, ◌∙◌}
 use mathlib.Core.List.{[], ◌∷◌}
-use Prim.Native.Nat.{ℕ, ◌+◌, ◌-◌, ◌≤◌, ◌<◌}
+use Prim.Native.Nat.{ℕ, ◌+◌, ◌-◌, ◌≤◌}
 use native.Mathlib.Omega.{arith}
 use lib.ListN.{length}
 use Rattle.line_parser.specs.Places.{name_start}
 use Rattle.card_judge.proofs.CardLaws.{parts_fit, name_long}
 use Rattle.reader_records.specs.Records.{record_by, record_of}
 use Rattle.reader_records.proofs.record_of.Goals as goal
-
-within : (c : tie.After-parsed)
-    → (c.parsed.given.0.0.name_end ≤ length c.before.before.before.before.args.l.now)
-    × (c.parsed.given.0.0.value_start ≤ length c.before.before.before.before.args.l.now)
-    × (c.parsed.given.0.0.group_length ≤ c.parsed.given.0.0.name_end)
-    × (c.parsed.given.0.0.param_count ≤ length c.before.before.before.before.args.l.now)
-    × (c.parsed.given.0.0.row < 44)
-    × (c.parsed.given.0.0.kind < 12)
-within c = parts_fit c.before.before.before.before.args.edition c.before.before.before.before.args.l.now c.parsed.given.0.0 (sym c.before.before.parts-of.ensures ∙ c.parsed.given.1)
 
 pub returns-in_default : goal.returns-in_default
 unfolding record_of record_by
@@ -25,10 +16,16 @@ returns-in_default c =
     sym (ap (record_by a.w (length a.l.now)) (sym c.parts_of-parsed.ensures ∙ c.in_default.is))
 
 pub name_start-from-requires : goal.name_start-from-requires
-name_start-from-requires c = omega (arith, within c, c.requires.l_bound)
+name_start-from-requires c =
+    let x = c.in-Line.x in
+    let within = parts_fit c.args.edition c.args.l.now x (sym c.parts_of-parsed.ensures ∙ c.in-Line.is) in
+    omega (arith, within, c.requires.l_bound)
 
 pub overflow_cast-result : goal.overflow_cast-result
-overflow_cast-result c = omega (arith, within c)
+overflow_cast-result c =
+    let x = c.in-Line.x in
+    let within = parts_fit c.args.edition c.args.l.now x (sym c.parts_of-parsed.ensures ∙ c.in-Line.is) in
+    omega (arith, within)
 
 pub overflow_cast-result-2 : goal.overflow_cast-result-2
 overflow_cast-result-2 c = omega (arith, c.requires.l_bound)
@@ -37,7 +34,10 @@ pub overflow_cast-result-3 : goal.overflow_cast-result-3
 overflow_cast-result-3 c = omega (arith, c.requires.l_bound)
 
 pub overflow_cast-result-4 : goal.overflow_cast-result-4
-overflow_cast-result-4 c = omega (arith, within c, c.requires.l_bound)
+overflow_cast-result-4 c =
+    let x = c.in-Line.x in
+    let within = parts_fit c.args.edition c.args.l.now x (sym c.parts_of-parsed.ensures ∙ c.in-Line.is) in
+    omega (arith, within, c.requires.l_bound)
 
 pub overflow_sub-result : goal.overflow_sub-result
 overflow_sub-result c =
@@ -45,19 +45,34 @@ overflow_sub-result c =
     omega (arith, c.name_start-from.ensures, long)
 
 pub overflow_cast-result-5 : goal.overflow_cast-result-5
-overflow_cast-result-5 c = omega (arith, within c, c.requires.l_bound)
+overflow_cast-result-5 c =
+    let x = c.in-Line.x in
+    let within = parts_fit c.args.edition c.args.l.now x (sym c.parts_of-parsed.ensures ∙ c.in-Line.is) in
+    omega (arith, within, c.requires.l_bound)
 
 pub overflow_cast-result-6 : goal.overflow_cast-result-6
-overflow_cast-result-6 c = omega (arith, within c, c.requires.l_bound)
+overflow_cast-result-6 c =
+    let x = c.in-Line.x in
+    let within = parts_fit c.args.edition c.args.l.now x (sym c.parts_of-parsed.ensures ∙ c.in-Line.is) in
+    omega (arith, within, c.requires.l_bound)
 
 pub overflow_add-result : goal.overflow_add-result
-overflow_add-result c = omega (arith, within c, c.requires.l_bound)
+overflow_add-result c =
+    let x = c.in-Line.x in
+    let within = parts_fit c.args.edition c.args.l.now x (sym c.parts_of-parsed.ensures ∙ c.in-Line.is) in
+    omega (arith, within, c.requires.l_bound)
 
 pub overflow_cast-result-7 : goal.overflow_cast-result-7
-overflow_cast-result-7 c = omega (arith, within c, c.requires.l_bound)
+overflow_cast-result-7 c =
+    let x = c.in-Line.x in
+    let within = parts_fit c.args.edition c.args.l.now x (sym c.parts_of-parsed.ensures ∙ c.in-Line.is) in
+    omega (arith, within, c.requires.l_bound)
 
 pub overflow_cast-result-8 : goal.overflow_cast-result-8
-overflow_cast-result-8 c = omega (arith, within c)
+overflow_cast-result-8 c =
+    let x = c.in-Line.x in
+    let within = parts_fit c.args.edition c.args.l.now x (sym c.parts_of-parsed.ensures ∙ c.in-Line.is) in
+    omega (arith, within)
 
 pub returns : goal.returns
 unfolding record_of record_by

@@ -9,83 +9,100 @@ use Rattle.line_folds.specs.Folds.{line_length}
 use Rattle.line_folds.specs.Logical.{raw_lines}
 use Rattle.line_folds.proofs.LineLaws.{lines_end}
 use Rattle.line_folds.proofs.SpanLaws.{part_length}
-use Rattle.property_table.specs.declared.Edition.{Edition}
 use Rattle.reader_records.specs.Records.{record_of, records_from}
 use Rattle.reader_records.proofs.RecordLaws.{ends_at_cr, record_length, records_turn}
 use Rattle.reader_records.proofs.write_records.Goals as goal
-
--- the line of this turn
-module _ (c : tie.After-next-cr invariant-loop decreases-loop) where
-  abbrev S : List ℕ
-  S = c.before.before.before.before.before.args.s.now
-
-  abbrev D : Edition
-  D = c.before.before.before.before.before.args.edition
-
-  abbrev P : ℕ
-  P = c.before.before.loop.at
-
-  abbrev E : ℕ
-  E = c.next-cr.result
-
-  abbrev X : List ℕ
-  X = take (E - P) (drop P S)
-
-  he : E ≡ P + line_length (drop P S)
-  he = ends_at_cr S P E c.before.before.before.before.before.requires.1.1.1.1 c.next-cr.ensures.1
-
-  turn : records_from D P (raw_lines (drop P S)) ≡ record_of D P X ++ records_from D (E + 2) (raw_lines (drop (E + 2) S))
-  turn = records_turn D S P E c.before.loop-test.true he c.next-cr.ensures.0
-
-  inside : (P ≤ E) × (E ≤ length S) × (length S ≤ 16384)
-  inside = (omega (arith, he), c.next-cr.ensures.0, c.before.before.before.before.before.requires.1.1.0)
-
-  len : length X ≡ E - P
-  len = part_length S P E c.before.loop-test.true he c.next-cr.ensures.0
-
-  fits : c.before.before.loop.k + 8 ≤ length c.before.before.loop.out
-  fits =
-      omega (
-        arith,
-        room c.before.before.loop.invariant c.before.before.before.before.before.requires.1.1.1.0,
-        ap length turn ∙ length-append (record_of D P X) (records_from D (E + 2) (raw_lines (drop (E + 2) S))),
-        record_length D P X,
-      )
 
 pub loop-at-init : goal.loop-at-init
 loop-at-init c = start _ _
 
 pub slice_bounds-record_of-count : goal.slice_bounds-record_of-count
-slice_bounds-record_of-count c = omega (arith, inside c)
+slice_bounds-record_of-count c =
+    let s = c.args.s.now in
+    let l = c.loop-at in
+    let e = c.next_cr-end.result in
+    let he : e ≡ l.at + line_length (drop l.at s) = ends_at_cr s l.at e c.requires.by_index c.next_cr-end.ensures.1 in
+    omega (arith, he, c.next_cr-end.ensures.0, c.requires.s_len_bound)
 
 pub slice_bounds-record_of-start : goal.slice_bounds-record_of-start
-slice_bounds-record_of-start c = omega (arith, inside c)
+slice_bounds-record_of-start c =
+    let s = c.args.s.now in
+    let l = c.loop-at in
+    let e = c.next_cr-end.result in
+    let he : e ≡ l.at + line_length (drop l.at s) = ends_at_cr s l.at e c.requires.by_index c.next_cr-end.ensures.1 in
+    omega (arith, he, c.next_cr-end.ensures.0, c.requires.s_len_bound)
 
 pub slice_bounds-record_of-end : goal.slice_bounds-record_of-end
-slice_bounds-record_of-end c = omega (arith, inside c)
+slice_bounds-record_of-end c =
+    let s = c.args.s.now in
+    let l = c.loop-at in
+    let e = c.next_cr-end.result in
+    let he : e ≡ l.at + line_length (drop l.at s) = ends_at_cr s l.at e c.requires.by_index c.next_cr-end.ensures.1 in
+    omega (arith, he, c.next_cr-end.ensures.0, c.requires.s_len_bound)
 
 pub record_of-r-requires : goal.record_of-r-requires
-record_of-r-requires c = record { classes = c.requires.classes; lists = c.requires.lists; l_bound = rw (len c) (omega (arith, inside c)) }
+record_of-r-requires c =
+    let s = c.args.s.now in
+    let l = c.loop-at in
+    let e = c.next_cr-end.result in
+    let he : e ≡ l.at + line_length (drop l.at s) = ends_at_cr s l.at e c.requires.by_index c.next_cr-end.ensures.1 in
+    let len : length (take (e - l.at) (drop l.at s)) ≡ e - l.at = part_length s l.at e c.loop-at-test.true he c.next_cr-end.ensures.0 in
+    record { classes = c.requires.classes; lists = c.requires.lists; l_bound = rw len (omega (arith, he, c.next_cr-end.ensures.0, c.requires.s_len_bound)) }
 
 pub put_record-requires : goal.put_record-requires
-put_record-requires c = fits c
+put_record-requires c =
+    let s = c.args.s.now in
+    let l = c.loop-at in
+    let e = c.next_cr-end.result in
+    let he : e ≡ l.at + line_length (drop l.at s) = ends_at_cr s l.at e c.requires.by_index c.next_cr-end.ensures.1 in
+    let d = c.args.edition in
+    let x = take (e - l.at) (drop l.at s) in
+    let turn = records_turn d s l.at e c.loop-at-test.true he c.next_cr-end.ensures.0 in
+    let fits : l.k + 8 ≤ length l.out = omega (arith, room l.invariant c.requires.s_in_bounds, ap length turn ∙ length-append (record_of d l.at x) (records_from d (e + 2) (raw_lines (drop (e + 2) s))), record_length d l.at x) in
+    fits
 
 pub overflow_add-k : goal.overflow_add-k
-overflow_add-k c = omega (arith, fits c, c.loop-at.invariant.same, c.well_formed)
+overflow_add-k c =
+    let s = c.args.s.now in
+    let l = c.loop-at in
+    let e = c.next_cr-end.result in
+    let he : e ≡ l.at + line_length (drop l.at s) = ends_at_cr s l.at e c.requires.by_index c.next_cr-end.ensures.1 in
+    let d = c.args.edition in
+    let x = take (e - l.at) (drop l.at s) in
+    let turn = records_turn d s l.at e c.loop-at-test.true he c.next_cr-end.ensures.0 in
+    let fits : l.k + 8 ≤ length l.out = omega (arith, room l.invariant c.requires.s_in_bounds, ap length turn ∙ length-append (record_of d l.at x) (records_from d (e + 2) (raw_lines (drop (e + 2) s))), record_length d l.at x) in
+    omega (arith, fits, l.invariant.same)
 
 pub overflow_add-at : goal.overflow_add-at
-overflow_add-at c = omega (arith, inside c)
+overflow_add-at c =
+    let s = c.args.s.now in
+    let l = c.loop-at in
+    let e = c.next_cr-end.result in
+    let he : e ≡ l.at + line_length (drop l.at s) = ends_at_cr s l.at e c.requires.by_index c.next_cr-end.ensures.1 in
+    omega (arith, he, c.next_cr-end.ensures.0, c.requires.s_len_bound)
 
 pub loop-at-smaller : goal.loop-at-smaller
-loop-at-smaller c = omega (arith, inside c, c.loop-at-test.true)
+loop-at-smaller c =
+    let s = c.args.s.now in
+    let l = c.loop-at in
+    let e = c.next_cr-end.result in
+    let he : e ≡ l.at + line_length (drop l.at s) = ends_at_cr s l.at e c.requires.by_index c.next_cr-end.ensures.1 in
+    omega (arith, he, c.next_cr-end.ensures.0)
 
 pub loop-at-preserved : goal.loop-at-preserved
 loop-at-preserved c =
+    let s = c.args.s.now in
     let l = c.loop-at in
-    let eight = record_length (D c) (P c) (X c) in
-    rw eight at (put l.invariant (record_of (D c) (P c) (X c)) _ _ (turn c) (rw eight (fits c))
-    (c.put_record.ensures ∙ ap (λ (x : List ℕ). take l.k l.out ++ x ++ drop (l.k + 8) l.out) c.record_of-r.ensures
-    ∙ ap (λ (n : ℕ). take l.k l.out ++ record_of (D c) (P c) (X c) ++ drop (l.k + n) l.out) (sym eight)))
+    let e = c.next_cr-end.result in
+    let he : e ≡ l.at + line_length (drop l.at s) = ends_at_cr s l.at e c.requires.by_index c.next_cr-end.ensures.1 in
+    let d = c.args.edition in
+    let x = take (e - l.at) (drop l.at s) in
+    let turn = records_turn d s l.at e c.loop-at-test.true he c.next_cr-end.ensures.0 in
+    let fits : l.k + 8 ≤ length l.out = omega (arith, room l.invariant c.requires.s_in_bounds, ap length turn ∙ length-append (record_of d l.at x) (records_from d (e + 2) (raw_lines (drop (e + 2) s))), record_length d l.at x) in
+    let eight = record_length d l.at x in
+    rw eight at (put l.invariant (record_of d l.at x) _ _ turn (rw eight fits)
+    (c.put_record.ensures ∙ ap (λ (r : List ℕ). take l.k l.out ++ r ++ drop (l.k + 8) l.out) c.record_of-r.ensures
+    ∙ ap (λ (n : ℕ). take l.k l.out ++ record_of d l.at x ++ drop (l.k + n) l.out) (sym eight)))
 
 pub shape_of-out : goal.shape_of-out
 shape_of-out c = c.loop-at.invariant.same
