@@ -8,7 +8,7 @@ import sys
 ROOT = pathlib.Path(__file__).resolve().parent.parent
 TOKEN = re.compile(r'"((?:[^"\\]|\\.)*)"|(0x[0-9A-Fa-f]+|\d+)|([()])|([^\s()"]+)')
 # operators: how close they bind; all of them group to the right
-OPERATORS = {"∷": 4, "||": 5, "or": 5, "&&": 6, "then": 6, "+": 7, "-": 7, "%": 8}
+OPERATORS = {"∷": 4, "||": 5, "or": 5, "&&": 6, "then": 6, "==": 6.5, "+": 7, "-": 7, "%": 8}
 SKIPPED = ("use ", "abbrev ", "unfoldable ", "pub ", "infixr ", "--")
 
 
@@ -94,15 +94,17 @@ class Module:
                 self.clauses.setdefault(left.split()[0], []).append((left, right))
 
     def add_import(self, line):
-        variants = re.match(r"use Rattle·\w+(?:·specs)?\.specs\.declared\.\w+\.the-variants\.\{(.*)\}$", line)
+        variants = re.match(r"use Rattle\.\w+\.specs\.declared\.\w+\.TheVariants\.\{(.*)\}$", line)
         if variants:
             self.constructors.update({name: 0 for name in variants.group(1).split(", ")})
             return
-        found = re.match(r"use Rattle·(\w+)(?:·specs)?\.specs\.(\w+)(?: as (\w+)|\.\{(.*)\})$", line)
+        found = re.match(r"use Rattle\.(\w+)\.specs\.(\w+)(?: as (\w+)|\.\{(.*)\})$", line)
         if not found:
             return
         crate, file, alias, names = found.groups()
         path = ROOT / "crates" / crate / "specs" / (file + ".antt")
+        if not path.exists():  # a file of the kit
+            return
         if alias:
             self.aliases[alias] = path
             return
@@ -114,7 +116,7 @@ class Module:
         for part in line.split("\n")[1:]:
             names, _, of = part.partition(" : ")
             for name in names.split():
-                self.constructors[name.strip("_")] = of.count("→")
+                self.constructors[name.strip("◌")] = of.count("→")
 
     def value(self, name, given=()):
         """The value of a definition at these arguments."""
@@ -122,9 +124,9 @@ class Module:
             return (name, *given) if len(given) == self.constructors[name] else lambda *more: self.value(name, (*given, *more))
         if name in self.clauses:
             return self.choose(name, given)
-        if name.strip("_") in self.imports or f"_{name}_" in self.imports:
-            path, there = self.imports.get(name) or self.imports[f"_{name}_"]
-            return module(path).value(there.strip("_"), given)
+        if name.strip("◌") in self.imports or f"◌{name}◌" in self.imports:
+            path, there = self.imports.get(name) or self.imports[f"◌{name}◌"]
+            return module(path).value(there.strip("◌"), given)
         alias, dot, inner = name.partition(".")
         if dot and alias in self.aliases:
             return module(self.aliases[alias]).value(inner, given)
@@ -168,8 +170,8 @@ class Module:
         if name == "∷":
             return value != [] and self.fits(inner[0], value[0], names) and self.fits(inner[1], value[1:], names)
         home = self.constructors if name in self.constructors else {}
-        if name in self.imports or f"_{name}_" in self.imports:
-            path, there = self.imports.get(name) or self.imports[f"_{name}_"]
+        if name in self.imports or f"◌{name}◌" in self.imports:
+            path, there = self.imports.get(name) or self.imports[f"◌{name}◌"]
             home = module(path).constructors
         if name in home or inner:
             return isinstance(value, tuple) and value[0] == name and all(self.fits(p, v, names) for p, v in zip(inner, value[1:]))
@@ -194,9 +196,9 @@ class Module:
 BUILT_IN = {
     "true": True, "false": False, "[]": [],
     "not": lambda a: not a, "&&": lambda a, b: a and b, "||": lambda a, b: a or b,
-    "eqb": lambda a, b: a == b, "leb": lambda a, b: a <= b, "ltb": lambda a, b: a < b,
+    "eqb": lambda a, b: a == b, "==": lambda a, b: a == b, "leb": lambda a, b: a <= b, "ltb": lambda a, b: a < b,
     "+": lambda a, b: a + b, "-": lambda a, b: max(a - b, 0), "%": lambda a, b: a % b, "suc": lambda a: a + 1, "∷": lambda a, b: [a] + b, "code": ord,
-    "getD": lambda items, at, other: items[at] if at < len(items) else other,
+    "get_or": lambda items, at, other: items[at] if at < len(items) else other,
 }
 
 

@@ -1,4 +1,6 @@
 // Cells: how wide a terminal shows a text, blanks of that width, and what a column has to spare beside it.
+#![tactic(auto)]
+
 mod ranges;
 mod unicode;
 

@@ -3,8 +3,8 @@ ghost use Rattle.cabbook_output.specs.Ends.{Status};
 
 use cabbook_messages::sentences::put_amount;
 use cabbook_tables::status;
-use libc::STDOUT_FILENO;
 use octets::slices::part;
+use program_host::{Host, STDOUT};
 use program_output::{put, put_all};
 
 // Adds an octet of a text between quote marks.
@@ -34,23 +34,23 @@ fn put_quoted(room: &mut [u8], at: usize, text: &[u8]) -> usize {
 
 // Adds the start of a file's object: its name, made visible.
 fn put_file(room: &mut [u8], path: &[u8]) -> usize {
-    let mut shown = io::large_buffer();
+    let mut shown = program_host::large_buffer();
     let n = program_visible::put_visible(&mut shown, 0, path);
     let start = put_all(room, 0, b"{\"file\":");
     put_quoted(room, start, part(&shown, 0, n))
 }
 
 // Prints the object of a file with so many cards and lines, and answers the exit status.
-pub(crate) fn print_accepted(path: &[u8], cards: usize, lines: usize) -> u8
+pub(crate) fn print_accepted(host: &mut Host, path: &[u8], cards: usize, lines: usize) -> u8
     ensures { Status result }
 {
-    let mut room = io::large_buffer();
+    let mut room = program_host::large_buffer();
     let file = put_file(&mut room, path);
     let verdict = put_all(&mut room, file, b",\"accepted\":true,\"cards\":");
     let count = put_amount(&mut room, verdict, cards, b",\"lines\":");
     let n = put_amount(&mut room, count, lines, b"}\n");
     cabbook_output::status_if(
-        cabbook_output::send(STDOUT_FILENO, &room, n),
+        cabbook_output::send(host, STDOUT, &room, n),
         status::ACCEPTED,
     )
 }
@@ -74,7 +74,7 @@ fn put_place(room: &mut [u8], at: usize, s: &[u8], place: usize) -> usize {
 
 // Adds a refusal of octets, as an object.
 fn put_refusal(room: &mut [u8], at: usize, s: &[u8], number: u32, place: usize) -> usize {
-    let mut words = io::buffer();
+    let mut words = program_host::buffer();
     let k = cabbook_rows::faults::put_why(&mut words, 0, s, number, place);
     let start = put_all(room, at, b"{\"refusal\":");
     let refusal = put_amount(room, start, number as usize, b",\"octet\":");
@@ -91,46 +91,46 @@ fn put_first(room: &mut [u8], path: &[u8], s: &[u8], number: u32, place: usize) 
 }
 
 // Prints the start of the object of a refused file, with its first refusal, and answers the exit status.
-pub(crate) fn print_first(path: &[u8], s: &[u8], number: u32, place: usize) -> u8
+pub(crate) fn print_first(host: &mut Host, path: &[u8], s: &[u8], number: u32, place: usize) -> u8
     ensures { Status result }
 {
-    let mut room = io::large_buffer();
+    let mut room = program_host::large_buffer();
     let n = put_first(&mut room, path, s, number, place);
     cabbook_output::status_if(
-        cabbook_output::send(STDOUT_FILENO, &room, n),
+        cabbook_output::send(host, STDOUT, &room, n),
         status::REFUSED,
     )
 }
 
 // Prints one refusal more of a file, and answers the exit status.
-pub(crate) fn print_next(s: &[u8], number: u32, place: usize) -> u8
+pub(crate) fn print_next(host: &mut Host, s: &[u8], number: u32, place: usize) -> u8
     ensures { Status result }
 {
-    let mut room = io::large_buffer();
+    let mut room = program_host::large_buffer();
     let start = put_all(&mut room, 0, b",");
     let n = put_refusal(&mut room, start, s, number, place);
     cabbook_output::status_if(
-        cabbook_output::send(STDOUT_FILENO, &room, n),
+        cabbook_output::send(host, STDOUT, &room, n),
         status::REFUSED,
     )
 }
 
 // Prints the end of the object of a refused file, and answers the exit status.
-pub(crate) fn print_end() -> u8
+pub(crate) fn print_end(host: &mut Host) -> u8
     ensures { Status result }
 {
-    cabbook_output::status_if(io::write_all(STDOUT_FILENO, b"]}\n"), status::REFUSED)
+    cabbook_output::status_if(host.write_all(STDOUT, b"]}\n"), status::REFUSED)
 }
 
 // Prints the object of a file with one refusal, and answers the exit status.
-pub(crate) fn print_refused(path: &[u8], s: &[u8], number: u32, place: usize) -> u8
+pub(crate) fn print_refused(host: &mut Host, path: &[u8], s: &[u8], number: u32, place: usize) -> u8
     ensures { Status result }
 {
-    let mut room = io::large_buffer();
+    let mut room = program_host::large_buffer();
     let first = put_first(&mut room, path, s, number, place);
     let n = put_all(&mut room, first, b"]}\n");
     cabbook_output::status_if(
-        cabbook_output::send(STDOUT_FILENO, &room, n),
+        cabbook_output::send(host, STDOUT, &room, n),
         status::REFUSED,
     )
 }

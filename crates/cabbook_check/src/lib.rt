@@ -1,18 +1,20 @@
 // `check`: a row a file, and under each refusal its logical line and what would help; or an object of JSON; or nothing but the status.
+#![tactic(auto)]
+
 mod json;
 
 ghost use Rattle.cabbook_output.specs.Ends.{Status};
 
 use cabbook_tables::status;
-use libc::STDOUT_FILENO;
 use numbers::{limit, refusal};
 use octets::cases::same_name;
 use octets::slices::{least, part};
+use program_host::{Host, STDOUT};
 use property_table::Edition;
 use reader::Verdict;
 
 // What is printed: rows, objects of JSON, or nothing.
-#[derive(Drop)]
+#[derive(Clone, Copy)]
 pub enum Manner {
     Rows,
     Json,
@@ -20,51 +22,51 @@ pub enum Manner {
 }
 
 // Prints the row of a file with so many cards and lines, and answers the exit status.
-fn print_accepted(path: &[u8], cards: usize, lines: usize) -> u8
+fn print_accepted(host: &mut Host, path: &[u8], cards: usize, lines: usize) -> u8
     ensures { Status result }
 {
-    let mut room = io::large_buffer();
+    let mut room = program_host::large_buffer();
     let n = cabbook_rows::rows::put_accepted(&mut room, 0, path, cards, lines);
     cabbook_output::status_if(
-        cabbook_output::send(STDOUT_FILENO, &room, n),
+        cabbook_output::send(host, STDOUT, &room, n),
         status::ACCEPTED,
     )
 }
 
 // Prints what is to be known of a refused file, of one that is too long its size, of one of version 3 whether it is taken in, and answers the exit status.
-fn print_refused(path: &[u8], s: &[u8], number: u32, place: usize) -> u8
+fn print_refused(host: &mut Host, path: &[u8], s: &[u8], number: u32, place: usize) -> u8
     ensures { Status result }
 {
-    let status = cabbook_output::print_refusal(STDOUT_FILENO, path, s, number, place);
+    let status = cabbook_output::print_refusal(host, STDOUT, path, s, number, place);
     if status == cabbook_output::UNWRITTEN {
         return status;
     }
     if number == refusal::TOO_LONG {
-        return cabbook_output::status_if(cabbook_sizes::print_size(path), status);
+        return cabbook_output::status_if(cabbook_sizes::print_size(host, path), status);
     }
     if !cabbook_version3::is_version3(s, number, place) {
         return status;
     }
-    cabbook_version3::print_advice(path, s)
+    cabbook_version3::print_advice(host, path, s)
 }
 
 // Prints the verdict on a file with these octets in rows, and answers the exit status.
-pub fn print_verdict(path: &[u8], s: &[u8], v: Verdict) -> u8
+pub fn print_verdict(host: &mut Host, path: &[u8], s: &[u8], v: Verdict) -> u8
     ensures { Status result }
 {
     match v {
-        Verdict::Accepted(cards, lines) => print_accepted(path, cards, lines),
-        Verdict::Refused(number, place) => print_refused(path, s, number, place),
+        Verdict::Accepted(cards, lines) => print_accepted(host, path, cards, lines),
+        Verdict::Refused(number, place) => print_refused(host, path, s, number, place),
     }
 }
 
 // Tells the verdict on a file as an object of JSON, and answers the exit status.
-fn tell_json(path: &[u8], s: &[u8], v: Verdict) -> u8
+fn tell_json(host: &mut Host, path: &[u8], s: &[u8], v: Verdict) -> u8
     ensures { Status result }
 {
     match v {
-        Verdict::Accepted(cards, lines) => json::print_accepted(path, cards, lines),
-        Verdict::Refused(number, place) => json::print_refused(path, s, number, place),
+        Verdict::Accepted(cards, lines) => json::print_accepted(host, path, cards, lines),
+        Verdict::Refused(number, place) => json::print_refused(host, path, s, number, place),
     }
 }
 
@@ -79,29 +81,36 @@ fn status_of(v: Verdict) -> u8
 }
 
 // Tells the verdict on a file with these octets, and answers the exit status.
-fn tell(manner: Manner, path: &[u8], s: &[u8], v: Verdict) -> u8
+fn tell(host: &mut Host, manner: Manner, path: &[u8], s: &[u8], v: Verdict) -> u8
     ensures { Status result }
 {
     match manner {
-        Manner::Rows => print_verdict(path, s, v),
-        Manner::Json => tell_json(path, s, v),
+        Manner::Rows => print_verdict(host, path, s, v),
+        Manner::Json => tell_json(host, path, s, v),
         Manner::Quiet => status_of(v),
     }
 }
 
 // Tells the first refusal of several cards, and answers the exit status.
-fn tell_first(manner: Manner, path: &[u8], s: &[u8], number: u32, place: usize) -> u8
+fn tell_first(
+    host: &mut Host,
+    manner: Manner,
+    path: &[u8],
+    s: &[u8],
+    number: u32,
+    place: usize,
+) -> u8
     ensures { Status result }
 {
     match manner {
-        Manner::Rows => cabbook_output::print_refusal(STDOUT_FILENO, path, s, number, place),
-        Manner::Json => json::print_first(path, s, number, place),
+        Manner::Rows => cabbook_output::print_refusal(host, STDOUT, path, s, number, place),
+        Manner::Json => json::print_first(host, path, s, number, place),
         Manner::Quiet => status::REFUSED,
     }
 }
 
 // Tells that there are no more refusals, and answers the exit status, where all was written so far.
-fn tell_end(manner: Manner, status: u8) -> u8
+fn tell_end(host: &mut Host, manner: Manner, status: u8) -> u8
     requires { Status status }
     ensures { Status result }
 {
@@ -110,18 +119,25 @@ fn tell_end(manner: Manner, status: u8) -> u8
     }
     match manner {
         Manner::Rows => status,
-        Manner::Json => json::print_end(),
+        Manner::Json => json::print_end(host),
         Manner::Quiet => status,
     }
 }
 
 // Tells one refusal more of several cards, and answers the exit status.
-fn tell_refused(manner: Manner, path: &[u8], s: &[u8], number: u32, place: usize) -> u8
+fn tell_refused(
+    host: &mut Host,
+    manner: Manner,
+    path: &[u8],
+    s: &[u8],
+    number: u32,
+    place: usize,
+) -> u8
     ensures { Status result }
 {
     match manner {
-        Manner::Rows => cabbook_output::print_refusal(STDOUT_FILENO, path, s, number, place),
-        Manner::Json => json::print_next(s, number, place),
+        Manner::Rows => cabbook_output::print_refusal(host, STDOUT, path, s, number, place),
+        Manner::Json => json::print_next(host, s, number, place),
         Manner::Quiet => status::REFUSED,
     }
 }
@@ -153,7 +169,14 @@ fn next_card(s: &[u8], after: usize) -> usize {
 }
 
 // Judges the cards behind a refusal, one input for each that follows a refused one, tells their refusals, and answers the exit status.
-fn check_behind(edition: Edition, manner: Manner, path: &[u8], s: &[u8], place: usize) -> u8
+fn check_behind(
+    host: &mut Host,
+    edition: Edition,
+    manner: Manner,
+    path: &[u8],
+    s: &[u8],
+    place: usize,
+) -> u8
     ensures { Status result }
 {
     let mut from = next_card(s, place);
@@ -167,7 +190,7 @@ fn check_behind(edition: Edition, manner: Manner, path: &[u8], s: &[u8], place: 
             return status::REFUSED;
         };
         let at = from + least(p, s.len() - from);
-        if tell_refused(manner, path, s, number, at) == cabbook_output::UNWRITTEN {
+        if tell_refused(host, manner, path, s, number, at) == cabbook_output::UNWRITTEN {
             return cabbook_output::UNWRITTEN;
         }
         from = next_card(s, at);
@@ -177,22 +200,23 @@ fn check_behind(edition: Edition, manner: Manner, path: &[u8], s: &[u8], place: 
 }
 
 // Judges a file's octets in an edition, tells what is found, and answers the exit status.
-pub fn check(edition: Edition, manner: Manner, path: &[u8], s: &[u8]) -> u8
+pub fn check(host: &mut Host, edition: Edition, manner: Manner, path: &[u8], s: &[u8]) -> u8
     ensures { Status result }
 {
-    tell(manner, path, s, reader::judge_as(edition, s))
+    tell(host, manner, path, s, reader::judge_as(edition, s))
 }
 
 // Judges a file's octets in an edition, tells what is found, of the cards behind a refused one too, and answers the exit status.
-pub fn check_all(edition: Edition, manner: Manner, path: &[u8], s: &[u8]) -> u8
+pub fn check_all(host: &mut Host, edition: Edition, manner: Manner, path: &[u8], s: &[u8]) -> u8
     ensures { Status result }
 {
     let v = reader::judge_as(edition, s);
     let Verdict::Refused(number, place) = v else {
-        return tell(manner, path, s, v);
+        return tell(host, manner, path, s, v);
     };
-    if tell_first(manner, path, s, number, place) == cabbook_output::UNWRITTEN {
+    if tell_first(host, manner, path, s, number, place) == cabbook_output::UNWRITTEN {
         return cabbook_output::UNWRITTEN;
     }
-    tell_end(manner, check_behind(edition, manner, path, s, place))
+    let status = check_behind(host, edition, manner, path, s, place);
+    tell_end(host, manner, status)
 }

@@ -1,4 +1,6 @@
 // Text in columns of a lent page.
+#![tactic(auto)]
+
 ghost use Rattle.std.specs.Prelude.{◌≡◌, ◌-◌, replicate};
 ghost use Rattle.program_output.specs.Pages.{page, added};
 ghost use Rattle.cabbook_columns.specs.Columns.{at_left, at_right};
@@ -29,7 +31,7 @@ pub fn put_right(room: &mut [u8], at: usize, n: usize, width: usize) -> usize
     ensures { page result room.new ≡ added (at_right n width) (page at room.old) }
 {
     let mut digits = [0u8; DIGITS];
-    let k = io::decimal(n as u64, &mut digits);
+    let k = program_output::digits::decimal(n, &mut digits);
     let text = &digits[..k];
     let gap_end = put_gap(room, at, text.len(), width);
     program_output::put_all(room, gap_end, text)

@@ -4,45 +4,45 @@ ghost use Rattle.cabbook_output.specs.Ends.{Status};
 use cabbook_options::words::Words;
 use cabbook_options::{arguments, names};
 use cabbook_tables::status;
-use libc::{STDERR_FILENO, STDOUT_FILENO};
 use numbers::{count, limit};
 use octets::indices::wide_number;
 use octets::rooms::Written;
 use program_files::Input;
+use program_host::{Host, STDERR, STDOUT};
 use report::{Answer, Report};
 
 // More octets than the rows of a report have with their bars.
 const PAGE: usize = 8192;
 
 // The report so far, and the exit status of what could not be counted.
-#[derive(Drop)]
+#[derive(Clone, Copy)]
 struct Gathered {
     report: Report,
     status: u8,
 }
 
 // Reads the file that argument i names, and says where that fails.
-fn read_argument(i: usize, room: &mut [u8]) -> Input {
-    let mut path = io::large_buffer();
-    let n = os::arg(i, &mut path);
-    program_files::read(&path[..n], room)
+fn read_argument(host: &mut Host, i: usize, room: &mut [u8]) -> Input {
+    let mut path = program_host::large_buffer();
+    let n = host.arg(i, &mut path);
+    program_files::read(host, &path[..n], room)
 }
 
 // Reads the file that argument i names; one that can't be opened was told before.
-fn read_again(i: usize, room: &mut [u8]) -> Input {
-    let mut path = io::large_buffer();
-    let n = os::arg(i, &mut path);
-    let fd = os::open_read(&path[..n]);
+fn read_again(host: &mut Host, i: usize, room: &mut [u8]) -> Input {
+    let mut path = program_host::large_buffer();
+    let n = host.arg(i, &mut path);
+    let fd = host.open_read(&path[..n]);
     if fd < 0 {
         return Input::Unread;
     }
-    let got = program_files::fetch(fd, &path[..n], room);
-    libc::close(fd);
+    let got = program_files::fetch(host, fd, &path[..n], room);
+    host.close(fd);
     got
 }
 
 // Takes the judgement of a file's octets.
-fn take(g: Gathered, s: &[u8]) -> Gathered {
+fn take(host: &mut Host, g: Gathered, s: &[u8]) -> Gathered {
     let r = g.report;
     let t = r.take(s);
     let a = t.answer;
@@ -53,7 +53,7 @@ fn take(g: Gathered, s: &[u8]) -> Gathered {
             status: g.status,
         },
         Answer::Refused(_, _) => {
-            io::write_all(STDERR_FILENO, b"cabbook: the report is full\n");
+            host.write_all(STDERR, b"cabbook: the report is full\n");
             Gathered {
                 report: next,
                 status: status::FAILED,
@@ -63,7 +63,7 @@ fn take(g: Gathered, s: &[u8]) -> Gathered {
 }
 
 // Takes the judgement of what was read of a file; one that was not read is not counted.
-fn take_read(g: Gathered, got: Input, room: &[u8]) -> Gathered {
+fn take_read(host: &mut Host, g: Gathered, got: Input, room: &[u8]) -> Gathered {
     let Input::Octets(n) = got else {
         let r = g.report;
         return Gathered {
@@ -72,49 +72,50 @@ fn take_read(g: Gathered, got: Input, room: &[u8]) -> Gathered {
         };
     };
     take(
+        host,
         g,
         octets::slices::part(room, 0, octets::slices::least(n, room.len())),
     )
 }
 
 // Takes the judgement of the file that argument i names.
-fn take_argument(g: Gathered, i: usize, again: bool) -> Gathered {
+fn take_argument(host: &mut Host, g: Gathered, i: usize, again: bool) -> Gathered {
     let mut room = [0u8; limit::READ_ROOM];
     if again {
-        let got = read_again(i, &mut room);
-        return take_read(g, got, &room);
+        let got = read_again(host, i, &mut room);
+        return take_read(host, g, got, &room);
     }
-    let got = read_argument(i, &mut room);
-    take_read(g, got, &room)
+    let got = read_argument(host, i, &mut room);
+    take_read(host, g, got, &room)
 }
 
 // Takes the judgements of the files that the arguments name.
-fn gather(w: Words, count: usize, again: bool) -> Gathered {
+fn gather(host: &mut Host, w: Words, count: usize, again: bool) -> Gathered {
     let mut g = Gathered {
         report: Report::new(),
         status: status::ACCEPTED,
     };
-    let mut i = arguments::first_file(w, count);
+    let mut i = arguments::first_file(host, w, count);
     while i < count {
-        g = take_argument(g, i, again);
-        i = arguments::next_file(i + 1, w.dashes, count);
+        g = take_argument(host, g, i, again);
+        i = arguments::next_file(host, i + 1, w.dashes, count);
     }
     g
 }
 
 // Prints a report, with bars where they are asked for, and answers whether it was written.
-fn print_rows(r: Report, bars: bool) -> bool {
+fn print_rows(host: &mut Host, r: Report, bars: bool) -> bool {
     let counts = r.counts;
     let mut room = [0u8; PAGE];
     if bars {
         let n = cabbook_report::put_bars(&mut room, &counts);
-        return cabbook_output::send(STDOUT_FILENO, &room, n);
+        return cabbook_output::send(host, STDOUT, &room, n);
     }
     let w = r.print(&mut room);
     let Written::Wrote(n) = w else {
         return false;
     };
-    cabbook_output::send(STDOUT_FILENO, &room, n)
+    cabbook_output::send(host, STDOUT, &room, n)
 }
 
 // The exit status: what could not be counted, or whether an upload was refused.
@@ -133,22 +134,22 @@ fn status_of(g: Gathered) -> u8
 }
 
 // Prints the report of the files that the arguments name, and answers the exit status.
-pub(crate) fn report_files(w: Words, count: usize) -> u8
+pub(crate) fn report_files(host: &mut Host, w: Words, count: usize) -> u8
     ensures { Status result }
 {
-    let g = gather(w, count, false);
+    let g = gather(host, w, count, false);
     let bars = w.values[names::BARS] == 1;
-    cabbook_output::status_if(print_rows(g.report, bars), status_of(g))
+    cabbook_output::status_if(print_rows(host, g.report, bars), status_of(g))
 }
 
 // Prints the report of files that were uploaded, behind an empty line, and answers the exit status; that of the uploads where it is written.
-pub(crate) fn print_after(w: Words, count: usize, status: u8) -> u8
+pub(crate) fn print_after(host: &mut Host, w: Words, count: usize, status: u8) -> u8
     requires { Status status }
     ensures { Status result }
 {
-    if !io::write_all(STDOUT_FILENO, b"\n") {
+    if !host.write_all(STDOUT, b"\n") {
         return cabbook_output::UNWRITTEN;
     }
-    let g = gather(w, count, true);
-    cabbook_output::status_if(print_rows(g.report, false), status)
+    let g = gather(host, w, count, true);
+    cabbook_output::status_if(print_rows(host, g.report, false), status)
 }

@@ -5,7 +5,7 @@ ghost use Rattle.cabbook_tables.specs.Statuses as status;
 
 use cabbook_options::command;
 use cabbook_tables::status;
-use libc::{STDERR_FILENO, STDOUT_FILENO};
+use program_host::{Host, STDERR, STDOUT};
 use program_output::put_all;
 
 // How wide the column of the calls is, with the space after it.
@@ -160,44 +160,44 @@ fn put_help(room: &mut [u8]) -> usize {
 }
 
 // Prints the help on standard output: of a command where one is named.
-pub(crate) fn print_help(command: usize) -> u8
+pub(crate) fn print_help(host: &mut Host, command: usize) -> u8
     ensures { Status result }
 {
-    let mut room = io::buffer();
+    let mut room = program_host::buffer();
     if command == 0 || command == command::HELP {
         let n = put_help(&mut room);
         return cabbook_output::status_if(
-            cabbook_output::send(STDOUT_FILENO, &room, n),
+            cabbook_output::send(host, STDOUT, &room, n),
             status::ACCEPTED,
         );
     }
     let n = put_line(&mut room, 0, command);
     cabbook_output::status_if(
-        cabbook_output::send(STDOUT_FILENO, &room, n),
+        cabbook_output::send(host, STDOUT, &room, n),
         status::ACCEPTED,
     )
 }
 
 // Prints the tool's name and version.
-pub(crate) fn print_version() -> u8
+pub(crate) fn print_version(host: &mut Host) -> u8
     ensures { Status result }
 {
     cabbook_output::status_if(
-        io::write_all(STDOUT_FILENO, b"cabbook 2, of Gerstebolk\n"),
+        host.write_all(STDOUT, b"cabbook 2, of Gerstebolk\n"),
         status::ACCEPTED,
     )
 }
 
 // Prints what was wrong and what to do on standard error: how the command is called, or all where none is named.
-pub(crate) fn print_usage(what: &[u8], command: usize) -> u8
+pub(crate) fn print_usage(host: &mut Host, what: &[u8], command: usize) -> u8
     ensures { result ≡ status.failed }
 {
-    let mut room = io::large_buffer();
+    let mut room = program_host::large_buffer();
     let start = put_all(&mut room, 0, b"cabbook: ");
     let what_end = put_all(&mut room, start, what);
     let use_end = put_all(&mut room, what_end, b"; use it as\n");
     let n = put_use(&mut room, use_end, command);
-    cabbook_output::send(STDERR_FILENO, &room, n);
+    cabbook_output::send(host, STDERR, &room, n);
     status::FAILED
 }
 
@@ -210,15 +210,15 @@ fn put_use(room: &mut [u8], at: usize, command: usize) -> usize {
 }
 
 // Prints on standard error that a word is wrong, why, and what to do.
-pub(crate) fn print_wrong(word: &[u8], why: &[u8], command: usize) -> u8
+pub(crate) fn print_wrong(host: &mut Host, word: &[u8], why: &[u8], command: usize) -> u8
     ensures { result ≡ status.failed }
 {
-    let mut room = io::large_buffer();
+    let mut room = program_host::large_buffer();
     let start = put_all(&mut room, 0, b"cabbook: ");
     let word_end = program_visible::put_visible(&mut room, start, word);
     let why_end = put_all(&mut room, word_end, why);
     let use_end = put_all(&mut room, why_end, b"; use it as\n");
     let n = put_use(&mut room, use_end, command);
-    cabbook_output::send(STDERR_FILENO, &room, n);
+    cabbook_output::send(host, STDERR, &room, n);
     status::FAILED
 }

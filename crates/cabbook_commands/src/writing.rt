@@ -4,13 +4,13 @@ ghost use Rattle.cabbook_output.specs.Ends.{Status};
 use cabbook_tables::status;
 use folder_raising::Style;
 use label_carets::Rule;
-use libc::{STDERR_FILENO, STDOUT_FILENO};
 use numbers::limit;
 use octets::rooms::Written;
+use program_host::{Host, STDERR, STDOUT};
 use property_table::Edition;
 
 // The form in which octets are written.
-#[derive(Drop)]
+#[derive(Clone, Copy)]
 pub enum Form {
     Folded(Edition, Style),
     Escaped,
@@ -31,17 +31,24 @@ fn write(form: Form, s: &[u8], room: &mut [u8]) -> Written {
 }
 
 // Prints what is to be known of octets that a form refuses, and answers the exit status.
-fn print_refused(form: Form, path: &[u8], s: &[u8], number: u32, place: usize) -> u8
+fn print_refused(
+    host: &mut Host,
+    form: Form,
+    path: &[u8],
+    s: &[u8],
+    number: u32,
+    place: usize,
+) -> u8
     ensures { Status result }
 {
     match form {
-        Form::Folded(_, _) => cabbook_output::print_refusal(STDERR_FILENO, path, s, number, place),
-        _ => cabbook_output::print_refused(STDERR_FILENO, path, s, number, place),
+        Form::Folded(_, _) => cabbook_output::print_refusal(host, STDERR, path, s, number, place),
+        _ => cabbook_output::print_refused(host, STDERR, path, s, number, place),
     }
 }
 
 // Writes octets in a form to standard output, or what is to be known of a refusal, and answers the exit status.
-pub(crate) fn deliver(form: Form, path: &[u8], s: &[u8]) -> u8
+pub(crate) fn deliver(host: &mut Host, form: Form, path: &[u8], s: &[u8]) -> u8
     ensures { Status result }
 {
     let mut room = [0u8; limit::OCTETS];
@@ -49,10 +56,10 @@ pub(crate) fn deliver(form: Form, path: &[u8], s: &[u8]) -> u8
     match w {
         Written::Wrote(n) => {
             cabbook_output::status_if(
-                cabbook_output::send(STDOUT_FILENO, &room, n),
+                cabbook_output::send(host, STDOUT, &room, n),
                 status::ACCEPTED,
             )
         }
-        Written::Refused(number, place) => print_refused(form, path, s, number, place),
+        Written::Refused(number, place) => print_refused(host, form, path, s, number, place),
     }
 }

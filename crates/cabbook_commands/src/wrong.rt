@@ -2,6 +2,7 @@
 use crate::usage;
 use cabbook_options::words::Words;
 use cabbook_options::{command, names, words};
+use program_host::Host;
 
 // The options that a command takes, 0 for none; `--help` and `--version` stand with any.
 fn options_of(command: usize) -> [usize; 4] {
@@ -56,64 +57,78 @@ fn has_stray(w: Words) -> bool {
 }
 
 // Says that an option's number is none that it takes.
-fn print_number(w: Words) {
+fn print_number(host: &mut Host, w: Words) {
     let option = w.waits;
     match option {
-        names::EDITION => usage::print_usage(b"--edition takes 1 or 2", w.command),
-        names::CHUNK => usage::print_usage(b"--chunk takes a number from 1 to 16,384", w.command),
-        names::TICK => usage::print_usage(b"--tick takes a number from 1 to 16,384", w.command),
-        _ => usage::print_usage(b"--slots takes a number from 1 to 40", w.command),
+        names::EDITION => usage::print_usage(host, b"--edition takes 1 or 2", w.command),
+        names::CHUNK => usage::print_usage(
+            host,
+            b"--chunk takes a number from 1 to 16,384",
+            w.command,
+        ),
+        names::TICK => usage::print_usage(
+            host,
+            b"--tick takes a number from 1 to 16,384",
+            w.command,
+        ),
+        _ => usage::print_usage(host, b"--slots takes a number from 1 to 40", w.command),
     };
 }
 
 // Says what is wrong with a word.
-fn print_fault(w: Words) {
-    let mut word = io::buffer();
-    let n = os::arg(w.wrong, &mut word);
+fn print_fault(host: &mut Host, w: Words) {
+    let mut word = program_host::buffer();
+    let n = host.arg(w.wrong, &mut word);
     let fault = w.fault;
     match fault {
-        words::NO_COMMAND => usage::print_wrong(&word[..n], b": there is no such command", 0),
-        words::NO_OPTION => usage::print_wrong(&word[..n], b": there is no such option", w.command),
+        words::NO_COMMAND => usage::print_wrong(host, &word[..n], b": there is no such command", 0),
+        words::NO_OPTION => usage::print_wrong(
+            host,
+            &word[..n],
+            b": there is no such option",
+            w.command,
+        ),
         words::NO_VALUE => usage::print_wrong(
+            host,
             &word[..n],
             b": this option takes no value",
             w.command,
         ),
         _ => {
-            print_number(w);
+            print_number(host, w);
             2
         }
     };
 }
 
 // Says what is wrong with the count of files, if it is, and answers whether that is so.
-fn print_files(w: Words) -> bool {
+fn print_files(host: &mut Host, w: Words) -> bool {
     let command = w.command;
     match command {
         command::CHECK | command::MORNING | command::REPORT | command::WATCH => {
             if w.files == 0 {
-                usage::print_usage(b"this command needs a FILE", w.command);
+                usage::print_usage(host, b"this command needs a FILE", w.command);
                 return true;
             }
             false
         }
         command::MERGE => {
             if w.files != 2 {
-                usage::print_usage(b"this command takes two FILEs", w.command);
+                usage::print_usage(host, b"this command takes two FILEs", w.command);
                 return true;
             }
             false
         }
         command::SHOW | command::FOLD | command::V3IN | command::V3OUT => {
             if w.files != 1 {
-                usage::print_usage(b"this command takes one FILE", w.command);
+                usage::print_usage(host, b"this command takes one FILE", w.command);
                 return true;
             }
             false
         }
         _ => {
             if w.files > 1 {
-                usage::print_usage(b"this command takes one FILE", w.command);
+                usage::print_usage(host, b"this command takes one FILE", w.command);
                 return true;
             }
             false
@@ -122,22 +137,22 @@ fn print_files(w: Words) -> bool {
 }
 
 // Says what is wrong with the words, if something is, and answers whether that is so.
-pub(crate) fn print_wrong(w: Words) -> bool {
+pub(crate) fn print_wrong(host: &mut Host, w: Words) -> bool {
     if w.fault != 0 {
-        print_fault(w);
+        print_fault(host, w);
         return true;
     }
     if w.waits != 0 {
-        print_number(w);
+        print_number(host, w);
         return true;
     }
     if w.command == 0 {
-        usage::print_usage(b"a command is missing", 0);
+        usage::print_usage(host, b"a command is missing", 0);
         return true;
     }
     if has_stray(w) {
-        usage::print_usage(b"this command does not take that option", w.command);
+        usage::print_usage(host, b"this command does not take that option", w.command);
         return true;
     }
-    print_files(w)
+    print_files(host, w)
 }

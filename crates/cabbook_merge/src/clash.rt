@@ -9,7 +9,7 @@ use octets::slices::part;
 const MARKS: usize = limit::LINES * merge_pids::MARK;
 
 // A line of the first edit and two lines of the second that ask for it, or of the second and two of the first.
-#[derive(Drop)]
+#[derive(Clone, Copy)]
 pub enum Clash {
     First(usize, usize, usize),
     Second(usize, usize, usize),

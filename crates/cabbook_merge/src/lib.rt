@@ -1,4 +1,6 @@
 // `merge`: two edits of one card side by side, by the pairs of lines that the planner proposes; or why no plan passes.
+#![tactic(auto)]
+
 mod clash;
 mod reasons;
 mod sheet;
@@ -8,12 +10,12 @@ ghost use Rattle.cabbook_output.specs.Ends.{Status};
 
 use cabbook_messages::sentences;
 use cabbook_tables::status;
-use libc::STDERR_FILENO;
 use merge::{Entries, Paired};
 use merge_sources::{Row, Source};
 use numbers::{limit, refusal};
 use octets::slices::{numbers, part};
 use program_files::Input;
+use program_host::{Host, STDERR};
 use program_output::put_all;
 use property_table::Edition;
 use reader::Verdict;
@@ -47,7 +49,16 @@ fn entries_of(r: Row) -> Entries {
 }
 
 // Shows a pair of lines: whether their values are the same.
-fn show_pair(t: Tally, ca: &[u8], ra: &[u32], i: usize, cb: &[u8], rb: &[u32], j: usize) -> Tally {
+fn show_pair(
+    host: &mut Host,
+    t: Tally,
+    ca: &[u8],
+    ra: &[u32],
+    i: usize,
+    cb: &[u8],
+    rb: &[u32],
+    j: usize,
+) -> Tally {
     let mut next = t;
     let left = side::line_of(ca, ra, i);
     let right = side::line_of(cb, rb, j);
@@ -56,16 +67,17 @@ fn show_pair(t: Tally, ca: &[u8], ra: &[u32], i: usize, cb: &[u8], rb: &[u32], j
         merge_sides::value_of(cb, rb, j),
     ) {
         next.same = sheet::more(t.same);
-        next.sent = sheet::print_row(b"= ", left, right);
+        next.sent = sheet::print_row(host, b"= ", left, right);
         return next;
     }
     next.other = sheet::more(t.other);
-    next.sent = sheet::print_row(b"! ", left, right);
+    next.sent = sheet::print_row(host, b"! ", left, right);
     next
 }
 
 // Shows line i of the first edit.
 fn show_first(
+    host: &mut Host,
     t: Tally,
     ca: &[u8],
     ra: &[u32],
@@ -80,23 +92,24 @@ fn show_first(
     }
     let p = side::partner_of(plan, true, i);
     if let Partner::Line(j) = p {
-        return show_pair(t, ca, ra, i, cb, rb, j);
+        return show_pair(host, t, ca, ra, i, cb, rb, j);
     }
     let mut next = t;
     let line = side::line_of(ca, ra, i);
     let before = side::count_alike(ca, ra, i, plan, true, line);
     if before < side::count_alike(cb, rb, nb, plan, false, line) {
         next.alike = sheet::more(t.alike);
-        next.sent = sheet::print_row(b"~ ", line, line);
+        next.sent = sheet::print_row(host, b"~ ", line, line);
         return next;
     }
     next.first = sheet::more(t.first);
-    next.sent = sheet::print_row(b"< ", line, b"");
+    next.sent = sheet::print_row(host, b"< ", line, b"");
     next
 }
 
 // Shows line j of the second edit, where it stands there alone.
 fn show_second(
+    host: &mut Host,
     t: Tally,
     ca: &[u8],
     ra: &[u32],
@@ -120,12 +133,13 @@ fn show_second(
     }
     let mut next = t;
     next.second = sheet::more(t.second);
-    next.sent = sheet::print_row(b"> ", b"", line);
+    next.sent = sheet::print_row(host, b"> ", b"", line);
     next
 }
 
 // Shows the lines of the first edit with their partners, as long as rows can be written.
 fn show_firsts(
+    host: &mut Host,
     t: Tally,
     ca: &[u8],
     ra: &[u32],
@@ -138,7 +152,7 @@ fn show_firsts(
     let mut now = t;
     let mut i: usize = 0;
     while i < na {
-        now = show_first(now, ca, ra, i, cb, rb, nb, plan);
+        now = show_first(host, now, ca, ra, i, cb, rb, nb, plan);
         if !now.sent {
             return now;
         }
@@ -149,6 +163,7 @@ fn show_firsts(
 
 // Shows the lines that the second edit has alone, as long as rows can be written.
 fn show_seconds(
+    host: &mut Host,
     t: Tally,
     ca: &[u8],
     ra: &[u32],
@@ -161,7 +176,7 @@ fn show_seconds(
     let mut now = t;
     let mut j: usize = 0;
     while j < nb {
-        now = show_second(now, ca, ra, na, cb, rb, j, plan);
+        now = show_second(host, now, ca, ra, na, cb, rb, j, plan);
         if !now.sent {
             return now;
         }
@@ -172,6 +187,7 @@ fn show_seconds(
 
 // Shows two edits with their pairs, and answers the exit status.
 fn show(
+    host: &mut Host,
     first: &[u8],
     ca: &[u8],
     ra: &[u32],
@@ -184,16 +200,16 @@ fn show(
 ) -> u8
     ensures { Status result }
 {
-    let begun = sheet::begin(sheet::print_row(b"  ", first, second));
+    let begun = sheet::begin(sheet::print_row(host, b"  ", first, second));
     if !begun.sent {
         return cabbook_output::UNWRITTEN;
     }
-    let half = show_firsts(begun, ca, ra, na, cb, rb, nb, plan);
+    let half = show_firsts(host, begun, ca, ra, na, cb, rb, nb, plan);
     if !half.sent {
         return cabbook_output::UNWRITTEN;
     }
-    let all = show_seconds(half, ca, ra, na, cb, rb, nb, plan);
-    cabbook_output::status_if(sheet::print_counts(all), status::ACCEPTED)
+    let all = show_seconds(host, half, ca, ra, na, cb, rb, nb, plan);
+    cabbook_output::status_if(sheet::print_counts(host, all), status::ACCEPTED)
 }
 
 // Adds the start of what is said of two edits that are refused.
@@ -226,6 +242,7 @@ fn put_over(
 
 // Prints why there is no plan for two edits with these cards, lines and sources, and answers the exit status.
 fn print_no_plan(
+    host: &mut Host,
     number: u32,
     first: &[u8],
     ca: &[u8],
@@ -245,19 +262,20 @@ fn print_no_plan(
     let mut room = [0u8; PAGE];
     if number == refusal::MERGE_LIMIT {
         let n = put_over(&mut room, first, ca, ra, ka, na, second, cb, rb, kb, nb);
-        cabbook_output::send(STDERR_FILENO, &room, n);
+        cabbook_output::send(host, STDERR, &room, n);
         return status::REFUSED;
     }
     let start = put_start(&mut room, first, second, number);
     let n = reasons::put_no_plan(
         &mut room, start, first, ca, ra, na, a, second, cb, rb, nb, b,
     );
-    cabbook_output::send(STDERR_FILENO, &room, n);
+    cabbook_output::send(host, STDERR, &room, n);
     status::REFUSED
 }
 
 // Merges two edits that the reader accepts, with these cards and lines, and answers the exit status.
 fn merge_read(
+    host: &mut Host,
     first: &[u8],
     x: &[u8],
     ca: &[u8],
@@ -288,16 +306,29 @@ fn merge_read(
     match p {
         Paired::Pairs(n) => {
             let end = octets::slices::least(n, limit::LINES) * 2;
-            show(first, ca, ra, na, second, cb, rb, nb, numbers(&plan, end))
+            show(
+                host,
+                first,
+                ca,
+                ra,
+                na,
+                second,
+                cb,
+                rb,
+                nb,
+                numbers(&plan, end),
+            )
         }
         Paired::Refused(number, _) => {
-            print_no_plan(number, first, ca, ra, ka, na, a, second, cb, rb, kb, nb, b)
+            print_no_plan(
+                host, number, first, ca, ra, ka, na, a, second, cb, rb, kb, nb, b,
+            )
         }
     }
 }
 
 // Merges two edits with these octets, and answers the exit status.
-fn merge_octets(first: &[u8], x: &[u8], second: &[u8], y: &[u8]) -> u8
+fn merge_octets(host: &mut Host, first: &[u8], x: &[u8], second: &[u8], y: &[u8]) -> u8
     ensures { Status result }
 {
     let mut ca = [0u8; limit::OCTETS];
@@ -308,43 +339,45 @@ fn merge_octets(first: &[u8], x: &[u8], second: &[u8], y: &[u8]) -> u8
     let w = reader::read(Edition::First, y, &mut cb, &mut rb);
     match v {
         Verdict::Refused(number, place) => {
-            cabbook_output::print_refusal(STDERR_FILENO, first, x, number, place)
+            cabbook_output::print_refusal(host, STDERR, first, x, number, place)
         }
         Verdict::Accepted(ka, na) => match w {
             Verdict::Refused(number, place) => {
-                cabbook_output::print_refusal(STDERR_FILENO, second, y, number, place)
+                cabbook_output::print_refusal(host, STDERR, second, y, number, place)
             }
             Verdict::Accepted(kb, nb) => {
-                merge_read(first, x, &ca, &ra, ka, na, second, y, &cb, &rb, kb, nb)
+                merge_read(
+                    host, first, x, &ca, &ra, ka, na, second, y, &cb, &rb, kb, nb,
+                )
             }
         },
     }
 }
 
 // Merges the files of these names, and answers the exit status.
-fn merge_files(first: &[u8], second: &[u8]) -> u8
+fn merge_files(host: &mut Host, first: &[u8], second: &[u8]) -> u8
     ensures { Status result }
 {
     let mut x = [0u8; limit::READ_ROOM];
     let mut y = [0u8; limit::READ_ROOM];
-    let got = program_files::read(first, &mut x);
+    let got = program_files::read(host, first, &mut x);
     let Input::Octets(n) = got else {
         return status::FAILED;
     };
-    let other = program_files::read(second, &mut y);
+    let other = program_files::read(host, second, &mut y);
     let Input::Octets(m) = other else {
         return status::FAILED;
     };
-    merge_octets(first, part(&x, 0, n), second, part(&y, 0, m))
+    merge_octets(host, first, part(&x, 0, n), second, part(&y, 0, m))
 }
 
 // Merges the files that arguments i and j name, and answers the exit status.
-pub fn merge_arguments(i: usize, j: usize) -> u8
+pub fn merge_arguments(host: &mut Host, i: usize, j: usize) -> u8
     ensures { Status result }
 {
-    let mut first = io::large_buffer();
-    let n = os::arg(i, &mut first);
-    let mut second = io::large_buffer();
-    let m = os::arg(j, &mut second);
-    merge_files(&first[..n], &second[..m])
+    let mut first = program_host::large_buffer();
+    let n = host.arg(i, &mut first);
+    let mut second = program_host::large_buffer();
+    let m = host.arg(j, &mut second);
+    merge_files(host, &first[..n], &second[..m])
 }

@@ -1,6 +1,6 @@
 // The sheet on two edits: a row a pair or line, a mark before it, and the line under it with the counts.
 use cabbook_messages::sentences;
-use libc::STDOUT_FILENO;
+use program_host::{Host, STDOUT};
 use program_output::put_all;
 
 // How many cells a column has.
@@ -10,7 +10,7 @@ const WIDTH: usize = 38;
 const MARK: usize = 2;
 
 // What was shown so far: pairs of one value and of two, lines that stand on both sides alike, lines on one side alone, and whether all was written.
-#[derive(Drop)]
+#[derive(Clone, Copy)]
 pub struct Tally {
     pub same: usize,
     pub other: usize,
@@ -60,10 +60,10 @@ pub(crate) fn put_row(room: &mut [u8], at: usize, mark: &[u8], left: &[u8], righ
 }
 
 // Prints two texts side by side behind a mark, and answers whether that was written.
-pub(crate) fn print_row(mark: &[u8], left: &[u8], right: &[u8]) -> bool {
+pub(crate) fn print_row(host: &mut Host, mark: &[u8], left: &[u8], right: &[u8]) -> bool {
     let mut room = [0u8; PAGE];
     let n = put_row(&mut room, 0, mark, left, right);
-    cabbook_output::send(STDOUT_FILENO, &room, n)
+    cabbook_output::send(host, STDOUT, &room, n)
 }
 
 // More octets than a row has: each octet of two lines in digits.
@@ -84,11 +84,11 @@ fn put_counts(room: &mut [u8], at: usize, t: Tally) -> usize {
 }
 
 // Prints the counts, and answers whether all was written.
-pub(crate) fn print_counts(t: Tally) -> bool {
-    let mut room = io::buffer();
+pub(crate) fn print_counts(host: &mut Host, t: Tally) -> bool {
+    let mut room = program_host::buffer();
     let n = put_counts(&mut room, 0, t);
     if !t.sent {
         return false;
     }
-    cabbook_output::send(STDOUT_FILENO, &room, n)
+    cabbook_output::send(host, STDOUT, &room, n)
 }

@@ -8,7 +8,7 @@ use octets::slices::part;
 const PAIR: usize = 2;
 
 // The partner of a line.
-#[derive(Drop)]
+#[derive(Clone, Copy)]
 pub enum Partner {
     Line(usize),
     Nothing,

@@ -6,10 +6,11 @@ ghost use Rattle.cabbook_morning.specs.Depot.{one_more, as_ticket, no_upload, be
 
 use desk::Desk;
 use numbers::{limit, refusal};
+use program_host::Host;
 use reader::Verdict;
 
 // An upload: the argument that names its file, 0 where there is no upload, the file's descriptor, and the ticket.
-#[derive(Drop)]
+#[derive(Clone, Copy)]
 pub struct Upload {
     pub file: usize,
     pub fd: i32,
@@ -17,7 +18,7 @@ pub struct Upload {
 }
 
 // The desk and the uploads at it, the argument from which on the next file is looked for, how many arguments there are, the one that ends the options, how many uploads run, the chunks' size, the width of the column of names, what was counted, and the tick of this round with the ticks of a round.
-#[derive(Drop)]
+#[derive(Clone, Copy)]
 pub struct Morning {
     pub desk: Desk,
     pub uploads: [Upload; limit::SLOTS],
@@ -117,7 +118,7 @@ pub(crate) fn begin_round(mut m: Morning) -> Morning
 }
 
 // Releases upload k and closes its file.
-pub(crate) fn release(mut m: Morning, k: usize, pool: &mut [u8]) -> Morning
+pub(crate) fn release(host: &mut Host, mut m: Morning, k: usize, pool: &mut [u8]) -> Morning
     requires { k < limit.slots }
     ensures value { result ≡ released_at k (release_step m.desk pool.old (get_or m.uploads k no_upload).ticket).desk m }
     ensures pool_after { pool.new ≡ (release_step m.desk pool.old (get_or m.uploads k no_upload).ticket).pool }
@@ -127,7 +128,7 @@ pub(crate) fn release(mut m: Morning, k: usize, pool: &mut [u8]) -> Morning
     let t = d.release(pool, upload.ticket);
     let next = t.desk;
     m.desk = next;
-    libc::close(upload.fd);
+    host.close(upload.fd);
     m.uploads[k] = no_upload();
     m.running = cabbook_positions::before(m.running);
     m

@@ -3,6 +3,7 @@ ghost use Rattle.std.specs.Prelude.{◌≡◌, ◌≤◌};
 ghost use Rattle.cabbook_morning.specs.Options.{or_usual, narrowest_column, widest_column};
 
 use cabbook_options::arguments;
+use program_host::Host;
 
 // The widest that the column of names gets.
 const WIDEST: usize = 40;
@@ -30,24 +31,24 @@ pub(crate) fn or_usual(n: usize, usual: usize) -> usize
 }
 
 // How many cells argument i takes, up to the widest.
-fn width_of(i: usize) -> usize {
-    let mut path = io::buffer();
-    let n = os::arg(i, &mut path);
+fn width_of(host: &Host, i: usize) -> usize {
+    let mut path = program_host::buffer();
+    let n = host.arg(i, &mut path);
     WIDEST - cabbook_cells::spare(&path[..n], WIDEST)
 }
 
 // How wide the column of names is: the most cells that a file's name takes from argument `first` on, between the narrowest and the widest.
-pub(crate) fn widest(first: usize, dashes: usize, count: usize) -> usize
+pub(crate) fn widest(host: &Host, first: usize, dashes: usize, count: usize) -> usize
     ensures { (narrowest_column ≤ result) × (result ≤ widest_column) }
 {
     let mut width: usize = NARROWEST;
     let mut i = first;
     while i < count {
-        let one = octets::slices::least(width_of(i), WIDEST);
+        let one = octets::slices::least(width_of(host, i), WIDEST);
         if width < one {
             width = one;
         }
-        i = arguments::next_file(i + 1, dashes, count);
+        i = arguments::next_file(host, i + 1, dashes, count);
     }
     width
 }

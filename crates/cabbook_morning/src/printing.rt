@@ -4,23 +4,24 @@ ghost use Rattle.cabbook_tables.specs.Statuses as status;
 ghost use Rattle.cabbook_tables.specs.Uploads.{status_of};
 
 use cabbook_tables::uploads;
-use libc::STDOUT_FILENO;
+use program_host::{Host, STDOUT};
 use reader::Verdict;
 
 // Writes the first n octets of a page to standard output.
-fn send(room: &[u8], n: usize) {
-    io::write_all(STDOUT_FILENO, octets::slices::part(room, 0, n));
+fn send(host: &mut Host, room: &[u8], n: usize) {
+    host.write_all(STDOUT, octets::slices::part(room, 0, n));
 }
 
 // Prints the names of the columns.
-pub(crate) fn print_titles(width: usize) {
-    let mut room = io::buffer();
+pub(crate) fn print_titles(host: &mut Host, width: usize) {
+    let mut room = program_host::buffer();
     let n = uploads::put_titles(&mut room, 0, width);
-    send(&room, n);
+    send(host, &room, n);
 }
 
 // Prints the row of the upload of the file that argument i names.
 pub(crate) fn print_row(
+    host: &mut Host,
     i: usize,
     width: usize,
     ticket: u32,
@@ -28,9 +29,9 @@ pub(crate) fn print_row(
     v: Verdict,
     same: bool,
 ) {
-    let mut path = io::buffer();
-    let k = os::arg(i, &mut path);
-    let mut room = io::large_buffer();
+    let mut path = program_host::buffer();
+    let k = host.arg(i, &mut path);
+    let mut room = program_host::large_buffer();
     let n = uploads::put_upload(
         &mut room,
         0,
@@ -41,11 +42,12 @@ pub(crate) fn print_row(
         v,
         same,
     );
-    send(&room, n);
+    send(host, &room, n);
 }
 
 // Prints the last line, with the counts, and answers the exit status.
 pub fn print_summary(
+    host: &mut Host,
     accepted: usize,
     refused: usize,
     reclaimed: usize,
@@ -55,10 +57,10 @@ pub fn print_summary(
     ensures value { result ≡ status_of refused differing unread }
     ensures upper_bound { result ≤ status.failed }
 {
-    let mut room = io::buffer();
+    let mut room = program_host::buffer();
     let n = uploads::put_summary(
         &mut room, 0, accepted, refused, reclaimed, differing, unread,
     );
-    send(&room, n);
+    send(host, &room, n);
     uploads::status_of(refused, differing, unread)
 }

@@ -25,7 +25,7 @@ const MANY: usize = 3;
 // What words say so far: the command's number and the argument that names it, both 0 before it; how many files are named, as far as they are counted; the argument
 // that ends the options, 0 where none does; the option that waits for its number, 0 where none does; what is wrong, 0 where nothing is, and the argument; and
 // of each option the number that it is set to, 1 where it takes none, 0 where it is not named.
-#[derive(Drop)]
+#[derive(Clone, Copy)]
 pub struct Words {
     pub command: usize,
     pub named_by: usize,

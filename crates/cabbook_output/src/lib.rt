@@ -1,17 +1,20 @@
 // What a command prints: pages, the lines on a refusal, and the exit status where output can't be written.
+#![tactic(auto)]
+
 ghost use Rattle.std.specs.Prelude.{◌≡◌};
 ghost use Rattle.octets.specs.Pick.{pick};
 ghost use Rattle.cabbook_output.specs.Ends.{Status, unwritten};
 
 use cabbook_tables::status;
 use numbers::refusal;
+use program_host::Host;
 
 // The status where standard output can't be written, until that is told.
 pub const UNWRITTEN: u8 = 3;
 
 // Writes the first n octets of a page, and answers whether all were written.
-pub fn send(to: i32, room: &[u8], n: usize) -> bool {
-    io::write_all(to, octets::slices::part(room, 0, n))
+pub fn send(host: &mut Host, to: i32, room: &[u8], n: usize) -> bool {
+    host.write_all(to, octets::slices::part(room, 0, n))
 }
 
 // A status, where all was written.
@@ -63,19 +66,33 @@ fn put_refusal(room: &mut [u8], path: &[u8], s: &[u8], number: u32, place: usize
 }
 
 // Prints what is to be known of a refused file, and answers the exit status.
-pub fn print_refusal(to: i32, path: &[u8], s: &[u8], number: u32, place: usize) -> u8
+pub fn print_refusal(
+    host: &mut Host,
+    to: i32,
+    path: &[u8],
+    s: &[u8],
+    number: u32,
+    place: usize,
+) -> u8
     ensures { Status result }
 {
-    let mut room = io::large_buffer();
+    let mut room = program_host::large_buffer();
     let n = put_refusal(&mut room, path, s, number, place);
-    refused_if(send(to, &room, n))
+    refused_if(send(host, to, &room, n))
 }
 
 // Prints the row of a text that is refused, and answers the exit status.
-pub fn print_refused(to: i32, path: &[u8], s: &[u8], number: u32, place: usize) -> u8
+pub fn print_refused(
+    host: &mut Host,
+    to: i32,
+    path: &[u8],
+    s: &[u8],
+    number: u32,
+    place: usize,
+) -> u8
     ensures { Status result }
 {
-    let mut room = io::large_buffer();
+    let mut room = program_host::large_buffer();
     let n = cabbook_rows::rows::put_refused(&mut room, 0, path, s, number, place);
-    refused_if(send(to, &room, n))
+    refused_if(send(host, to, &room, n))
 }

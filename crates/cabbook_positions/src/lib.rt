@@ -1,4 +1,6 @@
 // Positions in a text as people count them: lines, characters, where each starts, where a part ends, how many there are, open escapes.
+#![tactic(auto)]
+
 ghost use Rattle.std.specs.Prelude.{◌≡◌, false, ◌+◌, ◌-◌, ◌≤◌, ◌<◌, min, ltb, length, drop};
 ghost use Rattle.octets.specs.Pick.{pick};
 ghost use Rattle.cabbook_positions.specs.Positions.{count, is_lf, is_first, back_to, opens, begins, starts};

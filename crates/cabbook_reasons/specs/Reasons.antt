@@ -25,8 +25,8 @@ utf16 s = pick (eqb (get_or s 0 0) 0xff) (eqb (get_or s 1 0) 0xfe) (pick (eqb (g
 
 unfoldable pub line_end_words : List ℕ → ℕ → List ℕ
 line_end_words s place =
-    pick (eqb (get_or s place 0) 10) (octets "LF without CR before it: Unix line ends, and a v_card's are CR LF")
-    (octets "CR without LF after it: a v_card's line ends are CR LF")
+    pick (eqb (get_or s place 0) 10) (octets "LF without CR before it: Unix line ends, and a vCard's are CR LF")
+    (octets "CR without LF after it: a vCard's line ends are CR LF")
 
 -- of a line inside a card
 unfoldable pub inner_words : List ℕ → ℕ → List ℕ
@@ -71,4 +71,4 @@ order_words s place = pick (leb (length s) place) (octets "the last card has no 
 unfoldable pub reason : List ℕ → ℕ → ℕ → List ℕ
 reason s number place =
     pick (eqb number refusal.order) (order_words s place)
-    (pick (utf16 s) (octets "UTF-16 text, and a v_card is UTF-8") (pick (eqb number refusal.lone_cr_or_lf) (line_end_words s place) (words_of number)))
+    (pick (utf16 s) (octets "UTF-16 text, and a vCard is UTF-8") (pick (eqb number refusal.lone_cr_or_lf) (line_end_words s place) (words_of number)))

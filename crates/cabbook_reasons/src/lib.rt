@@ -1,4 +1,6 @@
 // Why a file is refused, in words for a clerk, by what stands there: for the order of lines, line ends and texts that are no UTF-8.
+#![tactic(auto)]
+
 ghost use Rattle.std.specs.Prelude.{◌≡◌, length, ◌-◌};
 ghost use Rattle.program_output.specs.Pages.{page, added};
 ghost use Rattle.cabbook_reasons.specs.Reasons.{opening, closing, utf16, marking, mark_from, line_end_words, inner_words, found_words, version_words, between_words, order_words, reason};

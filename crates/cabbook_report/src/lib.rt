@@ -1,4 +1,6 @@
 // A report for people who would rather look than read: a bar before each row.
+#![tactic(auto)]
+
 ghost use Rattle.std.specs.Prelude.{◌≡◌, ◌<◌, ◌≤◌};
 ghost use Rattle.numbers.specs.Counts as places;
 ghost use Rattle.numbers.specs.Limits as limit;

@@ -1,4 +1,6 @@
 // `show`: the cards of a file as a table, from the records.
+#![tactic(auto)]
+
 mod dates;
 mod values;
 
@@ -8,10 +10,10 @@ ghost use Rattle.cabbook_output.specs.Ends.{Status};
 ghost use Rattle.cabbook_show.specs.Records.{most_numbers};
 
 use cabbook_tables::{fields, status};
-use libc::{STDERR_FILENO, STDOUT_FILENO};
 use numbers::{field, limit, property};
 use octets::indices::wide_number;
 use octets::slices::part;
+use program_host::{Host, STDERR, STDOUT};
 use property_table::Edition;
 use reader::Verdict;
 
@@ -85,7 +87,7 @@ fn put_row(room: &mut [u8], copy: &[u8], r: &[u32], again: bool) -> usize {
 }
 
 // What came so far: the bits of the properties that this card has once, the cards, and whether all rows were written.
-#[derive(Drop)]
+#[derive(Clone, Copy)]
 struct Shown {
     seen: u64,
     cards: usize,
@@ -93,7 +95,7 @@ struct Shown {
 }
 
 // Prints the row of a record, or at a BEGIN the line above a card's rows.
-fn print_record(room: &mut [u8], copy: &[u8], r: &[u32], shown: Shown) -> Shown
+fn print_record(host: &mut Host, room: &mut [u8], copy: &[u8], r: &[u32], shown: Shown) -> Shown
     requires { shown.cards ≤ most_numbers }
     ensures { result.cards ≤ shown.cards + 1 }
 {
@@ -106,7 +108,7 @@ fn print_record(room: &mut [u8], copy: &[u8], r: &[u32], shown: Shown) -> Shown
         return Shown {
             seen: 0,
             cards: shown.cards + 1,
-            sent: cabbook_output::send(STDOUT_FILENO, room, n),
+            sent: cabbook_output::send(host, STDOUT, room, n),
         };
     }
     if fields::is_frame(r[field::PROPERTY]) {
@@ -117,12 +119,12 @@ fn print_record(room: &mut [u8], copy: &[u8], r: &[u32], shown: Shown) -> Shown
     Shown {
         seen: shown.seen | bit,
         cards: shown.cards,
-        sent: cabbook_output::send(STDOUT_FILENO, room, n),
+        sent: cabbook_output::send(host, STDOUT, room, n),
     }
 }
 
 // Prints the rows of all records, as long as they can be written, and answers whether all were.
-fn print_rows(room: &mut [u8], copy: &[u8], records: &[u32]) -> bool
+fn print_rows(host: &mut Host, room: &mut [u8], copy: &[u8], records: &[u32]) -> bool
     requires { length records.now ≤ most_numbers }
 {
     let mut shown = Shown {
@@ -133,7 +135,7 @@ fn print_rows(room: &mut [u8], copy: &[u8], records: &[u32]) -> bool
     let mut at: usize = 0;
     while limit::RECORD_LENGTH <= records.len() - at {
         let end = at + limit::RECORD_LENGTH;
-        shown = print_record(room, copy, &records[at..end], shown);
+        shown = print_record(host, room, copy, &records[at..end], shown);
         if !shown.sent {
             return false;
         }
@@ -143,19 +145,19 @@ fn print_rows(room: &mut [u8], copy: &[u8], records: &[u32]) -> bool
 }
 
 // Prints the names of the columns and the rows of all records, and answers whether all were written.
-fn print_table(copy: &[u8], records: &[u32]) -> bool
+fn print_table(host: &mut Host, copy: &[u8], records: &[u32]) -> bool
     requires { length records.now ≤ most_numbers }
 {
     let mut room = [0u8; PAGE];
     let n = fields::put_titles(&mut room, 0);
-    if !cabbook_output::send(STDOUT_FILENO, &room, n) {
+    if !cabbook_output::send(host, STDOUT, &room, n) {
         return false;
     }
-    print_rows(&mut room, copy, records)
+    print_rows(host, &mut room, copy, records)
 }
 
 // Prints the table of a file with these octets, read in an edition, or what is to be known of a refused one, and answers the exit status.
-pub fn show(edition: Edition, path: &[u8], s: &[u8]) -> u8
+pub fn show(host: &mut Host, edition: Edition, path: &[u8], s: &[u8]) -> u8
     ensures { Status result }
 {
     let mut copy = [0u8; limit::OCTETS];
@@ -164,10 +166,10 @@ pub fn show(edition: Edition, path: &[u8], s: &[u8]) -> u8
     match v {
         Verdict::Accepted(_, lines) => {
             let n = octets::slices::least(lines, LINES) * limit::RECORD_LENGTH;
-            cabbook_output::status_if(print_table(&copy, &records[0..n]), status::ACCEPTED)
+            cabbook_output::status_if(print_table(host, &copy, &records[0..n]), status::ACCEPTED)
         }
         Verdict::Refused(number, place) => {
-            cabbook_output::print_refusal(STDERR_FILENO, path, s, number, place)
+            cabbook_output::print_refusal(host, STDERR, path, s, number, place)
         }
     }
 }

@@ -67,12 +67,27 @@ fn put_line(room: &mut [u8], at: usize, s: &[u8]) -> usize {
     put_blanks(room, end, octets::slices::part(s, start, s.len()))
 }
 
+// Where the line ends that starts at a place: at the next LF, or at the text's end.
+fn line_end(s: &[u8], from: usize) -> usize
+    requires { from ≤ length s.now }
+    ensures { (from ≤ result) × (result ≤ length s.now) }
+{
+    let mut i = from;
+    while i < s.len() {
+        if s[i] == b'\n' {
+            return i;
+        }
+        i += 1;
+    }
+    i
+}
+
 // Adds text, each of its lines in the value's column.
 fn put_paragraphs(room: &mut [u8], at: usize, s: &[u8]) -> usize {
     let mut next = at;
     let mut from: usize = 0;
     while from < s.len() {
-        let end = bytes::scan::find(s, from, s.len(), b'\n');
+        let end = line_end(s, from);
         next = put_line(room, next, &s[from..end]);
         next = put_indent(room, next, end == s.len());
         from = end + 1;

@@ -1,18 +1,20 @@
 // How large a file is that is too long for a book: its octets and its cards, counted by reading it again where it can be.
+#![tactic(auto)]
+
 use cabbook_messages::sentences;
-use libc::{SEEK_END, SEEK_SET, STDOUT_FILENO};
 use numbers::limit;
 use octets::cases::same_name;
 use octets::indices::wide;
 use octets::slices::part;
 use program_files::Input;
+use program_host::{Host, STDOUT};
 use program_output::put_all;
 
 // The octets with which a card starts, behind the end of a line.
 const START: usize = 12;
 
 // What was counted so far: octets, cards, how many octets of a card's start came last, and whether more may come.
-#[derive(Drop)]
+#[derive(Clone, Copy)]
 struct Size {
     octets: usize,
     cards: usize,
@@ -76,9 +78,9 @@ fn count_octets(s: Size, chunk: &[u8]) -> Size {
 }
 
 // What is counted with the next octets of a file that is open, and whether there were any.
-fn count_some(s: Size, fd: i32, path: &[u8]) -> Size {
-    let mut room = io::large_buffer();
-    let got = program_files::fetch(fd, path, &mut room);
+fn count_some(host: &mut Host, s: Size, fd: i32, path: &[u8]) -> Size {
+    let mut room = program_host::large_buffer();
+    let got = program_files::fetch(host, fd, path, &mut room);
     let mut next = s;
     next.more = false;
     let Input::Octets(n) = got else {
@@ -91,7 +93,7 @@ fn count_some(s: Size, fd: i32, path: &[u8]) -> Size {
 }
 
 // Counts the octets of a file that is open, up to its end.
-fn count_file(fd: i32, path: &[u8]) -> Size {
+fn count_file(host: &mut Host, fd: i32, path: &[u8]) -> Size {
     let mut now = Size {
         octets: 0,
         cards: 0,
@@ -100,7 +102,7 @@ fn count_file(fd: i32, path: &[u8]) -> Size {
     };
     let mut left = u64::MAX;
     while left > 0 {
-        now = count_some(now, fd, path);
+        now = count_some(host, now, fd, path);
         if !now.more {
             return now;
         }
@@ -148,23 +150,21 @@ fn put_size(room: &mut [u8], path: &[u8], s: Size) -> usize {
 }
 
 // Prints how large the file of that name is, where it can be read from its start again, and answers whether what there was to write was written.
-pub fn print_size(path: &[u8]) -> bool {
+pub fn print_size(host: &mut Host, path: &[u8]) -> bool {
     if same_name(path, b"-") {
         return true;
     }
-    let fd = os::open_read(path);
+    let fd = host.open_read(path);
     if fd < 0 {
         return true;
     }
-    let end = libc::lseek(fd, 0, SEEK_END);
-    if end <= limit::OCTETS as i64 {
-        libc::close(fd);
+    if host.size(fd) <= limit::OCTETS as u64 {
+        host.close(fd);
         return true;
     }
-    libc::lseek(fd, 0, SEEK_SET);
-    let s = count_file(fd, path);
-    libc::close(fd);
-    let mut room = io::large_buffer();
+    let s = count_file(host, fd, path);
+    host.close(fd);
+    let mut room = program_host::large_buffer();
     let n = put_size(&mut room, path, s);
-    cabbook_output::send(STDOUT_FILENO, &room, n)
+    cabbook_output::send(host, STDOUT, &room, n)
 }

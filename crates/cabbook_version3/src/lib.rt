@@ -1,15 +1,17 @@
 // `v3in` and `v3out`: a card of version 3 as one of version 4, and back; and why a card does not go over, by what stands there.
+#![tactic(auto)]
+
 mod reasons;
 
 ghost use Rattle.cabbook_output.specs.Ends.{Status};
 
 use cabbook_messages::sentences;
 use cabbook_tables::status;
-use libc::{STDERR_FILENO, STDOUT_FILENO};
 use numbers::{limit, refusal};
 use octets::cases::same_name;
 use octets::rooms::Written;
 use octets::slices::part;
+use program_host::{Host, STDERR, STDOUT};
 use program_output::put_all;
 use version3_parameters::Way;
 
@@ -53,22 +55,30 @@ fn put_refusal(
 }
 
 // Prints what is to be known of a card that does not go over, as `check` prints it, and answers the exit status.
-fn print_refusal(to: i32, way: Way, path: &[u8], s: &[u8], number: u32, place: usize) -> u8
+fn print_refusal(
+    host: &mut Host,
+    to: i32,
+    way: Way,
+    path: &[u8],
+    s: &[u8],
+    number: u32,
+    place: usize,
+) -> u8
     ensures { Status result }
 {
     if number == refusal::FORM_TOO_LONG {
-        return cabbook_output::print_refused(to, path, s, number, place);
+        return cabbook_output::print_refused(host, to, path, s, number, place);
     }
     if !is_own(way, number, place < s.len()) {
-        return cabbook_output::print_refusal(to, path, s, number, place);
+        return cabbook_output::print_refusal(host, to, path, s, number, place);
     }
-    let mut room = io::large_buffer();
+    let mut room = program_host::large_buffer();
     let n = put_refusal(&mut room, way, path, s, number, place);
-    cabbook_output::status_if(cabbook_output::send(to, &room, n), status::REFUSED)
+    cabbook_output::status_if(cabbook_output::send(host, to, &room, n), status::REFUSED)
 }
 
 // Writes a card as the other version has it to standard output, or what is to be known of a refusal, and answers the exit status.
-pub fn convert(way: Way, path: &[u8], s: &[u8]) -> u8
+pub fn convert(host: &mut Host, way: Way, path: &[u8], s: &[u8]) -> u8
     ensures { Status result }
 {
     let mut room = [0u8; limit::OCTETS];
@@ -76,12 +86,12 @@ pub fn convert(way: Way, path: &[u8], s: &[u8]) -> u8
     match w {
         Written::Wrote(n) => {
             cabbook_output::status_if(
-                cabbook_output::send(STDOUT_FILENO, &room, n),
+                cabbook_output::send(host, STDOUT, &room, n),
                 status::ACCEPTED,
             )
         }
         Written::Refused(number, place) => {
-            print_refusal(STDERR_FILENO, way, path, s, number, place)
+            print_refusal(host, STDERR, way, path, s, number, place)
         }
     }
 }
@@ -119,15 +129,15 @@ pub fn is_version3(s: &[u8], number: u32, place: usize) -> bool {
 }
 
 // Prints a line on a file, and answers whether it was written.
-fn print_line(path: &[u8], words: &[u8]) -> bool {
-    let mut room = io::large_buffer();
+fn print_line(host: &mut Host, path: &[u8], words: &[u8]) -> bool {
+    let mut room = program_host::large_buffer();
     let name_end = program_visible::put_visible(&mut room, 0, path);
     let n = put_all(&mut room, name_end, words);
-    cabbook_output::send(STDOUT_FILENO, &room, n)
+    cabbook_output::send(host, STDOUT, &room, n)
 }
 
 // Prints whether a text of version 3 is taken in, and why it is not, and answers the exit status of a file that is refused.
-pub fn print_advice(path: &[u8], s: &[u8]) -> u8
+pub fn print_advice(host: &mut Host, path: &[u8], s: &[u8]) -> u8
     ensures { Status result }
 {
     let mut room = [0u8; limit::OCTETS];
@@ -135,18 +145,23 @@ pub fn print_advice(path: &[u8], s: &[u8]) -> u8
     match w {
         Written::Wrote(_) => {
             cabbook_output::status_if(
-                print_line(path, b": of version 3.0, and `cabbook v3in` takes it in\n"),
+                print_line(
+                    host,
+                    path,
+                    b": of version 3.0, and `cabbook v3in` takes it in\n",
+                ),
                 status::REFUSED,
             )
         }
         Written::Refused(number, place) => {
             if !print_line(
+                host,
                 path,
                 b": of version 3.0, and `cabbook v3in` takes it in once this is mended:\n",
             ) {
                 return cabbook_output::UNWRITTEN;
             }
-            print_refusal(STDOUT_FILENO, Way::Inward, path, s, number, place)
+            print_refusal(host, STDOUT, Way::Inward, path, s, number, place)
         }
     }
 }

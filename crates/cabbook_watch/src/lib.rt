@@ -1,13 +1,15 @@
 // `watch`: files that are judged while they arrive, so many octets at a time, with a line on a terminal that tells how far that is.
+#![tactic(auto)]
+
 ghost use Rattle.cabbook_output.specs.Ends.{Status};
 
 use cabbook_messages::sentences;
 use cabbook_options::arguments;
 use cabbook_tables::status;
-use libc::STDERR_FILENO;
 use numbers::limit;
 use octets::slices::{least, part};
 use program_files::Input;
+use program_host::{Host, STDERR};
 use program_output::put_all;
 use reader::Verdict;
 use watch::{Arrived, Watch};
@@ -19,7 +21,7 @@ const USUAL_CHUNK: usize = 4096;
 const TURNS: usize = limit::READ_ROOM + 1;
 
 // What came of a file: the verdict, how many octets, and whether it could be read.
-#[derive(Drop)]
+#[derive(Clone, Copy)]
 pub struct Came {
     pub verdict: Verdict,
     pub octets: usize,
@@ -44,23 +46,23 @@ fn put_known(room: &mut [u8], at: usize, w: Watch) -> usize {
 }
 
 // Writes over the line on standard error, where that is asked for: how many octets of a file came, and what is known of them.
-fn tell_progress(tells: bool, path: &[u8], w: Watch, octets: usize) {
+fn tell_progress(host: &mut Host, tells: bool, path: &[u8], w: Watch, octets: usize) {
     if !tells {
         return;
     }
-    let mut room = io::large_buffer();
+    let mut room = program_host::large_buffer();
     let start = put_all(&mut room, 0, b"\r\x1b[K");
     let name_end = program_visible::put_visible(&mut room, start, path);
     let colon_end = put_all(&mut room, name_end, b": ");
     let count_end = sentences::put_count(&mut room, colon_end, octets, b" octet");
     let n = put_known(&mut room, count_end, w);
-    cabbook_output::send(STDERR_FILENO, &room, n);
+    cabbook_output::send(host, STDERR, &room, n);
 }
 
 // Takes the line away again.
-fn clear_progress(tells: bool) {
+fn clear_progress(host: &mut Host, tells: bool) {
     if tells {
-        io::write_all(STDERR_FILENO, b"\r\x1b[K");
+        host.write_all(STDERR, b"\r\x1b[K");
     }
 }
 
@@ -92,16 +94,24 @@ fn further(n: usize, k: usize, most: usize) -> usize {
 }
 
 // Reads the next octets of a file behind the first n of the copy, so many as a chunk has, as far as there is room.
-fn read_chunk(fd: i32, path: &[u8], size: usize, n: usize, copy: &mut [u8]) -> Input {
+fn read_chunk(
+    host: &mut Host,
+    fd: i32,
+    path: &[u8],
+    size: usize,
+    n: usize,
+    copy: &mut [u8],
+) -> Input {
     if n >= copy.len() {
         return Input::Octets(0);
     }
     let end = n + least(size, copy.len() - n);
-    program_files::fetch(fd, path, &mut copy[n..end])
+    program_files::fetch(host, fd, path, &mut copy[n..end])
 }
 
 // Reads a file to the start of the copy, so many octets at a time, and watches each chunk as it comes; each turn brings an octet or is the last.
 fn watch_all(
+    host: &mut Host,
     path: &[u8],
     fd: i32,
     size: usize,
@@ -113,7 +123,7 @@ fn watch_all(
     let mut n: usize = 0;
     let mut left: usize = TURNS;
     while left > 0 {
-        let got = read_chunk(fd, path, size, n, copy);
+        let got = read_chunk(host, fd, path, size, n, copy);
         let Input::Octets(k) = got else {
             return conclude(w, buffer, n, false);
         };
@@ -122,7 +132,7 @@ fn watch_all(
         }
         let next = further(n, k, copy.len());
         w = take_chunk(w, buffer, part(copy, n, next));
-        tell_progress(tells, path, w, next);
+        tell_progress(host, tells, path, w, next);
         n = next;
         left -= 1;
     }
@@ -130,60 +140,60 @@ fn watch_all(
 }
 
 // Watches the octets of a file that is open, prints its row, and answers the exit status.
-fn watch_open(path: &[u8], fd: i32, size: usize) -> u8
+fn watch_open(host: &mut Host, path: &[u8], fd: i32, size: usize) -> u8
     ensures { Status result }
 {
     let mut copy = [0u8; limit::READ_ROOM];
     let mut buffer = [0u8; limit::OCTETS];
-    let tells = libc::isatty(STDERR_FILENO) == 1;
-    let c = watch_all(path, fd, size, tells, &mut copy, &mut buffer);
-    clear_progress(tells);
+    let tells = host.tells_terminal();
+    let c = watch_all(host, path, fd, size, tells, &mut copy, &mut buffer);
+    clear_progress(host, tells);
     if !c.read {
         return status::FAILED;
     }
     let v = c.verdict;
-    cabbook_check::print_verdict(path, part(&copy, 0, c.octets), v)
+    cabbook_check::print_verdict(host, path, part(&copy, 0, c.octets), v)
 }
 
 // Watches the file of that name, `-` for standard input.
-fn watch_file(path: &[u8], size: usize) -> u8
+fn watch_file(host: &mut Host, path: &[u8], size: usize) -> u8
     ensures { Status result }
 {
-    let fd = program_files::open_named(path);
+    let fd = program_files::open_named(host, path);
     if fd < 0 {
         return status::FAILED;
     }
-    let status = watch_open(path, fd, size);
-    libc::close(fd);
+    let status = watch_open(host, path, fd, size);
+    host.close(fd);
     status
 }
 
 // Watches the file that argument i names.
-fn watch_argument(i: usize, size: usize) -> u8
+fn watch_argument(host: &mut Host, i: usize, size: usize) -> u8
     ensures { Status result }
 {
-    let mut path = io::large_buffer();
-    let n = os::arg(i, &mut path);
-    watch_file(&path[..n], size)
+    let mut path = program_host::large_buffer();
+    let n = host.arg(i, &mut path);
+    watch_file(host, &path[..n], size)
 }
 
 // Watches each file that the arguments from `first` on name, as long as output can be written, where options end at that argument; a size of 0 stands for the
 // usual one. Answers the highest status.
-pub fn watch_files(first: usize, dashes: usize, count: usize, chunk: usize) -> u8
+pub fn watch_files(host: &mut Host, first: usize, dashes: usize, count: usize, chunk: usize) -> u8
     ensures { Status result }
 {
     let size = size_of(chunk);
     let mut status: u8 = status::ACCEPTED;
     let mut i = first;
     while i < count {
-        let one = watch_argument(i, size);
+        let one = watch_argument(host, i, size);
         if one == cabbook_output::UNWRITTEN {
             return one;
         }
         if status < one {
             status = one;
         }
-        i = arguments::next_file(i + 1, dashes, count);
+        i = arguments::next_file(host, i + 1, dashes, count);
     }
     status
 }

@@ -22,7 +22,7 @@ use property_table::rows::PropertyTable;
 use value_kinds::Fault;
 
 // What a line makes of its card, and which octets of the line are to be kept behind those in the store, from `from` to `to`.
-#[derive(Drop)]
+#[derive(Clone, Copy)]
 pub struct Judgement {
     pub step: Step,
     pub from: usize,
@@ -101,7 +101,7 @@ fn enter(c: Card, at: usize, row: usize, once: usize, value: &[u8]) -> Step
 }
 
 // What the ALTID of a line makes of its property's instance.
-#[derive(Drop)]
+#[derive(Clone, Copy)]
 struct Instance {
     // It starts a second one.
     second: bool,

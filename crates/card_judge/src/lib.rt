@@ -1,2 +1,3 @@
 // Cards: the judgement of one logical line within its card.
+#![tactic(auto)]
 pub mod judge;

@@ -146,22 +146,22 @@ parts_by ed l g n c v k row kind er ek =
     rw t (cc (er, w, k.placed.group_length, k.placed.name_end, k.placed.count))
 
 -- an answer that is no fault
-pub no_fault : (p : Answer) → OneOf (0 ∷ 1 ∷ 2 ∷ 3 ∷ []) (tag_of the_type p) → 0 ≡ fault_of p
+pub no_fault : (p : Answer) → ((e : ℕ) → p ≡ Fault e → ⊥) → 0 ≡ fault_of p
 no_fault (Upto e) k = refl
 no_fault (Named g n) k = refl
 no_fault (Listed c e) k = refl
 no_fault (Parsed g n c v) k = refl
-no_fault (Fault e) k = absurd (miss (0 ∷ 1 ∷ 2 ∷ 3 ∷ []) 4 tt k)
+no_fault (Fault e) k = absurd (k e refl)
 
 -- an answer that is no line is the fault that is answered
-pub parts_fault : (ed : Edition) (l : List ℕ) (p : Answer) (e : ℕ) → p ≡ outcome (parse_line l) → OneOf (0 ∷ 1 ∷ 2 ∷ 4 ∷ []) (tag_of the_type p) → e ≡ fault_of p
+pub parts_fault : (ed : Edition) (l : List ℕ) (p : Answer) (e : ℕ) → p ≡ outcome (parse_line l) → ((g n c v : ℕ) → p ≡ Parsed g n c v → ⊥) → e ≡ fault_of p
     → fault e ≡ line_parts_of ed l
 unfolding line_parts_of
 parts_fault ed l p e h k q = by (parse_line l) h
   where
     by : (m : Parse Line) → p ≡ outcome m → fault e ≡ line_parts_by ed m
     by (bad x) h = ap fault (q ∙ ap fault_of h)
-    by (got x n) h = absurd (miss (0 ∷ 1 ∷ 2 ∷ 4 ∷ []) 3 tt (subst (λ (t : Answer). OneOf (0 ∷ 1 ∷ 2 ∷ 4 ∷ []) (tag_of the_type t)) h k))
+    by (got x n) h = absurd (k _ _ _ _ h)
 
 pub group_low : (l : List ℕ) (g n c v : ℕ) → InLine l g n c v → length l ≤ 16384 → g ≤ 16384
 group_low l zero n c v i h = omega arith

@@ -1,4 +1,5 @@
 // The parts of a line: its property's row, where its group, name and value stand, and the kind of its value.
+#![tactic(auto)]
 ghost use Rattle.std.specs.Prelude.{◌≡◌, List, ℕ, ◌≤◌, ◌<◌, length};
 ghost use Rattle.std.proofs.Math.Option.{none};
 ghost use Rattle.numbers.specs.Limits as limit;
@@ -17,7 +18,7 @@ use property_table::Edition;
 use property_table::rows::PropertyTable;
 
 // The parts of a line that keeps the line rule.
-#[derive(Drop)]
+#[derive(Clone, Copy)]
 pub struct Parts {
     // The property's number, 0 for a name that is not listed.
     pub row: usize,
@@ -34,7 +35,7 @@ pub struct Parts {
 }
 
 // The parts of a line, or the fault by which it breaks the line rule.
-#[derive(Drop)]
+#[derive(Clone, Copy)]
 pub enum LineParts {
     Line(Parts),
     Fault(u32),

@@ -89,8 +89,8 @@ pub record Keeps (c : Kept) (k n : ℕ) (r : Kept) : Type 0 where
   pub seen : r.seen ≡ c.seen
   pub places : places_of r.tags ≡ set (places_of c.tags) (k - 1) (place_of c.used n)
   pub used : r.used ≡ c.used + n
-  pub has_fn_lem : r.has_fn ≡ c.has_fn
-  pub has_member_lem : r.has_member ≡ c.has_member
-  pub is_group_lem : r.is_group ≡ c.is_group
+  pub has_fn : r.has_fn ≡ c.has_fn
+  pub has_member : r.has_member ≡ c.has_member
+  pub is_group : r.is_group ≡ c.is_group
   pub cards : r.cards ≡ c.cards
   pub lines : r.lines ≡ c.lines

@@ -1,4 +1,5 @@
 // What is known of the card that is being read, and what a line or an END does to it.
+#![tactic(auto)]
 ghost use Rattle.std.specs.Prelude.{◌≡◌, false, ◌||◌, ◌&&◌, eqb, ℕ, ◌<◌, ◌≤◌, List};
 ghost use Rattle.numbers.specs.Limits as limit;
 ghost use Rattle.numbers.specs.Properties as property;
@@ -21,7 +22,7 @@ pub const BEFORE_VERSION: u32 = 1;
 pub const INSIDE: u32 = 2;
 
 // What is known of the card that is being read.
-#[derive(Drop)]
+#[derive(Clone, Copy)]
 pub struct Card {
     // The cards that have ended, and the lines that were judged.
     pub cards: usize,
@@ -40,7 +41,7 @@ pub struct Card {
 }
 
 // The card after a line, or the refusal's number and its place in the input, or its number and the octet of the unfolded line.
-#[derive(Drop)]
+#[derive(Clone, Copy)]
 pub enum Step {
     Next(Card),
     Refused(u32, usize),

@@ -8,7 +8,7 @@ ghost use Rattle.card_state.specs.Kept.{places_of, tag_at, Inside, no_tags, Keep
 use crate::Card;
 
 // The place of each property's value, 0 for none.
-#[derive(Drop)]
+#[derive(Clone, Copy)]
 pub struct Tags {
     pub kind: u32,
     pub n: u32,

@@ -3,7 +3,7 @@ ghost use Rattle.std.specs.Prelude.{◌≡◌};
 ghost use Rattle.console.specs.Input.{begun, past, is_within_line, line_of};
 
 // The next line starts at from, and what was read ends at to; long tells that the line did not fit the buffer and lost octets.
-#[derive(Drop)]
+#[derive(Clone, Copy)]
 pub struct Input {
     pub from: usize,
     pub to: usize,
@@ -12,7 +12,7 @@ pub struct Input {
 }
 
 // Where a line lies, without its LF, and where the next one starts; found tells that there is a line, and last that none comes after it.
-#[derive(Drop)]
+#[derive(Clone, Copy)]
 pub struct Line {
     pub from: usize,
     pub to: usize,

@@ -1,4 +1,6 @@
 // The console's answers: the words of each, added to the output, which is a lent page.
+#![tactic(auto)]
+
 ghost use Rattle.std.specs.Prelude.{◌≡◌, ◌∷◌, ◌≤◌, nat_abs};
 ghost use Rattle.program_output.specs.Pages.{page, added};
 ghost use Rattle.program_output.specs.Digits.{decimal};

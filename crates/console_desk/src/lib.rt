@@ -1,4 +1,6 @@
 // The calls of the desk, and what is kept from one to the next.
+#![tactic(auto)]
+
 ghost use Rattle.std.specs.Prelude.{◌≡◌, true, ◌+◌, ◌≤◌, length};
 ghost use Rattle.numbers.specs.Limits as limit;
 ghost use Rattle.desk.specs.Steps.{turned};
@@ -10,7 +12,7 @@ use desk::{Desk, Turn};
 use numbers::limit;
 
 // What is kept from request to request: the desk, how many octets of pool are lent to it, and where the output stands.
-#[derive(Drop)]
+#[derive(Clone, Copy)]
 pub struct Console {
     pub desk: Desk,
     pub size: usize,
@@ -18,7 +20,7 @@ pub struct Console {
 }
 
 // The calls that hand the next desk back.
-#[derive(Drop)]
+#[derive(Clone, Copy)]
 pub enum Change {
     Open,
     Add,
@@ -26,7 +28,7 @@ pub enum Change {
 }
 
 // The calls that leave the desk as it is.
-#[derive(Drop)]
+#[derive(Clone, Copy)]
 pub enum Look {
     Check,
     Show,

@@ -25,7 +25,7 @@ const SECOND_EDITION: usize = 2;
 const LINE_END: usize = 2;
 
 // The entries that write octets to room.
-#[derive(Drop)]
+#[derive(Clone, Copy)]
 pub enum Writer {
     Fold,
     Escape,
@@ -180,7 +180,7 @@ pub fn put_read_answer(
     put_read_fresh(edition, r, k, input, out, at)
 }
 
-// Adds the answer to `read_in_lem EDITION COPYROOM RECORDROOM OCTETS`.
+// Adds the answer to `read-in EDITION COPYROOM RECORDROOM OCTETS`.
 pub fn put_read_in_answer(
     edition: usize,
     r: usize,

@@ -1,4 +1,6 @@
 // The requests of two edits of one card: planner and checker on cards, rows and plan that PARTS has.
+#![tactic(auto)]
+
 ghost use Rattle.std.specs.Prelude.{◌≡◌, true, ◌≤◌, length};
 ghost use Rattle.program_output.specs.Pages.{page, added};
 ghost use Rattle.console_answers.specs.Texts.{spaced};

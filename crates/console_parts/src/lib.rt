@@ -1,4 +1,6 @@
 // PARTS of the requests of two edits: octets that come apart into parts, each after its length, and the rows and the plan among them.
+#![tactic(auto)]
+
 ghost use Rattle.std.specs.Prelude.{◌≡◌, ◌+◌, ◌*◌, ◌/◌, ◌<◌, ◌≤◌, length, get_or};
 ghost use Rattle.octets.specs.Room.{overlay};
 ghost use Rattle.console_parts.specs.Parts.{number_length, most_lent, most_octets, shifted, number_at, part_end, end_of, part_of, whole, holds_edits, source_at, sources_up_to, numbers_from};

@@ -1,4 +1,6 @@
 // The requests of the report, and the report that is kept beside desk and output.
+#![tactic(auto)]
+
 ghost use Rattle.std.specs.Prelude.{◌≡◌, ◌++◌, ◌≤◌};
 ghost use Rattle.program_output.specs.Pages.{page, added};
 ghost use Rattle.console_entries.specs.Rooms.{most_room, octet_room};
@@ -16,7 +18,7 @@ use report::{Answer, Report};
 const ROOM: usize = 70000;
 
 // What is kept from request to request: desk and output, and the report.
-#[derive(Drop)]
+#[derive(Clone, Copy)]
 pub struct Kept {
     pub console: Console,
     pub report: Report,

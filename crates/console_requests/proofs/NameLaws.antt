@@ -56,14 +56,14 @@ pub record Listed (t : List ℕ) (n : ℕ) : Type 0 where
   pub octets : get_or t (n * 13 + 12) 0 ≡ (row_at n).octets
   pub once : (row_at n).octets ≤ 1
 
-row_length_lem : (n : ℕ) → n < table_rows → length (entries n) ≡ 13
+row_length : (n : ℕ) → n < table_rows → length (entries n) ≡ 13
 unfolding entries row_at rows octets upto
-row_length_lem n h = same-upto (λ j. length (entries j)) (λ j. 13) table_rows refl n h
+row_length n h = same-upto (λ j. length (entries j)) (λ j. 13) table_rows refl n h
 
 module _ (t : List ℕ) (table : Lists t) (n : ℕ) (h : n < table_rows) where
   at : (i : ℕ) → i < 13 → get_or t (n * 13 + i) 0 ≡ get_or (entries n) i 0
   unfolding Lists
-  at i l = entry_at entries 13 table_rows row_length_lem t table n h i l
+  at i l = entry_at entries 13 table_rows row_length t table n h i l
 
   short_name : length (row_at n).spelling ≤ 10
   unfolding row_at rows octets upto
@@ -71,7 +71,7 @@ module _ (t : List ℕ) (table : Lists t) (n : ℕ) (h : n < table_rows) where
 
   spelt_at : take (length (row_at n).spelling) (drop (n * 13) t) ≡ take (length (row_at n).spelling) (entries n)
   unfolding Lists
-  spelt_at = front_at entries 13 table_rows row_length_lem t table n h (length (row_at n).spelling) (omega (arith, short_name))
+  spelt_at = front_at entries 13 table_rows row_length t table n h (length (row_at n).spelling) (omega (arith, short_name))
 
   pub listed : Listed t n
   unfolding entries row_at rows octets upto

@@ -48,8 +48,8 @@ module _ (r : Row) (line room : List ℕ) (n : ℕ) (e : n ≡ r.numbers) where
 
   -- x, y, v and z are what the words were read as
   module _ (x : Number) (p : x ≡ number_at (word_at line 1) 1 n) where
-    pub first_bad_lem : x ≡ Bad → read r line room ≡ requested no_request room
-    first_bad_lem h = rw (read_at, sym p, h)
+    pub first_bad : x ≡ Bad → read r line room ≡ requested no_request room
+    first_bad h = rw (read_at, sym p, h)
 
     module _ (y : Number) (q : y ≡ number_at (word_at line 2) 2 n) (a : ℕ) (f : x ≡ Is a) where
       pub second_bad : y ≡ Bad → read r line room ≡ requested no_request room

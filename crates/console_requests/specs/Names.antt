@@ -55,7 +55,7 @@ rows =
     row (ToReport Print) "print" 1 alone ∷
     row (ToReport Count) "count" 2 alone ∷
     row (ToEntry JudgeIn) "judge-in" 1 with_octets ∷
-    row (ToEntry ReadIn) "read_in_lem" 3 with_octets ∷
+    row (ToEntry ReadIn) "read-in" 3 with_octets ∷
     row (ToEntry TakeIn) "v3-in" 1 with_octets ∷
     row (ToEntry GiveOut) "v3-out" 1 with_octets ∷
     row (ToMerge Plan) "plan" 1 with_octets ∷

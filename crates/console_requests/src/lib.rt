@@ -1,4 +1,6 @@
 // A request line of the console: its words, the request that the first one names, and the numbers and octets of the others.
+#![tactic(auto)]
+
 mod names;
 
 ghost use Rattle.std.specs.Prelude.{◌≡◌, ◌+◌, ◌≤◌, ◌<◌};
@@ -11,7 +13,7 @@ use program_numbers::decimal::Number;
 use program_numbers::hex::Octets;
 
 // The requests to the entries that keep nothing.
-#[derive(Drop)]
+#[derive(Clone, Copy)]
 pub enum EntryCall {
     Judge,
     Read,
@@ -29,7 +31,7 @@ pub enum EntryCall {
 }
 
 // The requests of the desk.
-#[derive(Drop)]
+#[derive(Clone, Copy)]
 pub enum DeskCall {
     Desk,
     Open,
@@ -43,7 +45,7 @@ pub enum DeskCall {
 }
 
 // The requests of the report.
-#[derive(Drop)]
+#[derive(Clone, Copy)]
 pub enum ReportCall {
     Report,
     Take,
@@ -52,14 +54,14 @@ pub enum ReportCall {
 }
 
 // The requests of two edits of one card.
-#[derive(Drop)]
+#[derive(Clone, Copy)]
 pub enum MergeCall {
     Plan,
     CheckPlan,
 }
 
 // The requests of the reader of chunks.
-#[derive(Drop)]
+#[derive(Clone, Copy)]
 pub enum WatchCall {
     Begin,
     Chunk,
@@ -69,7 +71,7 @@ pub enum WatchCall {
 }
 
 // The requests, and what a line has that is none.
-#[derive(Drop)]
+#[derive(Clone, Copy)]
 pub enum Name {
     ToEntry(EntryCall),
     ToDesk(DeskCall),
@@ -80,7 +82,7 @@ pub enum Name {
 }
 
 // A number that the request does not have is 0, and count octets stand at the front of the room lent for them.
-#[derive(Drop)]
+#[derive(Clone, Copy)]
 pub struct Request {
     pub name: Name,
     pub first: usize,

@@ -48,7 +48,7 @@ const ROWS: [u8; TABLE] = *b"\
     print.....\x05\x01\x00\
     count.....\x05\x02\x00\
     judge-in..\x08\x01\x01\
-    read_in_lem...\x07\x03\x01\
+    read-in...\x07\x03\x01\
     v3-in.....\x05\x01\x01\
     v3-out....\x06\x01\x01\
     plan......\x04\x01\x01\
@@ -68,7 +68,7 @@ pub fn table() -> [u8; TABLE]
 }
 
 // What stands after a name: how many numbers, and 1 where octets do, else 0.
-#[derive(Drop)]
+#[derive(Clone, Copy)]
 pub struct After {
     pub numbers: usize,
     pub octets: usize,
@@ -100,7 +100,7 @@ fn is_row(t: &[u8], row: usize, word: &[u8], after: usize) -> bool
     }
     let base = row * ROW;
     let end = base + wide(t[base + LENGTH]);
-    check::same(word, &t[base..end])
+    program_numbers::same(word, &t[base..end])
 }
 
 // The row of the request that has this name and so many words after it, or that of no request.

@@ -1,4 +1,6 @@
 // The requests of the reader of chunks, and its state and buffer, which are kept beside desk, output and report.
+#![tactic(auto)]
+
 ghost use Rattle.std.specs.Prelude.{◌≡◌, true, ◌≤◌, length};
 ghost use Rattle.program_output.specs.Pages.{page, added};
 ghost use Rattle.console_watch.specs.WatchAnswers.{most_buffer, watching_of, with_buffer, first, session, shown_at, lent_length, says_bad, begin_answer, buffer_answer, claim_answer, done_line, claims, arrived_text, next_of, ChunkLent, ChunkTurn, EndTurn};
@@ -12,7 +14,7 @@ use watch::{Arrived, Watch};
 pub const BUFFER: usize = 20000;
 
 // What is kept from request to request: desk, output and report, the state of the reader of chunks, and how many octets of buffer are lent to it.
-#[derive(Drop)]
+#[derive(Clone, Copy)]
 pub struct Session {
     pub kept: Kept,
     pub watch: Watch,
@@ -199,7 +201,7 @@ fn answer_lent(s: Session, chunk: &[u8], lent: &mut [u8], out: &mut [u8]) -> Ses
     octets::copying::copy_in(&mut before, lent);
     let w = s.watch;
     let a = w.chunk(lent, chunk);
-    let kept = check::same(&before[0..n], lent);
+    let kept = program_numbers::same(&before[0..n], lent);
     let at = put_arrived(out, s.at(), a, kept);
     let next = s.with_output(at);
     let k = next.kept;

@@ -1,4 +1,6 @@
 // The words of a line, split by single spaces, and where a line ends.
+#![tactic(auto)]
+
 ghost use Rattle.std.specs.Prelude.{◌≡◌, ◌+◌, ◌≤◌, length};
 ghost use Rattle.console_words.specs.Words.{next_of, words_of, word_at, Follows, Starts, without_cr};
 

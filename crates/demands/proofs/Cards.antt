@@ -24,7 +24,7 @@ use Rattle.reader_grammar.specs.Refusals.{RefusedIn}
 use Rattle.reader_grammar.proofs.Accepted.{lines_law, accepted_law}
 use Rattle.reader_grammar.proofs.RecordLaws.{copy_law}
 use Rattle.reader_grammar.proofs.Refused.{refused_law}
-use Rattle.demands.specs.Demand1.{copied, folded, ReadBy, unread, copy_room_lem, record_room_lem, FoldBy, not_read, fold_over, fold_room}
+use Rattle.demands.specs.Demand1.{copied, folded, ReadBy, unread, copy_room, record_room, FoldBy, not_read, fold_over, fold_room}
 use Rattle.demands.proofs.Refusing.{ByCase as Exactly, FillingByCase as Filling, clash, Telling, itself, first}
 use Rattle.demands.proofs.Texts.{written_tells, bounded_told, over_so, short_so, within_so}
 use Rattle.property_table.specs.declared.Edition.{Edition}
@@ -58,9 +58,9 @@ module _ (ed : Edition) (i : List ℕ) where
         let c = copy_law ed i k m h in
         let r = numbers_counted ed i copy records k m (length (copy_of i)) v refl in
         first read_tells (ReadBy ed i copy records) (ltb (length copy) (length (copy_of i))) 13 (length (copy_of i)) n p _ e
-        (λ a. rw c (copy_room_lem h (rw c at (ltb-true (length copy) (length (copy_of i)) a)))) (λ a f.
+        (λ a. rw c (copy_room h (rw c at (ltb-true (length copy) (length (copy_of i)) a)))) (λ a f.
         first read_tells (ReadBy ed i copy records) (ltb (length records) (length (records_in ed i))) 14 (length (records_in ed i)) n p _ f
-        (λ b. rw r (record_room_lem h (rw c at (ltb-false (length copy) (length (copy_of i)) a)) (rw r at (ltb-true (length records) (length (records_in ed i)) b))))
+        (λ b. rw r (record_room h (rw c at (ltb-false (length copy) (length (copy_of i)) a)) (rw r at (ltb-true (length records) (length (records_in ed i)) b))))
         (λ b g. accepted_no k m n p g))
 
     read_told : (n p : ℕ) → (read_in ed i copy records).answer ≡ Refused n p → ReadBy ed i copy records n p
@@ -73,9 +73,9 @@ module _ (ed : Edition) (i : List ℕ) where
 
     read_so : (n p : ℕ) → ReadBy ed i copy records n p → read_in ed i copy records ≡ took (Refused n p) copy records
     read_so n p (unread b) = sym (read_refused ed i copy records (Refused n p) n p (sym ((refused_law ed i n p).1 b)) refl)
-    read_so n p (copy_room_lem {k} {n = m} h l) =
+    read_so n p (copy_room {k} {n = m} h l) =
         sym (read_13 ed i copy records k m (length (copied h)) ((accepted_law ed i k m).1 h) (ap length (sym (copy_law ed i k m h))) l)
-    read_so n p (record_room_lem {k} {n = m} h c l) =
+    read_so n p (record_room {k} {n = m} h c l) =
         sym (read_14 ed i copy records k m (length (copied h)) ((accepted_law ed i k m).1 h) (ap length (sym (copy_law ed i k m h))) c l)
 
     pub read_exactly : Exactly (λ (t : Taken). t.answer) (read_in ed i copy records) (λ n p. took (Refused n p) copy records) (ReadBy ed i copy records)

@@ -33,7 +33,7 @@ use Rattle.desk_slots.proofs.SlotLaws.{free_is, session_at, slot_inside}
 use Rattle.desk.proofs.DeskLaws.{sound_is, is_sound, granted}
 use Rattle.desk_laws.specs.Demand.{OpenOn}
 use Rattle.reader_grammar.proofs.Refused.{refused_law}
-use Rattle.demands.specs.Demand1.{Ready, unsound, other_size, TicketBy, unready, closed, Holds, NewBy, range, OpenBy, no_desk, used_up_lem, full, AddBy, no_upload_lem, too_much, JudgeBy, nothing, octets}
+use Rattle.demands.specs.Demand1.{Ready, unsound, other_size, TicketBy, unready, closed, Holds, NewBy, range, OpenBy, no_desk, used_up, full, AddBy, no_upload, too_much, JudgeBy, nothing, octets}
 use Rattle.demands.proofs.Refusing.{ByCase as Exactly, TurningByCase as Turning, clash, not-true, Telling, itself, first, last}
 use Rattle.demands.proofs.Cards.{verdict_tells}
 use Rattle.property_table.specs.declared.Edition.TheVariants.{First}
@@ -105,7 +105,7 @@ module _ (d : Desk) (p : List ℕ) where
         last turn_tells (OpenBy d p tick) (sound d) 25 0 n q _ e (λ a. no_desk (unsound (unsound_so a))) (λ a f.
         last turn_tells (OpenBy d p tick) (eqb (length p) (d.slots * 16384)) 24 0 n q _ f
         (λ b. no_desk (other_size (sound_is d a) (eqb-false (length p) (d.slots * 16384) b))) (λ b g.
-        first turn_tells (OpenBy d p tick) (eqb d.next 4294967295) 21 0 n q _ g (λ c. used_up_lem (ready a b) (eqb-true d.next 4294967295 c)) (λ c h.
+        first turn_tells (OpenBy d p tick) (eqb d.next 4294967295) 21 0 n q _ g (λ c. used_up (ready a b) (eqb-true d.next 4294967295 c)) (λ c h.
         place (ready a b) (eqb-false d.next 4294967295 c) (first_at (free_at d.entries) 0 d.slots) refl h)))
       where
         taken : first_at (free_at d.entries) 0 d.slots ≡ Nowhere → (i : ℕ) → i < d.slots → state_at d.entries i ≡ Free → ⊥
@@ -134,7 +134,7 @@ module _ (d : Desk) (p : List ℕ) where
     unfolding open_step idle_of
     open_so n q (no_desk (unsound h)) = rw (not-true (sound d) (λ e. h (sound_is d e)))
     open_so n q (no_desk (other_size s h)) = rw (is_sound d s, ne_eqb (length p) (d.slots * 16384) h)
-    open_so n q (used_up_lem r h) = rw (is_sound d r.sound, eq-eqb (length p) (d.slots * 16384) r.size, eq-eqb d.next 4294967295 h)
+    open_so n q (used_up r h) = rw (is_sound d r.sound, eq-eqb (length p) (d.slots * 16384) r.size, eq-eqb d.next 4294967295 h)
     open_so n q (full r l f g) =
         rw (is_sound d r.sound, eq-eqb (length p) (d.slots * 16384) r.size, ne_eqb d.next 4294967295 l)
         (go (first_at (free_at d.entries) 0 d.slots) refl)
@@ -307,14 +307,14 @@ module _ (d : Desk) (p : List ℕ) where
       add_told n q e = go (slot_of d (length p) t) refl e
         where
           go : (x : Slot) → slot_of d (length p) t ≡ x → (add_in d p chunk (seen d tick) x).answer ≡ Refused n q → AddBy d p t chunk n q
-          go (No m) f e = itself turn_tells (AddBy d p t chunk) m 0 n q e (no_upload_lem (slot_told m f))
+          go (No m) f e = itself turn_tells (AddBy d p t chunk) m 0 n q e (no_upload (slot_told m f))
           go (Held i s) f e =
               first turn_tells (AddBy d p t chunk) (ltb 16384 (s.held + length chunk)) 23 s.held n q _ e
               (λ b. too_much (held_by i s f) (ltb-true 16384 (s.held + length chunk) b)) (λ b g. done_no (s.held + length chunk) n q g)
 
       add_so : (n q : ℕ) → AddBy d p t chunk n q → add_step d p t chunk tick ≡ refused d p q n
       unfolding add_step
-      add_so n q (no_upload_lem b) = let w = slot_so n q b in rw (w.0, w.1)
+      add_so n q (no_upload b) = let w = slot_so n q b in rw (w.0, w.1)
       add_so n q (too_much {i} {s} h l) = rw (held_so i s h, lt-ltb 16384 (s.held + length chunk) l)
 
       pub add_exactly : Turning (add_step d p t chunk tick) d p (AddBy d p t chunk)

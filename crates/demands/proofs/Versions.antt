@@ -38,7 +38,7 @@ pub demand10 : Demand10
 demand10 =
     record {
       takes = takes;
-      refuses_in_lem = λ i room. exactly (take_outcome i room) room (RefusedIn i room) (convert_settled room Inward i) (refuses_in_lem i room);
+      refuses_in = λ i room. exactly (take_outcome i room) room (RefusedIn i room) (convert_settled room Inward i) (refuses_in_lem i room);
       gives = gives;
       refuses_out = λ i room. exactly (give_outcome i room) room (RefusedOut i room) (give_settled room i) (refuses_out i room);
       accepted = accepted;

@@ -62,8 +62,8 @@ folded h = folded_lines (map render h.lines)
 -- those of the judgement, then 13, 14
 pub data ReadBy (e : Edition) (i copy records : List ℕ) : ℕ → ℕ → Type 0 where
   unread : {n p : ℕ} → RefusedIn e i n p → ReadBy e i copy records n p
-  copy_room_lem : {k n : ℕ} (h : InputIn e i k n) → length copy < length (copied h) → ReadBy e i copy records refusal.copy_room (length (copied h))
-  record_room_lem : {k n : ℕ} (h : InputIn e i k n) → length (copied h) ≤ length copy → length records < n * limit.record_length
+  copy_room : {k n : ℕ} (h : InputIn e i k n) → length copy < length (copied h) → ReadBy e i copy records refusal.copy_room (length (copied h))
+  record_room : {k n : ℕ} (h : InputIn e i k n) → length (copied h) ≤ length copy → length records < n * limit.record_length
       → ReadBy e i copy records refusal.record_room (n * limit.record_length)
 
 -- those of the judgement, then 16, 15, in either style
@@ -149,14 +149,14 @@ pub data NewBy (slots : ℕ) : ℕ → ℕ → Type 0 where
 -- 25, 24, 21, 20
 pub data OpenBy (d : Desk) (p : List ℕ) (tick : ℕ) : ℕ → ℕ → Type 0 where
   no_desk : {n q : ℕ} → Unready d p n q → OpenBy d p tick n q
-  used_up_lem : Ready d p → d.next ≡ limit.tickets → OpenBy d p tick refusal.tickets_used_up 0
+  used_up : Ready d p → d.next ≡ limit.tickets → OpenBy d p tick refusal.tickets_used_up 0
   -- no slot is free, and none has a session that the tick counted is ahead of by 600 or more
   full : Ready d p → (d.next ≡ limit.tickets → ⊥) → ((i : ℕ) → i < d.slots → state_at d.entries i ≡ Free → ⊥)
       → ((i : ℕ) (s : Session) → i < d.slots → state_at d.entries i ≡ Open s → tick_at d.stamps i + idle_ticks ≤ seen d tick → ⊥) → OpenBy d p tick refusal.no_free_slot 0
 
 -- 25, 24, 22, 23
 pub data AddBy (d : Desk) (p : List ℕ) (t : ℕ) (chunk : List ℕ) : ℕ → ℕ → Type 0 where
-  no_upload_lem : {n q : ℕ} → TicketBy d p t n q → AddBy d p t chunk n q
+  no_upload : {n q : ℕ} → TicketBy d p t n q → AddBy d p t chunk n q
   too_much : {i : ℕ} {s : Session} → Holds d p t i s → limit.octets < s.held + length chunk → AddBy d p t chunk refusal.slot_full s.held
 
 -- 25, 24, 22, then those of the judgement of the octets held

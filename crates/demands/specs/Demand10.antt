@@ -22,7 +22,7 @@ pub record Demand10 : Type 0 where
   -- in: octets are written exactly where the input is a card that is taken in as them; a refusal is answered exactly for a reason of the table, and
   -- leaves the room as it was
   pub takes : (i room : List ℕ) (n : ℕ) (after : List ℕ) → (take_outcome i room ≡ filled (Wrote n) after) ↔ Takes i room n after
-  pub refuses_in_lem : (i room : List ℕ) → Filling (take_outcome i room) room (RefusedIn i room)
+  pub refuses_in : (i room : List ℕ) → Filling (take_outcome i room) room (RefusedIn i room)
   -- out: the same back
   pub gives : (i room : List ℕ) (n : ℕ) (after : List ℕ) → (give_outcome i room ≡ filled (Wrote n) after) ↔ Gives i room n after
   pub refuses_out : (i room : List ℕ) → Filling (give_outcome i room) room (RefusedOut i room)

@@ -1,1 +1,2 @@
 // The demands, as theorems over the contracts' definitions; no code.
+#![tactic(auto)]

@@ -1,4 +1,5 @@
 // The upload desk: 1 to 40 slots of 16,384 octets in a lent pool, and a session in each open one.
+#![tactic(auto)]
 ghost use Rattle.std.specs.Prelude.{◌≡◌, ◌<◌};
 ghost use Rattle.numbers.specs.Limits as limit;
 ghost use Rattle.desk_pool.specs.Pools.{Lies};
@@ -12,7 +13,7 @@ use numbers::{limit, refusal};
 use reader::Verdict;
 
 // A desk: the entries of its slots, its slot count and its next ticket; the highest tick seen, and beside each entry the tick of its opening or last accepted add.
-#[derive(Drop)]
+#[derive(Clone, Copy)]
 pub struct Desk {
     pub entries: [Entry; limit::SLOTS],
     pub stamps: [u32; limit::SLOTS],
@@ -22,14 +23,14 @@ pub struct Desk {
 }
 
 // What a call answers: a ticket, a count of octets or 0; or a refusal's number and place.
-#[derive(Drop)]
+#[derive(Clone, Copy)]
 pub enum Answer {
     Done(usize),
     Refused(u32, usize),
 }
 
 // An answer and the next desk.
-#[derive(Drop)]
+#[derive(Clone, Copy)]
 pub struct Turn {
     pub answer: Answer,
     pub desk: Desk,

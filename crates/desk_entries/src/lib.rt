@@ -1,4 +1,5 @@
 // The entries of a desk: each is free or holds a session.
+#![tactic(auto)]
 ghost use Rattle.std.specs.Prelude.{◌≡◌};
 ghost use Rattle.desk_entries.specs.Entries.{ticket_of, fits};
 ghost use Rattle.desk_entries.specs.Ticks.{idle_ticket};
@@ -9,7 +10,7 @@ pub mod tickets;
 pub mod ticks;
 
 // An open upload: its ticket, the tram's identifier and the octets held.
-#[derive(Drop)]
+#[derive(Clone, Copy)]
 pub struct Session {
     pub ticket: u32,
     pub tram: u32,
@@ -17,14 +18,14 @@ pub struct Session {
 }
 
 // What an entry is: free, or open with a session.
-#[derive(Drop)]
+#[derive(Clone, Copy)]
 pub enum State {
     Free,
     Open(Session),
 }
 
 // An entry of a desk's table.
-#[derive(Drop)]
+#[derive(Clone, Copy)]
 pub struct Entry {
     pub state: State,
 }

@@ -6,7 +6,7 @@ ghost use Rattle.desk_entries.specs.Search.{first_at, column, same_as, among, At
 use numbers::limit;
 
 // Where a ticket stands among the entries, or the refusal that bars a call.
-#[derive(Drop)]
+#[derive(Clone, Copy)]
 pub enum Position {
     At(usize),
     Nowhere,
@@ -14,7 +14,7 @@ pub enum Position {
 }
 
 // The lowest ticket found so far, 0 where there is none yet, and where it stands.
-#[derive(Drop)]
+#[derive(Clone, Copy)]
 pub struct Lowest {
     pub ticket: u32,
     pub at: usize,

@@ -27,7 +27,7 @@ use Rattle.desk_ledger.specs.Ledger.{Deed, adds, judges, shows, asks, releases, 
 use Rattle.desk_ledger.specs.Uploads.{keep, mine, own, solo, joined}
 use Rattle.desk_ledger.specs.Ticks.{deed, releasing, Ticked, opens_at, adds_at, asks_of, plain, Clocked, stamp_of, counted, idle, Whose, nobody, of, lowest_idle, taken, takes, freed, clocked_by, plain_out, clocked_step, fresh_clocked, run_ticked, after_ticked, ReclaimsNone, SameTicked, same_opening, same_add, same_ask, SameTickedCalls, none, next}
 use Rattle.desk_ledger.specs.Desks.{World, desk_step, fresh, Proper, answers, world, ledger_answers, ledger}
-use Rattle.desk_laws.specs.Demand.{OpenOn, OpenIn, Holds, Afterwards, Grants, Kept, own_answers, deeds_on, on_at, asked, Alike, Taken, Reclaims, Closed, used_up_lem, no_slot, Opening, Demand3, Demand3AsAsked}
+use Rattle.desk_laws.specs.Demand.{OpenOn, OpenIn, Holds, Afterwards, Grants, Kept, own_answers, deeds_on, on_at, asked, Alike, Taken, Reclaims, Closed, used_up, no_slot, Opening, Demand3, Demand3AsAsked}
 use Rattle.desk_laws.proofs.LedgerRows.{no, Below, below_absent, length_close}
 use Rattle.desk_laws.proofs.Relation.{taken as taken_at, Refines, Follows, View, seen, unseen, view}
 use Rattle.desk_laws.proofs.Refinement.{octets_length}
@@ -288,7 +288,7 @@ module _ (d : Desk) (p : List ℕ) (m tick : ℕ) (s : Sound d) (z : length p �
 
       second : (d.next ≡ 4294967295 → ⊥) → Closed d tick → (x : Position) → first_at (free_at d.entries) 0 d.slots ≡ x → (y : Position) → lowest_at idles d.slots ≡ y
           → said (open_step d p m tick).answer ≡ refusal 20 0
-      second n (used_up_lem h) x e y g = absurd (n h)
+      second n (used_up h) x e y g = absurd (n h)
       second n (no_slot f i) (Barred k) e y g = unbarred (free_at d.entries) d.slots 0 k e
       second n (no_slot f i) Nowhere e (Barred k) g = lowest_unbarred idles d.slots k g
       second n (no_slot f i) Nowhere e Nowhere g = idled n e Nowhere g
@@ -299,7 +299,7 @@ module _ (d : Desk) (p : List ℕ) (m tick : ℕ) (s : Sound d) (z : length p �
 
       only : (r a : ℕ) → said (open_step d p m tick).answer ≡ refusal r a → (b : Bool) → eqb d.next 4294967295 ≡ b → (x : Position) → first_at (free_at d.entries) 0 d.slots ≡ x
           → (y : Position) → lowest_at idles d.slots ≡ y → Closed d tick
-      only r a e true b x q y g = used_up_lem (eqb-true d.next 4294967295 b)
+      only r a e true b x q y g = used_up (eqb-true d.next 4294967295 b)
       only r a e false b (Barred k) q y g = unbarred (free_at d.entries) d.slots 0 k q
       only r a e false b Nowhere q Nowhere g = full q g
       only r a e false b Nowhere q (Barred k) g = lowest_unbarred idles d.slots k g
@@ -315,8 +315,8 @@ module _ (d : Desk) (p : List ℕ) (m tick : ℕ) (s : Sound d) (z : length p �
       else n (Barred k) e y g = unbarred (free_at d.entries) d.slots 0 k e
       else n Nowhere e Nowhere g = absurd (n (full e g))
       else n Nowhere e (Barred k) g = lowest_unbarred idles d.slots k g
-      else n Nowhere e (At i) g = idled (λ h. n (used_up_lem h)) e (At i) g
-      else n (At i) e y g = found (λ h. n (used_up_lem h)) (At i) e
+      else n Nowhere e (At i) g = idled (λ h. n (used_up h)) e (At i) g
+      else n (At i) e y g = found (λ h. n (used_up h)) (At i) e
 
 -- ---- a session that is taken
 

@@ -204,8 +204,8 @@ module _ (d : Desk) (p : List ℕ) (c : Clocked) (f : Follows d p c) (m now : �
 
   -- ---- no ticket is left
 
-  used_up_lem : eqb d.next 4294967295 ≡ true → Answers (took (refusing d p 0 21)) (open_with c now m (takes c now))
-  used_up_lem h =
+  used_up : eqb d.next 4294967295 ≡ true → Answers (took (refusing d p 0 21)) (open_with c now m (takes c now))
+  used_up h =
       subst (λ (w : Whose). Answers (took (refusing d p 0 21)) (open_with c now m w)) (sym nobodys)
       (rw (same_limit true h) (record { same = refl; keeps = f }))
     where
@@ -348,7 +348,7 @@ module _ (d : Desk) (p : List ℕ) (c : Clocked) (f : Follows d p c) (m now : �
 
       go : (b : Bool) → eqb d.next 4294967295 ≡ b
           → Answers (took (pick b (refusing d p 0 21) (open_in d p m now (first_at (free_at d.entries) 0 d.slots)))) (open_with c now m (takes c now))
-      go true h = used_up_lem h
+      go true h = used_up h
       go false h = place h (first_at (free_at d.entries) 0 d.slots) refl
 
 -- ---- every call, and a list of them

@@ -18,11 +18,11 @@ use Rattle.desk_ledger.specs.Answers.{told, said}
 use Rattle.desk_ledger.proofs.AnswerLaws.{said_told}
 use Rattle.desk_laws.specs.Granted.{Usable, OpenAt, EntryBecomes, TicksBecome, TicksStay, OctetsBecome, Opened, Reclaimed, Added, Released}
 
-same_octets_lem : (xs ys : List ℕ) → length xs ≡ length ys → ((k : ℕ) → get_or xs k 0 ≡ get_or ys k 0) → xs ≡ ys
-same_octets_lem [] [] e f = refl
-same_octets_lem [] (y ∷ ys) e f = absurd (omega arith)
-same_octets_lem (x ∷ xs) [] e f = absurd (omega arith)
-same_octets_lem (x ∷ xs) (y ∷ ys) e f = rw (f 0, same_octets_lem xs ys (omega arith) (λ k. f (suc k)))
+same_octets : (xs ys : List ℕ) → length xs ≡ length ys → ((k : ℕ) → get_or xs k 0 ≡ get_or ys k 0) → xs ≡ ys
+same_octets [] [] e f = refl
+same_octets [] (y ∷ ys) e f = absurd (omega arith)
+same_octets (x ∷ xs) [] e f = absurd (omega arith)
+same_octets (x ∷ xs) (y ∷ ys) e f = rw (f 0, same_octets xs ys (omega arith) (λ k. f (suc k)))
 
 same_entries : (xs ys : List Entry) → length xs ≡ length ys → ((j : ℕ) → state_at xs j ≡ state_at ys j) → xs ≡ ys
 same_entries [] [] e f = refl
@@ -33,7 +33,7 @@ same_entries (x ∷ xs) (y ∷ ys) e f =
     rw (h, same_entries xs ys (omega arith) (λ j. f (suc j)))
 
 octets_only : {p p' p'' : List ℕ} {a n : ℕ} {new : ℕ → ℕ} → OctetsBecome p a n new p' → OctetsBecome p a n new p'' → p' ≡ p''
-octets_only {p} {p'} {p''} {a} {n} x y = same_octets_lem p' p'' (x.size ∙ sym y.size) (λ k. go k (ltb k a) refl (ltb k (a + n)) refl)
+octets_only {p} {p'} {p''} {a} {n} x y = same_octets p' p'' (x.size ∙ sym y.size) (λ k. go k (ltb k a) refl (ltb k (a + n)) refl)
   where
     go : (k : ℕ) (b : Bool) → ltb k a ≡ b → (c : Bool) → ltb k (a + n) ≡ c → get_or p' k 0 ≡ get_or p'' k 0
     go k true q c r = let l = ltb-true k a q in x.before k l ∙ sym (y.before k l)
@@ -50,7 +50,7 @@ entries_only {d} {d'} {d''} {i} x y = same_entries d'.entries d''.entries (x.for
     go j false q = let n = eqb-false j i q in x.others j n ∙ sym (y.others j n)
 
 stamps_only : {d d' d'' : Desk} {i now : ℕ} → TicksBecome d i now d' → TicksBecome d i now d'' → d'.stamps ≡ d''.stamps
-stamps_only {d} {d'} {d''} {i} x y = same_octets_lem d'.stamps d''.stamps (x.beside ∙ sym y.beside) (λ j. go j (eqb j i) refl)
+stamps_only {d} {d'} {d''} {i} x y = same_octets d'.stamps d''.stamps (x.beside ∙ sym y.beside) (λ j. go j (eqb j i) refl)
   where
     go : (j : ℕ) (b : Bool) → eqb j i ≡ b → tick_at d'.stamps j ≡ tick_at d''.stamps j
     go j true q = let w : j ≡ i = eqb-true j i q in rw w (x.there ∙ sym y.there)

@@ -102,7 +102,7 @@ pub record Reclaims (n : ℕ) (p : List ℕ) (xs : List Ticked) (m τ t : ℕ) :
 
 -- tickets are used up; or no slot is free, and none is idle at this tick
 pub data Closed (d : Desk) (tick : ℕ) : Type 0 where
-  used_up_lem : d.next ≡ limit.tickets → Closed d tick
+  used_up : d.next ≡ limit.tickets → Closed d tick
   no_slot : ((i : ℕ) → i < d.slots → state_at d.entries i ≡ Free → ⊥)
       → ((i : ℕ) (s : Session) → i < d.slots → state_at d.entries i ≡ Open s → tick_at d.stamps i + idle_ticks ≤ seen d tick → ⊥) → Closed d tick
 

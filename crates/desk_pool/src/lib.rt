@@ -1,4 +1,6 @@
 // A lent pool of 16,384 octets a slot: a slot's octets shown, added to and zeroed.
+#![tactic(auto)]
+
 ghost use Rattle.std.specs.Prelude.{◌≡◌, ◌+◌, ◌*◌, ◌≤◌, length};
 ghost use Rattle.numbers.specs.Limits as limit;
 ghost use Rattle.desk_pool.specs.Pools.{patch, zeros, part_of, Lies};

@@ -5,7 +5,7 @@ use mathlib.Core.Bool.{Bool, true, false}
 use mathlib.Core.List.{List}
 use native.Mathlib.Numerals.{add-one}
 use native.Mathlib.Omega.{arith}
-use lib.Dec.{ltb, eqb}
+use lib.Dec.{eqb}
 use lib.ListN.{length, set, replicate, get_or-replicate, length-set}
 use lib.Seq.{get_or-set_other}
 use borrow.Author.Tests.{eqb-true, eqb-false, eq-eqb, ne_eqb, le-ltb, lt-ltb}
@@ -13,7 +13,7 @@ use Rattle.octets.specs.Pick.{pick}
 use Rattle.desk_entries.specs.Search.{first_at, all_at, any_at, column, among, AtMost, longer, leading}
 use Rattle.desk_entries.specs.Ticks.{higher, ahead_by}
 use Rattle.desk_slots.specs.Sound.{state_at, Sound, ticket_at, fits_at, good_at, bounds, sound, ahead_in, sound_at}
-use Rattle.desk_slots.specs.Slots.{free_at, open_at, in_state, at_position, position_of, slot_of, met, latest, unsound, look_of}
+use Rattle.desk_slots.specs.Slots.{free_at, open_at, at_position, position_of, slot_of, met, latest, unsound, look_of}
 use Rattle.desk_entries.proofs.Searches.{clash, first_at_is, first_at_not, unbarred, all_at_none, all_at_hit, all_at_miss, any_at_none, any_at_more, any_at_some, leading_none, leading_more, leading_there, leading_not}
 use Rattle.desk_slots.proofs.SoundLaws.{fits_fit, unfit, repeated, good, sound_at_lem}
 use Rattle.desk_slots.proofs.SlotLaws.{Begun, begun_none, begun_more, begun_among, most_more, session_at, free_position}

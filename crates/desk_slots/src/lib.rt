@@ -1,4 +1,6 @@
 // One search along the entries of a desk: whether the desk is sound, and the slot of a ticket, the lowest free one or the idle one to take.
+#![tactic(auto)]
+
 ghost use Rattle.std.specs.Prelude.{◌≡◌, ◌≤◌};
 ghost use Rattle.numbers.specs.Limits as limit;
 ghost use Rattle.desk_slots.specs.Sound.{bounds};
@@ -10,14 +12,14 @@ use desk_entries::{Entry, Session, State, tickets, ticks};
 use numbers::{limit, refusal};
 
 // The slot of a ticket with its session, or a refusal.
-#[derive(Drop)]
+#[derive(Clone, Copy)]
 pub enum Slot {
     Held(usize, Session),
     No(u32),
 }
 
 // What a look along the entries tells: whether the desk is sound, and then the slot of a ticket and how many open entries come first.
-#[derive(Drop)]
+#[derive(Clone, Copy)]
 pub struct Look {
     pub sound: bool,
     pub slot: Slot,

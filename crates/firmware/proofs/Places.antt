@@ -127,9 +127,9 @@ verdict_low n q (Next c) u k p e h = by (eqb c.phase 0) e
     by false e = let w : n ≡ p = cc in omega arith
 
 -- a choice whose first case refuses at a low place
-refused_by_lem : {n p : ℕ} (t : Bool) (m q : ℕ) (v : Verdict) → pick t (Refused m q) v ≡ Refused n p → q ≤ 16386 → (t ≡ false → v ≡ Refused n p → p ≤ 16386) → p ≤ 16386
-refused_by_lem {n} {p} true m q v e h f = let w : q ≡ p = cc in omega arith
-refused_by_lem false m q v e h f = f refl e
+refused_by : {n p : ℕ} (t : Bool) (m q : ℕ) (v : Verdict) → pick t (Refused m q) v ≡ Refused n p → q ≤ 16386 → (t ≡ false → v ≡ Refused n p → p ≤ 16386) → p ≤ 16386
+refused_by {n} {p} true m q v e h f = let w : q ≡ p = cc in omega arith
+refused_by false m q v e h f = f refl e
 
 -- 3: the place stands in the input; then 4 and the lines
 refused_lone : {n p : ℕ} (i : List ℕ) (v : Verdict) → length i ≤ 16384 → pick (ltb (first_lone i) (length i)) (Refused 3 (first_lone i)) v ≡ Refused n p
@@ -153,7 +153,7 @@ refused_end {n} {p} i h e = by (ends_cr_lf i) e
 pub place_low : (i : List ℕ) (n p : ℕ) → judge_of i ≡ Refused n p → p ≤ 16386
 unfolding judge_in
 place_low i n p e =
-    refused_by_lem (ltb 16384 (length i)) 1 16384 _ e (omega arith) (λ t₁ q₁.
+    refused_by (ltb 16384 (length i)) 1 16384 _ e (omega arith) (λ t₁ q₁.
     let short = ltb-false 16384 (length i) t₁ in
-    refused_by_lem (eqb (length i) 0) 2 0 _ q₁ (omega arith) (λ t₂ q₂.
+    refused_by (eqb (length i) 0) 2 0 _ q₁ (omega arith) (λ t₂ q₂.
     refused_lone i _ short q₂ (λ q₃. refused_end i short q₃)))

@@ -1,4 +1,6 @@
-// The routines that C firmware calls, on byte ranges, one number as the answer of each.
+// The routines that C firmware calls, on byte ranges, one number as the answer of each; firmware_c exports them.
+#![tactic(auto)]
+
 ghost use Rattle.std.specs.Prelude.{◌≡◌, ◌<◌};
 ghost use Rattle.numbers.specs.Limits as limit;
 ghost use Rattle.reader.specs.Outcome.{judge_of};
@@ -20,8 +22,7 @@ fn pack_refusal(n: u32, p: usize) -> u64
 }
 
 // Judges an input: the count of cards, or the refusal.
-#[unsafe(no_mangle)]
-pub extern "C" fn judge(input: &[u8]) -> u64
+pub fn judge(input: &[u8]) -> u64
     ensures { result ≡ verdict_word (judge_of input.now) }
 {
     let v = reader::judge(input);
@@ -43,8 +44,7 @@ fn pack_written(w: Written) -> u64
 }
 
 // Folds an input into a room, its names in capitals: the count of octets written, or the refusal; the room is as the folder leaves it.
-#[unsafe(no_mangle)]
-pub extern "C" fn fold(input: &[u8], out: &mut [u8]) -> u64
+pub fn fold(input: &[u8], out: &mut [u8]) -> u64
     ensures { worded result out.new ≡ word_outcome (fold_outcome input.now out.old) }
 {
     let w = folder::fold(Edition::First, input, out);
@@ -52,8 +52,7 @@ pub extern "C" fn fold(input: &[u8], out: &mut [u8]) -> u64
 }
 
 // Unescapes a text into a room: the count of octets written, or the refusal; the room is as unescaping leaves it.
-#[unsafe(no_mangle)]
-pub extern "C" fn unescape(text: &[u8], out: &mut [u8]) -> u64
+pub fn unescape(text: &[u8], out: &mut [u8]) -> u64
     ensures { worded result out.new ≡ word_outcome (unescape_outcome text.now out.old) }
 {
     let w = text::unescape(text, out);

@@ -1,4 +1,6 @@
 // For the benchmark alone: escape, labels, read, take of a report and the desk's calls, for C to time.
+#![tactic(auto)]
+
 ghost use Rattle.std.specs.Prelude.{◌≡◌, ◌+◌, get_or};
 ghost use Rattle.numbers.specs.Counts as places;
 ghost use Rattle.numbers.specs.Properties as property;

@@ -1,4 +1,6 @@
 // For the benchmark alone: version 3 sets, for C to time in a library of its own; a refusal is its number alone.
+#![tactic(auto)]
+
 ghost use Rattle.std.specs.Prelude.{◌≡◌};
 ghost use Rattle.version3.specs.Outcome.{take_outcome, give_outcome};
 ghost use Rattle.firmware_version3.specs.Answers.{number, written_number};

@@ -1,4 +1,6 @@
 // For the benchmark alone: the reader of chunks, for C to time in a library of its own; a refusal is its number alone.
+#![tactic(auto)]
+
 ghost use Rattle.std.specs.Prelude.{◌≡◌};
 ghost use Rattle.reader.specs.Outcome.{judge_of};
 ghost use Rattle.firmware_watch.specs.Answers.{number, verdict_number};

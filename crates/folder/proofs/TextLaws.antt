@@ -20,10 +20,10 @@ module _ (s : List ℕ) (at e : ℕ) (lt : at < length s) (he : e ≡ at + line_
   unfolding logical_lines
   turn = ap (map unfolded) (lines_turn s at e lt he le)
 
-  pub fold_length_lem : length (folded_lines (logical_lines (drop at s)))
+  pub fold_length : length (folded_lines (logical_lines (drop at s)))
       ≡ length (folded (unfolded (take (e - at) (drop at s)))) + length (folded_lines (logical_lines (drop (e + 2) s)))
   unfolding folded_lines
-  fold_length_lem =
+  fold_length =
       ap (λ (ls : List (List ℕ)). length (folded_lines ls)) turn
       ∙ length-append (folded (unfolded (take (e - at) (drop at s)))) (folded_lines (logical_lines (drop (e + 2) s)))
 

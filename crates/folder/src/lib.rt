@@ -1,4 +1,5 @@
 // The folder: the logical lines of an input, folded, in either style and either edition.
+#![tactic(auto)]
 ghost use Rattle.std.specs.Prelude.{◌≡◌};
 ghost use Rattle.octets.specs.Room.{filled};
 ghost use Rattle.folder.specs.Outcome.{fold_in};

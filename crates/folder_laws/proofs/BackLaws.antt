@@ -18,7 +18,7 @@ use Rattle.reader.specs.Outcome.{ended}
 use Rattle.line_laws.specs.Lined.{Folded, end as nothing, octet, fold, Unbroken, Unled, Lined, no_line, and_then}
 use Rattle.folder_line.proofs.PieceLaws.{rejoin, first_goes, over_no}
 use Rattle.folder_line.proofs.Turns.{clean_chars}
-use Rattle.folder_laws.proofs.CopyLaws.{line_run, line_stop, first_line_lem, unled_none, unled_line, copy_lines}
+use Rattle.folder_laws.proofs.CopyLaws.{line_run, line_stop, first_line, unled_none, unled_line, copy_lines}
 use Rattle.folder_laws.proofs.CutLaws.{Pieces, nil, one, first_whole, later_good}
 
 -- octets that are no CR are kept, a fold is not
@@ -86,7 +86,7 @@ module _ (l : List ℕ) (clean : Clean l) where
   pub one_line : (t : List ℕ) → Unled t → raw_lines (folded l ++ t) ≡ joined (pieces l) ∷ raw_lines t
   unfolding folded pieces
   one_line t u =
-      ap raw_lines (append_assoc (joined (pieces l)) (13 ∷ 10 ∷ []) t) ∙ first_line_lem (joined (pieces l)) t (line_pieces w g t u)
+      ap raw_lines (append_assoc (joined (pieces l)) (13 ∷ 10 ∷ []) t) ∙ first_line (joined (pieces l)) t (line_pieces w g t u)
 
 -- a folded line starts as the line does
 same_head : (x : ℕ) (xs p : List ℕ) (ps : List (List ℕ)) (t : List ℕ) → Unled (x ∷ xs) → Unled ((joined ((x ∷ p) ∷ ps) ++ (13 ∷ 10 ∷ [])) ++ t)
@@ -154,8 +154,8 @@ module _ (ls ms : List (List ℕ)) (c : All Clean ls) (u : All Unled ls) (d : Al
   pub same_lines : folded_lines ls ≡ folded_lines ms → ls ≡ ms
   same_lines e = sym (lines_back ls c u) ∙ ap (λ (t : List ℕ). map unfolded (raw_lines t)) e ∙ lines_back ms d v
 
-  pub same_octets_lem : ended ls ≡ ended ms → folded_lines ls ≡ folded_lines ms
-  same_octets_lem e = ap folded_lines (sym (copy_lines ls c u) ∙ ap raw_lines e ∙ copy_lines ms d v)
+  pub same_octets : ended ls ≡ ended ms → folded_lines ls ≡ folded_lines ms
+  same_octets e = ap folded_lines (sym (copy_lines ls c u) ∙ ap raw_lines e ∙ copy_lines ms d v)
 
   pub same_copies : folded_lines ls ≡ folded_lines ms → ended ls ≡ ended ms
   same_copies e = ap ended (same_lines e)

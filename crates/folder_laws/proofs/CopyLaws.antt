@@ -31,8 +31,8 @@ unfolding line_length scan line_step fold_at Unled
 line_stop t u = simp (ne_eqb (get_or t 0 0) 32 u.0, ne_eqb (get_or t 0 0) 9 u.1)
 
 -- a line b that ends where its length says, with more behind its CR LF
-pub first_line_lem : (b t : List ℕ) → line_length (b ++ (13 ∷ 10 ∷ t)) ≡ length b → raw_lines (b ++ (13 ∷ 10 ∷ t)) ≡ b ∷ raw_lines t
-first_line_lem b t n =
+pub first_line : (b t : List ℕ) → line_length (b ++ (13 ∷ 10 ∷ t)) ≡ length b → raw_lines (b ++ (13 ∷ 10 ∷ t)) ≡ b ∷ raw_lines t
+first_line b t n =
     let s = b ++ (13 ∷ 10 ∷ t) in
     let pos : 0 < length s = omega (arith, length-append b (13 ∷ 10 ∷ t)) in
     lines_step s 0 pos (length b) (sym n)
@@ -61,4 +61,4 @@ copy_lines [] c u = lines_end [] 0 (omega arith)
 copy_lines (l ∷ ls) c u =
     let n = line_run (no_end (clean_chars l c.0)) (13 ∷ 10 ∷ ended ls) in
     let z = line_stop (ended ls) (ended_unled ls u.1) in
-    first_line_lem l (ended ls) (omega arith) ∙ ap (λ (r : List (List ℕ)). l ∷ r) (copy_lines ls c.1 u.1)
+    first_line l (ended ls) (omega arith) ∙ ap (λ (r : List (List ℕ)). l ∷ r) (copy_lines ls c.1 u.1)

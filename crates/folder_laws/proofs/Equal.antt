@@ -13,7 +13,7 @@ use Rattle.folder_raising.specs.declared.Style.{Style}
 use Rattle.folder_raising.specs.declared.Style.TheVariants.{AsRead}
 use Rattle.folder_laws.specs.Foldings.{Billed}
 use Rattle.folder_laws.specs.Physical.{physical}
-use Rattle.folder_laws.proofs.BackLaws.{same_octets_lem, same_copies}
+use Rattle.folder_laws.proofs.BackLaws.{same_octets, same_copies}
 use Rattle.folder_laws.proofs.StyleLaws.{as_read, fewest_styled}
 use Rattle.folder_laws.proofs.WrittenLaws.{Form}
 
@@ -25,7 +25,7 @@ pub equal : {i j s t : List ℕ} → Form AsRead i s → Form AsRead j t → (s 
 unfolding copy_of
 equal {i} {j} f g = (
   λ e. same_copies (logical_lines i) (logical_lines j) f.clean f.unled g.clean g.unled (sym (plain f) ∙ e ∙ plain g),
-  λ e. plain f ∙ same_octets_lem (logical_lines i) (logical_lines j) f.clean f.unled g.clean g.unled e ∙ sym (plain g),
+  λ e. plain f ∙ same_octets (logical_lines i) (logical_lines j) f.clean f.unled g.clean g.unled e ∙ sym (plain g),
 )
 
 -- No octets with the same logical lines have fewer physical lines than what was written.

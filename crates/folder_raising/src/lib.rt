@@ -1,17 +1,18 @@
 // The two styles in which a line is written, and raising the names of a line to capitals in the room in which it was written.
+#![tactic(auto)]
 ghost use Rattle.std.specs.Prelude.{◌≡◌, true, ◌≤◌, length};
 ghost use Rattle.folder_raising.specs.Letters.{upper};
 ghost use Rattle.folder_raising.specs.Walk.{after, turned, raised, Kept};
 
 // As read, or with the ASCII letters of group, property and parameter names as capitals.
-#[derive(Drop)]
+#[derive(Clone, Copy)]
 pub enum Style {
     AsRead,
     Raised,
 }
 
 // Where a line stands: in its group, its name or a parameter's name; in a parameter's values; between quote marks there; behind the colon.
-#[derive(Drop)]
+#[derive(Clone, Copy)]
 pub enum Spot {
     Name,
     Values,

@@ -147,9 +147,9 @@ module _ (ed : Edition) (s : Style) (i t : List ℕ) (k m : ℕ) (h : InputIn ed
   unfolding records_in
   records_same = ap (records_from ed 0) (lines_law ed t k m again ∙ ap (map render) again_lines) ∙ records_styled ed s h.lines h.readable 0 ∙ ap (records_from ed 0) (sym (lines_law ed i k m h))
 
-  copy_length_lem : length (copy_of t) ≡ length (copy_of i)
+  copy_length : length (copy_of t) ≡ length (copy_of i)
   unfolding copy_of
-  copy_length_lem =
+  copy_length =
       ap (λ (ls : List (List ℕ)). length (ended ls)) (lines_law ed t k m again ∙ ap (map render) again_lines) ∙ copy_styled s h.lines h.readable
       ∙ ap (λ (ls : List (List ℕ)). length (ended ls)) (sym (lines_law ed i k m h))
 
@@ -157,7 +157,7 @@ module _ (ed : Edition) (s : Style) (i t : List ℕ) (k m : ℕ) (h : InputIn ed
   unfolding read_in outcome_by
   alike copy records =
       rw ((accepted_law ed t k m).1 again, (accepted_law ed i k m).1 h, records_same)
-      (writes_alike (Accepted k m) (copy_of t) (copy_of i) (records_in ed i) copy records copy_length_lem)
+      (writes_alike (Accepted k m) (copy_of t) (copy_of i) (records_in ed i) copy records copy_length)
 
   -- Read again, it gives the same answer and the same records, whatever the rooms.
   pub again_answer : (copy records : List ℕ) → (read_in ed t copy records).answer ≡ (read_in ed i copy records).answer

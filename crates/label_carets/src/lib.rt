@@ -1,4 +1,5 @@
 // The pairs of RFC 6868: the letters that follow a caret, how many octets a label stands for, and writing those.
+#![tactic(auto)]
 ghost use Rattle.std.specs.Prelude.{◌≡◌, ◌<◌, ◌≤◌, length, drop};
 ghost use Rattle.octets.specs.Room.{overlay};
 ghost use Rattle.label_carets.specs.Encoded.{Letters};
@@ -8,7 +9,7 @@ ghost use Rattle.label_carets.specs.declared.Rule.TheVariants.{Rfc6868};
 use text_escaping::LetterTable;
 
 // How a caret in a label is read.
-#[derive(Drop)]
+#[derive(Clone, Copy)]
 pub enum Rule {
     // It stands for itself.
     Rfc6350,

@@ -346,19 +346,19 @@ one_first {d} {e} f g =
     let there : Reading f.upto (goes_on f.rest) e = rw (same.0, same.1) g.reading in
     one_fault (line_broken f.reading) (line_broken there)
 
-fault_of_lem : (l : List ℕ) (e : ℕ) → FirstFault e l → LineFault e l
-fault_of_lem l e f =
+fault_of : (l : List ℕ) (e : ℕ) → FirstFault e l → LineFault e l
+fault_of l e f =
     let r = (refused_law l).1 f.leftmost.bad in
     let g = (fault_law l r.0).0 r.1 in
     subst (λ (n : ℕ). LineFault n l) (one_first (first_of l r.0 g) f) g
 
 -- a fault of a line is its first from the left, in both directions
 pub first_law : (l : List ℕ) (e : ℕ) → LineFault e l ↔ FirstFault e l
-first_law l e = (first_of l e, fault_of_lem l e)
+first_law l e = (first_of l e, fault_of l e)
 
 -- a line is refused with a number exactly when its first fault from the left has that number
 pub first_fault_law : (l : List ℕ) (e : ℕ) → (parse_line l ≡ bad e) ↔ FirstFault e l
-first_fault_law l e = (λ h. first_of l e ((fault_law l e).0 h), λ f. (fault_law l e).1 (fault_of_lem l e f))
+first_fault_law l e = (λ h. first_of l e ((fault_law l e).0 h), λ f. (fault_law l e).1 (fault_of l e f))
 
 values_number : {b : List ℕ} {f : Bool} {e : ℕ} → InValues b f e → (40 ≤ e) × (e ≤ 43)
 values_number (InValues.in_quotes xs h) = (omega arith, omega arith)

@@ -121,21 +121,21 @@ pub data Text : List ℕ → Type 0 where
   pair : {s : List ℕ} → Text s → Text (13 ∷ 10 ∷ s)
 
 module _ (b c : ℕ) (s : List ℕ) where
-  text_by_lem : (p q r : Bool) → eqb b 10 ≡ p → eqb b 13 ≡ q → eqb c 10 ≡ r → scan lone_step (b ∷ c ∷ s) 0 ≡ suc (suc (length s))
+  text_by : (p q r : Bool) → eqb b 10 ≡ p → eqb b 13 ≡ q → eqb c 10 ≡ r → scan lone_step (b ∷ c ∷ s) 0 ≡ suc (suc (length s))
       → (scan lone_step (c ∷ s) 0 ≡ suc (length s) → Text (c ∷ s))
       → (c ≡ 10 → scan lone_step s 0 ≡ length s → Text s) → Text (b ∷ c ∷ s)
   unfolding scan lone_step
-  text_by_lem true q r ep eq er e f g = absurd (omega (arith, simp ep at e))
-  text_by_lem false true true ep eq er e f g = rw (eqb-true b 13 eq, eqb-true c 10 er) (pair (g (eqb-true c 10 er) (omega (arith, simp (ep, eq, er) at e))))
-  text_by_lem false true false ep eq er e f g = absurd (omega (arith, simp (ep, eq, er) at e))
-  text_by_lem false false r ep eq er e f g = inner (eqb-false b 13 eq, eqb-false b 10 ep) (f (omega (arith, simp (ep, eq) at e)))
+  text_by true q r ep eq er e f g = absurd (omega (arith, simp ep at e))
+  text_by false true true ep eq er e f g = rw (eqb-true b 13 eq, eqb-true c 10 er) (pair (g (eqb-true c 10 er) (omega (arith, simp (ep, eq, er) at e))))
+  text_by false true false ep eq er e f g = absurd (omega (arith, simp (ep, eq, er) at e))
+  text_by false false r ep eq er e f g = inner (eqb-false b 13 eq, eqb-false b 10 ep) (f (omega (arith, simp (ep, eq) at e)))
 
 text_of : (j : List ℕ) → scan lone_step (j ++ (13 ∷ 10 ∷ [])) 0 ≡ length (j ++ (13 ∷ 10 ∷ [])) → Text (j ++ (13 ∷ 10 ∷ []))
 text_of [] e = last
 text_of (b ∷ []) e =
-    text_by_lem b 13 (10 ∷ []) (eqb b 10) (eqb b 13) (eqb 13 10) refl refl refl e (λ h. text_of [] h) (λ h q. absurd (omega arith))
+    text_by b 13 (10 ∷ []) (eqb b 10) (eqb b 13) (eqb 13 10) refl refl refl e (λ h. text_of [] h) (λ h q. absurd (omega arith))
 text_of (b ∷ c ∷ j) e =
-    text_by_lem b c (j ++ (13 ∷ 10 ∷ [])) (eqb b 10) (eqb b 13) (eqb c 10) refl refl refl e (λ h. text_of (c ∷ j) h) (λ h q. text_of j q)
+    text_by b c (j ++ (13 ∷ 10 ∷ [])) (eqb b 10) (eqb b 13) (eqb c 10) refl refl refl e (λ h. text_of (c ∷ j) h) (λ h q. text_of j q)
 
 -- the first line, as it came and without its folds, and what comes after its CR LF
 pub record Split (i : List ℕ) : Type 0 where
@@ -195,9 +195,9 @@ split_raw i s = ap raw_lines s.whole ∙ first_raw s.raw s.rest (folded_length s
 pub cons_nil : {A B : Type 0} {x : A} {xs : List A} → x ∷ xs ≡ [] → B
 cons_nil e = let z : ◌≡◌ {A = ℕ} 0 1 = cc in absurd (omega arith)
 
-pub paired_text_lem : (i : List ℕ) → first_lone i ≡ length i → EndsCrLf i → Text i
+pub paired_text : (i : List ℕ) → first_lone i ≡ length i → EndsCrLf i → Text i
 unfolding first_lone
-paired_text_lem i e (j, q) = subst Text (sym q) (text_of j (subst (λ (l : List ℕ). scan lone_step l 0 ≡ length l) q e))
+paired_text i e (j, q) = subst Text (sym q) (text_of j (subst (λ (l : List ℕ). scan lone_step l 0 ≡ length l) q e))
 
 -- the walk splits the input into its lines, and there is no other such splitting
 lined_from : (n : ℕ) (i : List ℕ) → length i ≤ n → (i ≡ []) ⊎ Text i → Lined i (raw_lines i) (map unfolded (raw_lines i))
@@ -217,7 +217,7 @@ lined_from (suc n) i h (inr t) =
     (and_then s.folded s.each s.unled r)))
 
 pub lined_law : (i : List ℕ) → first_lone i ≡ length i → EndsCrLf i → Lined i (raw_lines i) (map unfolded (raw_lines i))
-lined_law i e h = lined_from (length i) i (omega arith) (inr (paired_text_lem i e h))
+lined_law i e h = lined_from (length i) i (omega arith) (inr (paired_text i e h))
 
 pub lined_only : {i : List ℕ} {rs ls : List (List ℕ)} → Lined i rs ls → (rs ≡ raw_lines i) × (ls ≡ map unfolded (raw_lines i))
 unfolding raw_lines lines_by

@@ -29,5 +29,5 @@ pub data LineFault : ℕ → List ℕ → Type 0 where
   no_name : (l : List ℕ) → named (hd l) ≡ false → LineFault refusal.name l
   no_name_after_group : (g r : List ℕ) → Word g → named (hd r) ≡ false → LineFault refusal.name (g ++ ascii.dot ∷ r)
   in_params : (e : ℕ) (g n r : List ℕ) → Each (Is named) g → Word n → ParamsFault e r → LineFault e ((group_text g ++ n) ++ ascii.semicolon ∷ r)
-  no_colon_lem : (g n r : List ℕ) → Each (Is named) g → Word n → named (hd r) ≡ false → (length g ≡ 0 → eqb (hd r) ascii.dot ≡ false)
+  no_colon : (g n r : List ℕ) → Each (Is named) g → Word n → named (hd r) ≡ false → (length g ≡ 0 → eqb (hd r) ascii.dot ≡ false)
       → eqb (hd r) ascii.semicolon ≡ false → is_colon (hd r) ≡ false → LineFault (or_end refusal.name refusal.no_colon r) ((group_text g ++ n) ++ r)

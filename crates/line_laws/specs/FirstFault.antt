@@ -39,7 +39,7 @@ pub data InParams : List ℕ → Bool → ℕ → Type 0 where
 -- A beginning of a line: 40 in an empty group or name, and where an octet follows a good one; 43 where the line ends after a good one.
 pub data Reading : List ℕ → Bool → ℕ → Type 0 where
   no_name : (g : List ℕ) {f : Bool} → Each (Is named) g → Reading (group_text g) f refusal.name
-  after_name_lem : (g n : List ℕ) {f : Bool} → Each (Is named) g → Word n → Reading (group_text g ++ n) f (pick f refusal.name refusal.no_colon)
+  after_name : (g n : List ℕ) {f : Bool} → Each (Is named) g → Word n → Reading (group_text g ++ n) f (pick f refusal.name refusal.no_colon)
   in_params : (g n : List ℕ) {b : List ℕ} {f : Bool} {e : ℕ} → Each (Is named) g → Word n → InParams b f e → Reading ((group_text g ++ n) ++ ascii.semicolon ∷ b) f e
 
 -- "The number is that of the first fault from the left"

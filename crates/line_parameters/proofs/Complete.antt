@@ -8,7 +8,7 @@ use lib.Dec.{eqb}
 use lib.ListN.{length, length-append}
 use lib.Seq.{drop-append_seam, take-append_seam}
 use borrow.Author.Tests.{lt-ltb}
-use Rattle.octets.specs.Classes.{run, more, named, quoted, bare, valued, letter, digit, hyphen}
+use Rattle.octets.specs.Classes.{run, named, quoted, bare, valued, letter, digit, hyphen}
 use Rattle.line_parser.specs.Parse.{got, hd, many}
 use Rattle.line_parser.specs.Grammar.{Value, plain, in_quotes, Param, Line, Each, Is, Word, GoodValue, GoodParam, WellFormed}
 use Rattle.line_parser.specs.Grammar.{led, value_text, param_text, group_text, front, render}

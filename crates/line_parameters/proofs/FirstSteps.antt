@@ -50,10 +50,10 @@ module _ (s : List ℕ) (at : ℕ) where
 
 -- one turn of the walk
 module _ (name s : List ℕ) (at : ℕ) where
-  pub first_bad_lem : (n x : ℕ) → get_or s at 0 ≡ 59 → param (drop (at + 1) s) ≡ bad x → find_first name at n (drop at s) ≡ Nothing
+  pub first_bad : (n x : ℕ) → get_or s at 0 ≡ 59 → param (drop (at + 1) s) ≡ bad x → find_first name at n (drop at s) ≡ Nothing
   unfolding find_first
-  first_bad_lem zero x h q = refl
-  first_bad_lem (suc n) x h q =
+  first_bad zero x h q = refl
+  first_bad (suc n) x h q =
       let w : param (drop 1 (drop at s)) ≡ bad x = rw drop-drop q in
       rw (is s at 59 h, w)
 

@@ -45,7 +45,7 @@ placed x =
     let line : render x ≡ group_text x.group ++ (x.name ++ r) = simp append_assoc in
     record {
       group_length = refl;
-      name_end_lem = refl;
+      name_end = refl;
       count = refl;
       value_start = refl;
       group = rw line (group_at x.group (x.name ++ r));

@@ -9,7 +9,7 @@ use Rattle.line_parser.specs.Places.{name_start}
 -- of the line l with the parts x: the group is its first g octets, the name ends at n, c parameters follow, and the value is the rest from v on
 pub record Placed (l : List ℕ) (x : Line) (g n c v : ℕ) : Type 0 where
   pub group_length : g ≡ length x.group
-  pub name_end_lem : n ≡ name_end x
+  pub name_end : n ≡ name_end x
   pub count : c ≡ length x.params
   pub value_start : v ≡ length (front x)
   pub group : take g l ≡ x.group

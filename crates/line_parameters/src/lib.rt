@@ -1,4 +1,6 @@
 // The first value of a parameter, by its name.
+#![tactic(auto)]
+
 ghost use Rattle.std.specs.Prelude.{◌≡◌, suc, ◌≤◌, length, drop};
 ghost use Rattle.octets.specs.Classes.{Classes};
 ghost use Rattle.line_parameters.specs.First.{spanned, find_first};
@@ -8,7 +10,7 @@ use octets::classes;
 use octets::classes::ClassTable;
 
 // Where the octets of a parameter's first value stand in a line.
-#[derive(Drop)]
+#[derive(Clone, Copy)]
 pub enum First {
     // The value stands from `start` up to `end`.
     Between { start: usize, end: usize },

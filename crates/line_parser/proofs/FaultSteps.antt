@@ -1,23 +1,21 @@
 -- The part at fault of a line, by what the code tests at a place. Assumes nothing.
 use mathlib.Core.Path.{◌≡◌, refl, sym, ap, ◌∙◌}
 use mathlib.Core.Bool.{Bool, true, false}
-use mathlib.Core.List.{List, []}
+use mathlib.Core.List.{List}
 use Prim.Native.Nat.{ℕ, zero, suc, ◌+◌, ◌-◌, ◌<◌, ◌≤◌}
 use native.Mathlib.Nat.{add-zero, not-suc-le-zero}
 use native.Mathlib.Omega.{arith}
-use lib.Dec.{eqb, ltb}
-use lib.ListN.{length, get_or, drop, drop_of_length-le, get_or-eq_default}
+use lib.Dec.{ltb}
+use lib.ListN.{length, drop, drop_of_length-le, get_or-eq_default}
 use borrow.Author.Tests.{eq-eqb, ne_eqb, lt-ltb, le-ltb, ltb-true, ltb-false}
-use Rattle.octets.specs.Pick.{pick}
 use Rattle.octets.specs.Classes.{run, has, named, quoted, name_mask, quoted_mask}
 use Rattle.octets.proofs.Runs.{run_has}
 use Rattle.octets.proofs.Masks.{has_named, has_quoted}
-use Rattle.line_parser.specs.Parse.{Parse, got, bad, hd}
+use Rattle.line_parser.specs.Parse.{got, bad, hd}
 use Rattle.line_parser.specs.Grammar.{Value, Param}
 use Rattle.line_parser.specs.Rule.{value, param}
-use Rattle.line_parser.specs.AtFault.{name_from, unless, param_from, value_from, word_from, after_name, quote_by, quote_fault}
+use Rattle.line_parser.specs.AtFault.{name_from, param_from, value_from, word_from, after_name, quote_by, quote_fault}
 use Rattle.line_parser.specs.declared.at_fault.AtFault.{AtFault}
-use Rattle.line_parser.specs.declared.at_fault.QuoteFault.{QuoteFault}
 use Rattle.line_parser.specs.declared.at_fault.QuoteFault.TheVariants.{LeftOpen, Followed, InBare}
 use Rattle.line_parser.proofs.Steps.{look}
 
@@ -102,8 +100,8 @@ module _ (s : List ℕ) where
     pub after_none : w.end ≤ w.start → w ≡ after_name w s
     after_none h = rw (le-ltb w.start w.end h)
 
-    pub after_other_lem : w.start < w.end → (hd (drop w.end s) ≡ 59 → ⊥) → w ≡ after_name w s
-    after_other_lem h q = rw (lt-ltb w.start w.end h, ne_eqb (hd (drop w.end s)) 59 q)
+    pub after_other : w.start < w.end → (hd (drop w.end s) ≡ 59 → ⊥) → w ≡ after_name w s
+    after_other h q = rw (lt-ltb w.start w.end h, ne_eqb (hd (drop w.end s)) 59 q)
 
     pub after_param : w.start < w.end → hd (drop w.end s) ≡ 59 → word_from true (param_from (suc (length s)) w.end s) s ≡ after_name w s
     after_param h q = rw (lt-ltb w.start w.end h, eq-eqb (hd (drop w.end s)) 59 q)

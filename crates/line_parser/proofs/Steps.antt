@@ -1,5 +1,5 @@
 -- The readings at a place of a line, by what the code tests there. Assumes nothing.
-use mathlib.Core.Path.{◌≡◌, refl, sym, ap, ◌∙◌, subst}
+use mathlib.Core.Path.{◌≡◌, refl, sym, ap, ◌∙◌}
 use mathlib.Core.Bool.{Bool, true, false}
 use mathlib.Core.List.{List, [], ◌∷◌}
 use Prim.Native.Nat.{ℕ, suc, ◌+◌, ◌-◌, ◌<◌, ◌≤◌}
@@ -19,20 +19,17 @@ use Rattle.line_parser.specs.Rule.{word, closing, value, ends, or_end, is_colon,
 use Rattle.line_parser.specs.Places.{place, listed, headed, outcome}
 use Rattle.line_parser.specs.declared.rule.Part.{Part}
 use Rattle.line_parser.specs.declared.rule.Part.TheVariants.{Upto, Named, Listed, Parsed, Fault}
-use denote.Enum.Declared.{tag_of}
-use types.Run.{OneOf, miss}
-use Rattle.line_parser.specs.contracts.rule.Part.{the_type}
 use Rattle.line_parser.proofs.PartLaws.{word_taken, before_end, head_count, params_stop}
 use Rattle.line_parser.proofs.ParseLaws.{next_got, next_bad, pick_yes, pick_no, guard_yes, guard_no, many_end, many_bad, many_on}
 
--- an answer of none of the variants ks, where ks are all but the one that an accepted reading has, is a fault
-module _ {A : Type 0} (f : Parse A → Part) (ks : List ℕ) (other : (a : A) (k : ℕ) → OneOf ks (tag_of the_type (f (got a k))) → ⊥) where
-  only_fault : {C : Type 0} (m : Parse A) {r : Part} → r ≡ f m → OneOf ks (tag_of the_type r) → ((x : ℕ) → m ≡ bad x → C) → C
+-- an answer that no accepted reading has is a fault
+module _ {A : Type 0} (f : Parse A → Part) where
+  only_fault : {C : Type 0} (m : Parse A) {r : Part} → r ≡ f m → ((a : A) (k : ℕ) → r ≡ f (got a k) → ⊥) → ((x : ℕ) → m ≡ bad x → C) → C
   only_fault (bad x) h k g = g x refl
-  only_fault (got a n) h k g = absurd (other a n (subst (λ (t : Part). OneOf ks (tag_of the_type t)) h k))
+  only_fault (got a n) h k g = absurd (k a n h)
 
   -- and is handed up unchanged
-  fault_up : ((x : ℕ) → f (bad x) ≡ Fault x) → (m : Parse A) {r g : Part} → r ≡ f m → OneOf ks (tag_of the_type r)
+  fault_up : ((x : ℕ) → f (bad x) ≡ Fault x) → (m : Parse A) {r g : Part} → r ≡ f m → ((a : A) (k : ℕ) → r ≡ f (got a k) → ⊥)
       → ((x : ℕ) → m ≡ bad x → g ≡ Fault x) → r ≡ g
   fault_up fb m h k g = only_fault m h k (λ x q. h ∙ ap f q ∙ fb x ∙ sym (g x q))
 
@@ -49,13 +46,13 @@ module _ {A : Type 0} where
       let i : k ≡ e = omega arith in
       f a (p ∙ ap (got a) i))
 
-  pub place_fault : {C : Type 0} (at : ℕ) (m : Parse A) {r : Part} → r ≡ place at m → OneOf (1 ∷ 2 ∷ 3 ∷ 4 ∷ []) (tag_of the_type r)
+  pub place_fault : {C : Type 0} (at : ℕ) (m : Parse A) {r : Part} → r ≡ place at m → ((e : ℕ) → r ≡ Upto e → ⊥)
       → ((x : ℕ) → m ≡ bad x → C) → C
-  place_fault at = only_fault (place at) (1 ∷ 2 ∷ 3 ∷ 4 ∷ []) (λ a k. miss (1 ∷ 2 ∷ 3 ∷ 4 ∷ []) 0 tt)
+  place_fault at m h n = only_fault (place at) m h (λ a k. n (at + k))
 
-  pub hand_up : (at : ℕ) (m : Parse A) {r g : Part} → r ≡ place at m → OneOf (1 ∷ 2 ∷ 3 ∷ 4 ∷ []) (tag_of the_type r)
+  pub hand_up : (at : ℕ) (m : Parse A) {r g : Part} → r ≡ place at m → ((e : ℕ) → r ≡ Upto e → ⊥)
       → ((x : ℕ) → m ≡ bad x → g ≡ Fault x) → r ≡ g
-  hand_up at = fault_up (place at) (1 ∷ 2 ∷ 3 ∷ 4 ∷ []) (λ a k. miss (1 ∷ 2 ∷ 3 ∷ 4 ∷ []) 0 tt) (λ x. refl)
+  hand_up at m h n = fault_up (place at) (λ x. refl) m h (λ a k. n (at + k))
 
   pub place_shift : {B : Type 0} (m : Parse A) (at b : ℕ) (f : A → B) (h : ℕ → ℕ) → ((j : ℕ) → at + h j ≡ b + j)
       → place at (next m (λ a j. got (f a) (h j))) ≡ place b m
@@ -133,8 +130,8 @@ module _ (s : List ℕ) (at a b : ℕ) where
   pub goes_on : at < length s → or_end a b (drop at s) ≡ a
   goes_on h = rw (lt-ltb 0 (length (drop at s)) (rw length-drop (omega arith)))
 
-  pub is_over_lem : length s ≤ at → or_end a b (drop at s) ≡ b
-  is_over_lem h = rw (le-ltb 0 (length (drop at s)) (rw length-drop (omega arith)))
+  pub is_over : length s ≤ at → or_end a b (drop at s) ≡ b
+  is_over h = rw (le-ltb 0 (length (drop at s)) (rw length-drop (omega arith)))
 
 -- one turn of a loop over parts
 module _ {A : Type 0} (c : ℕ) (p : List ℕ → Parse A) (ok : ℕ → Bool) (e : List ℕ → ℕ) (s : List ℕ) (at n : ℕ) (pos : 0 < n) where
@@ -202,7 +199,7 @@ module _ (s : List ℕ) (at : ℕ) where
     more_end h =
         let t : ends (hd (drop at s)) ≡ false = rw (isnt s at 59 (past s at 59 (omega arith) h), isnt s at 58 (past s at 58 (omega arith) h)) in
         ap (place at) (turn_end 44 value ends (or_end 42 43) s at n pos (past s at 44 (omega arith) h) ∙ guard_no _ _ t)
-        ∙ ap Fault (is_over_lem s at 42 43 h)
+        ∙ ap Fault (is_over s at 42 43 h)
 
 -- the parameters
 module _ (s : List ℕ) (at c n : ℕ) (pos : 0 < n) where
@@ -234,7 +231,7 @@ module _ (s : List ℕ) (at c n : ℕ) (pos : 0 < n) where
   params_end h =
       ap (listed c at) (turn_end 59 param is_colon (or_end 40 43) s at n pos (past s at 59 (omega arith) h)
       ∙ guard_no _ _ (isnt s at 58 (past s at 58 (omega arith) h)))
-      ∙ ap Fault (is_over_lem s at 40 43 h)
+      ∙ ap Fault (is_over s at 40 43 h)
 
 -- one parameter
 module _ (s : List ℕ) (at : ℕ) where
@@ -291,9 +288,9 @@ headed_named (got h k) {r} {g} {n} p q f =
     f h (ap (got h) e) (cc)
 headed_named (bad x) p q f = clash cc
 
-pub headed_up : (m : Parse Head) {r g : Part} → r ≡ headed m → OneOf (0 ∷ 2 ∷ 3 ∷ 4 ∷ []) (tag_of the_type r)
+pub headed_up : (m : Parse Head) {r g : Part} → r ≡ headed m → ((g n : ℕ) → r ≡ Named g n → ⊥)
     → ((x : ℕ) → m ≡ bad x → g ≡ Fault x) → r ≡ g
-headed_up = fault_up headed (0 ∷ 2 ∷ 3 ∷ 4 ∷ []) (λ a k. miss (0 ∷ 2 ∷ 3 ∷ 4 ∷ []) 1 tt) (λ x. refl)
+headed_up m h n = fault_up headed (λ x. refl) m h (λ a k. n (length a.group) k)
 
 module _ {A : Type 0} (c at : ℕ) where
   pub listed_list : {C : Type 0} (m : Parse (List A)) {r : Part} {d e : ℕ} → r ≡ listed c at m → r ≡ Listed d e
@@ -301,9 +298,9 @@ module _ {A : Type 0} (c at : ℕ) where
   listed_list (got xs k) p q f = f xs k refl (cc) (cc)
   listed_list (bad x) p q f = clash cc
 
-  pub listed_up : (m : Parse (List A)) {r g : Part} → r ≡ listed c at m → OneOf (0 ∷ 1 ∷ 3 ∷ 4 ∷ []) (tag_of the_type r)
+  pub listed_up : (m : Parse (List A)) {r g : Part} → r ≡ listed c at m → ((d e : ℕ) → r ≡ Listed d e → ⊥)
       → ((x : ℕ) → m ≡ bad x → g ≡ Fault x) → r ≡ g
-  listed_up = fault_up (listed c at) (0 ∷ 1 ∷ 3 ∷ 4 ∷ []) (λ a k. miss (0 ∷ 1 ∷ 3 ∷ 4 ∷ []) 2 tt) (λ x. refl)
+  listed_up m h n = fault_up (listed c at) (λ x. refl) m h (λ xs k. n (c + length xs) (at + k))
 
 -- an octet that is not 0 stands inside the line
 pub inside : (s : List ℕ) (at k c : ℕ) → 0 < c → hd (drop k (drop at s)) ≡ c → at + k < length s

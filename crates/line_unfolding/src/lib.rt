@@ -1,4 +1,6 @@
 // A text without its folds: how long it is, and the text itself.
+#![tactic(auto)]
+
 ghost use Rattle.std.specs.Prelude.{◌≡◌, false, [], ◌∷◌, ◌++◌, ℕ, ◌+◌, ◌<◌, ◌≤◌};
 ghost use Rattle.std.proofs.Math.ListN.{length, drop};
 ghost use Rattle.numbers.specs.Limits as limit;

@@ -1,4 +1,5 @@
 // Two edits of one card: the planner proposes pairs of lines, and the checker accepts exactly the plans that pass.
+#![tactic(auto)]
 ghost use Rattle.std.specs.Prelude.{◌≡◌, true, ◌+◌, ◌<◌, ◌≤◌, min, length, take, replicate};
 ghost use Rattle.numbers.specs.Limits as limit;
 ghost use Rattle.octets.specs.Room.{overlay};
@@ -17,7 +18,7 @@ use property_table::Edition;
 use reader::Verdict;
 
 // The count of pairs, or a refusal's number and place.
-#[derive(Drop)]
+#[derive(Clone, Copy)]
 pub enum Paired {
     Pairs(usize),
     Refused(u32, usize),

@@ -80,8 +80,8 @@ judged_number : {i j : List ℕ} {a p : ℕ} → Judged i j a p → Judging a
 judged_number (first h) = refusal_number h
 judged_number (second k n h g) = refusal_number g
 
-number_of_lem : {a b p q : ℕ} → Refused a p ≡ Refused b q → a ≡ b
-number_of_lem e = cc
+number_of : {a b p q : ℕ} → Refused a p ≡ Refused b q → a ≡ b
+number_of e = cc
 
 place_of : {a b p q : ℕ} → Refused a p ≡ Refused b q → p ≡ q
 place_of e = cc
@@ -90,7 +90,7 @@ never : {A : Type 0} {k a p : ℕ} → Pairs k ≡ Refused a p → A
 never e = clash cc
 
 other : {A : Type 0} {a b p q : ℕ} → (a ≡ b → ⊥) → Refused a p ≡ Refused b q → A
-other d e = absurd (d (number_of_lem e))
+other d e = absurd (d (number_of e))
 
 answer_of : {a b : Paired} {x y : List ℕ} → planned a x ≡ planned b y → a ≡ b
 answer_of e = ap (λ (z : Planned). z.answer) e
@@ -180,8 +180,8 @@ module _ (i j : List ℕ) (m n : List Source) where
             (r, p, plan_even r plan p ∙ ap (λ (x : ℕ). x * 2) (sym s))
         go (failed r d p q f) = never (sym e ∙ f)
 
-    pairs_from_lem : (k : ℕ) → (r : Ready i j m n) × Passing r plan × (length plan ≡ k * 2) → Check plan ≡ Pairs k
-    pairs_from_lem k (r, p, l) = check_passing r plan p ∙ ap Pairs (omega (arith, l))
+    pairs_from : (k : ℕ) → (r : Ready i j m n) × Passing r plan × (length plan ≡ k * 2) → Check plan ≡ Pairs k
+    pairs_from k (r, p, l) = check_passing r plan p ∙ ap Pairs (omega (arith, l))
 
     none_to : Check plan ≡ Refused 70 0 → (r : Ready i j m n) × ((p : List ℕ) → Passing r p → ⊥)
     none_to e = go (seen plan)
@@ -231,7 +231,7 @@ module _ (i j : List ℕ) (m n : List Source) where
     judged_to a p g e = go (seen plan)
       where
         go : Seen plan → Judged i j a p
-        go (refused b q h f) = subst (λ (x : ℕ). Judged i j x p) (number_of_lem (sym f ∙ e)) (subst (Judged i j b) (place_of (sym f ∙ e)) h)
+        go (refused b q h f) = subst (λ (x : ℕ). Judged i j x p) (number_of (sym f ∙ e)) (subst (Judged i j b) (place_of (sym f ∙ e)) h)
         go (limit b o f) = other (λ z. absurd (omega (arith, z, judge_low g))) (sym f ∙ e)
         go (row b w o f) = other (λ z. absurd (omega (arith, z, judge_low g))) (sym f ∙ e)
         go (nothing r without f) = other (λ z. absurd (omega (arith, z, judge_low g))) (sym f ∙ e)
@@ -243,11 +243,11 @@ module _ (i j : List ℕ) (m n : List Source) where
       where
         known : (b : ℕ) → 70 ≤ b → b ≤ 73 → Check plan ≡ Refused b 0 → Judging a ⊎ ((70 ≤ a) × (a ≤ 73) × (p ≡ 0))
         known b f g h =
-            let s : b ≡ a = number_of_lem (sym h ∙ e) in
+            let s : b ≡ a = number_of (sym h ∙ e) in
             inr (omega arith, omega arith, sym (place_of (sym h ∙ e)))
 
         go : Seen plan → Judging a ⊎ ((70 ≤ a) × (a ≤ 73) × (p ≡ 0))
-        go (refused b q h f) = inl (subst Judging (number_of_lem (sym f ∙ e)) (judged_number h))
+        go (refused b q h f) = inl (subst Judging (number_of (sym f ∙ e)) (judged_number h))
         go (limit b o f) = known 71 (omega arith) (omega arith) f
         go (row b w o f) = known 72 (omega arith) (omega arith) f
         go (nothing r without f) = known 70 (omega arith) (omega arith) f
@@ -356,12 +356,12 @@ module _ (i j : List ℕ) (m n : List Source) where
         go : Wrote room k → Check (take (k * 2) room) ≡ Pairs k
         go (r, (ps, pr, s, l, f)) =
             let size : length (flatten ps) ≡ k * 2 = flatten_length ps ∙ ap (λ (x : ℕ). x * 2) (sym s) in
-            ap Check (ap (take (k * 2)) f ∙ take_at (flatten ps) (drop (length (flatten ps)) out) (k * 2) size) ∙ pairs_from_lem (flatten ps) k (r, pr.passes, size)
+            ap Check (ap (take (k * 2)) f ∙ take_at (flatten ps) (drop (length (flatten ps)) out) (k * 2) size) ∙ pairs_from (flatten ps) k (r, pr.passes, size)
 
 pub demand11 : Demand11
 demand11 =
     record {
-      pairs = λ i j m n plan k. (pairs_to i j m n plan k, pairs_from_lem i j m n plan k);
+      pairs = λ i j m n plan k. (pairs_to i j m n plan k, pairs_from i j m n plan k);
       none = λ i j m n plan. (none_to i j m n plan, λ (r, without). (check_none i j m n r without).check plan);
       another = λ i j m n plan. (another_to i j m n plan, λ (r, d, (p, q)). check_failing i j m n r plan d p q);
       row = λ i j m n plan. (row_to i j m n plan, λ (b, w, o). (row_refuses i j m n b w o).check plan);

@@ -86,9 +86,9 @@ module _ (ca : List ℕ) (a : Row) (c : List ℕ) (xs : List Line) (m : List Sou
   Entry n = uri_of c (get_or (row_of m).entries n none)
 
   -- in a row that is lent, a class is that of the first entry
-  class_in_lem : (s n : ℕ) → first_in (row_of m).entries 0 (length m) s ≡ At n → n < 16 → Class s ≡ class_of ca a (Entry n)
+  class_in : (s n : ℕ) → first_in (row_of m).entries 0 (length m) s ≡ At n → n < 16 → Class s ≡ class_of ca a (Entry n)
   unfolding class_by row_of
-  class_in_lem s n e h =
+  class_in s n e h =
       rw (row_count m, least_is (length m) few, e, lt-ltb n 16 h) (classes_at ca a c (row_of m) n h)
 
   class_none : (s : ℕ) → first_in (row_of m).entries 0 (length m) s ≡ Nothing → Class s ≡ 16
@@ -104,7 +104,7 @@ module _ (ca : List ℕ) (a : Row) (c : List ℕ) (xs : List Line) (m : List Sou
   classed_by : (s : ℕ) → Class s < 16 → (f : Found) → first_in (row_of m).entries 0 (length m) s ≡ f → Classed s
   classed_by s h (At n) e =
       let l = found_leads c (row_of m).entries s 0 n held (row_entries m few) e in
-      record { place = n; below = omega (arith, l.below); leads = l.leads; class = class_in_lem s n e (omega (arith, l.below)) }
+      record { place = n; below = omega (arith, l.below); leads = l.leads; class = class_in s n e (omega (arith, l.below)) }
   classed_by s h Nothing e = absurd (omega (arith, h, class_none s e))
 
   -- a source number with a class leads to a URI of that class
@@ -114,7 +114,7 @@ module _ (ca : List ℕ) (a : Row) (c : List ℕ) (xs : List Line) (m : List Sou
   pub leads_class : (s : ℕ) (uri : List ℕ) → Leads xs s uri → (n : ℕ) × (n < length m) × (Entry n ≡ uri) × (Class s ≡ class_of ca a uri)
   leads_class s uri l =
       let f = leads_found c (row_of m).entries s 0 uri held (row_entries m few) l in
-      (f.place, omega (arith, f.below), f.has, class_in_lem s f.place f.is (omega (arith, f.below)) ∙ ap (class_of ca a) f.has)
+      (f.place, omega (arith, f.below), f.has, class_in s f.place f.is (omega (arith, f.below)) ∙ ap (class_of ca a) f.has)
 
 -- both sides
 module _ (ca cb : List ℕ) (xs ys : List Line) (m n : List Source) (few : length m ≤ 16) (few_too : length n ≤ 16) (held : Held ca xs m) (held_too : Held cb ys n) where

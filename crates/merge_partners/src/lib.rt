@@ -1,4 +1,5 @@
 // The demanded pairs of two sides: classes of URIs, keys of marks, and the partner of each line.
+#![tactic(auto)]
 ghost use Rattle.std.specs.Prelude.{◌≡◌, true, not, ◌+◌, ◌<◌, ◌≤◌, eqb, length, set, replicate};
 ghost use Rattle.numbers.specs.Limits as limit;
 ghost use Rattle.numbers.specs.Properties as property;
@@ -25,7 +26,7 @@ pub type Classes = [usize; limit::SOURCES];
 const NO_KEY: u32 = 4294967295;
 
 // A line that was looked at, and its head: the first line of the first card that has its property.
-#[derive(Drop)]
+#[derive(Clone, Copy)]
 struct Headed {
     line: usize,
     head: usize,

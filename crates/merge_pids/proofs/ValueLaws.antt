@@ -80,5 +80,5 @@ module _ (i n : ℕ) (pos : 0 < n) (s : List ℕ) (place : ℕ) (v : Span) (is-v
   unfolding put_all
   values_stop h = turn ∙ rw (ne_eqb (hd (drop v.next s)) 44 h)
 
-  pub values_on_lem : hd (drop v.next s) ≡ 44 → put_all st (values_marks i n (drop place s)) ≡ put_all (put_all st (value_marks i (pid_of Body))) (values_marks i (n - 1) (drop (v.next + 1) s))
-  values_on_lem h = turn ∙ rw (eq-eqb (hd (drop v.next s)) 44 h)
+  pub values_on : hd (drop v.next s) ≡ 44 → put_all st (values_marks i n (drop place s)) ≡ put_all (put_all st (value_marks i (pid_of Body))) (values_marks i (n - 1) (drop (v.next + 1) s))
+  values_on h = turn ∙ rw (eq-eqb (hd (drop v.next s)) 44 h)

@@ -1,4 +1,6 @@
 // The PID values of a line, and numbers up to 65,535 in digits. A larger number is read as 65,536.
+#![tactic(auto)]
+
 ghost use Rattle.std.specs.Prelude.{◌≡◌, suc, ◌+◌, ◌-◌, ◌≤◌, ◌<◌, length, take, drop};
 ghost use Rattle.numbers.specs.Limits.{source_number};
 ghost use Rattle.octets.specs.Classes.{Classes, run, digit};
@@ -15,7 +17,7 @@ use octets::classes::ClassTable;
 pub const MARK: usize = 3;
 
 // What a value of a PID parameter says.
-#[derive(Drop)]
+#[derive(Clone, Copy)]
 pub enum Pid {
     // Digits, a dot and digits.
     Marks { first: u32, source: u32 },
@@ -24,7 +26,7 @@ pub enum Pid {
 }
 
 // Where a value's octets stand, quote marks off, and where the value ends.
-#[derive(Drop)]
+#[derive(Clone, Copy)]
 struct Span {
     start: usize,
     end: usize,

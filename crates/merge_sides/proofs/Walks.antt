@@ -33,8 +33,8 @@ part_short c a e =
     (λ p. rw p (omega arith))
     (λ p. by (ltb e a) (λ q. rw (p, q) (omega arith)) (λ q. rw (p, q) (omega (arith, length-take (e - a) (drop a c), length-drop a c))))
 
-pub sum_at_lem : {a b x y : ℕ} → a ≡ x → b ≡ y → a + b ≡ x + y
-sum_at_lem e f = omega arith
+pub sum_at : {a b x y : ℕ} → a ≡ x → b ≡ y → a + b ≡ x + y
+sum_at e f = omega arith
 
 module _ (rs : List ℕ) (row n i : ℕ) where
   pub count_turn : i < n → count_lines rs row i (n - i) ≡ one (eqb (field_at rs i field.property) row) + count_lines rs row (i + 1) (n - (i + 1))

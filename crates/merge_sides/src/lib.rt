@@ -1,4 +1,6 @@
 // One side of a merge: what an accepted card's copy and records say of its lines, its own row of sources, and its marks.
+#![tactic(auto)]
+
 ghost use Rattle.std.specs.Prelude.{◌≡◌, ◌+◌, ◌<◌, ◌≤◌, eqb, length};
 ghost use Rattle.numbers.specs.Limits as limit;
 ghost use Rattle.numbers.specs.Fields as field;

@@ -1,4 +1,6 @@
 // A card's source map: the host's row of entries as a slice of structs, and the same row as a value, which all other functions take.
+#![tactic(auto)]
+
 ghost use Rattle.std.specs.Prelude.{◌≡◌, [], ◌+◌, ◌<◌, ◌≤◌, min, get_or, take};
 ghost use Rattle.numbers.specs.Limits as limit;
 ghost use Rattle.merge_sources.specs.Row.{none, filled, put, row_of, least, first_in, same_entry, same_row};
@@ -6,7 +8,7 @@ ghost use Rattle.merge_sources.specs.Row.{none, filled, put, row_of, least, firs
 use numbers::limit;
 
 // An entry of a source map: a source's number, and where its URI stands in the card's copy.
-#[derive(Drop)]
+#[derive(Clone, Copy)]
 pub struct Source {
     pub number: u32,
     pub place: u32,
@@ -14,7 +16,7 @@ pub struct Source {
 }
 
 // A row by value: how many entries it has, and the first sixteen of them, zeros past the end.
-#[derive(Drop)]
+#[derive(Clone, Copy)]
 pub struct Row {
     pub count: usize,
     pub entries: [Source; limit::SOURCES],
@@ -27,7 +29,7 @@ pub const LENT: usize = limit::SOURCES + 1;
 pub type Entries = [Source; LENT];
 
 // Where an entry stands in a row.
-#[derive(Drop)]
+#[derive(Clone, Copy)]
 pub enum Found {
     At(usize),
     Nothing,

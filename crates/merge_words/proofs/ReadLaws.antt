@@ -58,8 +58,8 @@ module _ (i : List ℕ) (k n : ℕ) (h : InputOf i k n) where
     read_in_lem =
         sym (read_written First i copy records k n (length (copy_of i)) judged refl (omega (arith, copy_short)) (omega (arith, lines_few, h.count)) _ _ refl refl)
 
-    pub copy_length_lem : length (overlay (copy_of i) copy) ≡ 16384
-    copy_length_lem = omega (arith, length-append (copy_of i) (drop (length (copy_of i)) copy), length-drop (length (copy_of i)) copy, copy_short)
+    pub copy_length : length (overlay (copy_of i) copy) ≡ 16384
+    copy_length = omega (arith, length-append (copy_of i) (drop (length (copy_of i)) copy), length-drop (length (copy_of i)) copy, copy_short)
 
   -- what reading it leaves
   pub read_of_lem : read_of i ≡ took (Accepted k n) (overlay (copy_of i) (replicate 16384 0)) (overlay (records_in First i) (replicate 32768 0))
@@ -67,7 +67,7 @@ module _ (i : List ℕ) (k n : ℕ) (h : InputOf i k n) where
   read_of_lem = read_in_lem (replicate 16384 0) (replicate 32768 0) (length-replicate {A = ℕ} 16384 0) (length-replicate {A = ℕ} 32768 0)
 
   pub read_copy : length (overlay (copy_of i) (replicate 16384 0)) ≡ 16384
-  read_copy = copy_length_lem (replicate 16384 0) (replicate 32768 0) (length-replicate {A = ℕ} 16384 0) (length-replicate {A = ℕ} 32768 0)
+  read_copy = copy_length (replicate 16384 0) (replicate 32768 0) (length-replicate {A = ℕ} 16384 0) (length-replicate {A = ℕ} 32768 0)
 
 refused_answer : (i : List ℕ) (n p : ℕ) → judge_of i ≡ Refused n p → (read_of i).answer ≡ Refused n p
 unfolding read_of

@@ -150,8 +150,8 @@ module _ (c rs : List ℕ) (k n : ℕ) (xs : List Line) (is-n : n ≡ length xs)
       ∙ put_all_lem Ms [] (replicate 12288 0) (fits (replicate 12288 0) (length Ms) (length-replicate {A = ℕ} 12288 0) pids_few)
       ∙ ap (λ (m : ℕ). marked m (flat Ms ++ Behind)) z
 
-  number_of_lem : (f : ℕ) → f < 3 → (j : ℕ) (m : Mark) → At Ms j m → number_at (marks_of S).room j f ≡ get_or (m.line ∷ m.first ∷ m.source ∷ []) f 0
-  number_of_lem f h j m a =
+  number_of : (f : ℕ) → f < 3 → (j : ℕ) (m : Mark) → At Ms j m → number_at (marks_of S).room j f ≡ get_or (m.line ∷ m.first ∷ m.source ∷ []) f 0
+  number_of f h j m a =
       ap (λ (s : Marked). number_at s.room j f) marks_own ∙ number_at_lem Ms Behind (omega (arith, pids_few)) a f h
 
   marked_all : MarksOf S xs
@@ -159,9 +159,9 @@ module _ (c rs : List ℕ) (k n : ℕ) (xs : List Line) (is-n : n ≡ length xs)
     marks = Ms;
     few = omega (arith, pids_few);
     many = ap (λ (s : Marked). s.next / 3) marks_own ∙ mul-div_cancel (length Ms) (omega arith);
-    lines = number_of_lem 0 (omega arith);
-    firsts = number_of_lem 1 (omega arith);
-    sources = number_of_lem 2 (omega arith);
+    lines = number_of 0 (omega arith);
+    firsts = number_of 1 (omega arith);
+    sources = number_of 2 (omega arith);
     each = marks_each xs;
     every = marks_every xs;
   }

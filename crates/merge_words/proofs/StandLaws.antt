@@ -93,9 +93,9 @@ module _ (c : List ℕ) (w : ℕ) (x : Line) (r : List ℕ) (t : Tells First c w
       rw (field_is 3, field_is 1)
       (by (eqb (length x.group) 0) (λ z. rw z (omega arith)) (λ z. rw z (omega arith)))
 
-  name_length_lem : name_start (length x.group) + length x.name ≡ name_end x
+  name_length : name_start (length x.group) + length x.name ≡ name_end x
   unfolding name_end
-  name_length_lem = sym (name_end_lem x.group x.name)
+  name_length = sym (name_end_lem x.group x.name)
 
   long : name_end x ≤ length (render x)
   unfolding name_end
@@ -111,7 +111,7 @@ module _ (c : List ℕ) (w : ℕ) (x : Line) (r : List ℕ) (t : Tells First c w
     parameters = field_is 5;
     place = field_is 6;
     name = rw (name_start_lem, field_is 4)
-        (part_in c (w + name_start (length x.group)) (length x.name) (omega (arith, within, long, name_length_lem)) ∙ t.name);
+        (part_in c (w + name_start (length x.group)) (length x.name) (omega (arith, within, long, name_length)) ∙ t.name);
     value = rw (field_is 6, field_is 1, field_is 2) (tail_at c (render x) w t.line within (front x) x.value (split_value x));
     behind =
         let n : w + name_start (length x.group) + length x.name ≡ w + length (group_text x.group ++ x.name) = omega (arith, name_end_lem x.group x.name) in

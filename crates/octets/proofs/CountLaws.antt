@@ -15,14 +15,14 @@ use Rattle.octets.specs.Counts.{all_in, count}
 use Rattle.octets.proofs.Marks.{mark_step}
 
 module _ (p : ℕ → Bool) (s : List ℕ) (i : ℕ) where
-  all_at_lem : i < length s → all_in p (drop i s) ≡ (not (not (p (get_or s i 0))) && all_in p (drop (i + 1) s))
+  all_at : i < length s → all_in p (drop i s) ≡ (not (not (p (get_or s i 0))) && all_in p (drop (i + 1) s))
   unfolding all_in
-  all_at_lem h = rw (add-one, drop-cons s i 0, not-not)
+  all_at h = rw (add-one, drop-cons s i 0, not-not)
 
   pub all_step : i < length s → (a x : ℕ) → x ≡ bit (not (p (get_or s i 0))) 1
       → (eqb a 0 && all_in p (drop i s)) ≡ (eqb (bit_or a x) 0 && all_in p (drop (i + 1) s))
   all_step h a x e =
-      ap (λ (t : Bool). eqb a 0 && t) (all_at_lem h) ∙ mark_step a x (not (p (get_or s i 0))) (all_in p (drop (i + 1) s)) e
+      ap (λ (t : Bool). eqb a 0 && t) (all_at h) ∙ mark_step a x (not (p (get_or s i 0))) (all_in p (drop (i + 1) s)) e
 
   pub all_end : length s ≤ i → (a : ℕ) → (eqb a 0 && all_in p (drop i s)) ≡ eqb a 0
   unfolding all_in

@@ -1,7 +1,7 @@
 // Lent room: what a routine answers that writes octets to the start of it.
 
 // What a writer answers; after a refusal the room is as it was.
-#[derive(Drop)]
+#[derive(Clone, Copy)]
 pub enum Written {
     // How many octets were written.
     Wrote(usize),

@@ -1,13 +1,15 @@
 // Files: one is opened by its name, `-` for standard input, and its octets are read.
+#![tactic(auto)]
+
 ghost use Rattle.program_files.specs.Inputs.{Fetched, Descriptor};
 
-use libc::{STDERR_FILENO, STDIN_FILENO};
 use octets::cases::same_name;
 use octets::slices::part;
+use program_host::{Host, STDERR, STDIN};
 use program_output::put_all;
 
 // How many octets were read to the start of a room, or that this failed.
-#[derive(Drop)]
+#[derive(Clone, Copy)]
 pub enum Input {
     Octets(usize),
     Unread,
@@ -19,11 +21,11 @@ const LONG: usize = 4096;
 // The octets that are shown of a longer one.
 const SHOWN: usize = 60;
 
-fn open(path: &[u8]) -> i32 {
+fn open(host: &mut Host, path: &[u8]) -> i32 {
     if same_name(path, b"-") {
-        return STDIN_FILENO;
+        return STDIN;
     }
-    os::open_read(path)
+    host.open_read(path)
 }
 
 // Adds a file's name, and of a longer text its start.
@@ -36,45 +38,44 @@ fn put_name(room: &mut [u8], path: &[u8]) -> usize {
 }
 
 // Says why a file can't be read.
-fn complain(path: &[u8]) {
-    let mut room = io::large_buffer();
+fn complain(host: &mut Host, path: &[u8]) {
+    let mut room = program_host::large_buffer();
     let n = put_name(&mut room, path);
-    io::write_all(STDERR_FILENO, part(&room, 0, n));
-    os::fail(b": can't be read");
+    host.write_all(STDERR, part(&room, 0, n));
+    host.fail(b": can't be read");
 }
 
 // Reads once to the start of the room, by way of the page, so that the octets past those read stay as they were.
-fn read_by(fd: i32, room: &mut [u8], page: &mut [u8]) -> Input
+fn read_by(host: &mut Host, fd: i32, room: &mut [u8], page: &mut [u8]) -> Input
     ensures { Fetched result room.old room.new }
 {
     let want = octets::slices::least(room.len(), page.len());
-    let got = libc::read(fd, &mut page[..want]);
-    if got < 0 {
+    let Some(got) = host.read(fd, &mut page[..want]) else {
         return Input::Unread;
-    }
-    let n = octets::slices::least(io::count(got, page), want);
+    };
+    let n = octets::slices::least(got, want);
     octets::copying::copy_in(room, &page[..n]);
     Input::Octets(n)
 }
 
 // Reads once to the start of the room.
-fn read_once(fd: i32, room: &mut [u8]) -> Input
+fn read_once(host: &mut Host, fd: i32, room: &mut [u8]) -> Input
     ensures { Fetched result room.old room.new }
 {
-    let mut page = io::buffer();
-    read_by(fd, room, &mut page)
+    let mut page = program_host::buffer();
+    read_by(host, fd, room, &mut page)
 }
 
 // Reads to the start of the room until that is full or the file ends.
-pub fn fetch(fd: i32, path: &[u8], room: &mut [u8]) -> Input
+pub fn fetch(host: &mut Host, fd: i32, path: &[u8], room: &mut [u8]) -> Input
     ensures { Fetched result room.old room.new }
 {
     let mut n: usize = 0;
     while n < room.len() {
         let rest = &mut room[n..];
-        let got = read_once(fd, rest);
+        let got = read_once(host, fd, rest);
         let Input::Octets(more) = got else {
-            complain(path);
+            complain(host, path);
             return Input::Unread;
         };
         if more == 0 {
@@ -86,51 +87,52 @@ pub fn fetch(fd: i32, path: &[u8], room: &mut [u8]) -> Input
 }
 
 // The descriptor with which a file was opened, or -1 after saying why it can't be read.
-fn told(path: &[u8], fd: i32) -> i32
+fn told(host: &mut Host, path: &[u8], fd: i32) -> i32
     ensures { Descriptor result }
 {
     if fd < 0 {
-        complain(path);
+        complain(host, path);
         return -1;
     }
     fd
 }
 
 // Opens the file of that name, `-` for standard input, and answers its descriptor, or -1 after saying why it can't be read.
-pub fn open_named(path: &[u8]) -> i32
+pub fn open_named(host: &mut Host, path: &[u8]) -> i32
     ensures { Descriptor result }
 {
-    told(path, open(path))
+    let fd = open(host, path);
+    told(host, path, fd)
 }
 
 // Reads the file of that name to the start of the room, or says why it can't be read.
-pub fn read(path: &[u8], room: &mut [u8]) -> Input
+pub fn read(host: &mut Host, path: &[u8], room: &mut [u8]) -> Input
     ensures { Fetched result room.old room.new }
 {
-    let fd = open_named(path);
+    let fd = open_named(host, path);
     if fd < 0 {
         return Input::Unread;
     }
-    let got = fetch(fd, path, room);
-    libc::close(fd);
+    let got = fetch(host, fd, path, room);
+    host.close(fd);
     got
 }
 
 // Opens the file that argument i names, and answers its descriptor, or -1 after saying why it can't be read.
-pub fn open_argument(i: usize) -> i32
+pub fn open_argument(host: &mut Host, i: usize) -> i32
     ensures { Descriptor result }
 {
-    let mut path = io::large_buffer();
-    let n = os::arg(i, &mut path);
-    let fd = os::open_read(&path[..n]);
-    told(&path[..n], fd)
+    let mut path = program_host::large_buffer();
+    let n = host.arg(i, &mut path);
+    let fd = host.open_read(&path[..n]);
+    told(host, &path[..n], fd)
 }
 
 // Reads from the file that argument i names and that is open.
-pub fn fetch_argument(i: usize, fd: i32, room: &mut [u8]) -> Input
+pub fn fetch_argument(host: &mut Host, i: usize, fd: i32, room: &mut [u8]) -> Input
     ensures { Fetched result room.old room.new }
 {
-    let mut path = io::buffer();
-    let n = os::arg(i, &mut path);
-    fetch(fd, &path[..n], room)
+    let mut path = program_host::buffer();
+    let n = host.arg(i, &mut path);
+    fetch(host, fd, &path[..n], room)
 }

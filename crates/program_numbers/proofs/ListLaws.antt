@@ -26,15 +26,15 @@ module _ (lo hi b : ℕ) where
   inside g h = rw (le-leb lo b g, le-leb b hi h)
 
 module _ (p : ℕ → Bool) (s : List ℕ) (i : ℕ) where
-  pub all_at_lem : i < length s → all_in p (drop i s) ≡ (p (get_or s i 0) && all_in p (drop (i + 1) s))
+  pub all_at : i < length s → all_in p (drop i s) ≡ (p (get_or s i 0) && all_in p (drop (i + 1) s))
   unfolding all_in
-  all_at_lem h = rw (add-one, drop-cons s i 0)
+  all_at h = rw (add-one, drop-cons s i 0)
 
   pub all_stop : i < length s → p (get_or s i 0) ≡ false → all_in p (drop i s) ≡ false
-  all_stop h e = rw (all_at_lem h, e)
+  all_stop h e = rw (all_at h, e)
 
   pub all_step : i < length s → p (get_or s i 0) ≡ true → all_in p (drop i s) ≡ all_in p (drop (i + 1) s)
-  all_step h e = rw (all_at_lem h, e)
+  all_step h e = rw (all_at h, e)
 
   pub all_end : length s ≤ i → all_in p (drop i s) ≡ true
   unfolding all_in

@@ -6,7 +6,7 @@ ghost use Rattle.program_numbers.specs.Decimal.{ones, number_of};
 const NO_DIGIT: usize = 10;
 
 // The number that a word stands for, or that it stands for none.
-#[derive(Drop)]
+#[derive(Clone, Copy)]
 pub enum Number {
     Is(usize),
     Bad,

@@ -13,7 +13,7 @@ const LETTERS: u8 = b'a' - 10;
 const NO_DIGIT: u8 = 16;
 
 // How many octets a word stands for, or that it stands for none.
-#[derive(Drop)]
+#[derive(Clone, Copy)]
 pub enum Octets {
     Are(usize),
     Bad,
@@ -89,7 +89,7 @@ fn decode(word: &[u8], out: &mut [u8])
 pub fn octets_of(word: &[u8], out: &mut [u8]) -> Octets
     ensures { taken result out.new ≡ octets_of word.now out.old }
 {
-    if check::same(word, b"-") {
+    if crate::same(word, b"-") {
         return Octets::Are(0);
     }
     if !is_paired(word) {

@@ -1,49 +1,57 @@
--- The digits that `io::decimal` writes are the decimal digits of the number. Assumes nothing.
-use mathlib.Core.Path.{◌≡◌, refl, ap}
-use mathlib.Core.List.{List, [], ◌∷◌, ◌++◌}
-use Prim.Native.Nat.{ℕ, zero, suc, ◌+◌, ◌-◌, ◌/◌, ◌%◌, ◌^◌, ◌≤◌, ◌<◌}
+-- The decimal digits of a number, one by one, and how many they are; and what a page holds that was empty before. Assumes nothing.
+use mathlib.Core.Path.{◌≡◌, refl, sym, ap, ◌∙◌}
+use mathlib.Core.List.{List, [], ◌∷◌, ◌++◌, append-nil}
+use Prim.Native.Nat.{ℕ, zero, suc, ◌+◌, ◌-◌, ◌/◌, ◌%◌, ◌≤◌, ◌<◌}
 use mathlib.Core.Bool.{Bool, true, false}
 use native.Mathlib.Omega.{arith}
-use native.Mathlib.Nat.{pow-suc, pow-le-pow_right, one-le-pow, mod-eq_of_lt}
-use lib.Dec.{leb}
-use borrow.Author.Tests.{lt-ltb, le-ltb, leb-true, leb-false}
-use Rattle.io.specs.Digits.{hex_digit_ascii, last_digits, IsDigitCount}
-use Rattle.program_output.specs.Digits.{decimal_in, decimal}
+use lib.Dec.{ltb}
+use lib.ListN.{length, take, set, length-set}
+use borrow.Author.Tests.{lt-ltb, le-ltb}
+use Rattle.std.proofs.lemmas.List.{length-append, append_assoc, take_more_set}
+use Rattle.octets.specs.Pick.{pick}
+use Rattle.program_output.specs.Pages.{Page, page, added}
+use Rattle.program_output.specs.Digits.{hex_digit_ascii, decimal_in, decimal}
+use Rattle.program_output.proofs.PageLaws.{one_fits}
 
-less_one : (j : ℕ) → suc j - 1 ≡ j
-less_one j = omega arith
+pub decimal_none : (k n : ℕ) (p : Page) → k ≡ 0 → added (decimal_in k n) p ≡ p
+unfolding decimal_in added
+decimal_none zero n p e = refl
+decimal_none (suc k) n p e = absurd (omega arith)
 
--- where n takes one digit more than n / 10
-fewer : (j n : ℕ) → IsDigitCount 10 1 n (suc (suc j)) → IsDigitCount 10 1 (n / 10) (suc j)
-fewer j n few =
-    let low : 10 ^ suc j ≤ n = rw less_one at (few.2 (omega arith)) in (
-      omega arith,
-      omega (arith, few.1, pow-suc 10 (suc j)),
-      λ h. rw less_one (omega (arith, low, pow-suc 10 j)),
-    )
-
-digits_in : (r k n : ℕ) → IsDigitCount 10 1 n r → r ≤ k → last_digits 10 r n ≡ decimal_in k n
+pub decimal_last : (k n : ℕ) → 0 < k → n < 10 → decimal_in k n ≡ hex_digit_ascii n ∷ []
 unfolding decimal_in
-digits_in zero k n few h = absurd (omega (arith, few.0))
-digits_in (suc r) zero n few h = absurd (omega arith)
-digits_in (suc zero) (suc k) n few h =
-    let low : n < 10 = omega (arith, few.1, pow-suc 10 0) in
-    rw (mod-eq_of_lt low) (rw (lt-ltb n 10 low))
-digits_in (suc (suc j)) (suc k) n few h =
-    let low : 10 ^ suc j ≤ n = rw less_one at (few.2 (omega arith)) in
-    let ten : 10 ≤ n = omega (arith, pow-suc 10 j, one-le-pow j 10 (omega arith)) in
-    rw (le-ltb n 10 ten) (ap (λ (l : List ℕ). l ++ (hex_digit_ascii (n % 10) ∷ [])) (digits_in (suc j) k (n / 10) (fewer j n few) (omega arith)))
+decimal_last zero n h low = absurd (omega arith)
+decimal_last (suc k) n h low = rw (lt-ltb n 10 low)
 
--- a number of 64 bits has at most 20
-few_digits : (n r : ℕ) → IsDigitCount 10 1 n r → n < 18446744073709551616 → r ≤ 20
-few_digits n r few h = by (leb r 20) refl where
-  by : (t : Bool) → leb r 20 ≡ t → r ≤ 20
-  by true e = leb-true r 20 e
-  by false e =
-      let more : 20 < r = leb-false r 20 e in
-      let high : 10 ^ 20 ≤ 10 ^ (r - 1) = pow-le-pow_right {n = 10} (omega arith) {i = 20} {j = r - 1} (omega arith) in
-      absurd (omega (arith, few.2 (omega arith)))
+pub decimal_more : (k n : ℕ) → 0 < k → 10 ≤ n → decimal_in k n ≡ decimal_in (k - 1) (n / 10) ++ (hex_digit_ascii (n % 10) ∷ [])
+unfolding decimal_in
+decimal_more zero n h ten = absurd (omega arith)
+decimal_more (suc k) n h ten =
+    let e : suc k - 1 ≡ k = omega arith in
+    rw (e, le-ltb n 10 ten)
 
-pub decimal_is : (n r : ℕ) → IsDigitCount 10 1 n r → n < 18446744073709551616 → last_digits 10 r n ≡ decimal n
+-- a number that has at most so many digits has no more
+either_fits : (t : Bool) (a b : List ℕ) (k : ℕ) → length a ≤ k → length b ≤ k → length (pick t a b) ≤ k
+either_fits true a b k h g = h
+either_fits false a b k h g = g
+
+pub decimal_fits : (k n : ℕ) → length (decimal_in k n) ≤ k
+unfolding decimal_in
+decimal_fits zero n = omega arith
+decimal_fits (suc k) n =
+    let more = decimal_in k (n / 10) ++ (hex_digit_ascii (n % 10) ∷ []) in
+    either_fits (ltb n 10) (hex_digit_ascii n ∷ []) more (suc k) (omega arith) (omega (arith, length-append (decimal_in k (n / 10)) (hex_digit_ascii (n % 10) ∷ []), decimal_fits k (n / 10)))
+
+-- text that is added where there is room stands behind what was written
+pub added_front : (xs room : List ℕ) (n : ℕ) → n + length xs ≤ length room → (m : ℕ) (r : List ℕ) → page m r ≡ added xs (page n room)
+    → (m ≡ n + length xs) × (take m r ≡ take n room ++ xs)
+unfolding added
+added_front [] room n h m r e = (omega (arith, ap (λ (p : Page). p.used) e), ap (λ (p : Page). take p.used p.octets) e ∙ sym (append-nil (take n room)))
+added_front (x ∷ xs) room n h m r e =
+    let f = e ∙ ap (added xs) (sym (one_fits x n room (omega arith))) in
+    let g = added_front xs (set room n x) (n + 1) (omega (arith, length-set room n x)) m r f in
+    (omega (arith, g.0), g.1 ∙ ap (λ (l : List ℕ). l ++ xs) (take_more_set room n x (omega arith)) ∙ append_assoc (take n room) (x ∷ []) xs)
+
+pub decimal_has : (n : ℕ) → length (decimal n) ≤ 20
 unfolding decimal
-decimal_is n r few h = digits_in r 20 n few (few_digits n r few h)
+decimal_has n = decimal_fits 20 n

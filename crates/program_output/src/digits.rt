@@ -1,8 +1,7 @@
 // Numbers in decimal digits, and an octet in two hexadecimal ones.
-ghost use Rattle.std.specs.Prelude.{◌≡◌, ◌<◌};
-ghost use Rattle.io.specs.Digits.{hex_digit_ascii};
+ghost use Rattle.std.specs.Prelude.{◌≡◌, ◌<◌, ◌≤◌, take};
 ghost use Rattle.program_output.specs.Pages.{page, added};
-ghost use Rattle.program_output.specs.Digits.{decimal, pair};
+ghost use Rattle.program_output.specs.Digits.{hex_digit_ascii, decimal_in, decimal, pair};
 
 // The most decimal digits of a number of 64 bits.
 pub const DIGITS: usize = 20;
@@ -14,9 +13,29 @@ const LETTERS: u8 = b'a' - 10;
 pub fn put_number(room: &mut [u8], at: usize, n: usize) -> usize
     ensures { page result room.new ≡ added (decimal n) (page at room.old) }
 {
-    let mut digits = [0u8; DIGITS];
-    let k = io::decimal(n as u64, &mut digits);
-    crate::put_all(room, at, &digits[..k])
+    put_digits(room, at, n, DIGITS)
+}
+
+// Adds a number in decimal digits, at most so many.
+fn put_digits(room: &mut [u8], at: usize, n: usize, most: usize) -> usize
+    ensures { page result room.new ≡ added (decimal_in most n) (page at room.old) }
+{
+    if most == 0 {
+        return at;
+    }
+    if n < 10 {
+        return crate::put(room, at, hex_digit(n as u8));
+    }
+    let next = put_digits(room, at, n / 10, most - 1);
+    crate::put(room, next, hex_digit((n % 10) as u8))
+}
+
+// Puts a number's decimal digits at the start of the room, and answers how many there are.
+pub fn decimal(n: usize, room: &mut [u8; DIGITS]) -> usize
+    ensures value { take result room.new ≡ decimal n }
+    ensures upper_bound { result ≤ 20 }
+{
+    put_number(room, 0, n)
 }
 
 // The hexadecimal digit of a number below 16.

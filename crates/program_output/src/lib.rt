@@ -1,4 +1,6 @@
 // Text made in a lent page: each piece goes after what is written, as far as there is room.
+#![tactic(auto)]
+
 pub mod digits;
 
 ghost use Rattle.std.specs.Prelude.{◌≡◌, ◌∷◌, [], replicate};

@@ -1,4 +1,6 @@
 // Text made visible: controls, octets that start no character, and characters that a terminal hides or obeys stand in digits.
+#![tactic(auto)]
+
 ghost use Rattle.std.specs.Prelude.{◌≡◌, ◌<◌, length, get_or, drop};
 ghost use Rattle.octets.specs.Classes.{Classes, within};
 ghost use Rattle.program_output.specs.Pages.{page, added};

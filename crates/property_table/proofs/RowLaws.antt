@@ -298,9 +298,9 @@ pub record Listed (t : List ℕ) (n : ℕ) : Type 0 where
   pub link : get_or t (n * 16 + 14) 0 ≡ next_of n
   pub rule : get_or t (n * 16 + 15) 0 ≡ rule_at n
 
-row_length_lem : (n : ℕ) → n < 44 → length (entries n) ≡ 16
+row_length : (n : ℕ) → n < 44 → length (entries n) ≡ 16
 unfolding upto entries name_entries row_at rows newer all_rows octets
-row_length_lem n h = alike (λ j. length (entries j)) (λ j. 16) 44 refl n h
+row_length n h = alike (λ j. length (entries j)) (λ j. 16) 44 refl n h
 
 -- the entries behind the first start with the name behind its first letter
 name_front : (n : ℕ) → n < 44 → drop 1 (take (length (row_at n).name) (entries n)) ≡ drop 1 (row_at n).name
@@ -309,10 +309,10 @@ name_front n h = alike (λ j. drop 1 (take (length (row_at j).name) (entries j))
 
 module _ (t : List ℕ) (table : Lists t) (n : ℕ) (h : n < 44) where
   at : (i : ℕ) → i < 16 → get_or t (n * 16 + i) 0 ≡ get_or (entries n) i 0
-  at i l = sym (get_or-take 704 t (n * 16 + i) 0 (omega arith)) ∙ entry_at entries 16 44 row_length_lem (take 704 t) table.lines n h i l
+  at i l = sym (get_or-take 704 t (n * 16 + i) 0 (omega arith)) ∙ entry_at entries 16 44 row_length (take 704 t) table.lines n h i l
 
-  name_at_lem : (i : ℕ) → 0 < i → i < length (row_at n).name → get_or (entries n) i 0 ≡ get_or (row_at n).name i 0
-  name_at_lem i p l =
+  name_at : (i : ℕ) → 0 < i → i < length (row_at n).name → get_or (entries n) i 0 ≡ get_or (row_at n).name i 0
+  name_at i p l =
       let back : 1 + (i - 1) ≡ i = omega arith in
       let own = (row_at n).name in
       sym (get_or-take (length own) (entries n) i 0 l)
@@ -326,7 +326,7 @@ module _ (t : List ℕ) (table : Lists t) (n : ℕ) (h : n < 44) where
   unfolding upto entries name_entries row_at choice agrees starts_as initial lower next_of kind_at single marks once_at framing takes_value rule_at rows newer all_rows octets
   listed =
       record {
-        spelt = λ i p l. at i (omega (arith, name_short n h)) ∙ name_at_lem i p l;
+        spelt = λ i p l. at i (omega (arith, name_short n h)) ∙ name_at i p l;
         mark = at 0 (omega arith) ∙ alike (λ j. get_or (entries j) 0 0) once_at 44 refl n h;
         sort = at 13 (omega arith) ∙ alike (λ j. get_or (entries j) 13 0) kind_at 44 refl n h;
         link = at 14 (omega arith) ∙ alike (λ j. get_or (entries j) 14 0) next_of 44 refl n h;

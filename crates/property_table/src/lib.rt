@@ -1,4 +1,5 @@
 // The property table: the row of a name in each edition, what a row says, and the kind that a VALUE parameter names.
+#![tactic(auto)]
 ghost use Rattle.std.specs.Prelude.{◌≡◌, true, ◌+◌, ◌*◌, ◌<◌, ◌≤◌, length, get_or};
 ghost use Rattle.numbers.specs.Limits as limit;
 ghost use Rattle.numbers.specs.Properties as property;
@@ -15,7 +16,7 @@ use octets::indices::wide;
 use rows::PropertyTable;
 
 // RFC 6350, or RFC 9554, which adds names and lets N and ADR have more components.
-#[derive(Drop)]
+#[derive(Clone, Copy)]
 pub enum Edition {
     First,
     Second,

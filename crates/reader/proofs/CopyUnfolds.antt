@@ -55,16 +55,16 @@ pairs x y p q t = rw (p, q) (pair t)
 
 -- where no CR or LF is alone and the end is CR LF
 module _ (b : Bool) (x y z : ℕ) (zs : List ℕ) where
-  text_by_lem : (p q r : Bool) → eqb x 10 ≡ p → eqb x 13 ≡ q → eqb y 10 ≡ r → scan lone_step (x ∷ y ∷ z ∷ zs) 0 ≡ suc (suc (suc (length zs)))
+  text_by : (p q r : Bool) → eqb x 10 ≡ p → eqb x 13 ≡ q → eqb y 10 ≡ r → scan lone_step (x ∷ y ∷ z ∷ zs) 0 ≡ suc (suc (suc (length zs)))
       → (scan lone_step (y ∷ z ∷ zs) 0 ≡ suc (suc (length zs)) → Text true (y ∷ z ∷ zs))
       → (y ≡ 10 → scan lone_step (z ∷ zs) 0 ≡ suc (length zs) → Text false (z ∷ zs))
       → Text b (x ∷ y ∷ z ∷ zs)
   unfolding scan lone_step
-  text_by_lem true q r e f g h s t = absurd (omega (arith, simp e at h))
-  text_by_lem false true true e f g h s t =
+  text_by true q r e f g h s t = absurd (omega (arith, simp e at h))
+  text_by false true true e f g h s t =
       pairs x y (eqb-true x 13 f) (eqb-true y 10 g) (t (eqb-true y 10 g) (omega (arith, simp (e, f, g) at h)))
-  text_by_lem false true false e f g h s t = absurd (omega (arith, simp (e, f, g) at h))
-  text_by_lem false false r e f g h s t = octet (eqb-false x 13 f) (eqb-false x 10 e) (s (omega (arith, simp (e, f) at h)))
+  text_by false true false e f g h s t = absurd (omega (arith, simp (e, f, g) at h))
+  text_by false false r e f g h s t = octet (eqb-false x 13 f) (eqb-false x 10 e) (s (omega (arith, simp (e, f) at h)))
 
 text : (b : Bool) (l : List ℕ) → scan lone_step l 0 ≡ length l → ends_cr_lf l ≡ true → Text b l
 unfolding ends_cr_lf
@@ -73,12 +73,12 @@ text b (x ∷ []) h e = clash (sym e)
 text b (x ∷ y ∷ []) h e = ends_two x y e (λ p q. pairs x y p q done)
 text b (x ∷ y ∷ z ∷ []) h e =
     let f = sym (ends_tail x (y ∷ z ∷ []) (omega arith)) ∙ e in
-    text_by_lem b x y z [] (eqb x 10) (eqb x 13) (eqb y 10) refl refl refl h (λ s. text true (y ∷ z ∷ []) s f)
+    text_by b x y z [] (eqb x 10) (eqb x 13) (eqb y 10) refl refl refl h (λ s. text true (y ∷ z ∷ []) s f)
     (λ q s. ends_two y z f (λ v w. absurd (omega arith)))
 text b (x ∷ y ∷ z ∷ w ∷ ws) h e =
     let f = sym (ends_tail x (y ∷ z ∷ w ∷ ws) (omega arith)) ∙ e in
     let g = sym (ends_tail y (z ∷ w ∷ ws) (omega arith)) ∙ f in
-    text_by_lem b x y z (w ∷ ws) (eqb x 10) (eqb x 13) (eqb y 10) refl refl refl h (λ s. text true (y ∷ z ∷ w ∷ ws) s f)
+    text_by b x y z (w ∷ ws) (eqb x 10) (eqb x 13) (eqb y 10) refl refl refl h (λ s. text true (y ∷ z ∷ w ∷ ws) s f)
     (λ q s. text false (z ∷ w ∷ ws) s g)
 
 -- lines and unfolding at an octet that is no CR, at a fold, and at a line's end

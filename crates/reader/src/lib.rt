@@ -1,4 +1,5 @@
 // The reader: judges an input of cards, and writes its copy and its records.
+#![tactic(auto)]
 ghost use Rattle.std.specs.Prelude.{◌≡◌, List, ℕ, ◌≤◌, ltb, length};
 ghost use Rattle.numbers.specs.Limits as limit;
 ghost use Rattle.line_folds.specs.Folds.{unfolded};
@@ -13,7 +14,7 @@ use numbers::{limit, refusal};
 use property_table::Edition;
 
 // The counts of cards and lines, or a refusal's number and place.
-#[derive(Drop)]
+#[derive(Clone, Copy)]
 pub enum Verdict {
     Accepted(usize, usize),
     Refused(u32, usize),

@@ -18,7 +18,7 @@ use Rattle.line_parameters.proofs.PlacesLaw.{accepted_starts}
 use Rattle.line_breaks.specs.Lone.{first_lone}
 use Rattle.reader_grammar.specs.Cards.{Readable}
 use Rattle.line_laws.specs.Lined.{Folded, end, octet, fold, Unbroken, Unled, EndsCrLf}
-use Rattle.line_laws.proofs.LinedLaws.{cons_nil, lone_pair, folded_lone, folded_length, folded_unfolds, first_raw, Text, split, split_raw, paired_text_lem}
+use Rattle.line_laws.proofs.LinedLaws.{cons_nil, lone_pair, folded_lone, folded_length, folded_unfolds, first_raw, Text, split, split_raw, paired_text}
 use Rattle.reader_grammar.specs.Inputs.{Written, none, more}
 
 clean_inner : (l : List ℕ) → EachOctet (allowed false) l → Unbroken l
@@ -90,4 +90,4 @@ lines_from (x ∷ xs) i (inr t) e =
     subst (Written (x ∷ xs)) (sym s.whole) (more f (lines_from xs s.rest s.next b))
 
 pub lines_written : (xs : List Line) (i : List ℕ) → first_lone i ≡ length i → EndsCrLf i → map unfolded (raw_lines i) ≡ map render xs → Written xs i
-lines_written xs i e h q = lines_from xs i (inr (paired_text_lem i e h)) q
+lines_written xs i e h q = lines_from xs i (inr (paired_text i e h)) q

@@ -178,9 +178,9 @@ module _ (ed : Edition) where
   blank_at (suc n) zero = refl
   blank_at (suc n) (suc i) = blank_at n i
 
-  no_tags_lem : (k : ℕ) → tag_of untagged k ≡ none
+  no_tags : (k : ℕ) → tag_of untagged k ≡ none
   unfolding tag_of
-  no_tags_lem k = blank_at 10 (k - 1)
+  no_tags k = blank_at 10 (k - 1)
 
   pub fresh_known : Known fresh_card []
   unfolding phase_of any Each
@@ -192,7 +192,7 @@ module _ (ed : Edition) where
     seen = λ row h. none_seen row h ∙ sym (and-false (single row));
     long = refl;
     tags = λ row h e. tt;
-    blank = λ row h e f. no_tags_lem (once_at row);
+    blank = λ row h e f. no_tags (once_at row);
   }
 
   -- a line stands in its place exactly where the state has it in order

@@ -50,8 +50,8 @@ module _ (ed : Edition) where
     within : InLine (render x) (length x.group) (name_end x) (length x.params) (length (front x))
     within = in_line (render x) (length x.group) (name_end x) (length x.params) (length (front x)) (ap outcome parsed)
 
-    name_length_lem : name_end x - name_start (length x.group) ≡ length x.name
-    name_length_lem =
+    name_length : name_end x - name_start (length x.group) ≡ length x.name
+    name_length =
         let s = name_start (length x.group) in
         let h : name_end x - s ≤ length (drop s (render x)) = rw (length-drop s (render x)) (omega (arith, within.name, within.params, within.value)) in
         sym (length-take-le (name_end x - s) (drop s (render x)) h) ∙ ap length placed.name
@@ -65,7 +65,7 @@ module _ (ed : Edition) where
     unfolding record_of line_parts_of record_by
     numbers at =
         ap (record_by at (length (render x))) (ap (line_parts_by ed) parsed)
-        ∙ ap (λ (n : ℕ). row_of_line ed x ∷ at ∷ length (render x) ∷ length x.group ∷ n ∷ length x.params ∷ (at + length (front x)) ∷ kind_of_line ed x ∷ []) name_length_lem
+        ∙ ap (λ (n : ℕ). row_of_line ed x ∷ at ∷ length (render x) ∷ length x.group ∷ n ∷ length x.params ∷ (at + length (front x)) ∷ kind_of_line ed x ∷ []) name_length
 
     tells : (pre rest : List ℕ) → Tells ed (pre ++ (render x ++ (13 ∷ 10 ∷ rest))) (length pre) x (record_of ed (length pre) (render x))
     tells pre rest =
@@ -79,8 +79,8 @@ module _ (ed : Edition) where
           end = ap (take 2) (inside_end pre l t);
           group = inside_first pre l t (length x.group) group_length ∙ placed.group;
           name =
-              inside pre l t s (length x.name) (omega (arith, name_length_lem, within.name, within.params, within.value))
-              ∙ ap (λ (n : ℕ). take n (drop s l)) (sym name_length_lem) ∙ placed.name;
+              inside pre l t s (length x.name) (omega (arith, name_length, within.name, within.params, within.value))
+              ∙ ap (λ (n : ℕ). take n (drop s l)) (sym name_length) ∙ placed.name;
           value =
               inside pre l t f (length l - f) (omega (arith, within.value))
               ∙ take_all (length l - f) (drop f l) (omega (arith, length-drop f l)) ∙ placed.value;

@@ -73,8 +73,8 @@ module _ (ed : Edition) where
       other = λ a b c. kind_to k v (sym (by_kind ed row k v a b c) ∙ e);
     }
 
-    value_from_lem : Fitting ed row k v → value_in ed row k v ≡ Fits
-    value_from_lem f =
+    value_from : Fitting ed row k v → value_in ed row k v ≡ Fits
+    value_from f =
         by (eqb row 1) (λ a. let r = eqb-true row 1 a in subst scanned (sym r) ((fixed_begin ed k v).1 (f.begin r)))
         (λ a. by (eqb row 2) (λ b. let r = eqb-true row 2 b in subst scanned (sym r) ((fixed_end ed k v).1 (f.end r)))
         (λ b. by (eqb row 34) (λ c. let r = eqb-true row 34 c in subst scanned (sym r) ((fixed_version ed k v).1 (f.version r)))
@@ -85,7 +85,7 @@ module _ (ed : Edition) where
         by_kind ed row k v p q s ∙ kind_from (f.other p q s))))
 
     pub value_fits : (value_in ed row k v ≡ Fits) ↔ Fitting ed row k v
-    value_fits = (value_to, value_from_lem)
+    value_fits = (value_to, value_from)
 
   -- a value breaks off where the scan says so, by every continuation
   pub value_dead : (row k : ℕ) (v : List ℕ) (o : ℕ) → k < kinds.count → (value_in ed row k v ≡ Breaks o) ↔ Dead (Fitting ed row k) v o

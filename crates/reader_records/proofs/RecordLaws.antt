@@ -39,9 +39,9 @@ module _ (ed : Edition) where
   by_length w n (Fault k) = refl
 
   -- a record has eight numbers
-  pub record_length_lem : (w : ℕ) (l : List ℕ) → length (record_of ed w l) ≡ 8
+  pub record_length : (w : ℕ) (l : List ℕ) → length (record_of ed w l) ≡ 8
   unfolding record_of
-  record_length_lem w l = by_length w (length l) (line_parts_of ed l)
+  record_length w l = by_length w (length l) (line_parts_of ed l)
 
   pub records_length : (w : ℕ) (ls : List (List ℕ)) → length (records_from ed w ls) ≡ length ls * 8
   unfolding records_from
@@ -50,7 +50,7 @@ module _ (ed : Edition) where
       omega (
         arith,
         length-append (record_of ed w l) (records_from ed (w + length l + 2) ls),
-        record_length_lem w l,
+        record_length w l,
         records_length (w + length l + 2) ls,
       )
 

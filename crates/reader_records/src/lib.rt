@@ -1,4 +1,5 @@
 // The second pass over an accepted input: its copy, and a record of eight numbers for each line.
+#![tactic(auto)]
 ghost use Rattle.std.specs.Prelude.{◌≡◌, false, ◌++◌, ℕ, ◌+◌, ◌≤◌, length, take, drop};
 ghost use Rattle.numbers.specs.Limits as limit;
 ghost use Rattle.octets.specs.Classes.{Classes};
@@ -15,7 +16,7 @@ use property_table::Edition;
 use property_table::rows::PropertyTable;
 
 // One record: eight numbers.
-#[derive(Drop)]
+#[derive(Clone, Copy)]
 pub struct Record {
     pub property: u32,
     pub start: u32,

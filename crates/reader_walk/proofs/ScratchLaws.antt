@@ -145,10 +145,10 @@ module _ (c : Kept) (p s l : List ℕ) (lies : Lies c) (room : c.used + length l
   hand_room true = room
   hand_room false = omega arith
 
-  pub hand_line_lem : (folded : Bool) → (folded ≡ false → l ≡ s)
+  pub hand_line : (folded : Bool) → (folded ≡ false → l ≡ s)
       → pick folded (drop c.used (take (c.used + length (hand folded)) (behind c.used (hand folded) p))) s ≡ l
-  hand_line_lem true e = line_is c p l (length l) lies room refl
-  hand_line_lem false e = sym (e refl)
+  hand_line true e = line_is c p l (length l) lies room refl
+  hand_line false e = sym (e refl)
 
   hand_part : (folded : Bool) → (folded ≡ false → l ≡ s) → (from to : ℕ) → from ≤ to → to ≤ length l
       → part from to (pick folded (drop c.used (behind c.used (hand folded) p)) s) ≡ part from to l

@@ -1,4 +1,5 @@
 // Replaying a record of calls: a script of them is run on a fresh desk, and the answers are written to a log.
+#![tactic(auto)]
 ghost use Rattle.std.specs.Prelude.{◌≡◌, true, ◌≤◌, length};
 ghost use Rattle.octets.specs.Scan.{scan};
 ghost use Rattle.desk_slots.specs.Sound.{bounds};
@@ -15,7 +16,7 @@ use numbers::{limit, refusal};
 use replay_script::Counted;
 
 // How many calls were run and how many octets of the log are written, or a refusal's number and place.
-#[derive(Drop)]
+#[derive(Clone, Copy)]
 pub enum Replayed {
     Ran(usize, usize),
     Refused(u32, usize),

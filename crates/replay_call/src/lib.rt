@@ -1,4 +1,5 @@
 // A call run on a desk, with its answer in a log.
+#![tactic(auto)]
 ghost use Rattle.std.specs.Prelude.{◌≡◌, ◌≤◌, length};
 ghost use Rattle.desk_ledger.specs.Desks.{said, ask_step, desk_step};
 ghost use Rattle.replay_script.specs.Scripts.{width, query_of, call_of};
@@ -9,7 +10,7 @@ use desk::{Desk, Turn};
 use replay_script::{call, numerals};
 
 // The next desk, and how many octets of the log were written.
-#[derive(Drop)]
+#[derive(Clone, Copy)]
 pub struct After {
     pub desk: Desk,
     pub wrote: usize,

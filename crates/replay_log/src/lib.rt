@@ -1,4 +1,5 @@
 // The answers in a log.
+#![tactic(auto)]
 pub mod reply;
 
 ghost use Rattle.std.specs.Prelude.{◌∷◌, ◌++◌, ◌≡◌, ◌+◌, ◌*◌, ◌≤◌, leb, length};

@@ -1,4 +1,5 @@
 // The calls of a script, counted and measured.
+#![tactic(auto)]
 pub mod call;
 pub mod numerals;
 
@@ -7,7 +8,7 @@ ghost use Rattle.replay_script.specs.Scripts.{width, call_of, decode};
 ghost use Rattle.replay_script.specs.Counts.{shows, counted};
 
 // How many calls a script has, and how many of them are shows; or where its first call starts that is unknown or cut off.
-#[derive(Drop)]
+#[derive(Clone, Copy)]
 pub enum Counted {
     Calls(usize, usize),
     Broken(usize),

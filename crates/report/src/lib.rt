@@ -1,4 +1,5 @@
 // The morning report: counts of judgements, taken one by one and printed.
+#![tactic(auto)]
 pub mod rows;
 
 ghost use Rattle.std.specs.Prelude.{◌≡◌, false, length};
@@ -16,20 +17,20 @@ use report_weights::Weights;
 pub type Counts = [u32; count::ALL];
 
 // A report: its counts.
-#[derive(Drop)]
+#[derive(Clone, Copy)]
 pub struct Report {
     pub counts: Counts,
 }
 
 // What taking a judgement answers: it is counted, or a refusal's number and place.
-#[derive(Drop)]
+#[derive(Clone, Copy)]
 pub enum Answer {
     Counted,
     Refused(u32, usize),
 }
 
 // An answer and the next report.
-#[derive(Drop)]
+#[derive(Clone, Copy)]
 pub struct Taken {
     pub answer: Answer,
     pub report: Report,

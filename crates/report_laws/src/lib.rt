@@ -1,1 +1,2 @@
 // The morning report: no code, only what holds of the counts over every list of judgements.
+#![tactic(auto)]

@@ -32,8 +32,8 @@ pub record NameAt (l : List ℕ) (g n : ℕ) : Type 0 where
 taken_le : (l a : List ℕ) (k : ℕ) → Taken l a k → k ≤ length l
 taken_le l a k t = omega (arith, t.whole, run_le named l)
 
-after_dot_lem : (g : ℕ) → 0 < g → name_start g ≡ g + 1
-after_dot_lem g h = rw (ne_eqb g 0 (λ e. omega arith))
+after_dot : (g : ℕ) → 0 < g → name_start g ≡ g + 1
+after_dot g h = rw (ne_eqb g 0 (λ e. omega arith))
 
 -- the octets of the name
 pub record Spelt (l : List ℕ) (h : Head) (k : ℕ) : Type 0 where
@@ -47,7 +47,7 @@ spelt l h k e =
     head_parts l h k e
     (λ a b n m eh ek i j.
     let r : List ℕ = drop 1 (drop n l) in
-    let start : name_start (length a) ≡ n + 1 = rw i.count (after_dot_lem n i.some) in
+    let start : name_start (length a) ≡ n + 1 = rw i.count (after_dot n i.some) in
     let size : n + suc m - (n + 1) ≡ m = omega arith in
     let there : drop (n + 1) l ≡ r = sym (drop-drop 1 n l) in
     let few = taken_le r b m j in
@@ -64,9 +64,9 @@ spelt l h k e =
       octets = rw sub-zero (sym i.octets);
     })
 
-pub name_at_lem : (l : List ℕ) (p : Part) (g n : ℕ) → p ≡ headed (head l) → p ≡ Named g n → NameAt l g n
+pub name_at : (l : List ℕ) (p : Part) (g n : ℕ) → p ≡ headed (head l) → p ≡ Named g n → NameAt l g n
 unfolding row_of_name
-name_at_lem l p g n e q = by (head l) refl (sym e ∙ q)
+name_at l p g n e q = by (head l) refl (sym e ∙ q)
   where
     by : (m : Parse Head) → head l ≡ m → headed m ≡ Named g n → NameAt l g n
     by (bad x) f w = clash cc

@@ -31,9 +31,9 @@ use Rattle.text_unescaping.proofs.MeasureLaws.{fault_told, octets_told}
 
 -- by what screening answers: its refusal, or the outcome that is left
 module _ (p : ℕ → Bool) (m : ℕ) (t room : List ℕ) (left : Filled) where
-  refused_by_lem : (n q : ℕ) → screened_by p m t ≡ Refused n q → refuse n q room ≡ checked p t room left
+  refused_by : (n q : ℕ) → screened_by p m t ≡ Refused n q → refuse n q room ≡ checked p t room left
   unfolding screened_by checked
-  refused_by_lem n q e = by (ltb 16384 (length t)) (ltb (first_bad p t) (length t)) e
+  refused_by n q e = by (ltb 16384 (length t)) (ltb (first_bad p t) (length t)) e
     where
       by : (a b : Bool) → pick a (Refused 1 16384) (pick b (Refused 31 (first_bad p t)) (Saw m)) ≡ Refused n q
           → refuse n q room ≡ pick a (refuse 1 16384 room) (pick b (refuse 31 (first_bad p t) room) left)
@@ -90,7 +90,7 @@ outcome k t room = checked k.allows t room (k.left t room)
 -- the outcome, by what screening answered
 module _ (k : Change) (t room : List ℕ) {s : Screened} (e : s ≡ screened_for k t) where
   pub refused_outcome : {n p : ℕ} → s ≡ Refused n p → refuse n p room ≡ outcome k t room
-  refused_outcome g = refused_by_lem k.allows (seen_by k.amiss k.holds t) t room (k.left t room) _ _ (sym e ∙ g)
+  refused_outcome g = refused_by k.allows (seen_by k.amiss k.holds t) t room (k.left t room) _ _ (sym e ∙ g)
 
   module _ {l : ℕ} (g : s ≡ Saw l) where
     saw : (l ≡ seen_by k.amiss k.holds t) × ((length t ≤ 16384) × (k.left t room ≡ outcome k t room))

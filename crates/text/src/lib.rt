@@ -1,4 +1,5 @@
 // Text: escaping, and unescaping, which gives back what was escaped.
+#![tactic(auto)]
 ghost use Rattle.std.specs.Prelude.{◌≡◌, false, ◌≤◌, length};
 ghost use Rattle.numbers.specs.Limits as limit;
 ghost use Rattle.utf8.specs.Characters.{allowed, first_bad};
@@ -29,7 +30,7 @@ fn bad_octet(text: &[u8], seen: u8, lf: bool) -> usize
 }
 
 // What screening a text answers.
-#[derive(Drop)]
+#[derive(Clone, Copy)]
 pub enum Screened {
     // What is seen in the text (`text_marks::see`).
     Saw(u8),

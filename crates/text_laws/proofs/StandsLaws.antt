@@ -13,7 +13,7 @@ use borrow.Author.Tests.{eqb-true, eqb-false, ne_eqb}
 use Rattle.octets.specs.Scan.{scan, gather}
 use Rattle.text_marks.specs.Marks.{special}
 use Rattle.text_unescaping.specs.Unescaped.{code, meant, escape_at, text_step, first_fault, passed, standing, unescaped}
-use Rattle.text_laws.specs.Stands.{Escape, backslash, comma, semicolon, small_n, capital_n_lem, Stands, none, itself, escape, Faulty, bare_comma, last_backslash, bare_backslash}
+use Rattle.text_laws.specs.Stands.{Escape, backslash, comma, semicolon, small_n, capital_n, Stands, none, itself, escape, Faulty, bare_comma, last_backslash, bare_backslash}
 use Rattle.text_unescaping.proofs.UnescapeLaws.{first_octet}
 
 -- an octet is the code of an escape where `code` says so
@@ -23,7 +23,7 @@ escape_code backslash = (refl, refl)
 escape_code comma = (refl, refl)
 escape_code semicolon = (refl, refl)
 escape_code small_n = (refl, refl)
-escape_code capital_n_lem = (refl, refl)
+escape_code capital_n = (refl, refl)
 
 code_escape : (y : ℕ) → code y ≡ true → Escape y (meant y)
 unfolding code special meant
@@ -38,7 +38,7 @@ code_escape y = by (eqb y 92) (eqb y 44) (eqb y 59) (eqb y 110) (eqb y 78) refl 
     by false true c d f p q r s u z = is 44 (eqb-true y 44 q) comma
     by false false true d f p q r s u z = is 59 (eqb-true y 59 r) semicolon
     by false false false true f p q r s u z = is 110 (eqb-true y 110 s) small_n
-    by false false false false true p q r s u z = is 78 (eqb-true y 78 u) capital_n_lem
+    by false false false false true p q r s u z = is 78 (eqb-true y 78 u) capital_n
     by false false false false false p q r s u z = absurd (true≢false (sym z))
 
 -- an octet at the start of a list that is no backslash

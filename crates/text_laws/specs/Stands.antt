@@ -8,7 +8,7 @@ pub data Escape : ℕ → ℕ → Type 0 where
   comma : Escape ascii.comma ascii.comma
   semicolon : Escape ascii.semicolon ascii.semicolon
   small_n : Escape ascii.small_n ascii.lf
-  capital_n_lem : Escape ascii.capital_n ascii.lf
+  capital_n : Escape ascii.capital_n ascii.lf
 
 -- octets as written, and those that they stand for: any octet but comma and backslash stands for itself
 pub data Stands : List ℕ → List ℕ → Type 0 where

@@ -1,4 +1,5 @@
 // What is seen in a text: whether an octet is not plain, or is a backslash, a comma or one of two octets more; counts and pairs.
+#![tactic(auto)]
 pub mod counts;
 pub mod pairs;
 

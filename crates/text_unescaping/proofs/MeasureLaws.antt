@@ -16,9 +16,9 @@ use Rattle.text_unescaping.specs.Measured.{measured}
 use Rattle.text_unescaping.proofs.UnescapeLaws.{fault_le}
 
 module _ (t : List ℕ) (n : ℕ) where
-  pub at_fault_lem : n ≡ first_fault t → n < length t → Fault n ≡ measured t
+  pub at_fault : n ≡ first_fault t → n < length t → Fault n ≡ measured t
   unfolding measured
-  at_fault_lem e l = simp (sym e, lt-ltb n (length t) l)
+  at_fault e l = simp (sym e, lt-ltb n (length t) l)
 
   pub at_end : first_fault t ≡ length t → n ≡ length (unescaped t) → Octets n ≡ measured t
   unfolding measured

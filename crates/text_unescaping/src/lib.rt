@@ -1,4 +1,5 @@
 // Text with escapes: its first fault, how many octets it stands for, and writing those.
+#![tactic(auto)]
 ghost use Rattle.std.specs.Prelude.{◌≡◌, ◌+◌, ◌<◌, ◌≤◌, length, drop};
 ghost use Rattle.numbers.specs.Limits as limit;
 ghost use Rattle.octets.specs.Room.{overlay};
@@ -9,7 +10,7 @@ ghost use Rattle.text_unescaping.specs.Measured.{measured};
 const SHORT: usize = 32;
 
 // What measuring a text answers.
-#[derive(Drop)]
+#[derive(Clone, Copy)]
 pub enum Measured {
     // The text has no fault, and stands for so many octets.
     Octets(usize),

@@ -1,4 +1,5 @@
 // The kinds of value are regular expressions; here are tests of each octet by itself that settle most values.
+#![tactic(auto)]
 ghost use Rattle.std.specs.Prelude.{◌≡◌, not};
 ghost use Rattle.octets.specs.Classes.{bit};
 ghost use Rattle.octets.specs.Counts.{all_in, count};
@@ -12,7 +13,7 @@ use numbers::kind;
 use property_table::Edition;
 
 // A value fits, or the first octet from which nothing could, or the end.
-#[derive(Drop)]
+#[derive(Clone, Copy)]
 pub enum Fault {
     Fits,
     Breaks(usize),

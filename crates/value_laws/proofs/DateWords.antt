@@ -19,10 +19,10 @@ use Rattle.value_kinds.specs.declared.Fault.TheVariants.{Fits as fitting}
 use Rattle.value_laws.proofs.KindLaws.{fits_kind}
 use Rattle.value_kinds.specs.Dates.{fours, others, year, months, month, day28, day29, day30, day31, hour, minute, second, last_minute, offset, zoned, past_minute, past_hour, clock, last_second, time, timed, leap_date, common_date, no_year, date_and_or_time, full_time, leap_full, common_full, timestamp}
 use Rattle.octets.specs.Classes.{digit as is_digit}
-use Rattle.value_laws.proofs.Plain.{through, head_to, head_from_lem}
+use Rattle.value_laws.proofs.Plain.{through, head_to, head_from}
 use Rattle.value_laws.proofs.Pairs.{figured, led, starts, Pair, pair}
 use Rattle.value_laws.proofs.DayLaws.{Tested, below, in_month, day_of, monthly, hour_offset, minute_last, second_last, minute_alone, second_zoned, minute_past, hour_past, minute_full, hour_full, month_alone, d28, d29, d30, d31, f28, f29, f30, f31, leap_months, common_months, leap_full_lem, common_full_lem, loose_months, leap_parts, opened, shut}
-use Rattle.value_laws.specs.Calendar.{two, four, is_leap, february, days, Month, Fits, Sign, Offset, offset_hours, offset_minutes_lem, Zone, no_zone, utc, zone, Clock, clock_hours, clock_minutes, clock_seconds, Time, whole_time, time_minutes, time_seconds, time_second, FullDate, full_date, yearless, monthless, Date, whole_date, only_year, year_month, only_month, DateAndOrTime, dated, date_time, only_time, Timestamp, stamp}
+use Rattle.value_laws.specs.Calendar.{two, four, is_leap, february, days, Month, Fits, Sign, Offset, offset_hours, offset_minutes, Zone, no_zone, utc, zone, Clock, clock_hours, clock_minutes, clock_seconds, Time, whole_time, time_minutes, time_seconds, time_second, FullDate, full_date, yearless, monthless, Date, whole_date, only_year, year_month, only_month, DateAndOrTime, dated, date_time, only_time, Timestamp, stamp}
 
 -- an octet that stands alone in its set
 minus_is : (x : ℕ) → holds minus x ≡ true → x ≡ 45
@@ -75,15 +75,15 @@ offset_to v h =
     let whole : v ≡ x.0 ∷ (two y.0 ++ y.1) = x.2 ∙ ap (λ (l : List ℕ). x.0 ∷ l) y.4 in
     ⊎_elim
     (λ e. subst Offset (sym (whole ∙ ap (λ (l : List ℕ). x.0 ∷ (two y.0 ++ l)) e)) (offset_hours (sign_is x.0 x.3) (low 24 y.0 y.3)))
-    (λ e. subst Offset (sym (whole ∙ ap (λ (l : List ℕ). x.0 ∷ (two y.0 ++ l)) e.2)) (offset_minutes_lem (sign_is x.0 x.3) (low 24 y.0 y.3) e.1))
+    (λ e. subst Offset (sym (whole ∙ ap (λ (l : List ℕ). x.0 ∷ (two y.0 ++ l)) e.2)) (offset_minutes (sign_is x.0 x.3) (low 24 y.0 y.3) e.1))
     (last_to y.1 y.5)
 
 offset_from : (v : List ℕ) → Offset v → Matches offset v
 unfolding offset last_minute Matches
 offset_from v (offset_hours {s = s} {h = h} g l) =
-    head_from_lem sign (hour last_minute) s (s ∷ two h) (two h) refl (is_sign s g) (hour_offset.from h [] (omega arith) (lt-ltb h 24 l) (inr refl))
-offset_from v (offset_minutes_lem {s = s} {h = h} {m = m} g l k) =
-    head_from_lem sign (hour last_minute) s (s ∷ (two h ++ two m)) (two h ++ two m) refl (is_sign s g)
+    head_from sign (hour last_minute) s (s ∷ two h) (two h) refl (is_sign s g) (hour_offset.from h [] (omega arith) (lt-ltb h 24 l) (inr refl))
+offset_from v (offset_minutes {s = s} {h = h} {m = m} g l k) =
+    head_from sign (hour last_minute) s (s ∷ (two h ++ two m)) (two h ++ two m) refl (is_sign s g)
     (hour_offset.from h (two m) (omega arith) (lt-ltb h 24 l) (inl (minute_last.from m [] (omega arith) (lt-ltb m 60 k) refl)))
 
 pub offset_words : (v : List ℕ) → Matches offset v ↔ Offset v
@@ -168,13 +168,13 @@ time_from : (v : List ℕ) → Time v → Matches time v
 unfolding time last_second Matches
 time_from v (whole_time h) = inl (clock_from v h)
 time_from v (time_minutes {m = m} l) =
-    inr (head_from_lem minus (minute last_second or (one minus then second empty)) 45 (45 ∷ two m) (two m) refl minus_here (inl (minute_alone.from m [] (omega arith) (lt-ltb m 60 l) (inr refl))))
+    inr (head_from minus (minute last_second or (one minus then second empty)) 45 (45 ∷ two m) (two m) refl minus_here (inl (minute_alone.from m [] (omega arith) (lt-ltb m 60 l) (inr refl))))
 time_from v (time_seconds {m = m} {s = s} l k) =
-    inr (head_from_lem minus (minute last_second or (one minus then second empty)) 45 (45 ∷ (two m ++ two s)) (two m ++ two s) refl minus_here
+    inr (head_from minus (minute last_second or (one minus then second empty)) 45 (45 ∷ (two m ++ two s)) (two m ++ two s) refl minus_here
     (inl (minute_alone.from m (two s) (omega arith) (lt-ltb m 60 l) (inl (second_last.from s [] (omega arith) (lt-ltb s 61 (omega arith)) refl)))))
 time_from v (time_second {s = s} k) =
-    inr (head_from_lem minus (minute last_second or (one minus then second empty)) 45 (45 ∷ 45 ∷ two s) (45 ∷ two s) refl minus_here
-    (inr (head_from_lem minus (second empty) 45 (45 ∷ two s) (two s) refl minus_here (second_last.from s [] (omega arith) (lt-ltb s 61 (omega arith)) refl))))
+    inr (head_from minus (minute last_second or (one minus then second empty)) 45 (45 ∷ 45 ∷ two s) (45 ∷ two s) refl minus_here
+    (inr (head_from minus (second empty) 45 (45 ∷ two s) (two s) refl minus_here (second_last.from s [] (omega arith) (lt-ltb s 61 (omega arith)) refl))))
 
 -- a day of a month of n days, and then the shape r
 dayed : (r : Shape) → Tested (day28 r) (in_month 28) r → Tested (day29 r) (in_month 29) r → Tested (day30 r) (in_month 30) r → Tested (day31 r) (in_month 31) r
@@ -343,7 +343,7 @@ unfolding full_time
 stamp_from v (stamp {y = y} {m = m} {d = d} {h = h} {n = n} {s = s} {z = z} l f a b c k) =
     years_full.from y (two m ++ (two d ++ (84 ∷ (two h ++ (two n ++ (two s ++ z)))))) l
     ((full_year (is_leap y)).from m d (84 ∷ (two h ++ (two n ++ (two s ++ z)))) (as_feb y m d f)
-    (head_from_lem the_t (hour (minute (second zoned))) 84 (84 ∷ (two h ++ (two n ++ (two s ++ z)))) (two h ++ (two n ++ (two s ++ z))) refl t_here
+    (head_from the_t (hour (minute (second zoned))) 84 (84 ∷ (two h ++ (two n ++ (two s ++ z)))) (two h ++ (two n ++ (two s ++ z))) refl t_here
     (hour_full.from h (two n ++ (two s ++ z)) (omega arith) (lt-ltb h 24 a)
     (minute_full.from n (two s ++ z) (omega arith) (lt-ltb n 60 b) (second_zoned.from s z (omega arith) (lt-ltb s 61 (omega arith)) (zone_from z k))))))
 
@@ -359,7 +359,7 @@ month_to w h =
 
 month_from : (m : ℕ) → Month m → Matches (one minus then month) (45 ∷ two m)
 unfolding Matches
-month_from m h = head_from_lem minus month 45 (45 ∷ two m) (two m) refl minus_here (month_alone.from m [] (omega (arith, h.most)) (of_month m h) refl)
+month_from m h = head_from minus month 45 (45 ∷ two m) (two m) refl minus_here (month_alone.from m [] (omega (arith, h.most)) (of_month m h) refl)
 
 -- what may follow a year
 rest_to : (t : Bool) (w : List ℕ) → Matches (pick t leap_date common_date) w
@@ -441,15 +441,15 @@ date_from : (u v : List ℕ) → FullDate u → Matches timed v → Matches date
 unfolding date_and_or_time no_year Matches
 date_from u v (full_date {y = y} {m = m} {d = d} l f) h = inl (years_dates.from y (two m ++ (two d ++ v)) l (rest_day (is_leap y) m d v (as_feb y m d f) h))
 date_from u v (yearless {m = m} {d = d} f) h =
-    inr (inl (head_from_lem minus (one minus then no_year) 45 _ (45 ∷ (two m ++ (two d ++ v))) refl minus_here
-    (head_from_lem minus no_year 45 _ (two m ++ (two d ++ v)) refl minus_here
+    inr (inl (head_from minus (one minus then no_year) 45 _ (45 ∷ (two m ++ (two d ++ v))) refl minus_here
+    (head_from minus no_year 45 _ (two m ++ (two d ++ v)) refl minus_here
     (inl (loose_months.from m (two d ++ v) (omega (arith, f.month.most))
     (shut (in_month 12 m) (day_of (days 29 m) timed or empty) (two d ++ v) (of_month m f.month)
     (inl ((day_timed 29 m (omega arith) (omega arith)).from d v (day_short 29 m d (omega arith) (omega arith) f) (of_fits 29 m d f) h))))))))
 date_from u v (monthless {d = d} a b) h =
-    inr (inl (head_from_lem minus (one minus then no_year) 45 _ (45 ∷ 45 ∷ (two d ++ v)) refl minus_here
-    (head_from_lem minus no_year 45 _ (45 ∷ (two d ++ v)) refl minus_here
-    (inr (head_from_lem minus (day31 timed) 45 _ (two d ++ v) refl minus_here (d31.from d v (omega arith) (rw (le-leb 1 d a, le-leb d 31 b) refl) h))))))
+    inr (inl (head_from minus (one minus then no_year) 45 _ (45 ∷ 45 ∷ (two d ++ v)) refl minus_here
+    (head_from minus no_year 45 _ (45 ∷ (two d ++ v)) refl minus_here
+    (inr (head_from minus (day31 timed) 45 _ (two d ++ v) refl minus_here (d31.from d v (omega arith) (rw (le-leb 1 d a, le-leb d 31 b) refl) h))))))
 
 plain_from : (v : List ℕ) → Date v → Matches date_and_or_time v
 unfolding date_and_or_time no_year timed Matches
@@ -457,15 +457,15 @@ plain_from v (whole_date f) = subst (Matches date_and_or_time) (append-nil v) (d
 plain_from v (only_year {y = y} l) = subst (Matches date_and_or_time) (append-nil (four y)) (inl (years_dates.from y [] l (rest_none (is_leap y))))
 plain_from v (year_month {y = y} {m = m} l h) = inl (years_dates.from y (45 ∷ two m) l (rest_month (is_leap y) m h))
 plain_from v (only_month {m = m} h) =
-    inr (inl (head_from_lem minus (one minus then no_year) 45 _ (45 ∷ two m) refl minus_here
-    (head_from_lem minus no_year 45 _ (two m) refl minus_here
+    inr (inl (head_from minus (one minus then no_year) 45 _ (45 ∷ two m) refl minus_here
+    (head_from minus no_year 45 _ (two m) refl minus_here
     (inl (loose_months.from m [] (omega (arith, h.most)) (shut (in_month 12 m) (day_of (days 29 m) timed or empty) [] (of_month m h) (inr refl)))))))
 
 any_from : (v : List ℕ) → DateAndOrTime v → Matches date_and_or_time v
 unfolding date_and_or_time timed Matches
 any_from v (dated d) = plain_from v d
-any_from v (date_time {u = u} {w = w} f c) = date_from u (84 ∷ w) f (inl (head_from_lem the_t clock 84 (84 ∷ w) w refl t_here (clock_from w c)))
-any_from v (only_time {v = w} t) = inr (inr (head_from_lem the_t time 84 (84 ∷ w) w refl t_here (time_from w t)))
+any_from v (date_time {u = u} {w = w} f c) = date_from u (84 ∷ w) f (inl (head_from the_t clock 84 (84 ∷ w) w refl t_here (clock_from w c)))
+any_from v (only_time {v = w} t) = inr (inr (head_from the_t time 84 (84 ∷ w) w refl t_here (time_from w t)))
 
 pub date_words : (v : List ℕ) → Matches date_and_or_time v ↔ DateAndOrTime v
 date_words v = (any_to v, any_from v)

@@ -14,7 +14,7 @@ use Rattle.value_kinds.specs.declared.Fault.{Fault}
 use Rattle.value_kinds.specs.declared.Fault.TheVariants.{Fits as fitting, Breaks as breaking}
 use Rattle.value_offsets.specs.Minutes.{digit_at, pair_at, time_of, is_behind, signed, minutes_by, minutes_of}
 use Rattle.value_offsets.specs.declared.Offset.TheVariants.{Minutes, Refused}
-use Rattle.value_laws.specs.Calendar.{two, Offset, offset_hours, offset_minutes_lem, StandsFor, hours_ahead, minutes_ahead, hours_behind, minutes_behind, Within}
+use Rattle.value_laws.specs.Calendar.{two, Offset, offset_hours, offset_minutes, StandsFor, hours_ahead, minutes_ahead, hours_behind, minutes_behind, Within}
 use Rattle.value_laws.specs.Dead.{Dead}
 use Rattle.value_laws.proofs.DeadLaws.{dead_alike}
 use Rattle.value_laws.proofs.KindLaws.{fits_kind, breaks_kind}
@@ -33,14 +33,14 @@ offset_stands : (v : List ℕ) → Offset v → StandsFor (signed (is_behind v) 
 unfolding is_behind signed
 offset_stands v (offset_hours {s = s} {h = h} (inl e) l) = rw (e, time_hours 43 h) (hours_ahead l)
 offset_stands v (offset_hours {s = s} {h = h} (inr e) l) = rw (e, time_hours 45 h) (hours_behind l)
-offset_stands v (offset_minutes_lem {s = s} {h = h} {m = m} (inl e) l k) = rw (e, time_minutes 43 h m) (minutes_ahead l k)
-offset_stands v (offset_minutes_lem {s = s} {h = h} {m = m} (inr e) l k) = rw (e, time_minutes 45 h m) (minutes_behind l k)
+offset_stands v (offset_minutes {s = s} {h = h} {m = m} (inl e) l k) = rw (e, time_minutes 43 h m) (minutes_ahead l k)
+offset_stands v (offset_minutes {s = s} {h = h} {m = m} (inr e) l k) = rw (e, time_minutes 45 h m) (minutes_behind l k)
 
 stands_offset : {z : ℤ} {v : List ℕ} → StandsFor z v → Offset v
 stands_offset (hours_ahead l) = offset_hours (inl refl) l
-stands_offset (minutes_ahead l k) = offset_minutes_lem (inl refl) l k
+stands_offset (minutes_ahead l k) = offset_minutes (inl refl) l k
 stands_offset (hours_behind l) = offset_hours (inr refl) l
-stands_offset (minutes_behind l k) = offset_minutes_lem (inr refl) l k
+stands_offset (minutes_behind l k) = offset_minutes (inr refl) l k
 
 -- what it stands for, an offset gives
 stands_gives : {z : ℤ} {v : List ℕ} → StandsFor z v → signed (is_behind v) (time_of v) ≡ z

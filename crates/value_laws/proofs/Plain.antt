@@ -39,9 +39,9 @@ pub head_to : (p : Octets) (a : Shape) (v : List ℕ) → Matches (one p then a)
 unfolding Matches
 head_to p a v (u, w, e, (x, h, f), k) = (x, w, e ∙ ap (λ (l : List ℕ). l ++ w) f, h, k)
 
-pub head_from_lem : (p : Octets) (a : Shape) (x : ℕ) (v w : List ℕ) → v ≡ x ∷ w → In p x → Matches a w → Matches (one p then a) v
+pub head_from : (p : Octets) (a : Shape) (x : ℕ) (v w : List ℕ) → v ≡ x ∷ w → In p x → Matches a w → Matches (one p then a) v
 unfolding Matches
-head_from_lem p a x v w e h k = (x ∷ [], w, e, (x, h, refl), k)
+head_from p a x v w e h k = (x ∷ [], w, e, (x, h, refl), k)
 
 -- a run, an octet that ends it, and a text
 tail_to : (p q : Octets) (a : Shape) (v : List ℕ) → Matches (many (one p) then one q then a) v
@@ -53,7 +53,7 @@ tail_to p q a v (u, w, e, h, k) =
 
 tail_from : (p q : Octets) (a : Shape) (u : List ℕ) (m : ℕ) (w : List ℕ) → All p u → In q m → Matches a w → Matches (many (one p) then one q then a) (u ++ m ∷ w)
 unfolding Matches
-tail_from p q a u m w h k l = (u, m ∷ w, refl, (run p u).1 h, head_from_lem q a m (m ∷ w) w refl k l)
+tail_from p q a u m w h k l = (u, m ∷ w, refl, (run p u).1 h, head_from q a m (m ∷ w) w refl k l)
 
 uri_words : (v : List ℕ) → Matches uri v ↔ Uri v
 unfolding uri
@@ -67,7 +67,7 @@ uri_words v = (to, from)
 
     from : Uri v → Matches uri v
     from (x, a, m, b, e, h, k, l, n) =
-        head_from_lem letter (many (one scheme) then one colon then many (one graphic)) x v (a ++ m ∷ b) e h
+        head_from letter (many (one scheme) then one colon then many (one graphic)) x v (a ++ m ∷ b) e h
         (tail_from scheme colon (many (one graphic)) a m b k l ((run graphic b).1 n))
 
 pidmap_words : (v : List ℕ) → Matches pidmap v ↔ Pidmap v
@@ -82,7 +82,7 @@ pidmap_words v = (to, from)
 
     from : Pidmap v → Matches pidmap v
     from (x, a, m, b, e, h, k, l, n) =
-        head_from_lem digit (many (one digit) then one semicolon then uri) x v (a ++ m ∷ b) e h
+        head_from digit (many (one digit) then one semicolon then uri) x v (a ++ m ∷ b) e h
         (tail_from digit semicolon uri a m b k l ((uri_words b).1 n))
 
 text_words : (v : List ℕ) → Matches text v ↔ Text v
@@ -114,7 +114,7 @@ gender_words v = (to, from)
     rest_from : (w : List ℕ) → (w ≡ []) ⊎ ((m : ℕ) × (t : List ℕ) × (w ≡ m ∷ t) × In semicolon m × Text t)
         → Matches (one semicolon then text or empty) w
     rest_from w (inl e) = inr e
-    rest_from w (inr (m, t, e, h, k)) = inl (head_from_lem semicolon text m w t e h ((text_words t).1 k))
+    rest_from w (inr (m, t, e, h, k)) = inl (head_from semicolon text m w t e h ((text_words t).1 k))
 
     from : Gender v → Matches gender v
     from (u, w, e, h, k) = (u, w, e, sex_from u h, rest_from w k)
@@ -134,7 +134,7 @@ cased p a y ys f g v = (to, from v)
     from [] e = absurd (false≢true e)
     from (x ∷ w) e =
         let h = and_both (eqb (lower x) (lower y)) (same w ys) e in
-        head_from_lem p a x (x ∷ w) w refl (f x ∙ h.0) ((g w).1 h.1)
+        head_from p a x (x ∷ w) w refl (f x ∙ h.0) ((g w).1 h.1)
 
 last_cased : (p : Octets) (y : ℕ) → ((x : ℕ) → holds p x ≡ eqb (lower x) (lower y)) → (v : List ℕ) → Matches (one p) v ↔ (same v (y ∷ []) ≡ true)
 unfolding Matches same
@@ -157,9 +157,9 @@ vcard_words v =
     (cased the_r (one the_d) 82 (68 ∷ []) (λ x. refl) (last_cased the_d 68 (λ x. refl)))))
     v
 
-version_words_lem : (v : List ℕ) → Matches version v ↔ (v ≡ octets "4.0")
+version_words : (v : List ℕ) → Matches version v ↔ (v ≡ octets "4.0")
 unfolding version holds octets Matches
-version_words_lem v = (to, from)
+version_words v = (to, from)
   where
     to : Matches version v → v ≡ 52 ∷ 46 ∷ 48 ∷ []
     to h =
@@ -173,8 +173,8 @@ version_words_lem v = (to, from)
 
     from : v ≡ 52 ∷ 46 ∷ 48 ∷ [] → Matches version v
     from e =
-        head_from_lem four (one point then one nought) 52 v (46 ∷ 48 ∷ []) e refl
-        (head_from_lem point (one nought) 46 (46 ∷ 48 ∷ []) (48 ∷ []) refl refl (48, refl, refl))
+        head_from four (one point then one nought) 52 v (46 ∷ 48 ∷ []) e refl
+        (head_from point (one nought) 46 (46 ∷ 48 ∷ []) (48 ∷ []) refl refl (48, refl, refl))
 
 module _ (e : Edition) where
   -- kind 0 takes anything
@@ -224,7 +224,7 @@ module _ (e : Edition) where
 
   pub fixed_version : (k : ℕ) (v : List ℕ) → (value_in e 34 k v ≡ Fits) ↔ (v ≡ octets "4.0")
   unfolding line_shape
-  fixed_version k v = through (fits_line e 34 k v) (version_words_lem v)
+  fixed_version k v = through (fits_line e 34 k v) (version_words v)
 
   -- any other row: the line's kind
   pub by_kind : (row k : ℕ) (v : List ℕ) → (row ≡ 1 → ⊥) → (row ≡ 2 → ⊥) → (row ≡ 34 → ⊥) → value_in e row k v ≡ kind_in e k v

@@ -39,7 +39,7 @@ Sign s = (s ≡ plus) ⊎ (s ≡ hyphen)
 -- utc-offset = sign hour [minute]
 pub data Offset : List ℕ → Type 0 where
   offset_hours : {s h : ℕ} → Sign s → h < 24 → Offset (s ∷ two h)
-  offset_minutes_lem : {s h m : ℕ} → Sign s → h < 24 → m < 60 → Offset (s ∷ (two h ++ two m))
+  offset_minutes : {s h m : ℕ} → Sign s → h < 24 → m < 60 → Offset (s ∷ (two h ++ two m))
 
 -- the minutes that an offset stands for: those of its hours and its minutes, ahead of UTC after `+`, behind it after `-`
 pub data StandsFor : ℤ → List ℕ → Type 0 where

@@ -1,4 +1,5 @@
 // The minutes that an offset from UTC stands for.
+#![tactic(auto)]
 ghost use Rattle.std.specs.Prelude.{◌≡◌, ◌≤◌};
 ghost use Rattle.value_offsets.specs.Minutes.{digit_at, pair_at, time_of, is_behind, signed, most_minutes, Bounded, minutes_of};
 
@@ -7,7 +8,7 @@ use property_table::Edition;
 use value_kinds::Fault;
 
 // The minutes that an offset is ahead of UTC, below 0 where it is behind; or the refusal, with its place in the value.
-#[derive(Drop)]
+#[derive(Clone, Copy)]
 pub enum Offset {
     Minutes(i32),
     Refused(u32, usize),

@@ -101,7 +101,7 @@ module _ (e : Ends) (a b c : List ℕ) (h : Within e a b c) where
 pub begun : (w : Way) (s a b c : List ℕ) → Halfway w s a b c 0 (record { first = 0; second = 0; others = 0 })
 begun w s a b c =
     record {
-      first_in_lem = omega arith;
+      first_in = omega arith;
       second_in = omega arith;
       others_in = omega arith;
       first_done = refl;
@@ -113,7 +113,7 @@ module _ {w : Way} {s a b c : List ℕ} {at : ℕ} {e : Ends} (h : Halfway w s a
   pub within : Lent a b c → Within e a b c
   within m =
       record {
-        first_in_lem = h.first_in;
+        first_in = h.first_in;
         second_in = h.second_in;
         others_in = h.others_in;
         first_most = m.0;
@@ -150,7 +150,7 @@ module _ {w : Way} {s a b c : List ℕ} {at : ℕ} {e : Ends} (h : Halfway w s a
       pub onward : (m : Ends) → Shared (turn_of l) (folded (form_of w l)) e m a b c a' b' c' → Halfway w s a' b' c' (t + 2) m
       onward m r =
           record {
-            first_in_lem = r.first_share.inside;
+            first_in = r.first_share.inside;
             second_in = r.second_share.inside;
             others_in = r.others_share.inside;
             first_done = grow _ (gets 0) (placed w 0 (logical_lines (drop (t + 2) s))) a e.first (split 0 _ a e.first h.first_done) a' m.first r.first_share;

@@ -32,7 +32,7 @@ Lent first second others = (length first ≤ limit.octets) × (length second ≤
 
 -- so many octets of each room, which is no larger than a card
 pub record Within (e : Ends) (first second others : List ℕ) : Type 0 where
-  pub first_in_lem : e.first ≤ length first
+  pub first_in : e.first ≤ length first
   pub second_in : e.second ≤ length second
   pub others_in : e.others ≤ length others
   pub first_most : length first ≤ limit.octets
@@ -77,7 +77,7 @@ pub record Sorted (w : Way) (i : List ℕ) (e : Ends) (a b c : List ℕ) : Type 
 
 -- the lines before a place of the input stand there
 pub record Halfway (w : Way) (i : List ℕ) (a b c : List ℕ) (at : ℕ) (e : Ends) : Type 0 where
-  pub first_in_lem : e.first ≤ length a
+  pub first_in : e.first ≤ length a
   pub second_in : e.second ≤ length b
   pub others_in : e.others ≤ length c
   pub first_done : placed w 0 (logical_lines i) ≡ take e.first a ++ placed w 0 (logical_lines (drop at i))

@@ -55,7 +55,7 @@ const SECOND: usize = 1;
 const OTHERS: usize = 2;
 
 // A line as the other version has it: its place in the card, and how long it is.
-#[derive(Drop)]
+#[derive(Clone, Copy)]
 pub struct Form {
     pub turn: usize,
     pub length: usize,
@@ -131,14 +131,14 @@ fn form_span(
 }
 
 // Where a line that was written to a room ends there, or that it does not fit.
-#[derive(Drop)]
+#[derive(Clone, Copy)]
 pub enum Added {
     Upto(usize),
     Over,
 }
 
 // How many octets were written to the rooms of the three places.
-#[derive(Drop)]
+#[derive(Clone, Copy)]
 pub struct Ends {
     pub first: usize,
     pub second: usize,
@@ -146,7 +146,7 @@ pub struct Ends {
 }
 
 // How many octets were written to the rooms of the three places, or that some room is too small.
-#[derive(Drop)]
+#[derive(Clone, Copy)]
 pub enum Sheet {
     Placed(Ends),
     Cramped,
@@ -154,7 +154,7 @@ pub enum Sheet {
 
 // What was written when the lines came to their end, or to a line that is too long for the rooms of a line: where it starts, and how long it
 // is; or that the room of some place is too small.
-#[derive(Drop)]
+#[derive(Clone, Copy)]
 pub enum Reached {
     End(Ends),
     Long(usize, usize, Ends),
@@ -162,7 +162,7 @@ pub enum Reached {
 }
 
 // What was answered and written, or that some room is too small for trying.
-#[derive(Drop)]
+#[derive(Clone, Copy)]
 pub enum Tried {
     Done(Written),
     Cramped,

@@ -1,4 +1,5 @@
 // The judgement of a card that is taken in from version 3 or given out to it, line by line: 5, 40 to 43, 9, 8, and 50 or 51.
+#![tactic(auto)]
 ghost use Rattle.std.specs.Prelude.{◌≡◌, false, not, ◌&&◌, ◌||◌, eqb, ◌+◌, ◌≤◌, ◌<◌, length, drop};
 ghost use Rattle.numbers.specs.Kinds as kinds;
 ghost use Rattle.numbers.specs.Limits as limit;
@@ -37,7 +38,7 @@ pub const INSIDE: u32 = 1;
 pub const ENDED: u32 = 2;
 
 // What is known of the card.
-#[derive(Drop)]
+#[derive(Clone, Copy)]
 pub struct Set {
     // How far it has come: BEFORE_BEGIN, INSIDE or ENDED.
     pub phase: u32,
@@ -48,7 +49,7 @@ pub struct Set {
 }
 
 // The card after a line, or the refusal's number and its place in the input, or its number and the octet of the unfolded line.
-#[derive(Drop)]
+#[derive(Clone, Copy)]
 pub enum Step {
     Next(Set),
     Refused(u32, usize),

@@ -55,7 +55,7 @@ use Rattle.version3_laws.proofs.PlaceLaws.{new_to, new_from}
 use Rattle.version3_laws.proofs.ValueLaws.{out_geo, out_other}
 use Rattle.version3_laws.proofs.FairLaws.{clean_fair, fair_bad}
 use Rattle.version3_laws.proofs.LineLaws.{eleven_to, eleven_from, eleven_unframed}
-use Rattle.version3_laws.proofs.JudgeLaws.{framing_to, framing_from, number_from_lem, Tells, at_nothing, at_begun, at_whole, Advances, is_good, good_begin, good_version, good_end, good_goes, none_by, some_by, good_to, Judged, flawed, ruled, misplaced, heavy, unwanted, advanced}
+use Rattle.version3_laws.proofs.JudgeLaws.{framing_to, framing_from, number_from, Tells, at_nothing, at_begun, at_whole, Advances, is_good, good_begin, good_version, good_end, good_goes, none_by, some_by, good_to, Judged, flawed, ruled, misplaced, heavy, unwanted, advanced}
 use Rattle.version3_laws.proofs.ReasonLaws.{advance_end, advance_eleven, n_unframed, geo_unframed, advance_place, place_of}
 use Rattle.version3_laws.proofs.WalkLaws.{AllKinded}
 use Rattle.version3_laws.proofs.AnswerLaws.{never, refusal_numbers, fill_to, fill_from, fill_long, fill_small, fill_refused, Card, card_answer, stop_answer, Answered, over, inside, halted, answered}
@@ -94,7 +94,7 @@ module _ (x : Line) where
       framed (inl q) = absurd (s.place q)
       framed (inr (inl q)) =
           let a : c.has_version ≡ false = hv ∙ none_any First (of_row First 34) ys (n.version q) in
-          clash (rw (a, number_from_lem Outward x.value (s.fits.version q))) (sym (good_version Outward c x q) ∙ g)
+          clash (rw (a, number_from Outward x.value (s.fits.version q))) (sym (good_version Outward c x q) ∙ g)
       framed (inr (inr q)) =
           let k = n.end q in
           let a : c.has_fn ≡ true = hf ∙ some_any First (of_row First 6) ys k.0 in
@@ -198,11 +198,11 @@ told {c = c} raw at n p x e r s k t (unwanted y q h u f) g =
 told raw at n p x e r s k t (advanced y d q w) g = no_step g
 
 module _ (i room : List ℕ) where
-  card_of_lem : {ys : List Line} → Converts Outward i ys → Card Outward i ys
-  card_of_lem c = record { lines = c.lines; written = c.written; readable = c.readable; card = c.card }
+  card_of : {ys : List Line} → Converts Outward i ys → Card Outward i ys
+  card_of c = record { lines = c.lines; written = c.written; readable = c.readable; card = c.card }
 
   pub give_card : {ys : List Line} → Converts Outward i ys → give_outcome i room ≡ fill_bounded (card_octets ys) room
-  give_card c = give_accepted i room 1 (length c.lines) (source_accepted c) ∙ card_answer Outward i room c.short (card_of_lem c)
+  give_card c = give_accepted i room 1 (length c.lines) (source_accepted c) ∙ card_answer Outward i room c.short (card_of c)
 
   room_from : {n p : ℕ} → NoRoom Outward i room n p → give_outcome i room ≡ refuse n p room
   room_from (reasons.NoRoom.long {ys = ys} c h) = give_card c ∙ fill_long (card_octets ys) room h
@@ -249,16 +249,16 @@ module _ (i room : List ℕ) where
           card = c.card;
         }
 
-    not_open_lem : {ls : List (List ℕ)} {ys : List Line} {b : Before} → SoFar Outward ls b → b ≡ begun ys → ls ≡ map render a.lines → ⊥
-    not_open_lem reasons.SoFar.no_line q e = omega (arith, ap place_of q)
-    not_open_lem (in_card {b = b} {ys = ys} h r w) q e = no_open first_of b ys w.each (sym (same_lines (b ∷ ys) a.lines r a.readable e))
-    not_open_lem (reasons.SoFar.after_card r c) q e = omega (arith, ap place_of q)
+    not_open : {ls : List (List ℕ)} {ys : List Line} {b : Before} → SoFar Outward ls b → b ≡ begun ys → ls ≡ map render a.lines → ⊥
+    not_open reasons.SoFar.no_line q e = omega (arith, ap place_of q)
+    not_open (in_card {b = b} {ys = ys} h r w) q e = no_open first_of b ys w.each (sym (same_lines (b ∷ ys) a.lines r a.readable e))
+    not_open (reasons.SoFar.after_card r c) q e = omega (arith, ap place_of q)
 
   -- ---- the answer
 
   answered_refused : {f : Filled} (k m : ℕ) (a : InputOf i k m) → Framed i → Answered Outward i room f → (n p : ℕ) → f ≡ refuse n p room → RefusedOut i room n p
   answered_refused k m a f (over ys c) n p e = reasons.RefusedOut.room (fill_refused Outward i room ys (converts k m a c) n p e)
-  answered_refused k m a f (inside ys h) n p e = absurd (not_open_lem k m a h refl (lines_of_lem k m a))
+  answered_refused k m a f (inside ys h) n p e = absurd (not_open k m a h refl (lines_of_lem k m a))
   answered_refused k m a f (halted ds l es c s y q z r j g) n p e =
       let o = refusal_numbers e in
       let t = there_raw k m a ds l es z r.lines in
@@ -278,11 +278,11 @@ module _ (i room : List ℕ) where
   answer_of : (k m : ℕ) → InputOf i k m → judge_of i ≡ Accepted k m → Answered Outward i room (convert_outcome Outward i room)
   answer_of k m a e = answered Outward i room (accepted_framed i k m e) (kinded k m a)
 
-  refused_by_lem : (v : Verdict) → judge_of i ≡ v → (n p : ℕ) → give_outcome i room ≡ refuse n p room → RefusedOut i room n p
-  refused_by_lem (Accepted k m) e n p g =
+  refused_by : (v : Verdict) → judge_of i ≡ v → (n p : ℕ) → give_outcome i room ≡ refuse n p room → RefusedOut i room n p
+  refused_by (Accepted k m) e n p g =
       let a = (accepted_law First i k m).0 e in
       answered_refused k m a (accepted_framed i k m e) (answer_of k m a e) n p (sym (give_accepted i room k m e) ∙ g)
-  refused_by_lem (Rejected k q) e n p g =
+  refused_by (Rejected k q) e n p g =
       let o = refusal_numbers (sym (give_rejected i room k q e) ∙ g) in
       rw (← o.0, ← o.1) (reasons.RefusedOut.reader ((refused_law First i k q).0 e))
 
@@ -317,4 +317,4 @@ module _ (i room : List ℕ) where
 
   -- refused with number n at place p exactly for the reason that the table has there
   pub refuses_out : (n p : ℕ) → (give_outcome i room ≡ refuse n p room) ↔ RefusedOut i room n p
-  refuses_out n p = (refused_by_lem (judge_of i) refl n p, refused_from)
+  refuses_out n p = (refused_by (judge_of i) refl n p, refused_from)

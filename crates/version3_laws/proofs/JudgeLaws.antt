@@ -121,8 +121,8 @@ unfolding octets same lower
 number_same Inward = refl
 number_same Outward = refl
 
-pub number_from_lem : (w : Way) (v : List ℕ) → Number w v → same v (version_read w) ≡ true
-number_from_lem w v e = ap (λ (l : List ℕ). same l (version_read w)) e ∙ number_same w
+pub number_from : (w : Way) (v : List ℕ) → Number w v → same v (version_read w) ≡ true
+number_from w v e = ap (λ (l : List ℕ). same l (version_read w)) e ∙ number_same w
 
 pub version_to : (w : Way) (x : Line) → row_of_line First x ≡ 34 → Bare x → Number w x.value → VersionRead w x
 version_to Inward x r b e = record { row = r; bare = b; value = e }
@@ -231,7 +231,7 @@ passes_good w c x h f =
 advance_good : (w : Way) (c : Set) (x : Line) {b d : Before} → Tells c b → Advances w b x d → is_good w c x ≡ true
 advance_good w c x (at_nothing e) (begins h) = good_begin w c x h.row ∙ rw (h.value, phase_fresh c e)
 advance_good w c x (at_begun {ys = ys} e hf hn hv) (version h z) =
-    good_version w c x (version_row w x h) ∙ rw (hv ∙ none_any First (of_row First 34) ys z, number_from_lem w x.value (version_number w x h))
+    good_version w c x (version_row w x h) ∙ rw (hv ∙ none_any First (of_row First 34) ys z, number_from w x.value (version_number w x h))
 advance_good w c x (at_begun {ys = ys} e hf hn hv) (passes h f) = passes_good w c x h (λ q. hn ∙ none_any First (of_row First 7) ys (f q))
 advance_good w c x (at_begun {ys = ys} e hf hn hv) (ends h p q r) =
     good_end w c x h.row ∙ rw (h.value, hf ∙ some_any First (of_row First 6) ys p, hn ∙ some_any First (of_row First 7) ys q, hv ∙ some_any First (of_row First 34) ys r)

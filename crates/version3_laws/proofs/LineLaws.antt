@@ -206,9 +206,9 @@ new_version : (w : Way) (k : ℕ) (v : List ℕ) → new_value w 34 k v ≡ vers
 unfolding new_value
 new_version w k v = refl
 
-number_written_lem : (w : Way) → version_text w ≡ (versioned w (record { group = []; name = []; params = []; value = [] })).value
-number_written_lem Inward = refl
-number_written_lem Outward = refl
+number_written : (w : Way) → version_text w ≡ (versioned w (record { group = []; name = []; params = []; value = [] })).value
+number_written Inward = refl
+number_written Outward = refl
 
 pub version_row : (w : Way) (x : Line) → VersionRead w x → row_of_line First x ≡ 34
 version_row Inward x h = h.row
@@ -226,7 +226,7 @@ version_line w x h =
     let b = version_bare w x h in
     same_line (new_line w x) (versioned w x) refl refl
     (ap (new_params w) b.params ∙ no_params w ∙ sym b.params)
-    (ap (λ (row : ℕ). new_value w row (kind_of_line First x) x.value) r ∙ new_version w (kind_of_line First x) x.value ∙ number_written_lem w)
+    (ap (λ (row : ℕ). new_value w row (kind_of_line First x) x.value) r ∙ new_version w (kind_of_line First x) x.value ∙ number_written w)
 
 begin_kind : (value calscale : Option (List ℕ)) → line_kind 1 value calscale ≡ 0
 unfolding line_kind rule_at takes_value framing kind_at row_at all_rows rows newer

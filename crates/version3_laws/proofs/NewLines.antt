@@ -302,9 +302,9 @@ module _ (nm : List ℕ) (d : length nm ≡ 4 → ⊥) where
   first_behind [] qs rs e = e
   first_behind (p ∷ ps) qs rs e = first_more p (ps ++ qs) (ps ++ rs) (first_behind ps qs rs e)
 
-  pub first_kept_lem : (w : Way) (ps : List Param) → first_named nm (new_params w ps) ≡ first_named nm ps
+  pub first_kept : (w : Way) (ps : List Param) → first_named nm (new_params w ps) ≡ first_named nm ps
   unfolding new_params
-  first_kept_lem w ps =
+  first_kept w ps =
       first_all w ps (pick (any_prefers w ps) (mark w ∷ []) [])
       ∙ by (any_prefers w ps)
       (λ e. rw e (first_behind ps (mark w ∷ []) [] (mark_other w) ∙ ap (first_named nm) (append-nil ps)))
@@ -322,8 +322,8 @@ row_kept w x = refl
 pub kind_kept : (w : Way) (x : Line) → kind_of_line First (new_line w x) ≡ kind_of_line First x
 unfolding kind_of_line param_value
 kind_kept w x =
-    let a = ap octets_of (ap (first_named value_name) (new_params_lem w x) ∙ first_kept_lem value_name (λ e. omega (arith, long_names.0)) w x.params) in
-    let b = ap octets_of (ap (first_named calscale_name) (new_params_lem w x) ∙ first_kept_lem calscale_name (λ e. omega (arith, long_names.1)) w x.params) in
+    let a = ap octets_of (ap (first_named value_name) (new_params_lem w x) ∙ first_kept value_name (λ e. omega (arith, long_names.0)) w x.params) in
+    let b = ap octets_of (ap (first_named calscale_name) (new_params_lem w x) ∙ first_kept calscale_name (λ e. omega (arith, long_names.1)) w x.params) in
     ap (λ (n : ℕ). line_kind n (param_value value_name (new_line w x)) (param_value calscale_name (new_line w x))) (row_kept w x)
     ∙ ap (λ (v : Option (List ℕ)). line_kind (row_of_line First x) v (param_value calscale_name (new_line w x))) a
     ∙ ap (λ (c : Option (List ℕ)). line_kind (row_of_line First x) (param_value value_name x) c) b

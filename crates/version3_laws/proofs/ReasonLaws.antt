@@ -31,7 +31,7 @@ use Rattle.version3_laws.specs.Refusals as reasons
 use Rattle.version3_laws.proofs.ParamLaws.{no_pref_law}
 use Rattle.version3_laws.proofs.ValueLaws.{geo_kind, value_in_only}
 use Rattle.version3_laws.proofs.LineLaws.{eleven_to, eleven_from, eleven_no, eleven_unframed, Passes, version_row, taken_to}
-use Rattle.version3_laws.proofs.JudgeLaws.{framing_to, framing_from, number_from_lem, Tells, at_nothing, at_begun, at_whole, Advances, begins, version, passes, ends, is_good, good_begin, good_version, good_end, good_goes, none_by, some_by, good_to}
+use Rattle.version3_laws.proofs.JudgeLaws.{framing_to, framing_from, number_from, Tells, at_nothing, at_begun, at_whole, Advances, begins, version, passes, ends, is_good, good_begin, good_version, good_end, good_goes, none_by, some_by, good_to}
 use Rattle.version3_laws.proofs.Small.{clash}
 
 -- ---- what a line that advances has
@@ -121,7 +121,7 @@ module _ (x : Line) (u : Unbroken x.value) where
       framed (inr (inl q)) =
           by c.has_version
           (λ h. reasons.NotTaken.second_version q (some_by (of_row First 34) ys hv h))
-          (λ h. reasons.NotTaken.version q (λ v. clash (number_from_lem Inward x.value v) (rw h at (sym (good_version Inward c x q) ∙ g))))
+          (λ h. reasons.NotTaken.version q (λ v. clash (number_from Inward x.value v) (rw h at (sym (good_version Inward c x q) ∙ g))))
       framed (inr (inr q)) =
           by (same x.value (octets "VCARD"))
           (λ h.

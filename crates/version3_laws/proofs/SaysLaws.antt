@@ -12,7 +12,7 @@ use Rattle.octets.specs.Pick.{pick}
 use Rattle.octets.proofs.Bools.{by, or_none_left, or_none_right}
 use Rattle.text_marks.specs.Marks.{special, marked}
 use Rattle.text_escaping.specs.Escaped.{letter, in_escape, escaped}
-use Rattle.text_laws.specs.Stands.{Escape, backslash, comma, semicolon, small_n, capital_n_lem, Stands}
+use Rattle.text_laws.specs.Stands.{Escape, backslash, comma, semicolon, small_n, capital_n, Stands}
 use Rattle.text_laws.specs.Stands as stands
 use Rattle.line_parser.specs.Grammar.{led}
 use Rattle.line_laws.specs.Lined.{Unbroken}
@@ -35,7 +35,7 @@ code_in backslash = refl
 code_in comma = refl
 code_in semicolon = refl
 code_in small_n = refl
-code_in capital_n_lem = refl
+code_in capital_n = refl
 
 in_code_lem : (y : ℕ) → In escapee y → (x : ℕ) × Escape y x
 unfolding holds
@@ -49,7 +49,7 @@ in_code_lem y h = go (eqb y 92) (eqb y 44) (eqb y 59) (eqb y 110) (eqb y 78) ref
     go false true c d e p q r s t z = is 44 44 (eqb-true y 44 q) comma
     go false false true d e p q r s t z = is 59 59 (eqb-true y 59 r) semicolon
     go false false false true e p q r s t z = is 110 10 (eqb-true y 110 s) small_n
-    go false false false false true p q r s t z = is 78 10 (eqb-true y 78 t) capital_n_lem
+    go false false false false true p q r s t z = is 78 10 (eqb-true y 78 t) capital_n
     go false false false false false p q r s t z = absurd (false≢true z)
 
 -- the escape that is written for the octet is the one renewed
@@ -59,7 +59,7 @@ anew_code backslash = refl
 anew_code comma = refl
 anew_code semicolon = refl
 anew_code small_n = refl
-anew_code capital_n_lem = refl
+anew_code capital_n = refl
 
 plain_code : (x : ℕ) → (x ≡ 92 → ⊥) → (x ≡ 44 → ⊥) → (x ≡ 59 → ⊥) → (x ≡ 10 → ⊥) → in_escape x ≡ x ∷ []
 unfolding in_escape marked special

@@ -117,15 +117,15 @@ told_at {b} {l} at m n p h e =
     let q = same_step e in
     record { place = at_start; refused = subst (λ (k : ℕ). LineRefused b l k at_start) q.0 h; there = sym q.1 ∙ sym (add-zero at); inside = tt }
 
-line_to_lem : {b : Before} {c : Set} {l raw : List ℕ} {s : Step} (at n p : ℕ) → Tells c b → Judged Inward b c at l s → settled at raw s ≡ Refused n p → Told b l raw at n p
-line_to_lem {b} {l = l} at n p t (flawed {o = o} h) e =
+line_to : {b : Before} {c : Set} {l raw : List ℕ} {s : Step} (at n p : ℕ) → Tells c b → Judged Inward b c at l s → settled at raw s ≡ Refused n p → Told b l raw at n p
+line_to {b} {l = l} at n p t (flawed {o = o} h) e =
     let q = same_step e in
     record { place = at_octet o; refused = subst (λ (k : ℕ). LineRefused b l k (at_octet o)) q.0 (octet h); there = sym q.1; inside = omega (arith, h.inside) }
-line_to_lem at n p t (ruled {n = m} h f) e = told_at at m n p (rule h f) e
-line_to_lem at n p t (misplaced x r f) e = told_at at 9 n p (order x r f) e
-line_to_lem at n p t (heavy x r h f) e = told_at at 8 n p (laden x r h f) e
-line_to_lem {c = c} at n p t (unwanted x r h u g) e = told_at at 50 n p (not_taken x r h u (not_taken_to x (value_unbroken x r.readable) c t h g)) e
-line_to_lem at n p t (advanced x d r a) e = no_step e
+line_to at n p t (ruled {n = m} h f) e = told_at at m n p (rule h f) e
+line_to at n p t (misplaced x r f) e = told_at at 9 n p (order x r f) e
+line_to at n p t (heavy x r h f) e = told_at at 8 n p (laden x r h f) e
+line_to {c = c} at n p t (unwanted x r h u g) e = told_at at 50 n p (not_taken x r h u (not_taken_to x (value_unbroken x r.readable) c t h g)) e
+line_to at n p t (advanced x d r a) e = no_step e
 
 -- taking in asks nothing of the kind of a line that is read
 all_kinded : (ls : List (List ℕ)) → AllKinded Inward ls
@@ -136,8 +136,8 @@ all_kinded (l ∷ ls) = (λ x r. tt, all_kinded ls)
 -- ---- the whole input
 
 module _ (i room : List ℕ) where
-  card_of_lem : {ys : List Line} → Converts Inward i ys → Card Inward i ys
-  card_of_lem c = record { lines = c.lines; written = c.written; readable = c.readable; card = c.card }
+  card_of : {ys : List Line} → Converts Inward i ys → Card Inward i ys
+  card_of c = record { lines = c.lines; written = c.written; readable = c.readable; card = c.card }
 
   converts : {ys : List Line} → length i ≤ 16384 → Card Inward i ys → Converts Inward i ys
   converts h c = record { short = h; lines = c.lines; written = c.written; readable = c.readable; source = tt; card = c.card }
@@ -146,8 +146,8 @@ module _ (i room : List ℕ) where
   open_end f = by (ends_cr_lf i) (λ e. absurd (f ((ends_law i).0 e))) (λ e. e)
 
   room_from : {n p : ℕ} → NoRoom Inward i room n p → take_outcome i room ≡ refuse n p room
-  room_from (reasons.NoRoom.long {ys = ys} c h) = card_answer Inward i room c.short (card_of_lem c) ∙ fill_long (card_octets ys) room h
-  room_from (reasons.NoRoom.small {ys = ys} c h g) = card_answer Inward i room c.short (card_of_lem c) ∙ fill_small (card_octets ys) room h g
+  room_from (reasons.NoRoom.long {ys = ys} c h) = card_answer Inward i room c.short (card_of c) ∙ fill_long (card_octets ys) room h
+  room_from (reasons.NoRoom.small {ys = ys} c h g) = card_answer Inward i room c.short (card_of c) ∙ fill_small (card_octets ys) room h g
 
   refused_from : {n p : ℕ} → RefusedIn i room n p → take_outcome i room ≡ refuse n p room
   unfolding convert_outcome
@@ -185,7 +185,7 @@ module _ (i room : List ℕ) where
   answered_refused f (halted ds l es c s k q z r j g) n p e =
       let m = refusal_numbers e in
       let at = length (ended ds) in
-      let o = line_to_lem {raw = l} at k q r.known j g in
+      let o = line_to {raw = l} at k q r.known j g in
       let h = split_at i ds l es f z in
       let y = lined_there ds es (map unfolded ds) (map unfolded es) l (unfolded l) h (length-map ds unfolded) in
       subst (λ (x : ℕ). RefusedIn i room n x) (sym o.there ∙ m.1)
@@ -261,7 +261,7 @@ module _ (i room : List ℕ) where
 
   wrote_from : (n : ℕ) (after : List ℕ) → Takes i room n after → take_outcome i room ≡ filled (Wrote n) after
   wrote_from n after h =
-      card_answer Inward i room h.card.short (card_of_lem h.card)
+      card_answer Inward i room h.card.short (card_of h.card)
       ∙ fill_from (record { short = h.short; fits = h.fits; count = h.count; holds = h.holds })
 
   -- n octets are written exactly where the input is a card that is taken in as them

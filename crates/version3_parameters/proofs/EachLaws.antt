@@ -21,7 +21,7 @@ use Rattle.version3_parameters.specs.declared.Way.TheVariants.{Inward, Outward}
 use Rattle.version3_parameters.specs.declared.Put.{Put}
 use Rattle.version3_parameters.specs.Params.{type_name, pref_name, is_pref_param, kept, any_pref, values_of, with_values, changed, prefers, changed_all, any_prefers, mark, new_params, params_text, lawful, one_value, all_lawful, prefs, prefs_fit}
 use Rattle.version3_parameters.specs.Places.{ParamAt, type_by, pref_by, named_by, lawful_by, text_by, prefers_by, one_written, Puts}
-use Rattle.version3_parameters.proofs.RestLaws.{param_values, values_text_lem}
+use Rattle.version3_parameters.proofs.RestLaws.{param_values, values_text}
 use Rattle.version3_parameters.proofs.OneLaws.{one_law}
 
 pub led_append : {A : Type 0} (c : ℕ) (o : A → List ℕ) (xs ys : List A) → led c o (xs ++ ys) ≡ led c o xs ++ led c o ys
@@ -106,7 +106,7 @@ lawful_in w (bad x) e = refl
 pub lawful_out : (w : Way) (s : List ℕ) (start end e : ℕ) (p : ParamAt s start end) → NameEnd s start p.it e → w ≡ Outward
     → (r : Bool) → r ≡ one_written (take (end - (e + 1)) (drop (e + 1) s)) → r ≡ lawful_by w (param (drop start s))
 lawful_out w s start end e p n o r h =
-    let v = values_text_lem p.it.first p.it.more (param_values s start end p e n) in
+    let v = values_text p.it.first p.it.more (param_values s start end p e n) in
     rw (p.read, o) (h ∙ ap one_written v.0 ∙ one_law p.it.first p.it.more v.1)
 
 -- the PREFs that are left, n having come before

@@ -294,9 +294,9 @@ name_within s start end p e n =
     let c : length (param_text q) ≡ length q.name + suc (length b) = length-append q.name (61 ∷ b) in
     omega (arith, c, n.there, p.ends, param_count (drop start s) q p.count p.read)
 
-pub values_text_lem : {s : List ℕ} {end at : ℕ} (v : Value) (vs : List Value) → Values s end at (v ∷ vs)
+pub values_text : {s : List ℕ} {end at : ℕ} (v : Value) (vs : List Value) → Values s end at (v ∷ vs)
     → (take (end - at) (drop at s) ≡ value_text v ++ led 44 value_text vs) × GoodValue v
-values_text_lem {s} {end} {at} v vs (more t n g gs) =
+values_text {s} {end} {at} v vs (more t n g gs) =
     let b = value_text v ++ led 44 value_text vs in
     let k : length b ≡ end - at = omega (arith, n) in
     (ap (take (end - at)) t ∙ take_at b (drop end s) (end - at) k, g)

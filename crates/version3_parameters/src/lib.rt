@@ -1,4 +1,5 @@
 // The parameters of a line that is taken in from version 3 or given out to it: TYPE=pref and PREF=1.
+#![tactic(auto)]
 ghost use Rattle.std.specs.Prelude.{◌≡◌, false, ◌||◌, [], ◌∷◌, ℕ, ◌+◌, ◌-◌, ◌≤◌, length, take, drop};
 ghost use Rattle.octets.specs.Ascii as ascii;
 ghost use Rattle.octets.specs.Room.{overlay};
@@ -16,21 +17,21 @@ use octets::classes;
 use octets::classes::ClassTable;
 
 // Cards of version 3 are taken in as version 4, or cards of version 4 given out as version 3.
-#[derive(Drop)]
+#[derive(Clone, Copy)]
 pub enum Way {
     Inward,
     Outward,
 }
 
 // How many octets were written, and whether it was said that the line is preferred.
-#[derive(Drop)]
+#[derive(Clone, Copy)]
 pub struct Put {
     pub length: usize,
     pub gone: bool,
 }
 
 // Where the octets of a value stand, quotes off, and where it ends with its quote marks.
-#[derive(Drop)]
+#[derive(Clone, Copy)]
 pub struct ValueSpan {
     pub start: usize,
     pub end: usize,

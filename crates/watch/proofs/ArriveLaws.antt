@@ -209,11 +209,11 @@ module _ (w : Watch) (b i c : List ℕ) (l : Live w b i) (holds : b ≡ buffer_a
         ∙ ap (λ (z : ℕ). take z (o ++ take k c)) e
         ∙ subst (λ (z : ℕ). take (length o + z - 2) (o ++ take z c) ≡ take (length o + z - 2) (o ++ c)) (sym at_is) (line_ends i c there)
 
-    two_octets_lem : 2 ≤ length o + k
-    two_octets_lem = subst (λ (e : ℕ). 2 ≤ length o + e) (sym at_is) (two_there i c there)
+    two_octets : 2 ≤ length o + k
+    two_octets = subst (λ (e : ℕ). 2 ≤ length o + e) (sym at_is) (two_there i c there)
 
     line_size : length joined_line_lem + 2 ≡ w.«open» + k
-    line_size = omega (arith, ap length same_line, length-take-le (length o + k - 2) (o ++ c) (omega (arith, length-append o c)), l.line, two_octets_lem)
+    line_size = omega (arith, ap length same_line, length-take-le (length o + k - 2) (o ++ c) (omega (arith, length-append o c)), l.line, two_octets)
 
     zero_behind : drop (w.card.used + length joined_line_lem + 2) b ≡ replicate (16384 - (w.card.used + length joined_line_lem + 2)) 0
     zero_behind =

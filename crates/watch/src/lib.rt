@@ -1,4 +1,5 @@
 // The reader that takes an input in chunks, cut anywhere: its state, and one lent buffer of 16,384 octets.
+#![tactic(auto)]
 ghost use Rattle.std.specs.Prelude.{◌≡◌, true, List, ◌++◌, ℕ, ◌+◌, ◌-◌, ◌<◌, ◌≤◌, ltb, length, take, drop};
 ghost use Rattle.numbers.specs.Limits as limit;
 ghost use Rattle.numbers.specs.Refusals as refusal;
@@ -29,7 +30,7 @@ pub const LONE_BREAK: u32 = 2;
 pub const TOO_LONG: u32 = 3;
 
 // What is kept between two chunks, beside the buffer.
-#[derive(Drop)]
+#[derive(Clone, Copy)]
 pub struct Watch {
     // Which fault is known: NO_FAULT, LINE_FAULT, LONE_BREAK or TOO_LONG; and its number and place.
     pub known: u32,
@@ -45,7 +46,7 @@ pub struct Watch {
 }
 
 // The next state, or a refusal's number and place; a refused call leaves the state and the buffer as they were.
-#[derive(Drop)]
+#[derive(Clone, Copy)]
 pub enum Arrived {
     Next(Watch),
     Refused(u32, usize),

@@ -1,13 +1,13 @@
 -- Octets that arrive in two parts, and the reader's own ends of lines. Assumes nothing.
-use mathlib.Core.Path.{◌≡◌, refl, sym, ap, subst, ◌∙◌}
-use mathlib.Core.Bool.{Bool, true, false, not, ◌&&◌, ◌||◌, false≢true}
+use mathlib.Core.Path.{◌≡◌, refl, sym, ap, ◌∙◌}
+use mathlib.Core.Bool.{true, false, not, ◌&&◌}
 use mathlib.Core.List.{List, [], ◌∷◌, ◌++◌}
-use Prim.Native.Nat.{ℕ, zero, suc, ◌+◌, ◌-◌, ◌<◌, ◌≤◌}
+use Prim.Native.Nat.{ℕ, suc, ◌+◌, ◌-◌, ◌<◌, ◌≤◌}
 use native.Mathlib.Nat.{zero-add}
 use native.Mathlib.Omega.{arith}
 use lib.Dec.{eqb, ltb}
 use lib.ListN.{length, get_or, take, drop, length-drop}
-use lib.Seq.{take-suc, take-length, take_all, get_or-take, get_or-drop, length-take-le, drop-cons}
+use lib.Seq.{take-suc, take-length, take_all, get_or-take, get_or-drop, length-take-le}
 use borrow.Author.Tests.{eqb-true, eqb-false, ne_eqb, eq-eqb, ltb-true, ltb-false, lt-ltb, le-ltb}
 use Rattle.octets.specs.Pick.{pick}
 use Rattle.octets.specs.Scan.{scan, after}
@@ -236,9 +236,9 @@ not_lf x xs e =
     (λ p. let f : 1 ≡ suc (length xs) + 1 = rw p at e in absurd (omega arith))
     (λ p. let f : suc (lone_from (tail_step 0 x) xs) ≡ suc (length xs) + 1 = rw p at e in (p, omega arith))
 
-is_lf_lem : (y : ℕ) (ys : List ℕ) → lone_from 1 (y ∷ ys) ≡ length (y ∷ ys) + 1 → (eqb y 10 ≡ true) × (lone_from 0 ys ≡ length ys + 1)
+is_lf : (y : ℕ) (ys : List ℕ) → lone_from 1 (y ∷ ys) ≡ length (y ∷ ys) + 1 → (eqb y 10 ≡ true) × (lone_from 0 ys ≡ length ys + 1)
 unfolding lone_from
-is_lf_lem y ys e =
+is_lf y ys e =
     by (eqb y 10)
     (λ p. let f : suc (lone_from 2 ys) ≡ suc (length ys) + 1 = rw p at e in (p, sym (lone_other 2 ys (λ z. omega arith)) ∙ omega arith))
     (λ p. let f : 0 ≡ suc (length ys) + 1 = rw p at e in absurd (omega arith))
@@ -285,7 +285,7 @@ pair : (x y : ℕ) (ys : List ℕ) → eqb x 13 ≡ true → Fine (x ∷ y ∷ y
 pair x y ys p e =
     let k = not_lf x (y ∷ ys) e in
     let t : tail_step 0 x ≡ 1 = rw (eqb-true x 13 p) (tail_cr 0) in
-    let j = is_lf_lem y ys (rw t at k.1) in
+    let j = is_lf y ys (rw t at k.1) in
     let z = eqb-true y 10 j.0 in
     (z, j.1, next_plain x (y ∷ ys) ∙ rw (t, z) (ap suc (next_lf ys)))
 
@@ -434,21 +434,21 @@ pub next_one : (t : ℕ) (s : List ℕ) → t ≡ 1 → 2 ≤ length s → lone_
 next_one t [] e h f b = absurd (omega arith)
 next_one t (x ∷ []) e h f b = absurd (omega arith)
 next_one t (x ∷ y ∷ ys) e h f b =
-    let k = is_lf_lem x (y ∷ ys) (rw e at f) in
+    let k = is_lf x (y ∷ ys) (rw e at f) in
     rw (e, eqb-true x 10 k.0, next_lf (y ∷ ys), next_here y ys b)
 
 pub next_two : (t : ℕ) (s : List ℕ) → t ≡ 1 → 2 ≤ length s → lone_from t s ≡ length s + 1 → blank (get_or s 1 0) ≡ true → next_from t s ≡ 2 + next_from 0 (drop 2 s)
 next_two t [] e h f b = absurd (omega arith)
 next_two t (x ∷ []) e h f b = absurd (omega arith)
 next_two t (x ∷ y ∷ ys) e h f b =
-    let k = is_lf_lem x (y ∷ ys) (rw e at f) in
+    let k = is_lf x (y ∷ ys) (rw e at f) in
     rw (e, eqb-true x 10 k.0, next_lf (y ∷ ys), next_blank y ys b) (omega arith)
 
 pub fine_two : (t : ℕ) (s : List ℕ) → t ≡ 1 → 2 ≤ length s → lone_from t s ≡ length s + 1 → blank (get_or s 1 0) ≡ true
     → lone_from 0 (drop 2 s) ≡ length (drop 2 s) + 1
 fine_two t [] e h f b = absurd (omega arith)
 fine_two t (x ∷ []) e h f b = absurd (omega arith)
-fine_two t (x ∷ y ∷ ys) e h f b = lone_blank y ys b (is_lf_lem x (y ∷ ys) (rw e at f)).1
+fine_two t (x ∷ y ∷ ys) e h f b = lone_blank y ys b (is_lf x (y ∷ ys) (rw e at f)).1
 
 -- only a CR or CR LF before decides with the next octet
 pub next_other : (t : ℕ) (l : List ℕ) → (t ≡ 1 → ⊥) → (t ≡ 2 → ⊥) → next_from t l ≡ next_from 0 l

@@ -1,4 +1,5 @@
 // The octets of a chunk as they arrive: how the input ends so far, a lone CR or LF, and where the next line starts.
+#![tactic(auto)]
 
 ghost use Rattle.std.specs.Prelude.{◌≡◌, ◌+◌, ◌-◌, ◌≤◌, ltb, length, take, drop};
 ghost use Rattle.octets.specs.Pick.{pick};

@@ -1,12 +1,11 @@
 -- A buffer that holds octets at its front: octets put behind them, and what lies behind them cleared. Assumes nothing.
 use Prim.Native.Nat.{ℕ, zero, suc, ◌+◌, ◌-◌, ◌≤◌}
 use mathlib.Core.Path.{◌≡◌, refl, sym, ap, ◌∙◌}
-use mathlib.Core.List.{List, [], ◌∷◌, ◌++◌, append_assoc}
+use mathlib.Core.List.{List, ◌++◌, append_assoc}
 use native.Mathlib.Omega.{arith}
-use native.Mathlib.Nat.{not-suc-le-zero}
 use lib.ListN.{length, take, drop, replicate, length-append, length-drop, length-replicate, replicate-append-replicate}
-use lib.Seq.{length-take-le, take-append_seam, drop-append_seam, drop-append-add, drop-drop, drop-nil}
-use borrow.Rule.Slice.PartMut.{put_mid, Post-is}
+use lib.Seq.{length-take-le, take-append_seam, drop-append-add, drop-drop, drop-nil}
+use borrow.Rule.Slice.PartMut.{put_mid}
 use Rattle.desk_pool.specs.Pools.{patch}
 use Rattle.watch_buffer.specs.Buffer.{padded}
 

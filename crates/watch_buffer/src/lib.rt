@@ -1,4 +1,6 @@
 // The lent buffer: octets put behind those that it holds, and a part of it cleared.
+#![tactic(auto)]
+
 ghost use Rattle.std.specs.Prelude.{◌≡◌, ◌+◌, ◌-◌, ◌≤◌, length, replicate};
 ghost use Rattle.desk_pool.specs.Pools.{patch};
 

@@ -1,4 +1,5 @@
 // The lines that end with a chunk, each judged once: the open one, and those that lie in the chunk; their ALTID values are kept.
+#![tactic(auto)]
 ghost use Rattle.std.specs.Prelude.{◌≡◌, false, List, ◌++◌, ℕ, ◌+◌, ◌-◌, ◌≤◌, length, take, drop};
 ghost use Rattle.numbers.specs.Limits as limit;
 ghost use Rattle.octets.specs.Pick.{pick};
@@ -18,7 +19,7 @@ use property_table::Edition;
 use property_table::rows::PropertyTable;
 
 // What the ended lines of a chunk make of the card, and where the line after them starts in the chunk.
-#[derive(Drop)]
+#[derive(Clone, Copy)]
 pub struct Walked {
     pub step: Step,
     pub at: usize,

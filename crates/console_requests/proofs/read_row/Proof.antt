@@ -2,7 +2,7 @@
 use mathlib.Core.Path.{sym, ap, ◌∙◌}
 use Rattle.console_requests.specs.Names.{row_at}
 use Rattle.console_requests.specs.Requests.{requested}
-use Rattle.console_requests.proofs.RequestLaws.{first_bad_lem, second_bad, third_bad, all_read}
+use Rattle.console_requests.proofs.RequestLaws.{first_bad, second_bad, third_bad, all_read}
 use borrow.Author.Rules.{rules}
 use Rattle.console_requests.proofs.read_row.Statement.{statement}
 use Rattle.console_requests.proofs.read_row.Tie as tie
@@ -27,7 +27,7 @@ returns c =
     let a = c.before.before.before.before.before.before.before.before.args in
     let r = c.before.before.before.before.after_name in
     let x = c.before.before.before.number in
-    rw c.none.ensures (sym (first_bad_lem (row_at a.row) a.line.now a.out.now r.result.numbers r.ensures.0.0 x.result x.ensures c.before.enum_told.given.1))
+    rw c.none.ensures (sym (first_bad (row_at a.row) a.line.now a.out.now r.result.numbers r.ensures.0.0 x.result x.ensures c.before.enum_told.given.1))
 
 number_requires_2 : tie.Need-number-requires-2
 number_requires_2 c κs = search rules

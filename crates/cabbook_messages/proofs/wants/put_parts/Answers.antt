@@ -1,0 +1,11 @@
+-- `cabbook_messages::wants::put_parts` meets its contract. Assumes nothing.
+use Rattle.octets.specs.Ascii.{octets}
+use Rattle.program_output.specs.Pages.{page}
+use Rattle.program_output.proofs.PageLaws.{nothing, piece}
+use Rattle.cabbook_messages.proofs.wants.put_parts.Goals as goal
+
+pub returns : goal.returns
+unfolding octets
+returns c =
+    let a = c.args in
+    (piece _ (piece _ (nothing (page a.at a.room.now)) c.put_all-words_end.ensures) c.put_amount.ensures).sum

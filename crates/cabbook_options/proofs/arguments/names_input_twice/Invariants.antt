@@ -1,0 +1,9 @@
+-- `cabbook_options::arguments::names_input_twice` is safe and ends. Assumes nothing.
+use Prim.Native.Nat.{◌-◌}
+use Rattle.cabbook_options.proofs.arguments.names_input_twice.Given as goal
+
+abbrev pub invariant-loop-i : goal.invariant-loop-i
+invariant-loop-i l = Unit {0}
+
+abbrev pub decreases-loop-i : goal.decreases-loop-i
+decreases-loop-i l = l.count - l.i

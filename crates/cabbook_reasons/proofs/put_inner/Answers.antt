@@ -1,0 +1,16 @@
+-- `cabbook_reasons::put_inner` meets its contract. Assumes nothing.
+use Rattle.octets.specs.Ascii.{octets}
+use Rattle.cabbook_reasons.specs.Reasons.{inner_words}
+use Rattle.cabbook_reasons.proofs.put_inner.Goals as goal
+
+pub returns-then-opens_with : goal.returns-then-opens_with
+unfolding inner_words octets
+returns-then-opens_with c = rw (← c.opens_with.ensures, c.if-opens_with.true) c.put_all.ensures
+
+pub returns-then-opens_with-2 : goal.returns-then-opens_with-2
+unfolding inner_words octets
+returns-then-opens_with-2 c = rw (← c.opens_with.ensures, c.if-opens_with.false, ← c.opens_with-2.ensures, c.if-opens_with-2.true) c.put_all-then-opens_with-2.ensures
+
+pub returns : goal.returns
+unfolding inner_words octets
+returns c = rw (← c.opens_with.ensures, c.if-opens_with.false, ← c.opens_with-2.ensures, c.if-opens_with-2.false) c.put_all-2.ensures

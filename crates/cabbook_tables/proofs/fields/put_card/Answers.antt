@@ -1,0 +1,11 @@
+-- `cabbook_tables::fields::put_card` meets its contract. Assumes nothing.
+use Rattle.octets.specs.Ascii.{octets}
+use Rattle.program_output.specs.Pages.{page}
+use Rattle.program_output.proofs.PageLaws.{nothing, piece}
+use Rattle.cabbook_tables.proofs.fields.put_card.Goals as goal
+
+pub returns : goal.returns
+unfolding octets
+returns c =
+    let a = c.args in
+    (piece _ (piece _ (nothing (page a.at a.room.now)) c.put_all-start.ensures) c.put_amount.ensures).sum

@@ -1,0 +1,18 @@
+-- `console_answers::put_written` meets its contract. Assumes nothing.
+use mathlib.Core.Path.{sym}
+use Rattle.console_answers.specs.Texts.{written_text}
+use Rattle.program_output.proofs.PageLaws.{then}
+use Rattle.console_answers.proofs.put_written.Goals as goal
+
+pub returns-in-Wrote : goal.returns-in-Wrote
+unfolding written_text
+returns-in-Wrote c =
+    let put-spaced-octets = c.put_spaced_octets in
+    let part = c.part in
+    let put_done = c.put_done-end in
+    let w = c.w-1 in
+    rw (w.given.1, sym part.ensures) (then _ _ _ put_done.ensures put-spaced-octets.ensures)
+
+pub returns-in-Refused : goal.returns-in-Refused
+unfolding written_text
+returns-in-Refused c = rw c.in-Refused.is c.put_refusal.ensures

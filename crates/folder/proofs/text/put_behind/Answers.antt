@@ -1,0 +1,14 @@
+-- `crate::text::put_behind` meets its contract. Assumes nothing.
+use native.Mathlib.Omega.{arith}
+use lib.ListN.{length-append}
+use Rattle.folder.proofs.FitLaws.{too_long, behind_run}
+use Rattle.folder.proofs.text.put_behind.Goals as goal
+
+pub returns-then-d-k : goal.returns-then-d-k
+returns-then-d-k c = too_long _ _ _ _ c.if-d-k.true (simp length-append (omega arith))
+
+pub returns : goal.returns
+returns c =
+    let a = c.args in
+    let r = c.copy_in in
+    behind_run a.run.now _ a.d.now _ r.ensures (omega arith) _ _ c.put_logical-n.ensures.0

@@ -1,0 +1,33 @@
+-- `label::decode` meets its contract. Assumes nothing.
+use mathlib.Core.Path.{◌∙◌}
+use Rattle.text.proofs.OutcomeLaws.{refused_outcome, left_outcome, same_outcome}
+use Rattle.label_carets.specs.declared.Rule.TheVariants.{Rfc6350, Rfc6868}
+use Rattle.label.specs.Outcomes.{decode_outcome}
+use Rattle.label.proofs.OutcomeLaws.{decoding, old_decode}
+use Rattle.label.proofs.decode.Goals as goal
+
+pub returns-then-seen-lt2 : goal.returns-then-seen-lt2
+unfolding decode_outcome
+returns-then-seen-lt2 c =
+    let a = c.args in
+    same_outcome (decoding a.rule) a.label.now a.out.now c.screen_label-s.ensures c.in-Saw.is c.if-seen-lt2.true c.put.ensures
+
+pub returns-in-Refused : goal.returns-in-Refused
+unfolding decode_outcome
+returns-in-Refused c =
+    let a = c.args in
+    refused_outcome (decoding a.rule) a.label.now a.out.now c.screen_label-s.ensures c.in-Refused.is
+
+pub returns-in-Rfc6350 : goal.returns-in-Rfc6350
+unfolding decode_outcome
+returns-in-Rfc6350 c =
+    let a = c.args in
+    rw c.in-Rfc6350.is
+    (left_outcome (decoding Rfc6350) a.label.now a.out.now c.screen_label-s.ensures c.in-Saw.is ((c.put-in-Rfc6350.ensures ∙ old_decode a.label.now a.out.now)))
+
+pub returns-in-Rfc6868 : goal.returns-in-Rfc6868
+unfolding decode_outcome
+returns-in-Rfc6868 c =
+    let a = c.args in
+    rw c.in-Rfc6868.is
+    (left_outcome (decoding Rfc6868) a.label.now a.out.now c.screen_label-s.ensures c.in-Saw.is c.decode_each.ensures)

@@ -1,0 +1,35 @@
+-- `label_carets::letters` meets its contract. Assumes nothing.
+use mathlib.Core.Path.{◌≡◌, refl, sym, ◌∙◌}
+use mathlib.Core.List.{List}
+use Prim.Native.Nat.{ℕ, ◌<◌, ◌≤◌}
+use native.Mathlib.Omega.{arith}
+use lib.Dec.{ltb}
+use lib.ListN.{set, replicate, get_or, get_or-eq_default}
+use borrow.Author.Tests.{ltb-true, ltb-false, ne_eqb}
+use Rattle.octets.specs.Pick.{pick}
+use Rattle.octets.proofs.Bools.{by}
+use Rattle.octets.proofs.Upto.{upto, along, entries}
+use Rattle.label_marks.specs.Seen.{mark}
+use Rattle.label_carets.specs.Encoded.{marked, letter, Letters}
+use Rattle.label_carets.proofs.letters.Goals as goal
+
+table : List ℕ
+table = set (set (set (replicate 256 0) 10 110) 34 39) 94 94
+
+right : ℕ → ℕ
+right k = pick (marked k) (letter k) 0
+
+-- past its end the table has 0, and no octet there is marked
+beyond : (k : ℕ) → 256 ≤ k → get_or table k 0 ≡ right k
+unfolding table right mark
+beyond k h =
+    get_or-eq_default table 0 h
+    ∙ sym (simp (ne_eqb k 94 (λ (e : k ≡ 94). omega arith), ne_eqb k 10 (λ (e : k ≡ 10). omega arith), ne_eqb k 34 (λ (e : k ≡ 34). omega arith)))
+
+within : (k : ℕ) → k < 256 → get_or table k 0 ≡ right k
+unfolding table right mark letter along upto
+within k h = entries (λ (x : ℕ). x) right table 256 refl k h
+
+pub returns : goal.returns
+unfolding Letters table right
+returns c = by (ltb k 256) (λ e. within k (ltb-true k 256 e)) (λ e. beyond k (ltb-false k 256 e))

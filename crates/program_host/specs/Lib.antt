@@ -1,0 +1,2 @@
+-- The definitions that the contracts of `program_host` cite. Assumes nothing.
+pub mod Numbers

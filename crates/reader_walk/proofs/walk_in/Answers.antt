@@ -1,0 +1,110 @@
+-- `reader_walk::walk_in` meets its contract. Assumes nothing.
+use mathlib.Core.Path.{◌≡◌, refl, sym, ap, subst, ◌∙◌}
+use mathlib.Core.List.{List}
+use Prim.Native.Nat.{ℕ, ◌+◌, ◌-◌}
+use native.Mathlib.Omega.{arith}
+use lib.ListN.{length, take, drop}
+use Rattle.property_table.specs.declared.Edition.{Edition}
+use Rattle.line_folds.specs.Logical.{raw_lines}
+use Rattle.line_folds.proofs.LineLaws.{lines_end}
+use Rattle.card_state.specs.State.{Step, fresh_card}
+use Rattle.card_state.specs.Kept.{card_of, step_of, Holds}
+use Rattle.card_state.proofs.KeptLaws.{none_lie, fresh_card_lem}
+use Rattle.card_judge.proofs.CardLaws.{one_more}
+use Rattle.reader_walk.specs.Walk.{onward, settled, judge_lines}
+use Rattle.line_folds.proofs.SpanLaws.{whole, part_length}
+use Rattle.reader_walk.proofs.WalkLaws.{judged, stopped_step}
+use Rattle.reader_walk.proofs.walk_in.Goals as goal
+
+-- the line at hand, as it came
+abbrev line : tie.After-judge-span invariant-loop decreases-loop → List ℕ
+line c =
+    let at = c.before.before.before.before.before.before.loop.at in
+    take (c.before.before.before.before.line_at.result.end - at) (drop at c.before.before.before.before.before.before.before.before.before.before.before.args.s.now)
+
+abbrev edition : tie.After-judge-span invariant-loop decreases-loop → Edition
+edition c = c.before.before.before.before.before.before.before.before.before.before.before.args.edition
+
+-- one turn, judged
+turn : (c : tie.After-judge-span invariant-loop decreases-loop)
+    → judge_lines (edition c) (raw_lines c.before.before.before.before.before.before.before.before.before.before.before.args.s.now) 0 fresh_card
+    ≡ onward (settled c.before.before.before.before.before.before.loop.at (line c) (step_of c.judge-span.new.1.1.1.1.1.1.0 c.judge-span.result)) (judge_lines (edition c) (raw_lines (drop (c.before.before.before.before.line_at.result.end + 2) c.before.before.before.before.before.before.before.before.before.before.before.args.s.now)) (c.before.before.before.before.line_at.result.end + 2))
+turn c =
+    let l = c.before.before.before.before.before.before.loop in
+    let v = c.before.before.before.before.line_at in
+    let s = c.before.before.before.before.before.before.before.before.before.before.before.args.s.now in
+    l.invariant.5 ∙ judged (edition c) s l.at v.result.end c.before.before.before.before.before.loop-test.true v.ensures.1 v.ensures.2 (card_of l.c l.scratch) (step_of c.judge-span.new.1.1.1.1.1.1.0 c.judge-span.result) c.judge-span.ensures.0
+
+pub loop-at-init : goal.loop-at-init
+loop-at-init c =
+    let f = c.fresh-c in
+    rw f.ensures (
+      refl,
+      omega arith,
+      omega arith,
+      none_lie,
+      omega arith,
+      ap (judge_lines c.args.edition (raw_lines c.args.s.now) 0) (sym (fresh_card_lem _)),
+    )
+
+pub judge_span-j-requires : goal.judge_span-j-requires
+judge_span-j-requires c =
+    let a = c.args in
+    let l = c.loop-at in
+    let v = c.line_at-span in
+    let z = c.requires in
+    let part = take (v.result.end - l.at) (drop l.at a.s.now) in
+    let n = part_length a.s.now l.at v.result.end c.loop-at-test.true v.ensures.1 v.ensures.2 in (
+      c.requires.tables,
+      (
+        (l.invariant.1, omega (arith, l.invariant.2, c.requires.s_len_bound)),
+        (
+          record { lies = l.invariant.3; room = omega (arith, n, l.invariant.0, l.invariant.4, v.ensures.2, c.requires.s_in_bounds.0); short = omega (arith, l.invariant.0, c.requires.s_in_bounds.1) },
+          whole a.s.now l.at v.result.cr v.result.end v.ensures.0,
+        ),
+      ),
+    )
+
+pub settle-requires : goal.settle-requires
+settle-requires c =
+    let l = c.loop-at in
+    let v = c.line_at-span in
+    let n = part_length c.args.s.now l.at v.result.end c.loop-at-test.true v.ensures.1 v.ensures.2 in
+    omega (arith, n, c.loop-at-test.true, v.ensures.1, v.ensures.2, c.requires.s_len_bound)
+
+pub returns-in_default : goal.returns-in_default
+returns-in_default c =
+    let j = c.judge_span-j in
+    let store = j.new.1.1.1.1.1.1.0 in
+    (store, c.settle.ensures store ∙ sym (turn c ∙ stopped_step store _ (line c) _ j.result c.in_default.keys2))
+
+pub overflow_add-at : goal.overflow_add-at
+overflow_add-at c =
+    let v = c.line_at-span in
+    omega (arith, v.ensures.2, c.requires.s_len_bound)
+
+pub loop-at-preserved : goal.loop-at-preserved
+unfolding step_of card_of Holds
+loop-at-preserved c =
+    let e = c.in-Next.is in
+    let next = c.in-Next.next in
+    let l = c.loop-at in
+    let v = c.line_at-span in
+    let a = c.args in
+    let j = c.judge_span-j in
+    let n = part_length a.s.now l.at v.result.end c.loop-at-test.true v.ensures.1 v.ensures.2 in
+    let holds = subst (Holds (l.c.used + length (take (v.result.end - l.at) (drop l.at a.s.now)))) e j.ensures.1.0 in
+    let more = one_more a.edition (card_of l.c l.scratch) (card_of next j.new.1.1.1.1.1.1.0) l.at _ (sym j.ensures.0 ∙ ap (step_of j.new.1.1.1.1.1.1.0) e) in (
+      omega (arith, j, l.invariant.0),
+      omega (arith, l.invariant.1, more.0, more.1, more.2),
+      omega (arith, v.ensures.1, l.invariant.2, more.0),
+      holds.0,
+      omega (arith, holds.1, n, l.invariant.4, v.ensures.1),
+      turn c ∙ ap (λ (r : Step). onward (settled l.at (line c) r) (judge_lines a.edition (raw_lines (drop (v.result.end + 2) a.s.now)) (v.result.end + 2))) (ap (step_of j.new.1.1.1.1.1.1.0) e),
+    )
+
+pub returns : goal.returns
+unfolding judge_lines step_of
+returns c =
+    let l = c.loop-at in
+    (l.scratch, sym (l.invariant.5 ∙ ap (λ (ls : List (List ℕ)). judge_lines c.args.edition ls l.at (card_of l.c l.scratch)) (lines_end c.args.s.now l.at c.loop-at-test.false)))

@@ -1,0 +1,37 @@
+-- src/lib.rt:40:9
+use mathlib.Core.Path.{sym, ap, ◌∙◌}
+use mathlib.Core.Bool.{true, false}
+use Prim.Native.Nat.{◌-◌}
+use borrow.Author.Tests.{not-true, not-false}
+use Rattle.version3_judge.specs.declared.Step.{Step}
+use Rattle.version3.specs.Outcome.{concluded}
+use Rattle.version3.proofs.OutcomeLaws.{convert_long, convert_empty, convert_lone, convert_unended, convert_on}
+use Rattle.version3.proofs.convert.Reads as reads
+use Rattle.version3.proofs.convert.Lts as lts
+use Rattle.line_breaks.proofs.ends_cr_lf.Reads as ends-cr-lf-reads
+use Rattle.line_breaks.proofs.first_lone.Reads as first-lone-reads
+use Rattle.octets.proofs.classes.table.Reads as classes-table-reads
+use Rattle.property_table.proofs.table.Reads as table-reads
+use Rattle.value_automaton.proofs.scanner.table.Reads as scanner-table-reads
+use Rattle.version3.proofs.conclude.Reads as conclude-reads
+use Rattle.version3_judge.proofs.walk.Reads as walk-reads
+use Rattle.version3.proofs.convert.Goals as goal
+
+pub returns-then-input-gt-OCTETS : goal.returns-then-input-gt-OCTETS
+returns-then-input-gt-OCTETS c = convert_long c.args.way c.args.input.now c.args.out.now c.if-input-gt-OCTETS.true
+
+-- src/lib.rt:43:9
+pub returns-then-input-eq0 : goal.returns-then-input-eq0
+returns-then-input-eq0 c = convert_empty c.args.way c.args.input.now c.args.out.now c.if-input-gt-OCTETS.false c.if-input-eq0.true
+
+-- src/lib.rt:47:9
+pub returns-then-lone-input : goal.returns-then-lone-input
+returns-then-lone-input c = convert_lone c.args.way c.args.input.now c.args.out.now c.if-input-gt-OCTETS.false c.if-input-eq0.false c.first_lone-lone.result c.first_lone-lone.ensures c.if-lone-input.true
+
+-- src/lib.rt:51:9
+pub returns-then-not-ended : goal.returns-then-not-ended
+returns-then-not-ended c = convert_unended c.args.way c.args.input.now c.args.out.now c.if-input-gt-OCTETS.false c.if-input-eq0.false c.first_lone-lone.result c.first_lone-lone.ensures c.if-lone-input.false (sym c.ends_cr_lf-ended.ensures ∙ not-true _ c.if-not-ended.true-raw)
+
+-- src/lib.rt:36:1
+pub returns : goal.returns
+returns c = c.conclude.ensures ∙ ap (λ (r : Step). concluded c.args.way r c.args.input.now c.args.out.now) c.walk-last.ensures ∙ convert_on c.args.way c.args.input.now c.args.out.now c.if-input-gt-OCTETS.false c.if-input-eq0.false c.first_lone-lone.result c.first_lone-lone.ensures c.if-lone-input.false (sym c.ends_cr_lf-ended.ensures ∙ not-false _ c.if-not-ended.false-raw)

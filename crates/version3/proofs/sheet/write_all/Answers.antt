@@ -1,0 +1,19 @@
+-- `version3::sheet::write_all` meets its contract. Assumes nothing.
+use mathlib.Core.Path.{ap, ◌∙◌}
+use mathlib.Core.List.{List}
+use Prim.Native.Nat.{ℕ}
+use lib.ListN.{length-replicate}
+use Rattle.octets.specs.Room.{refuse}
+use Rattle.version3.specs.Card.{card_text}
+use Rattle.version3.proofs.OutcomeLaws.{bound_over}
+use Rattle.version3.proofs.PlaceLaws.{narrowed, narrow_over}
+use Rattle.version3.proofs.sheet.write_all.Goals as goal
+
+pub returns-in-Done : goal.returns-in-Done
+returns-in-Done c = rw c.in-Done.is at c.write_in.ensures
+
+pub returns-in-Cramped : goal.returns-in-Cramped
+returns-in-Cramped c =
+    let a = c.args in
+    let r = rw c.in-Cramped.is at c.write_in.ensures in
+    ap (λ (o : List ℕ). refuse 16 16384 o) r.0 ∙ bound_over (card_text a.way a.s.now) a.out.now (narrow_over a.way a.s.now (narrowed r.1 (simp length-replicate) (simp length-replicate) (simp length-replicate)))

@@ -1,0 +1,35 @@
+-- src/lib.rt:245:13
+use mathlib.Core.Path.{sym, ◌∙◌}
+use mathlib.Core.Bool.{true, false}
+use Prim.Native.Nat.{◌-◌}
+use borrow.Author.Tests.{not-true, not-false}
+use Rattle.octets.specs.Ascii.{octets}
+use Rattle.version3_judge.proofs.JudgeLaws.{frames_again, frames_version, frames_other, frames_begin, frames_end}
+use Rattle.version3_judge.proofs.does_frame.Reads as reads
+use Rattle.version3_judge.proofs.does_frame.Lts as lts
+use Rattle.octets.proofs.cases.same_name.Reads as same-name-reads
+use Rattle.version3_judge.proofs.is_version.Reads as is-version-reads
+use Rattle.version3_judge.proofs.is_whole.Reads as is-whole-reads
+use Rattle.version3_judge.proofs.does_frame.Goals as goal
+
+pub returns-then-c : goal.returns-then-c
+returns-then-c c = frames_again c.args.way c.args.c c.args.row c.args.value.now c.if-row-eq-VERSION.true c.if-c.true
+
+-- src/lib.rt:247:9
+pub returns-then-row-eq-VERSION : goal.returns-then-row-eq-VERSION
+returns-then-row-eq-VERSION c = c.is_version.ensures ∙ sym (frames_version c.args.way c.args.c c.args.row c.args.value.now c.if-row-eq-VERSION.true c.if-c.false)
+
+-- src/lib.rt:250:9
+pub returns-then-not-same_name : goal.returns-then-not-same_name
+unfolding octets
+returns-then-not-same_name c = frames_other c.args.way c.args.c c.args.row c.args.value.now c.if-row-eq-VERSION.false (sym c.same_name.ensures ∙ not-true _ c.if-not-same_name.true-raw)
+
+-- src/lib.rt:253:9
+pub returns-then-row-eq-BEGIN : goal.returns-then-row-eq-BEGIN
+unfolding octets
+returns-then-row-eq-BEGIN c = frames_begin c.args.way c.args.c c.args.row c.args.value.now c.if-row-eq-VERSION.false (sym c.same_name.ensures ∙ not-false _ c.if-not-same_name.false-raw) c.if-row-eq-BEGIN.true
+
+-- src/lib.rt:240:1
+pub returns : goal.returns
+unfolding octets
+returns c = c.is_whole.ensures ∙ frames_end c.args.way c.args.c c.args.row c.args.value.now c.if-row-eq-VERSION.false (sym c.same_name.ensures ∙ not-false _ c.if-not-same_name.false-raw) c.if-row-eq-BEGIN.false

@@ -1,0 +1,73 @@
+-- `version3_judge::walk_in` meets its contract. Assumes nothing.
+use mathlib.Core.Path.{◌≡◌, refl, sym, ap, ◌∙◌}
+use mathlib.Core.List.{List}
+use Prim.Native.Nat.{ℕ, ◌+◌, ◌-◌}
+use native.Mathlib.Omega.{arith}
+use lib.ListN.{take, drop}
+use Rattle.line_folds.specs.Logical.{raw_lines}
+use Rattle.line_folds.proofs.LineLaws.{lines_end}
+use Rattle.line_folds.proofs.SpanLaws.{whole, part_length}
+use Rattle.version3_judge.specs.declared.Step.{Step}
+use Rattle.version3_judge.specs.Judge.{fresh_set, onward, settled, judge_lines}
+use Rattle.version3_judge.proofs.WalkLaws.{judged, stopped_step}
+use Rattle.version3_judge.proofs.walk_in.Goals as goal
+
+-- the line at hand, as it came
+abbrev line : tie.After-judge-span invariant-loop decreases-loop → List ℕ
+line c =
+    let at = c.before.before.before.before.before.before.loop.at in
+    take (c.before.before.before.before.line_at.result.end - at) (drop at c.before.before.before.before.before.before.before.before.before.before.args.s.now)
+
+-- one turn, judged
+turn : (c : tie.After-judge-span invariant-loop decreases-loop)
+    → judge_lines c.before.before.before.before.before.before.before.before.before.before.args.way (raw_lines c.before.before.before.before.before.before.before.before.before.before.args.s.now) 0 fresh_set
+    ≡ onward (settled c.before.before.before.before.before.before.loop.at (line c) c.judge-span.result) (judge_lines c.before.before.before.before.before.before.before.before.before.before.args.way (raw_lines (drop (c.before.before.before.before.line_at.result.end + 2) c.before.before.before.before.before.before.before.before.before.before.args.s.now)) (c.before.before.before.before.line_at.result.end + 2))
+turn c =
+    let l = c.before.before.before.before.before.before.loop in
+    let v = c.before.before.before.before.line_at in
+    let a = c.before.before.before.before.before.before.before.before.before.before.args in
+    l.invariant.1 ∙ judged a.way a.s.now l.at v.result.end c.before.before.before.before.before.loop-test.true v.ensures.1 v.ensures.2 l.c c.judge-span.result c.judge-span.ensures
+
+pub loop-at-init : goal.loop-at-init
+loop-at-init c = (refl, ap (judge_lines c.args.way (raw_lines c.args.s.now) 0) (sym c.fresh-c.ensures))
+
+pub judge_span-j-requires : goal.judge_span-j-requires
+judge_span-j-requires c =
+    let a = c.args in
+    let l = c.loop-at in
+    let v = c.line_at-span in
+    let n = part_length a.s.now l.at v.result.end c.loop-at-test.true v.ensures.1 v.ensures.2 in
+    record { tables = c.requires.tables; s_in_bounds = (omega (arith, n, l.invariant.0, v.ensures.2, c.requires.s_in_bounds.0), omega (arith, l.invariant.0, c.requires.s_in_bounds.1)); s_value = whole a.s.now l.at v.result.cr v.result.end v.ensures.0 }
+
+pub settle-requires : goal.settle-requires
+settle-requires c =
+    let a = c.args in
+    let l = c.loop-at in
+    let v = c.line_at-span in
+    let n = part_length a.s.now l.at v.result.end c.loop-at-test.true v.ensures.1 v.ensures.2 in
+    omega (arith, n, c.loop-at-test.true, v.ensures.1, v.ensures.2, c.requires.s_in_bounds)
+
+pub shape_of-scratch-in_default : goal.shape_of-scratch-in_default
+shape_of-scratch-in_default c = omega (arith, c.judge_span-j, c.loop-at.invariant.0)
+
+pub returns-in_default : goal.returns-in_default
+returns-in_default c = c.settle.ensures ∙ sym (turn c ∙ stopped_step _ (line c) _ c.judge_span-j.result c.in_default.keys2)
+
+pub overflow_add-at : goal.overflow_add-at
+overflow_add-at c = omega (arith, c.line_at-span.ensures.2, c.requires.s_in_bounds)
+
+pub loop-at-preserved : goal.loop-at-preserved
+loop-at-preserved c =
+    let v = c.line_at-span in
+    let a = c.args in
+    let l = c.loop-at in
+    (omega (arith, c.judge_span-j, l.invariant.0), turn c ∙ ap (λ (r : Step). onward (settled l.at (line c) r) (judge_lines a.way (raw_lines (drop (v.result.end + 2) a.s.now)) (v.result.end + 2))) c.in-Next.is)
+
+pub shape_of-scratch : goal.shape_of-scratch
+shape_of-scratch c = c.loop-at.invariant.0
+
+pub returns : goal.returns
+unfolding judge_lines
+returns c =
+    let l = c.loop-at in
+    sym (l.invariant.1 ∙ ap (λ (ls : List (List ℕ)). judge_lines c.args.way ls l.at l.c) (lines_end c.args.s.now l.at c.loop-at-test.false))

@@ -1,0 +1,18 @@
+-- src/lib.rt:92:38
+use mathlib.Core.Path.{refl}
+use Prim.Native.Nat.{◌-◌}
+use Rattle.octets.specs.Ascii.{octets}
+use Rattle.version3_line.proofs.put_version.Reads as reads
+use Rattle.version3_line.proofs.put_version.Lts as lts
+use Rattle.octets.proofs.copying.copy_in.Reads as copy-in-reads
+use Rattle.version3_line.proofs.put_version.Goals as goal
+
+-- src/lib.rt:86:1
+pub returns-in-Inward : goal.returns-in-Inward
+unfolding octets
+returns-in-Inward c = rw c.in-Inward.is (refl, c.copy_in.ensures)
+
+-- src/lib.rt:86:1
+pub returns-in-Outward : goal.returns-in-Outward
+unfolding octets
+returns-in-Outward c = rw c.in-Outward.is (refl, c.copy_in-in-Outward.ensures)

@@ -1,0 +1,14 @@
+-- The proof's answers.
+use mathlib.Core.Path.{◌≡◌}
+use mathlib.Core.List.{◌++◌}
+use Prim.Native.Nat.{◌≤◌, ◌+◌, ◌-◌}
+use lib.ListN.{length, take, drop, replicate}
+use Rattle.version3_text.proofs.put_semicolons.Reads as reads
+use Rattle.version3_text.proofs.put_semicolons.Lts as lts
+use Rattle.version3_text.proofs.put_semicolons.Given as goal
+
+abbrev pub invariant-loop-i : goal.invariant-loop-i
+invariant-loop-i l = (l.i ≤ l.n) × (length l.out ≡ length l.initial.out) × (l.out ≡ take l.i (replicate l.n 59) ++ drop l.i l.initial.out)
+
+abbrev pub decreases-loop-i : goal.decreases-loop-i
+decreases-loop-i l = l.n - l.i
