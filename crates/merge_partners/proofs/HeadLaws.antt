@@ -36,7 +36,7 @@ same_digest h [] (y ∷ ys) e = absurd (false≢true e)
 same_digest h (x ∷ xs) [] e = absurd (false≢true e)
 same_digest h (x ∷ xs) (y ∷ ys) e =
     let z = and_both (eqb (lower x) (lower y)) (same xs ys) e in
-    rw (eqb-true (lower x) (lower y) z.0) (same_digest _ xs ys z.1)
+    rw (eqb-true (lower x) (lower y) z.0) (same_digest (with_octet h y) xs ys z.1)
 
 same_swap : (xs ys zs : List ℕ) → same ys zs ≡ true → same xs ys ≡ same xs zs
 unfolding same
