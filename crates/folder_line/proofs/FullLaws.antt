@@ -10,9 +10,8 @@ use lib.ListN.{length, get_or, take, drop, length-append, length-drop, take-appe
 use lib.Seq.{drop-cons, take_all, take-append_seam, drop-append_seam, get_or-append-add, drop-drop, length-take-le}
 use borrow.Author.Tests.{eqb-false}
 use Rattle.octets.specs.Classes.{run, more}
-use Rattle.octets.specs.Scan.{gather}
 use Rattle.utf8.specs.Characters.{tail}
-use Rattle.line_folds.specs.Folds.{fold_at, passed, kept, unfolded, not_cr}
+use Rattle.line_folds.specs.Folds.{fold_at, unfolded, not_cr}
 use Rattle.line_folds.proofs.FoldLaws.{not_cr_lem, fold_next, octet_next}
 use Rattle.line_folds.proofs.QuickLaws.{no_fold}
 use Rattle.folder_line.specs.Pieces.{first, Clean}

@@ -1,17 +1,15 @@
 -- A raised line has the characters that the line has, and as many pieces. Assumes nothing.
-use mathlib.Core.Path.{◌≡◌, refl, sym, ap, ◌∙◌}
+use mathlib.Core.Path.{◌≡◌, refl, ap, ◌∙◌}
 use mathlib.Core.Bool.{Bool, true, false, ◌&&◌, ◌||◌}
 use mathlib.Core.List.{List, [], ◌∷◌}
-use mathlib.Core.Logic.{◌⊎◌, inl, inr}
-use Prim.Native.Nat.{ℕ, zero, suc, pred, ◌-◌, ◌≤◌}
+use Prim.Native.Nat.{ℕ, suc, pred, ◌-◌, ◌≤◌}
 use native.Mathlib.Omega.{arith}
 use lib.Dec.{leb, eqb}
 use lib.ListN.{length}
 use borrow.Author.Tests.{leb-true, le-leb}
-use Rattle.octets.specs.Pick.{pick}
 use Rattle.octets.specs.Classes.{within, valued}
 use Rattle.octets.proofs.Bools.{and_both}
-use Rattle.utf8.specs.Characters.{allowed, tail}
+use Rattle.utf8.specs.Characters.{allowed}
 use Rattle.utf8.proofs.Chains.{Chars, end, start, inner}
 use Rattle.folder_line.specs.Pieces.{over, later, pieces, Clean}
 use Rattle.folder_line.proofs.PieceLaws.{later_over, later_goes}

@@ -8,7 +8,7 @@ use lib.ListN.{length, get_or, take, drop, set, take-append-drop}
 use lib.Seq.{take-suc, drop-cons, append_snoc, take-set-le, drop-set-lt, get_or-set_same, take-length, drop-length}
 use Rattle.folder_raising.specs.Walk.{after, turned, raised_from, raised}
 use Rattle.folder_raising.specs.declared.Spot.{Spot}
-use Rattle.folder_raising.specs.declared.Spot.TheVariants.{Name, Values, Quotes, Past}
+use Rattle.folder_raising.specs.declared.Spot.TheVariants.{Name, Past}
 
 -- behind the colon nothing changes
 pub past : (l : List ℕ) → raised_from Past l ≡ l

@@ -1,5 +1,6 @@
 // The two styles in which a line is written, and raising the names of a line to capitals in the room in which it was written.
 #![tactic(auto)]
+
 ghost use Rattle.std.specs.Prelude.{◌≡◌, true, ◌≤◌, length};
 ghost use Rattle.folder_raising.specs.Letters.{upper};
 ghost use Rattle.folder_raising.specs.Walk.{after, turned, raised, Kept};

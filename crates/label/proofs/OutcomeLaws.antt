@@ -1,13 +1,12 @@
 -- Encoding and decoding as changes of a text: which octets they allow, which are marks, and that a text without marks stays. Assumes nothing.
 use mathlib.Core.Path.{◌≡◌, refl, sym, ap, ◌∙◌}
-use mathlib.Core.Bool.{Bool, true, false, not, ◌||◌}
+use mathlib.Core.Bool.{true, false, ◌||◌}
 use mathlib.Core.List.{List, [], ◌∷◌}
-use Prim.Native.Nat.{ℕ, suc, ◌<◌, ◌≤◌}
+use Prim.Native.Nat.{ℕ, ◌<◌, ◌≤◌}
 use native.Mathlib.Omega.{arith}
-use lib.Dec.{eqb, ltb}
+use lib.Dec.{eqb}
 use lib.ListN.{length}
 use borrow.Author.Tests.{lt-ltb, le-ltb}
-use Rattle.octets.specs.Pick.{pick}
 use Rattle.octets.specs.Classes.{quoted, run}
 use Rattle.octets.specs.Counts.{any}
 use Rattle.octets.specs.Room.{Filled, refuse, fill, fill_bounded}

@@ -1,5 +1,6 @@
 // Labels, which are parameter values between quote marks: encoding and decoding by RFC 6350 or RFC 6868.
 #![tactic(auto)]
+
 ghost use Rattle.std.specs.Prelude.{◌≡◌, true, false, ◌≤◌, length};
 ghost use Rattle.numbers.specs.Limits as limit;
 ghost use Rattle.octets.specs.Ascii as ascii;

@@ -1,5 +1,6 @@
 // The pairs of RFC 6868: the letters that follow a caret, how many octets a label stands for, and writing those.
 #![tactic(auto)]
+
 ghost use Rattle.std.specs.Prelude.{◌≡◌, ◌<◌, ◌≤◌, length, drop};
 ghost use Rattle.octets.specs.Room.{overlay};
 ghost use Rattle.label_carets.specs.Encoded.{Letters};

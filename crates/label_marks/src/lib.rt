@@ -1,6 +1,7 @@
 // What is seen in a value or a label: whether an octet may be bad, and whether one is a mark; how many marks there are; and the first bad
 // octet of a label.
 #![tactic(auto)]
+
 pub mod units;
 
 ghost use Rattle.std.specs.Prelude.{◌≡◌, [], ◌∷◌, ◌≤◌, length};

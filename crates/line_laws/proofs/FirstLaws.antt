@@ -14,7 +14,6 @@ use Rattle.octets.specs.Classes.{named, letter, digit, hyphen, quoted, valued, b
 use Rattle.line_parser.specs.Parse.{hd, bad}
 use Rattle.line_parser.specs.Grammar.{Line, Value, plain, in_quotes, Param, Each, Is, Word, GoodValue, GoodParam, WellFormed, led, value_text, param_text, group_text, front, render}
 use Rattle.line_parser.specs.Rule.{ends, is_colon, or_end, parse_line}
-use Rattle.line_parser.proofs.ParseLaws.{bad_got}
 use Rattle.line_parameters.specs.Whole.{Whole}
 use Rattle.line_parameters.proofs.Law.{refused_law}
 use Rattle.line_laws.specs.Faults.{ValuesFault, ParamsFault, LineFault}

@@ -26,7 +26,7 @@ goes_on (c ∷ r) = true
 -- A beginning that ends in the values of a parameter, from after `=` on; whether an octet follows; and the number of the fault there: 42, but
 -- 43 where the line ends and no quote is open.
 pub data InValues : List ℕ → Bool → ℕ → Type 0 where
-  in_quotes_lem : (xs : List ℕ) {f : Bool} → Each (Is quoted) xs → InValues (ascii.quote ∷ xs) f refusal.quote
+  in_quotes : (xs : List ℕ) {f : Bool} → Each (Is quoted) xs → InValues (ascii.quote ∷ xs) f refusal.quote
   after_value : (v : Value) {f : Bool} → GoodValue v → InValues (value_text v) f (pick f refusal.quote refusal.no_colon)
   later : (v : Value) {b : List ℕ} {f : Bool} {e : ℕ} → GoodValue v → InValues b f e → InValues (value_text v ++ ascii.comma ∷ b) f e
 

@@ -29,14 +29,18 @@ module _ (s : List ℕ) (digest i : ℕ) where
   digest_end h = rw (drop_of_length-le s h)
 
 -- names that are equal without case have one digest, and a third is equal to both or to none
+one_octet : (h x y : ℕ) → lower x ≡ lower y → with_octet h x ≡ with_octet h y
+unfolding with_octet
+one_octet h x y e = rw e
+
 same_digest : (h : ℕ) (xs ys : List ℕ) → same xs ys ≡ true → digest_from h xs ≡ digest_from h ys
-unfolding same digest_from with_octet
+unfolding same digest_from
 same_digest h [] [] e = refl
 same_digest h [] (y ∷ ys) e = absurd (false≢true e)
 same_digest h (x ∷ xs) [] e = absurd (false≢true e)
 same_digest h (x ∷ xs) (y ∷ ys) e =
     let z = and_both (eqb (lower x) (lower y)) (same xs ys) e in
-    rw (eqb-true (lower x) (lower y) z.0) (same_digest (with_octet h y) xs ys z.1)
+    ap (λ (k : ℕ). digest_from k xs) (one_octet h x y (eqb-true (lower x) (lower y) z.0)) ∙ same_digest (with_octet h y) xs ys z.1
 
 same_swap : (xs ys zs : List ℕ) → same ys zs ≡ true → same xs ys ≡ same xs zs
 unfolding same

@@ -9,7 +9,7 @@ use lib.ListN.{length, get_or}
 use borrow.Author.Tests.{eq-eqb, eqb-true, ltb-false}
 use Rattle.octets.proofs.Bools.{by}
 use Rattle.merge_sides.specs.Lines.{one, same_property}
-use Rattle.merge_partners.specs.Keys.{number_at, line}
+use Rattle.merge_partners.specs.Keys.{number_at}
 use Rattle.merge_partners.specs.Heads.{seat_of, seat_at, partner_of, is_new, count_new, Sifts}
 use Rattle.merge_partners.specs.Pairs.{Joined, joined, join_to, join_all, hit_pair, key_pair, hit_pairs}
 use Rattle.merge_partners.proofs.JoinLaws.{join_append}

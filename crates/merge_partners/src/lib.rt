@@ -1,5 +1,6 @@
 // The demanded pairs of two sides: classes of URIs, keys of marks, and the partner of each line.
 #![tactic(auto)]
+
 ghost use Rattle.std.specs.Prelude.{◌≡◌, true, not, ◌+◌, ◌<◌, ◌≤◌, eqb, length, set, replicate};
 ghost use Rattle.numbers.specs.Limits as limit;
 ghost use Rattle.numbers.specs.Properties as property;

@@ -1,14 +1,12 @@
 -- Where the name stands that a reading of a line's head found. Assumes nothing.
-use mathlib.Core.Path.{◌≡◌, refl, sym, ap, subst, ◌∙◌}
-use mathlib.Core.List.{List, [], ◌∷◌}
+use mathlib.Core.Path.{◌≡◌, refl, sym, ap, ◌∙◌}
+use mathlib.Core.List.{List}
 use Prim.Native.Nat.{ℕ, suc, ◌+◌, ◌-◌, ◌<◌, ◌≤◌}
 use native.Mathlib.Nat.{sub-zero}
 use native.Mathlib.Omega.{arith}
 use lib.ListN.{length, take, drop, length-drop}
 use lib.Seq.{drop-drop}
 use borrow.Author.Tests.{ne_eqb}
-use denote.Enum.Declared.{tag_of}
-use types.Run.{OneOf, miss}
 use Rattle.octets.specs.Classes.{named}
 use Rattle.octets.proofs.Bools.{clash}
 use Rattle.line_parser.specs.Parse.{Parse, got, bad}
@@ -16,7 +14,6 @@ use Rattle.line_parser.specs.Rule.{Head, head}
 use Rattle.line_parser.specs.Places.{headed, name_start}
 use Rattle.line_parser.specs.declared.rule.Part.{Part}
 use Rattle.line_parser.specs.declared.rule.Part.TheVariants.{Named}
-use Rattle.line_parser.specs.contracts.rule.Part.{the_type}
 use Rattle.line_parser.proofs.PartLaws.{Taken, run_le, head_parts}
 use Rattle.property_table.specs.declared.Edition.TheVariants.{First}
 use Rattle.property_table.specs.Rows.{row_of}
@@ -77,10 +74,10 @@ name_at l p g n e q = by (head l) refl (sym e ∙ q)
         rw (← eg, ← en) record { order = s.order; inside = s.inside; group = s.group; row = ap (row_of First) s.octets ∙ sym (ap row_by f) }
 
 -- where no name was found, the number is 0
-pub nameless : (l : List ℕ) (p : Part) → p ≡ headed (head l) → OneOf (0 ∷ 2 ∷ 3 ∷ 4 ∷ []) (tag_of the_type p) → 0 ≡ row_of_name l
+pub nameless : (l : List ℕ) (p : Part) → p ≡ headed (head l) → ((g n : ℕ) → p ≡ Named g n → ⊥) → 0 ≡ row_of_name l
 unfolding row_of_name
 nameless l p e k = by (head l) e
   where
     by : (m : Parse Head) → p ≡ headed m → 0 ≡ row_by m
     by (bad x) h = refl
-    by (got h n) q = absurd (miss (0 ∷ 2 ∷ 3 ∷ 4 ∷ []) 1 tt (subst (λ (t : Part). OneOf (0 ∷ 2 ∷ 3 ∷ 4 ∷ []) (tag_of the_type t)) q k))
+    by (got h n) q = absurd (k _ _ q)

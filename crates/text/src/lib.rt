@@ -1,5 +1,6 @@
 // Text: escaping, and unescaping, which gives back what was escaped.
 #![tactic(auto)]
+
 ghost use Rattle.std.specs.Prelude.{◌≡◌, false, ◌≤◌, length};
 ghost use Rattle.numbers.specs.Limits as limit;
 ghost use Rattle.utf8.specs.Characters.{allowed, first_bad};

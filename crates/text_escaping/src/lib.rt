@@ -1,5 +1,6 @@
 // Writing text with its escapes, or with any pairs of a lead octet and a letter.
 #![tactic(auto)]
+
 ghost use Rattle.std.specs.Prelude.{◌≡◌, ◌≤◌, length};
 ghost use Rattle.octets.specs.Room.{overlay};
 ghost use Rattle.text_escaping.specs.Escaped.{Letters};

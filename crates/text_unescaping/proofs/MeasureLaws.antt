@@ -10,7 +10,6 @@ use borrow.Author.Tests.{lt-ltb, le-ltb, ltb-true, ltb-false}
 use Rattle.octets.specs.Pick.{pick}
 use Rattle.octets.proofs.Bools.{clash}
 use Rattle.text_unescaping.specs.Unescaped.{first_fault, unescaped}
-use Rattle.text_unescaping.specs.declared.Measured.{Measured}
 use Rattle.text_unescaping.specs.declared.Measured.TheVariants.{Octets, Fault}
 use Rattle.text_unescaping.specs.Measured.{measured}
 use Rattle.text_unescaping.proofs.UnescapeLaws.{fault_le}

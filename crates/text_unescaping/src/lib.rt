@@ -1,5 +1,6 @@
 // Text with escapes: its first fault, how many octets it stands for, and writing those.
 #![tactic(auto)]
+
 ghost use Rattle.std.specs.Prelude.{◌≡◌, ◌+◌, ◌<◌, ◌≤◌, length, drop};
 ghost use Rattle.numbers.specs.Limits as limit;
 ghost use Rattle.octets.specs.Room.{overlay};

@@ -1,6 +1,6 @@
 -- Two floats with a mark between them, and the two forms of a GEO value. A float is `[sign] 1*DIGIT ["." 1*DIGIT]` (RFC 6350, 4.6).
 -- Assumes nothing.
-use Rattle.std.specs.Prelude.{ℕ, suc, Bool, true, false, not, ◌&&◌, ◌||◌, List, [], ◌∷◌, ◌++◌, eqb, ltb, length, get_or, take, drop, set}
+use Rattle.std.specs.Prelude.{ℕ, suc, Bool, true, not, ◌&&◌, ◌||◌, List, ◌++◌, eqb, ltb, length, get_or, take, drop, set}
 use Rattle.octets.specs.Ascii as ascii
 use Rattle.octets.specs.Ascii.{octets}
 use Rattle.octets.specs.Pick.{pick}

@@ -1,5 +1,6 @@
 // The two forms of a GEO value: `a;b` in version 3 and `geo:a,b` in version 4, a and b floats.
 #![tactic(auto)]
+
 ghost use Rattle.std.specs.Prelude.{◌≡◌, true, ◌+◌, ◌<◌, ◌≤◌, length, drop};
 ghost use Rattle.octets.specs.Room.{overlay};
 ghost use Rattle.octets.specs.Classes.{digit, run};

@@ -1,5 +1,6 @@
 // Text that is unescaped and escaped anew, octet by octet, and its bare semicolons.
 #![tactic(auto)]
+
 ghost use Rattle.std.specs.Prelude.{◌≡◌, ◌&&◌, ◌*◌, ◌<◌, ◌≤◌, eqb, length, drop, replicate};
 ghost use Rattle.octets.specs.Ascii as ascii;
 ghost use Rattle.octets.specs.Room.{overlay};

@@ -1,7 +1,5 @@
 -- `cabbook_positions::ends_in_escape` meets its contract. Assumes nothing.
 use mathlib.Core.Path.{refl, sym, ◌∙◌}
-use mathlib.Core.Bool.{false}
-use Prim.Native.Nat.{◌-◌}
 use Rattle.cabbook_positions.proofs.ComponentLaws.{open_step, open_end}
 use Rattle.cabbook_positions.proofs.ends_in_escape.Goals as goal
 

@@ -1,7 +1,5 @@
 -- `cabbook_positions::parts` meets its contract. Assumes nothing.
 use mathlib.Core.Path.{refl}
-use mathlib.Core.Bool.{false}
-use Prim.Native.Nat.{◌-◌}
 use native.Mathlib.Omega.{arith}
 use Rattle.cabbook_positions.proofs.ComponentLaws.{splits_step, splits_end}
 use Rattle.cabbook_positions.proofs.parts.Goals as goal

@@ -1,6 +1,5 @@
 -- `folder_raising::is_raised` meets its contract. Assumes nothing.
 use mathlib.Core.Path.{sym}
-use Prim.Native.Nat.{◌-◌}
 use native.Mathlib.Omega.{arith}
 use Rattle.utf8.proofs.Chains.{nope}
 use Rattle.folder_raising.specs.Walk.{raised}

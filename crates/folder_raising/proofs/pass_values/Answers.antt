@@ -1,6 +1,4 @@
 -- `folder_raising::pass_values` meets its contract. Assumes nothing.
-use mathlib.Core.Bool.{true, false}
-use Prim.Native.Nat.{◌-◌}
 use native.Mathlib.Omega.{arith}
 use Rattle.folder_raising.proofs.KeptLaws.{kept_end, kept_quote, kept_quoted, kept_value, kept_semicolon, kept_end_colon}
 use Rattle.folder_raising.proofs.pass_values.Goals as goal

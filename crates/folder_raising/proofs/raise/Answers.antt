@@ -1,5 +1,4 @@
 -- `folder_raising::raise` meets its contract. Assumes nothing.
-use Prim.Native.Nat.{◌-◌}
 use native.Mathlib.Omega.{arith}
 use lib.ListN.{length-set}
 use Rattle.folder_raising.proofs.Steps.{start, step, stop, done}

@@ -18,8 +18,8 @@ returns-then-label-out c =
     let a = c.args in
     let d = decoded Rfc6868 a.label.now in
     let w = c.write-kept in
-    fill_fits d a.out.now w.result w.ensures.1 (omega (arith, w.ensures.1, decoded_short Rfc6868 a.label.now)) w.new.1.0
-    (w.ensures.0 ∙ ap (λ (k : ℕ). d ++ drop k a.out.now) (sym w.ensures.1))
+    fill_fits d a.out.now w.result w.ensures.value (omega (arith, w.ensures.value, decoded_short Rfc6868 a.label.now)) w.new.out
+    (w.ensures.out_after ∙ ap (λ (k : ℕ). d ++ drop k a.out.now) (sym w.ensures.value))
 
 pub returns-then-out-n : goal.returns-then-out-n
 returns-then-out-n c =
@@ -33,4 +33,4 @@ returns c =
     let d = decoded Rfc6868 a.label.now in
     let m = c.measure-n in
     let w = c.write in
-    fill_fits d a.out.now m.result m.ensures (omega arith) w.new.1.0 (w.ensures.0 ∙ ap (λ (k : ℕ). d ++ drop k a.out.now) (sym m.ensures))
+    fill_fits d a.out.now m.result m.ensures (omega arith) w.new.out (w.ensures.out_after ∙ ap (λ (k : ℕ). d ++ drop k a.out.now) (sym m.ensures))

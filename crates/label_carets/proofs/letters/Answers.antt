@@ -32,4 +32,4 @@ within k h = entries (λ (x : ℕ). x) right table 256 refl k h
 
 pub returns : goal.returns
 unfolding Letters table right
-returns c = by (ltb k 256) (λ e. within k (ltb-true k 256 e)) (λ e. beyond k (ltb-false k 256 e))
+returns c = λ k. by (ltb k 256) (λ e. within k (ltb-true k 256 e)) (λ e. beyond k (ltb-false k 256 e))

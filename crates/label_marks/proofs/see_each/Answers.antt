@@ -1,6 +1,5 @@
 -- `label_marks::see_each` meets its contract. Assumes nothing.
 use mathlib.Core.Path.{sym}
-use Prim.Native.Nat.{◌-◌}
 use native.Mathlib.Omega.{arith}
 use lib.Seq.{take_all}
 use Rattle.label_marks.specs.Seen.{mark, amiss}

@@ -3,7 +3,7 @@ use borrow.Author.Tests.{lt-ltb, le-ltb}
 use mathlib.Core.Path.{◌≡◌, refl, sym, ap, ◌∙◌}
 use mathlib.Core.Bool.{true, false}
 use mathlib.Core.List.{List}
-use Prim.Native.Nat.{ℕ, ◌-◌}
+use Prim.Native.Nat.{ℕ}
 use native.Mathlib.Omega.{arith}
 use lib.ListN.{get_or}
 use Rattle.merge_sources.specs.Row.{none}
@@ -17,19 +17,19 @@ loop-i-init c = (omega arith, refl)
 
 pub returns-then-a-i : goal.returns-then-a-i
 unfolding class_of class_from
-returns-then-a-i c = record { value = sym (c.loop-i.invariant.1 ∙ rw (left 16 c.loop-i.i c.loop-i-test.true, le-ltb c.loop-i.i c.args.t2.count c.if-a-i.true)); upper_bound = omega arith }
+returns-then-a-i c = record { value = sym (c.loop-i.invariant.1 ∙ rw (left 16 c.loop-i.i c.loop-i-test.true, le-ltb c.loop-i.i c.args.a.count c.if-a-i.true)); upper_bound = omega arith }
 
 pub returns-then-same_octets : goal.returns-then-same_octets
 unfolding class_of class_from
 returns-then-same_octets c =
-    let e : same_octets (uri_of c.args.ca.now (get_or c.args.t2.entries c.loop-i.i none)) c.args.uri.now ≡ true = ap (λ (u : List ℕ). same_octets u c.args.uri.now) (sym c.uri_of.ensures) ∙ sym c.same_octets.ensures ∙ c.if-same_octets.true in
-    record { value = sym (c.loop-i.invariant.1 ∙ rw (left 16 c.loop-i.i c.loop-i-test.true, lt-ltb c.loop-i.i c.args.t2.count c.if-a-i.false, e)); upper_bound = c.loop-i.invariant.0 }
+    let e : same_octets (uri_of c.args.ca.now (get_or c.args.a.entries c.loop-i.i none)) c.args.uri.now ≡ true = ap (λ (u : List ℕ). same_octets u c.args.uri.now) (sym c.uri_of.ensures) ∙ sym c.same_octets.ensures ∙ c.if-same_octets.true in
+    record { value = sym (c.loop-i.invariant.1 ∙ rw (left 16 c.loop-i.i c.loop-i-test.true, lt-ltb c.loop-i.i c.args.a.count c.if-a-i.false, e)); upper_bound = c.loop-i.invariant.0 }
 
 pub loop-i-preserved : goal.loop-i-preserved
 unfolding class_from
 loop-i-preserved c =
-    let e : same_octets (uri_of c.args.ca.now (get_or c.args.t2.entries c.loop-i.i none)) c.args.uri.now ≡ false = ap (λ (u : List ℕ). same_octets u c.args.uri.now) (sym c.uri_of.ensures) ∙ sym c.same_octets.ensures ∙ c.if-same_octets.false in
-    (omega arith, c.loop-i.invariant.1 ∙ rw (left 16 c.loop-i.i c.loop-i-test.true, lt-ltb c.loop-i.i c.args.t2.count c.if-a-i.false, e))
+    let e : same_octets (uri_of c.args.ca.now (get_or c.args.a.entries c.loop-i.i none)) c.args.uri.now ≡ false = ap (λ (u : List ℕ). same_octets u c.args.uri.now) (sym c.uri_of.ensures) ∙ sym c.same_octets.ensures ∙ c.if-same_octets.false in
+    (omega arith, c.loop-i.invariant.1 ∙ rw (left 16 c.loop-i.i c.loop-i-test.true, lt-ltb c.loop-i.i c.args.a.count c.if-a-i.false, e))
 
 pub returns : goal.returns
 unfolding class_of class_from

@@ -16,8 +16,8 @@ unfolding class_at
 loop-i-preserved c =
     let a = c.args in
     let l = c.loop-i in
-    let e : c.class_of.result ≡ class_at a.ca.now a.a a.c.now a.t4 l.i = c.class_of.ensures.value ∙ ap (class_of a.ca.now a.a) c.uri_of.ensures in
-    (omega arith, l.invariant.1 ∙ sets_turn (class_at a.ca.now a.a a.c.now a.t4) l.classes 16 l.i c.loop-i-test.true ∙ ap (λ (v : ℕ). sets_from (class_at a.ca.now a.a a.c.now a.t4) (set l.classes l.i v) (l.i + 1) (16 - (l.i + 1))) (sym e))
+    let e : c.class_of.result ≡ class_at a.ca.now a.a a.c.now a.own l.i = c.class_of.ensures.value ∙ ap (class_of a.ca.now a.a) c.uri_of.ensures in
+    (omega arith, l.invariant.1 ∙ sets_turn (class_at a.ca.now a.a a.c.now a.own) l.classes 16 l.i c.loop-i-test.true ∙ ap (λ (v : ℕ). sets_from (class_at a.ca.now a.a a.c.now a.own) (set l.classes l.i v) (l.i + 1) (16 - (l.i + 1))) (sym e))
 
 pub returns : goal.returns
-returns c = sym (c.loop-i.invariant.1 ∙ sets_over (class_at c.args.ca.now c.args.a c.args.c.now c.args.t4) c.loop-i.classes 16 c.loop-i.i c.loop-i-test.false)
+returns c = sym (c.loop-i.invariant.1 ∙ sets_over (class_at c.args.ca.now c.args.a c.args.c.now c.args.own) c.loop-i.classes 16 c.loop-i.i c.loop-i-test.false)

@@ -13,46 +13,46 @@ use Rattle.merge_partners.proofs.join_all.Goals as goal
 
 pub slice_bounds-put_tags-end : goal.slice_bounds-put_tags-end
 slice_bounds-put_tags-end c =
-    let k : length c.put_digests.new.digests ≡ 4096 = c.put_digests.auto.1.1.1.0 ∙ length-replicate {A = ℕ} 4096 0 in
+    let k : length c.put_digests.new.digests ≡ 4096 = c.put_digests.auto.digests ∙ length-replicate {A = ℕ} 4096 0 in
     simp length-take (omega (arith, k, c.count_looked-looked.ensures))
 
 pub slice_bounds-put_tags-end-2 : goal.slice_bounds-put_tags-end-2
 slice_bounds-put_tags-end-2 c =
-    let k : length c.put_keys.new.keys ≡ 4096 = c.put_keys.auto.1.1.1.1.0 ∙ length-replicate {A = ℕ} 4096 0 in
+    let k : length c.put_keys.new.keys ≡ 4096 = c.put_keys.auto.keys ∙ length-replicate {A = ℕ} 4096 0 in
     simp length-take (omega (arith, k, c.least-n.ensures.upper_bound.1))
 
 pub put_tags-requires : goal.put_tags-requires
 put_tags-requires c =
     let n = c.least-n.result in
-    let k : length c.put_keys.new.keys ≡ 4096 = c.put_keys.auto.1.1.1.1.0 ∙ length-replicate {A = ℕ} 4096 0 in
+    let k : length c.put_keys.new.keys ≡ 4096 = c.put_keys.auto.keys ∙ length-replicate {A = ℕ} 4096 0 in
     let e : length (take n c.put_keys.new.keys) ≡ n = length-take n c.put_keys.new.keys ∙ omega (arith, k, c.least-n.ensures.upper_bound.1) in
     record { digests = digested c.args.ca.now c.args.ra.now c.put_digests.new.digests c.count_looked-looked.result c.put_digests.ensures c.count_looked-looked.ensures; keys_len_bound = omega (arith, e, c.least-n.ensures.upper_bound.1) }
 
 pub slice_bounds-join_marks-end : goal.slice_bounds-join_marks-end
 slice_bounds-join_marks-end c =
-    let k : length c.put_digests.new.digests ≡ 4096 = c.put_digests.auto.1.1.1.0 ∙ length-replicate {A = ℕ} 4096 0 in
+    let k : length c.put_digests.new.digests ≡ 4096 = c.put_digests.auto.digests ∙ length-replicate {A = ℕ} 4096 0 in
     simp length-take (omega (arith, k, c.count_looked-looked.ensures))
 
 pub slice_bounds-join_marks-end-2 : goal.slice_bounds-join_marks-end-2
 slice_bounds-join_marks-end-2 c =
-    let k : length c.put_keys.new.keys ≡ 4096 = c.put_keys.auto.1.1.1.1.0 ∙ length-replicate {A = ℕ} 4096 0 in
+    let k : length c.put_keys.new.keys ≡ 4096 = c.put_keys.auto.keys ∙ length-replicate {A = ℕ} 4096 0 in
     simp length-take (omega (arith, k, c.least-n.ensures.upper_bound.1))
 
 pub slice_bounds-join_marks-end-3 : goal.slice_bounds-join_marks-end-3
 slice_bounds-join_marks-end-3 c =
-    let k : length c.put_tags.new.tags ≡ 4096 = c.put_tags.auto.1.1.1.1.1.1.1.0 ∙ length-replicate {A = ℕ} 4096 0 in
+    let k : length c.put_tags.new.tags ≡ 4096 = c.put_tags.auto.tags ∙ length-replicate {A = ℕ} 4096 0 in
     simp length-take (omega (arith, k, c.least-n.ensures.upper_bound.1))
 
 pub slice_bounds-join_marks-end-4 : goal.slice_bounds-join_marks-end-4
 slice_bounds-join_marks-end-4 c =
-    let k : length c.put_seats.new.seats ≡ 4096 = c.put_seats.auto.1.1.0 ∙ length-replicate {A = ℕ} 4096 0 in
+    let k : length c.put_seats.new.seats ≡ 4096 = c.put_seats.auto.seats ∙ length-replicate {A = ℕ} 4096 0 in
     simp length-take (omega (arith, k, c.least-n.ensures.upper_bound.1))
 
 pub join_marks-requires : goal.join_marks-requires
 join_marks-requires c =
     let a = c.args in
     let n = c.least-n.result in
-    let k : length c.put_keys.new.keys ≡ 4096 = c.put_keys.auto.1.1.1.1.0 ∙ length-replicate {A = ℕ} 4096 0 in
+    let k : length c.put_keys.new.keys ≡ 4096 = c.put_keys.auto.keys ∙ length-replicate {A = ℕ} 4096 0 in
     let e : length (take n c.put_keys.new.keys) ≡ n = length-take n c.put_keys.new.keys ∙ omega (arith, k, c.least-n.ensures.upper_bound.1) in
     record { digests = digested a.ca.now a.ra.now c.put_digests.new.digests c.count_looked-looked.result c.put_digests.ensures c.count_looked-looked.ensures; tagged = tagged a.ca.now a.ra.now (length (take c.count_looked-looked.result c.put_digests.new.digests)) a.cb.now a.rb.now a.seconds.now (take n c.put_keys.new.keys) c.put_tags.new.tags c.put_seats.new.seats n e c.least-n.ensures.upper_bound.1 c.put_tags.ensures c.put_seats.ensures }
 

@@ -17,7 +17,7 @@ pub loop-i-preserved : goal.loop-i-preserved
 loop-i-preserved c =
     let f = digest_of c.args.c.now c.args.rs.now in
     let e : c.put_digest.new.xs ≡ set c.loop-i.digests c.loop-i.i (f c.loop-i.i) = c.put_digest.ensures ∙ ap (set c.loop-i.digests c.loop-i.i) c.digest_of.ensures in
-    (omega arith, c.put_digest.auto.0 ∙ c.loop-i.invariant.1, c.loop-i.invariant.2 ∙ sets_turn f c.loop-i.digests c.args.n c.loop-i.i c.loop-i-test.true ∙ ap (λ (xs : List ℕ). sets_from f xs (c.loop-i.i + 1) (c.args.n - (c.loop-i.i + 1))) (sym e))
+    (omega arith, c.put_digest.auto.xs ∙ c.loop-i.invariant.1, c.loop-i.invariant.2 ∙ sets_turn f c.loop-i.digests c.args.n c.loop-i.i c.loop-i-test.true ∙ ap (λ (xs : List ℕ). sets_from f xs (c.loop-i.i + 1) (c.args.n - (c.loop-i.i + 1))) (sym e))
 
 pub shape_of-digests : goal.shape_of-digests
 shape_of-digests c = c.loop-i.invariant.1

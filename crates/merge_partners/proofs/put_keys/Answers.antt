@@ -16,7 +16,7 @@ pub loop-k-preserved : goal.loop-k-preserved
 loop-k-preserved c =
     let f = key_at c.args.marks.now c.args.own c.args.classes.now in
     let e : c.put_number.new.xs ≡ set c.loop-k.keys c.loop-k.k (f c.loop-k.k) = c.put_number.ensures ∙ ap (set c.loop-k.keys c.loop-k.k) c.key_at.ensures in
-    (omega arith, c.put_number.auto.0 ∙ c.loop-k.invariant.1, c.loop-k.invariant.2 ∙ sets_turn f c.loop-k.keys c.args.n c.loop-k.k c.loop-k-test.true ∙ ap (λ (xs : List ℕ). sets_from f xs (c.loop-k.k + 1) (c.args.n - (c.loop-k.k + 1))) (sym e))
+    (omega arith, c.put_number.auto.xs ∙ c.loop-k.invariant.1, c.loop-k.invariant.2 ∙ sets_turn f c.loop-k.keys c.args.n c.loop-k.k c.loop-k-test.true ∙ ap (λ (xs : List ℕ). sets_from f xs (c.loop-k.k + 1) (c.args.n - (c.loop-k.k + 1))) (sym e))
 
 pub shape_of-keys : goal.shape_of-keys
 shape_of-keys c = c.loop-k.invariant.1

@@ -18,7 +18,7 @@ unfolding seat_at
 loop-k-preserved c =
     let f = seat_at c.args.marks.now in
     let e : c.put_number.new.xs ≡ set c.loop-k.seats c.loop-k.k (f c.loop-k.k) = c.put_number.ensures ∙ ap (set c.loop-k.seats c.loop-k.k) (c.seat_of.ensures ∙ ap seat_of c.number_of.ensures) in
-    (omega arith, c.put_number.auto.0 ∙ c.loop-k.invariant.1, c.loop-k.invariant.2 ∙ sets_turn f c.loop-k.seats c.args.n c.loop-k.k c.loop-k-test.true ∙ ap (λ (xs : List ℕ). sets_from f xs (c.loop-k.k + 1) (c.args.n - (c.loop-k.k + 1))) (sym e))
+    (omega arith, c.put_number.auto.xs ∙ c.loop-k.invariant.1, c.loop-k.invariant.2 ∙ sets_turn f c.loop-k.seats c.args.n c.loop-k.k c.loop-k-test.true ∙ ap (λ (xs : List ℕ). sets_from f xs (c.loop-k.k + 1) (c.args.n - (c.loop-k.k + 1))) (sym e))
 
 pub shape_of-seats : goal.shape_of-seats
 shape_of-seats c = c.loop-k.invariant.1

@@ -32,7 +32,7 @@ loop-k-preserved c =
     let f = tag_at a.ca.now a.ra.now n a.cb.now a.rb.now a.marks.now a.keys.now in
     let h = c.look-last.ensures.head_value ∙ ap (λ (j : ℕ). head_from a.ca.now a.ra.now a.cb.now a.rb.now j 0 n) (c.wide_number-j.ensures.0 ∙ c.number_of.ensures) in
     let e : c.put_number.new.xs ≡ set l.tags l.k (f l.k) = c.put_number.ensures ∙ ap (set l.tags l.k) (c.tag_of.ensures ∙ ap (λ (m : ℕ). tag_of m (get_or a.keys.now l.k 0)) h) in
-    (omega arith, c.put_number.auto.0 ∙ l.invariant.1, l.invariant.2 ∙ sets_turn f l.tags (length a.keys.now) l.k c.loop-k-test.true ∙ ap (λ (xs : List ℕ). sets_from f xs (l.k + 1) (length a.keys.now - (l.k + 1))) (sym e), known_of a.ca.now a.ra.now n a.cb.now a.rb.now c.look-last.result c.wide_number-j.result c.look-last.ensures.line_value c.look-last.ensures.head_value)
+    (omega arith, c.put_number.auto.xs ∙ l.invariant.1, l.invariant.2 ∙ sets_turn f l.tags (length a.keys.now) l.k c.loop-k-test.true ∙ ap (λ (xs : List ℕ). sets_from f xs (l.k + 1) (length a.keys.now - (l.k + 1))) (sym e), known_of a.ca.now a.ra.now n a.cb.now a.rb.now c.look-last.result c.wide_number-j.result c.look-last.ensures.line_value c.look-last.ensures.head_value)
 
 pub shape_of-tags : goal.shape_of-tags
 shape_of-tags c = c.loop-k.invariant.1

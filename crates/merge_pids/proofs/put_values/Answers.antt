@@ -4,7 +4,7 @@ use Prim.Native.Nat.{suc, ◌-◌, ◌+◌}
 use native.Mathlib.Omega.{arith}
 use lib.ListN.{length, drop, length-drop}
 use Rattle.merge_pids.specs.Marks.{Marked, marked, put_all, values_marks}
-use Rattle.merge_pids.proofs.ValueLaws.{values_none, values_further, values_stop, values_on_lem}
+use Rattle.merge_pids.proofs.ValueLaws.{values_none, values_further, values_stop, values_on}
 use Rattle.merge_pids.proofs.put_values.Goals as goal
 
 pub loop-place-init : goal.loop-place-init
@@ -41,7 +41,7 @@ pub loop-place-preserved : goal.loop-place-preserved
 loop-place-preserved c =
     let l = c.loop-place in
     let far = values_further c.args.line l.invariant.0 (omega (arith, l.invariant.1)) c.args.s.now l.place c.value_at-v.result c.value_at-v.ensures.value (marked l.next l.out) in
-    (l.invariant.0 - 1, omega (arith, far, l.invariant.1, c.loop-place-test.true), c.put_value-next.auto.out ∙ l.invariant.2, l.invariant.3 ∙ values_on_lem c.args.line l.invariant.0 (omega (arith, l.invariant.1)) c.args.s.now l.place c.value_at-v.result c.value_at-v.ensures.value (marked l.next l.out) (sym c.octet_at.ensures ∙ c.if-octet_at-ne44.false) ∙ ap (λ (st : Marked). put_all st (values_marks c.args.line (l.invariant.0 - 1) (drop (c.value_at-v.result.next + 1) c.args.s.now))) (sym c.put_value-next.ensures))
+    (l.invariant.0 - 1, omega (arith, far, l.invariant.1, c.loop-place-test.true), c.put_value-next.auto.out ∙ l.invariant.2, l.invariant.3 ∙ values_on c.args.line l.invariant.0 (omega (arith, l.invariant.1)) c.args.s.now l.place c.value_at-v.result c.value_at-v.ensures.value (marked l.next l.out) (sym c.octet_at.ensures ∙ c.if-octet_at-ne44.false) ∙ ap (λ (st : Marked). put_all st (values_marks c.args.line (l.invariant.0 - 1) (drop (c.value_at-v.result.next + 1) c.args.s.now))) (sym c.put_value-next.ensures))
 
 pub shape_of-out : goal.shape_of-out
 shape_of-out c = c.loop-place.invariant.2

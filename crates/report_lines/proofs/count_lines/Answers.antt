@@ -36,7 +36,7 @@ loop-at-preserved c =
     let r = c.row_of_span-row in (
       omega (arith, r, l.invariant.0),
       counted_turn c.args.s.now l.at v.result.end c.loop-at-test.true v.ensures.1 v.ensures.2 l.counts
-          r.result r.ensures.0.0 r.ensures.0.1 l.invariant.1,
+          r.result r.ensures.value.0 r.ensures.value.1 l.invariant.1,
     )
 
 pub returns : goal.returns

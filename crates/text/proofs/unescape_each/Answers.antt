@@ -37,4 +37,4 @@ returns-else-out-kept c =
     let e = (told t room m.ensures c.in-Octets.is).0 in
     let w = c.write in
     whole_outcome t room m.ensures c.in-Octets.is
-    (fill_fits (unescaped t) room _ e (omega arith) w.new.1.0 (w.ensures ∙ ap (λ (k : ℕ). unescaped t ++ drop k room) (sym e)))
+    (fill_fits (unescaped t) room _ e (omega arith) w.new.out (w.ensures ∙ ap (λ (k : ℕ). unescaped t ++ drop k room) (sym e)))

@@ -1,11 +1,9 @@
 -- `text_unescaping::measure_each` meets its contract. Assumes nothing.
 use borrow.Author.Rules.{rules}
 use mathlib.Core.Path.{sym, ap, ◌∙◌}
-use Prim.Native.Nat.{◌-◌}
 use native.Mathlib.Nat.{zero-add}
 use native.Mathlib.Omega.{arith}
 use lib.ListN.{length}
-use borrow.Author.Tests.{not-true, not-false}
 use Rattle.text_unescaping.proofs.UnescapeLaws.{escape_inside, escape_not, step_backslash, step_comma, fault_escape, fault_octet, fault_stop, fault_end, unescaped_escape, unescaped_octet, unescaped_end}
 use Rattle.text_unescaping.proofs.MeasureLaws.{at_fault, at_end}
 use Rattle.text_unescaping.proofs.measure_each.Goals as goal
@@ -17,24 +15,24 @@ pub returns-then-not-whole : goal.returns-then-not-whole
 returns-then-not-whole c =
     let s = c.args.text.now in
     let l = c.loop-i in
-    let e = sym c.escape_at-whole.ensures ∙ not-true _ c.if-not-whole.true-raw in
+    let e = sym c.escape_at-whole.ensures ∙ c.if-not-whole.true in
     at_fault s l.i (sym (l.invariant.2 ∙ fault_stop s l.i (step_backslash s l.i e c.if-text-i-eq92.true))) c.loop-i-test.true
 
 pub overflow_add-i : goal.overflow_add-i
 overflow_add-i c =
-    let e = sym c.escape_at-whole.ensures ∙ not-false _ c.if-not-whole.false-raw in
+    let e = sym c.escape_at-whole.ensures ∙ c.if-not-whole.false in
     omega (arith, escape_inside c.args.text.now c.loop-i.i e)
 
 pub loop-i-smaller-then-text-i-eq92 : goal.loop-i-smaller-then-text-i-eq92
 loop-i-smaller-then-text-i-eq92 c =
-    let e = sym c.escape_at-whole.ensures ∙ not-false _ c.if-not-whole.false-raw in
+    let e = sym c.escape_at-whole.ensures ∙ c.if-not-whole.false in
     omega (arith, escape_inside c.args.text.now c.loop-i.i e)
 
 pub loop-i-preserved-then-text-i-eq92 : goal.loop-i-preserved-then-text-i-eq92
 loop-i-preserved-then-text-i-eq92 c =
     let s = c.args.text.now in
     let l = c.loop-i in
-    let e = sym c.escape_at-whole.ensures ∙ not-false _ c.if-not-whole.false-raw in
+    let e = sym c.escape_at-whole.ensures ∙ c.if-not-whole.false in
     let h = c.loop-i-test.true in
     (escape_inside s l.i e, omega arith, l.invariant.2 ∙ fault_escape s l.i h e, omega (arith, l.invariant.3, ap length (unescaped_escape s l.i h e)))
 
@@ -56,4 +54,4 @@ pub returns : goal.returns
 returns c =
     let s = c.args.text.now in
     let l = c.loop-i in
-    at_end s l.auto (omega (arith, l.invariant.2, fault_end s l.i c.loop-i-test.false)) (omega (arith, l.invariant.3, ap length (unescaped_end s l.i c.loop-i-test.false)))
+    at_end s l.kept (omega (arith, l.invariant.2, fault_end s l.i c.loop-i-test.false)) (omega (arith, l.invariant.3, ap length (unescaped_end s l.i c.loop-i-test.false)))

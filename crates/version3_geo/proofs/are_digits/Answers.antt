@@ -1,9 +1,5 @@
 -- src/lib.rt:39:9
-use Prim.Native.Nat.{◌-◌}
 use Rattle.version3_geo.proofs.GeoLaws.{digits_none, digits_by}
-use Rattle.version3_geo.proofs.are_digits.Reads as reads
-use Rattle.version3_geo.proofs.are_digits.Lts as lts
-use Rattle.version3_geo.proofs.digits_end.Reads as digits-end-reads
 use Rattle.version3_geo.proofs.are_digits.Goals as goal
 
 pub returns-then-s-eq0 : goal.returns-then-s-eq0

@@ -1,16 +1,12 @@
 -- src/lib.rt:109:9
 use mathlib.Core.Path.{sym, ap, ◌∙◌}
-use Prim.Native.Nat.{◌+◌, ◌-◌}
+use Prim.Native.Nat.{◌+◌}
 use native.Mathlib.Omega.{arith}
 use lib.ListN.{length-take}
 use borrow.Author.Tests.{not-true, not-false}
 use Rattle.version3_text.proofs.PutLaws.{rest_of}
 use Rattle.version3_geo.specs.Floats.{float}
 use Rattle.version3_geo.proofs.GeoLaws.{floats_none, floats_not, floats_by}
-use Rattle.version3_geo.proofs.are_floats.Reads as reads
-use Rattle.version3_geo.proofs.are_floats.Lts as lts
-use Rattle.version3_geo.proofs.is_float.Reads as is-float-reads
-use Rattle.version3_geo.proofs.mark_at.Reads as mark-at-reads
 use Rattle.version3_geo.proofs.are_floats.Goals as goal
 
 -- src/lib.rt:111:9

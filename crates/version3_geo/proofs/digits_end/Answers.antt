@@ -1,15 +1,11 @@
 -- The proof's answers.
 use borrow.Author.Rules.{rules}
 use mathlib.Core.Path.{sym, ◌∙◌}
-use Prim.Native.Nat.{◌-◌}
 use native.Mathlib.Nat.{zero-add}
 use native.Mathlib.Omega.{arith}
 use borrow.Author.Tests.{not-true, not-false}
 use Rattle.octets.specs.Classes.{digit}
 use Rattle.octets.proofs.Runs.{run_stop, run_step, run_end}
-use Rattle.version3_geo.proofs.digits_end.Reads as reads
-use Rattle.version3_geo.proofs.digits_end.Lts as lts
-use Rattle.version3_geo.proofs.is_digit.Reads as is-digit-reads
 use Rattle.version3_geo.proofs.digits_end.Goals as goal
 
 -- src/lib.rt:25:5

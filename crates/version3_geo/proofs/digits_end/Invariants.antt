@@ -3,9 +3,6 @@ use mathlib.Core.Path.{◌≡◌}
 use Prim.Native.Nat.{◌≤◌, ◌+◌, ◌-◌}
 use lib.ListN.{length, drop}
 use Rattle.octets.specs.Classes.{run, digit}
-use Rattle.version3_geo.proofs.digits_end.Reads as reads
-use Rattle.version3_geo.proofs.digits_end.Lts as lts
-use Rattle.version3_geo.proofs.is_digit.Reads as is-digit-reads
 use Rattle.version3_geo.proofs.digits_end.Given as goal
 
 abbrev pub invariant-loop-i : goal.invariant-loop-i

@@ -1,7 +1,5 @@
 -- src/lib.rt:126:9
 use Rattle.version3_geo.proofs.GeoLaws.{scheme_short, scheme_0, scheme_1, scheme_2, scheme_3, nope}
-use Rattle.version3_geo.proofs.has_scheme.Reads as reads
-use Rattle.version3_geo.proofs.has_scheme.Lts as lts
 use Rattle.version3_geo.proofs.has_scheme.Goals as goal
 
 pub returns-then-s-lt4 : goal.returns-then-s-lt4

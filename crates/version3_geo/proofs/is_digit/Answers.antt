@@ -1,7 +1,5 @@
 -- src/lib.rt:15:9
 use Rattle.version3_geo.proofs.GeoLaws.{digit_low, digit_by}
-use Rattle.version3_geo.proofs.is_digit.Reads as reads
-use Rattle.version3_geo.proofs.is_digit.Lts as lts
 use Rattle.version3_geo.proofs.is_digit.Goals as goal
 
 pub returns-then-b-lt48 : goal.returns-then-b-lt48

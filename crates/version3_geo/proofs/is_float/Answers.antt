@@ -1,14 +1,8 @@
 -- src/lib.rt:83:9
 use mathlib.Core.Path.{sym, ap, ◌∙◌}
-use Prim.Native.Nat.{◌-◌}
 use Rattle.version3_text.proofs.PutLaws.{rest_of}
 use Rattle.version3_geo.specs.Floats.{unsigned}
-use mathlib.Core.Bool.{true, false}
 use Rattle.version3_geo.proofs.GeoLaws.{float_none, float_by, nope}
-use Rattle.version3_geo.proofs.is_float.Reads as reads
-use Rattle.version3_geo.proofs.is_float.Lts as lts
-use Rattle.version3_geo.proofs.is_sign.Reads as is-sign-reads
-use Rattle.version3_geo.proofs.is_unsigned.Reads as is-unsigned-reads
 use Rattle.version3_geo.proofs.is_float.Goals as goal
 
 -- src/lib.rt:83:9

@@ -1,12 +1,8 @@
 -- src/lib.rt:49:9
 use mathlib.Core.Path.{ap, ◌∙◌}
-use Prim.Native.Nat.{◌-◌}
 use Rattle.version3_text.proofs.PutLaws.{rest_of}
 use Rattle.version3_geo.specs.Floats.{digits}
 use Rattle.version3_geo.proofs.GeoLaws.{fraction_none, fraction_not, fraction_by}
-use Rattle.version3_geo.proofs.is_fraction.Reads as reads
-use Rattle.version3_geo.proofs.is_fraction.Lts as lts
-use Rattle.version3_geo.proofs.are_digits.Reads as are-digits-reads
 use Rattle.version3_geo.proofs.is_fraction.Goals as goal
 
 pub returns-then-s-eq0 : goal.returns-then-s-eq0

@@ -1,14 +1,9 @@
 -- src/lib.rt:151:9
 use mathlib.Core.Path.{sym, ap, ◌∙◌}
-use Prim.Native.Nat.{◌-◌}
 use borrow.Author.Tests.{not-true, not-false}
 use Rattle.version3_text.proofs.PutLaws.{rest_of}
 use Rattle.version3_geo.specs.Floats.{floats}
 use Rattle.version3_geo.proofs.GeoLaws.{new_not, new_by}
-use Rattle.version3_geo.proofs.is_new.Reads as reads
-use Rattle.version3_geo.proofs.is_new.Lts as lts
-use Rattle.version3_geo.proofs.are_floats.Reads as are-floats-reads
-use Rattle.version3_geo.proofs.has_scheme.Reads as has-scheme-reads
 use Rattle.version3_geo.proofs.is_new.Goals as goal
 
 -- src/lib.rt:152:9

@@ -1,9 +1,5 @@
 -- src/lib.rt:144:5
-use Prim.Native.Nat.{◌-◌}
 use Rattle.version3_geo.specs.Floats.{old_geo}
-use Rattle.version3_geo.proofs.is_old.Reads as reads
-use Rattle.version3_geo.proofs.is_old.Lts as lts
-use Rattle.version3_geo.proofs.are_floats.Reads as are-floats-reads
 use Rattle.version3_geo.proofs.is_old.Goals as goal
 
 -- src/lib.rt:141:1

@@ -1,7 +1,5 @@
 -- src/lib.rt:73:9
 use Rattle.version3_geo.proofs.GeoLaws.{sign_plus, sign_by}
-use Rattle.version3_geo.proofs.is_sign.Reads as reads
-use Rattle.version3_geo.proofs.is_sign.Lts as lts
 use Rattle.version3_geo.proofs.is_sign.Goals as goal
 
 pub returns-then-b-eq43 : goal.returns-then-b-eq43

@@ -1,13 +1,8 @@
 -- src/lib.rt:61:9
 use mathlib.Core.Path.{ap, ◌∙◌}
-use Prim.Native.Nat.{◌-◌}
 use Rattle.version3_text.proofs.PutLaws.{rest_of}
 use Rattle.version3_geo.specs.Floats.{fraction}
 use Rattle.version3_geo.proofs.GeoLaws.{unsigned_not, unsigned_by}
-use Rattle.version3_geo.proofs.is_unsigned.Reads as reads
-use Rattle.version3_geo.proofs.is_unsigned.Lts as lts
-use Rattle.version3_geo.proofs.digits_end.Reads as digits-end-reads
-use Rattle.version3_geo.proofs.is_fraction.Reads as is-fraction-reads
 use Rattle.version3_geo.proofs.is_unsigned.Goals as goal
 
 -- src/lib.rt:63:9

@@ -1,16 +1,13 @@
 -- The proof's answers.
 use borrow.Author.Rules.{rules}
 use mathlib.Core.Path.{sym, ap, ◌∙◌}
-use mathlib.Core.Bool.{not, true, false}
-use Prim.Native.Nat.{◌-◌}
+use mathlib.Core.Bool.{not}
 use native.Mathlib.Nat.{zero-add}
 use native.Mathlib.Omega.{arith}
 use lib.Dec.{eqb}
 use borrow.Author.Tests.{eq-eqb, ne_eqb}
 use Rattle.octets.proofs.Runs.{run_stop, run_step, run_end}
 use Rattle.version3_geo.specs.Floats.{up_to}
-use Rattle.version3_geo.proofs.mark_at.Reads as reads
-use Rattle.version3_geo.proofs.mark_at.Lts as lts
 use Rattle.version3_geo.proofs.mark_at.Goals as goal
 
 -- src/lib.rt:96:5

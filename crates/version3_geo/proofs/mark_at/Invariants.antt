@@ -3,8 +3,6 @@ use mathlib.Core.Path.{◌≡◌}
 use Prim.Native.Nat.{◌≤◌, ◌+◌, ◌-◌}
 use lib.ListN.{length, drop}
 use Rattle.version3_geo.specs.Floats.{up_to}
-use Rattle.version3_geo.proofs.mark_at.Reads as reads
-use Rattle.version3_geo.proofs.mark_at.Lts as lts
 use Rattle.version3_geo.proofs.mark_at.Given as goal
 
 abbrev pub invariant-loop-i : goal.invariant-loop-i

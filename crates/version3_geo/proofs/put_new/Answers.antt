@@ -1,15 +1,10 @@
 -- src/lib.rt:174:35
 use mathlib.Core.Path.{refl}
-use Prim.Native.Nat.{◌-◌}
 use native.Mathlib.Omega.{arith}
 use Rattle.version3_text.proofs.PutLaws.{two_pieces}
 use Rattle.octets.specs.Ascii.{octets}
 use Rattle.version3_geo.specs.Floats.{geo_text, swapped, made_new}
 use Rattle.version3_geo.proofs.GeoLaws.{made_new_length, swapped_length}
-use Rattle.version3_geo.proofs.put_new.Reads as reads
-use Rattle.version3_geo.proofs.put_new.Lts as lts
-use Rattle.octets.proofs.copying.copy_in.Reads as copy-in-reads
-use Rattle.version3_geo.proofs.put_swapped.Reads as put-swapped-reads
 use Rattle.version3_geo.proofs.put_new.Goals as goal
 
 -- src/lib.rt:170:1

@@ -1,7 +1,7 @@
 -- src/lib.rt:184:9
 use mathlib.Core.Path.{refl, sym, ap, ◌∙◌}
 use mathlib.Core.List.{List}
-use Prim.Native.Nat.{ℕ, ◌-◌}
+use Prim.Native.Nat.{ℕ}
 use native.Mathlib.Omega.{arith}
 use lib.ListN.{length-take, length-drop}
 use borrow.Author.Tests.{not-true, not-false}
@@ -9,11 +9,6 @@ use Rattle.version3_text.proofs.PutLaws.{rest_of}
 use Rattle.octets.specs.Room.{overlay}
 use Rattle.version3_geo.specs.Floats.{swapped}
 use Rattle.version3_geo.proofs.GeoLaws.{made_old_not, made_old_lem, old_length}
-use Rattle.version3_geo.proofs.put_old.Reads as reads
-use Rattle.version3_geo.proofs.put_old.Lts as lts
-use Rattle.octets.proofs.copying.copy_in.Reads as copy-in-reads
-use Rattle.version3_geo.proofs.has_scheme.Reads as has-scheme-reads
-use Rattle.version3_geo.proofs.put_swapped.Reads as put-swapped-reads
 use Rattle.version3_geo.proofs.put_old.Goals as goal
 
 -- src/lib.rt:186:9

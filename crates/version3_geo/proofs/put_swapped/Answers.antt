@@ -1,14 +1,9 @@
 -- src/lib.rt:162:5
 use mathlib.Core.Path.{ap, ◌∙◌}
-use Prim.Native.Nat.{◌-◌}
 use native.Mathlib.Omega.{arith}
 use lib.ListN.{length, length-set}
 use Rattle.version3_text.proofs.PutLaws.{overlay_length}
 use Rattle.version3_geo.proofs.GeoLaws.{swapped_put, swapped_not}
-use Rattle.version3_geo.proofs.put_swapped.Reads as reads
-use Rattle.version3_geo.proofs.put_swapped.Lts as lts
-use Rattle.octets.proofs.copying.copy_in.Reads as copy-in-reads
-use Rattle.version3_geo.proofs.mark_at.Reads as mark-at-reads
 use Rattle.version3_geo.proofs.put_swapped.Goals as goal
 
 -- src/lib.rt:165:9

@@ -1,7 +1,5 @@
 -- src/lib.rt:37:9
 use borrow.Author.Tests.{not-true, not-false}
-use Rattle.version3_text.proofs.is_marked.Reads as reads
-use Rattle.version3_text.proofs.is_marked.Lts as lts
 use Rattle.version3_text.proofs.is_marked.Goals as goal
 
 pub returns-then-not-whole : goal.returns-then-not-whole

@@ -1,7 +1,5 @@
 -- src/lib.rt:16:8
 use Rattle.version3_text.proofs.RenewLaws.{pair_not, pair_by}
-use Rattle.version3_text.proofs.is_pair.Reads as reads
-use Rattle.version3_text.proofs.is_pair.Lts as lts
 use Rattle.version3_text.proofs.is_pair.Goals as goal
 
 -- src/lib.rt:17:9

@@ -1,8 +1,6 @@
 -- src/lib.rt:27:9
 use borrow.Author.Tests.{eq-eqb, ne_eqb}
 use Rattle.version3_text.specs.Renewed.{small}
-use Rattle.version3_text.proofs.make_small.Reads as reads
-use Rattle.version3_text.proofs.make_small.Lts as lts
 use Rattle.version3_text.proofs.make_small.Goals as goal
 
 pub returns-then-b-eq78 : goal.returns-then-b-eq78

@@ -1,12 +1,10 @@
 -- The proof's answers.
 use borrow.Author.Rules.{rules}
 use mathlib.Core.Path.{◌≡◌, refl}
-use Prim.Native.Nat.{ℕ, ◌-◌}
+use Prim.Native.Nat.{ℕ}
 use native.Mathlib.Omega.{arith}
 use lib.ListN.{get_or, replicate, length-replicate, get_or-replicate, length-set}
 use Rattle.octets.proofs.Copies.{copy_step, copy_done}
-use Rattle.version3_text.proofs.put_semicolons.Reads as reads
-use Rattle.version3_text.proofs.put_semicolons.Lts as lts
 use Rattle.version3_text.proofs.put_semicolons.Goals as goal
 
 -- src/lib.rt:95:5

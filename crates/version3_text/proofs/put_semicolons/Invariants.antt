@@ -1,10 +1,8 @@
 -- The proof's answers.
 use mathlib.Core.Path.{◌≡◌}
 use mathlib.Core.List.{◌++◌}
-use Prim.Native.Nat.{◌≤◌, ◌+◌, ◌-◌}
+use Prim.Native.Nat.{◌≤◌, ◌-◌}
 use lib.ListN.{length, take, drop, replicate}
-use Rattle.version3_text.proofs.put_semicolons.Reads as reads
-use Rattle.version3_text.proofs.put_semicolons.Lts as lts
 use Rattle.version3_text.proofs.put_semicolons.Given as goal
 
 abbrev pub invariant-loop-i : goal.invariant-loop-i

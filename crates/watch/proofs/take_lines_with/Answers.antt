@@ -38,9 +38,9 @@ returns-in_default c =
     let b = g.new.1.1.1.0 in
     let two = next_two_least a.w.tail a.chunk.now (subst (λ (k : ℕ). k < length a.chunk.now) p.1.1.0.0 p.1.1.0.1) in record { by_index = λ i l h e. subst (λ (x : Watch). After x b (i ++ a.chunk.now)) (sym c.stopped.ensures)
           (after_refused a.w a.buffer.now i a.chunk.now l h p.1.0.1 p.1.1.1 a.next p.1.1.0.0 p.1.1.0.1 p.0.1
-          g.result.step b g.result.at g.ensures.0 g.ensures.1.0 g.ensures.1.1 c.in_default.keys2 _ a.tail refl e); comes = (λ e. subst (λ (x : Watch). Comes x b (lines_came a.w a.buffer.now a.chunk.now a.next)) (sym c.stopped.ensures)
+          g.result.step b g.result.at g.ensures.0 g.ensures.1.0 g.ensures.1.1 c.in_default.in_default-own.keys2 _ a.tail refl e); comes = (λ e. subst (λ (x : Watch). Comes x b (lines_came a.w a.buffer.now a.chunk.now a.next)) (sym c.stopped.ensures)
           (comes_refused a.w a.buffer.now a.chunk.now a.next p.1.1.0.0 p.1.0.0 p.0.0.card p.1.0.1 p.0.1 (omega (arith, two, p.1.0.0, p.1.1.0.0)) p.1.1.0.1 _ a.tail refl e
-          g.result.step b g.result.at g.ensures.0 c.in_default.keys2), ) }
+          g.result.step b g.result.at g.ensures.0 c.in_default.in_default-own.keys2)) }
 
 pub append-requires : goal.append-requires
 append-requires c =
@@ -71,4 +71,4 @@ returns c =
           after_kept a.w a.buffer.now i a.chunk.now l h p.1.0.1 p.1.1.1 a.next p.1.1.0.0 p.1.1.0.1 p.0.1
           g.result.step b g.result.at g.ensures.0 g.ensures.1.0 g.ensures.1.1 f c.in-Next.is a.tail e c.append.new.buffer put; comes = (λ e.
           comes_kept a.w a.buffer.now a.chunk.now a.next p.1.1.0.0 p.1.0.0 p.0.0.card p.1.0.1 p.0.1 (omega (arith, two, p.1.0.0, p.1.1.0.0)) p.1.1.0.1 _ a.tail refl e
-          g.result.step b g.result.at g.ensures.0 f c.in-Next.is g.ensures.1.0 g.ensures.1.1 (omega (arith, g, p.0.1)) c.append.new.buffer put, ) }
+          g.result.step b g.result.at g.ensures.0 f c.in-Next.is g.ensures.1.0 g.ensures.1.1 (omega (arith, g, p.0.1)) c.append.new.buffer put) }

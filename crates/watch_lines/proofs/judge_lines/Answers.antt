@@ -74,7 +74,7 @@ returns-in_default c =
     let l = c.loop-after in
     let j = c.take_line-j in
     let k = a.chunk.now in record { went = hand_refused a.c a.line.now (drop a.from k) a.buffer.now a.start l.card (hand_line l.first a.line.now k l.at l.end) (drop l.next k) l.buffer l.place l.invariant.6
-          j.new.1.1.1.1.1.1.1.0 (l.card.used + (l.n + 2)) (omega (arith, l.invariant.2)) j.result (stopped_never j.result c.in_default.keys2) j.ensures (drop l.next k); from_le_at = ((l.invariant.1.0, l.invariant.1.3)) }
+          j.new.1.1.1.1.1.1.1.0 (l.card.used + (l.n + 2)) (omega (arith, l.invariant.2)) j.result (stopped_never j.result c.in_default.in_default-own.keys2) j.ensures (drop l.next k); from_le_at = ((l.invariant.1.0, l.invariant.1.3)) }
 
 pub line_at-span-requires : goal.line_at-span-requires
 line_at-span-requires c = c.loop-after.invariant.1.3

@@ -22,7 +22,7 @@ returns-in_default c =
     let s = pick a.first a.line.now a.other.now in
     let j = c.judge_either-j in
     took_refused a.c s a.buffer.now j.new.1.1.1.1.1.1.1.0 a.at a.to c.requires.roomy.1 (omega (arith, j)) c.requires.other_bound.0 c.requires.other_bound.1
-    j.result c.in_default.keys2 j.ensures.0 j.ensures.1.1 c.settle_either.result c.settle_either.ensures c.clear.new.buffer c.clear.ensures
+    j.result c.in_default.in_default-own.keys2 j.ensures.0 j.ensures.1.1 c.settle_either.result c.settle_either.ensures c.clear.new.buffer c.clear.ensures
 
 pub clear-requires-2 : goal.clear-requires-2
 clear-requires-2 c =

@@ -3,6 +3,8 @@ use borrow.Author.Rules.{rules}
 use borrow.Author.Tests.{not-true, not-false}
 use mathlib.Core.Path.{◌≡◌, subst}
 use mathlib.Core.Option.{none}
+use mathlib.Core.List.{List}
+use Prim.Native.Nat.{ℕ}
 use native.Mathlib.Omega.{arith}
 use lib.Dec.{eqb}
 use Rattle.octets.specs.Pick.{pick}
@@ -13,44 +15,44 @@ use Rattle.card_judge.specs.Judge.{Spans}
 use Rattle.card_judge.proofs.SettleLaws.{found_once, told_none, told_first, told_again}
 use Rattle.card_judge.proofs.judge.instance_of.Goals as goal
 
-found : (s : tie.Start) (f : First) → s.args.f ≡ f → Spans f s.args.s.now (pick (eqb s.args.k 0) none (first_value altid_name s.args.s.now))
-found s f e = subst (λ (g : First). Spans g s.args.s.now (pick (eqb s.args.k 0) none (first_value altid_name s.args.s.now))) e s.requires.0
+found : (s : List ℕ) (k : ℕ) (g f : First) → Spans g s (pick (eqb k 0) none (first_value altid_name s)) → g ≡ f → Spans f s (pick (eqb k 0) none (first_value altid_name s))
+found s k g f h e = subst (λ (x : First). Spans x s (pick (eqb k 0) none (first_value altid_name s))) e h
 
 pub returns-in_default : goal.returns-in_default
-returns-in_default c = told_none c.args.c c.args.store.now c.args.s.now c.args.k _ c.args.again c.requires.k_le_singles.1 (found c Nothing c.in_default.is)
+returns-in_default c = told_none c.args.c c.args.store.now c.args.s.now c.args.k _ c.args.again c.requires.k_le_singles.1 (found c.args.s.now c.args.k c.args.f Nothing c.requires.spans c.in_default.is)
 
 pub returns-then-not-again : goal.returns-then-not-again
 returns-then-not-again c =
-    let there : Spans (Between c.in-Between.start c.in-Between.end) c.args.s.now (pick (eqb c.args.k 0) none (first_value altid_name c.args.s.now)) = found c (Between c.in-Between.start c.in-Between.end) c.in-Between.is in
+    let there : Spans (Between c.in-Between.start c.in-Between.end) c.args.s.now (pick (eqb c.args.k 0) none (first_value altid_name c.args.s.now)) = found c.args.s.now c.args.k c.args.f (Between c.in-Between.start c.in-Between.end) c.requires.spans c.in-Between.is in
     let h = there in
     told_first c.args.c c.args.store.now c.args.s.now c.args.k _ c.args.again c.requires.k_le_singles.1 _ _ h.0 h.1
     (not-true c.args.again c.if-not-again.true-raw) h.2
 
 pub slice_bounds-is_kept-count : goal.slice_bounds-is_kept-count
 slice_bounds-is_kept-count c =
-    let there : Spans (Between c.in-Between.start c.in-Between.end) c.args.s.now (pick (eqb c.args.k 0) none (first_value altid_name c.args.s.now)) = found c (Between c.in-Between.start c.in-Between.end) c.in-Between.is in
+    let there : Spans (Between c.in-Between.start c.in-Between.end) c.args.s.now (pick (eqb c.args.k 0) none (first_value altid_name c.args.s.now)) = found c.args.s.now c.args.k c.args.f (Between c.in-Between.start c.in-Between.end) c.requires.spans c.in-Between.is in
     let h = there in omega (arith, h.0)
 
 pub slice_bounds-is_kept-start : goal.slice_bounds-is_kept-start
 slice_bounds-is_kept-start c =
-    let there : Spans (Between c.in-Between.start c.in-Between.end) c.args.s.now (pick (eqb c.args.k 0) none (first_value altid_name c.args.s.now)) = found c (Between c.in-Between.start c.in-Between.end) c.in-Between.is in
+    let there : Spans (Between c.in-Between.start c.in-Between.end) c.args.s.now (pick (eqb c.args.k 0) none (first_value altid_name c.args.s.now)) = found c.args.s.now c.args.k c.args.f (Between c.in-Between.start c.in-Between.end) c.requires.spans c.in-Between.is in
     let h = there in search (rules, h.0, h.1)
 
 pub slice_bounds-is_kept-end : goal.slice_bounds-is_kept-end
 slice_bounds-is_kept-end c =
-    let there : Spans (Between c.in-Between.start c.in-Between.end) c.args.s.now (pick (eqb c.args.k 0) none (first_value altid_name c.args.s.now)) = found c (Between c.in-Between.start c.in-Between.end) c.in-Between.is in
+    let there : Spans (Between c.in-Between.start c.in-Between.end) c.args.s.now (pick (eqb c.args.k 0) none (first_value altid_name c.args.s.now)) = found c.args.s.now c.args.k c.args.f (Between c.in-Between.start c.in-Between.end) c.requires.spans c.in-Between.is in
     let h = there in search (rules, h.0, h.1)
 
 pub is_kept-same-requires : goal.is_kept-same-requires
 is_kept-same-requires c =
-    let there : Spans (Between c.in-Between.start c.in-Between.end) c.args.s.now (pick (eqb c.args.k 0) none (first_value altid_name c.args.s.now)) = found c (Between c.in-Between.start c.in-Between.end) c.in-Between.is in
+    let there : Spans (Between c.in-Between.start c.in-Between.end) c.args.s.now (pick (eqb c.args.k 0) none (first_value altid_name c.args.s.now)) = found c.args.s.now c.args.k c.args.f (Between c.in-Between.start c.in-Between.end) c.requires.spans c.in-Between.is in
     let h = there in
     let stored = c.requires.stored in
     record { k_nonzero = ((found_once c.args.k _ _ h.2).0, c.requires.k_le_singles.0); inside = rw stored.all stored.lies }
 
 pub returns : goal.returns
 returns c =
-    let there : Spans (Between c.in-Between.start c.in-Between.end) c.args.s.now (pick (eqb c.args.k 0) none (first_value altid_name c.args.s.now)) = found c (Between c.in-Between.start c.in-Between.end) c.in-Between.is in
+    let there : Spans (Between c.in-Between.start c.in-Between.end) c.args.s.now (pick (eqb c.args.k 0) none (first_value altid_name c.args.s.now)) = found c.args.s.now c.args.k c.args.f (Between c.in-Between.start c.in-Between.end) c.requires.spans c.in-Between.is in
     let h = there in
     told_again c.args.c c.args.store.now c.args.s.now c.args.k _ c.args.again c.requires.k_le_singles.1 _ c.is_kept-same.result
     (not-false c.args.again c.if-not-again.false-raw) h.2 c.is_kept-same.ensures

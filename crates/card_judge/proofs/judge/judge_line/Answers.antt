@@ -1,6 +1,6 @@
 -- `card_judge::judge::judge_line` meets its contract. Assumes nothing.
 use borrow.Author.Tests.{lt-ltb}
-use mathlib.Core.Path.{sym, subst, ◌∙◌}
+use mathlib.Core.Path.{◌≡◌, sym, subst, ◌∙◌}
 use mathlib.Core.List.{List}
 use mathlib.Core.Bool.{false}
 use Prim.Native.Nat.{ℕ, ◌-◌, ◌≤◌}
@@ -9,7 +9,7 @@ use lib.ListN.{length, take, drop, length-take}
 use Rattle.utf8.specs.Characters.{allowed, first_bad}
 use Rattle.card_line.proofs.PartLaws.{Read, read}
 use Rattle.card_state.specs.Kept.{card_of}
-use Rattle.card_judge.specs.Judge.{judge_line, Keeping}
+use Rattle.card_judge.specs.Judge.{judge_line, Keeping, read_by, added_by}
 use Rattle.card_judge.proofs.JudgeLaws.{refused, judged, added_line}
 use Rattle.card_judge.proofs.SettleLaws.{stopped, flawed_stop}
 use Rattle.card_judge.proofs.judge.judge_line.Goals as goal
@@ -19,47 +19,51 @@ unfolding judge_line
 returns-then-bad-s c =
     let a = c.args in
     let l = a.s.now in
-    record { s_value = (flawed_stop a.c a.store.now l c.unkept.result 5 _ _ c.unkept.ensures
-    (simp (c.first_bad-bad.ensures, lt-ltb (first_bad (allowed false) l) (length l) (rw (← c.first_bad-bad.ensures) c.if-bad-s.true)))).0; keeping = (flawed_stop a.c a.store.now l c.unkept.result 5 _ _ c.unkept.ensures
-    (simp (c.first_bad-bad.ensures, lt-ltb (first_bad (allowed false) l) (length l) (rw (← c.first_bad-bad.ensures) c.if-bad-s.true)))).1 }
-
--- the line by its parts
-there : (c : tie.After-known-told2)
-    → Read c.before.before.before.before.before.before.before.before.before.args.edition c.before.before.before.before.before.before.before.before.before.args.s.now c.before.x.given.0.0
-there c = read _ _ _ (sym c.before.x.given.1 ∙ c.before.before.before.parts-of.ensures)
+    let w : (read_by c.unkept.result a.store.now a.s.now ≡ judge_line a.edition (card_of a.c a.store.now) a.at a.s.now) × Keeping a.c a.s.now (added_by a.edition a.c.seen a.s.now) c.unkept.result =
+        flawed_stop a.c a.store.now l c.unkept.result 5 _ _ c.unkept.ensures
+        (simp (c.first_bad-bad.ensures, lt-ltb (first_bad (allowed false) l) (length l) (rw (← c.first_bad-bad.ensures) c.if-bad-s.true))) in
+    record { s_value = w.0; keeping = w.1 }
 
 pub slice_bounds-judge_parts-count : goal.slice_bounds-judge_parts-count
-slice_bounds-judge_parts-count c = (there c).inside
+slice_bounds-judge_parts-count c =
+    let there : Read c.args.edition c.args.s.now c.in-Line.x = read _ _ _ (sym c.in-Line.is ∙ c.parts_of.ensures) in
+    there.inside
 
 pub slice_bounds-judge_parts-start : goal.slice_bounds-judge_parts-start
-slice_bounds-judge_parts-start c = (there c).inside
+slice_bounds-judge_parts-start c =
+    let there : Read c.args.edition c.args.s.now c.in-Line.x = read _ _ _ (sym c.in-Line.is ∙ c.parts_of.ensures) in
+    there.inside
 
 pub judge_parts-requires : goal.judge_parts-requires
 judge_parts-requires c =
+    let there : Read c.args.edition c.args.s.now c.in-Line.x = read _ _ _ (sym c.in-Line.is ∙ c.parts_of.ensures) in
     let x = c.in-Line.is in
     let l = c.args.s.now in
     let v = c.in-Line.x.value_start in
-    let size : length (take (length l - v) (drop v l)) ≤ length l - v = simp length-take (omega arith) in (
-      c.requires.tables,
-      (
-        (c.args.edition, sym x ∙ c.parts_of.ensures),
-        (
-          ((there c).listed, (there c).low),
-          (omega (arith, (there c).inside, size, c.requires.stored.short), c.requires.1),
-        ),
-      ),
-    )
+    let size : length (take (length l - v) (drop v l)) ≤ length l - v = simp length-take (omega arith) in
+    record {
+      tables = c.requires.tables;
+      parted = (c.args.edition, sym x ∙ c.parts_of.ensures);
+      row_lt_all = (there.listed, there.low);
+      value_bound = omega (arith, there.inside, size, c.requires.stored.short);
+      counted = c.requires.counted;
+      stored = c.requires.stored;
+    }
 
 pub returns-in-Fault : goal.returns-in-Fault
 returns-in-Fault c =
     let a = c.args in
-    record { s_value = (stopped a.c a.store.now a.s.now c.unkept-in-Fault.result _ a.at _ c.unkept-in-Fault.ensures
-    (refused a.edition (card_of a.c a.store.now) a.at a.s.now (rw (← c.first_bad-bad.ensures) c.if-bad-s.false)
-    (sym c.in-Fault.is ∙ c.parts_of.ensures))).0; keeping = (stopped a.c a.store.now a.s.now c.unkept-in-Fault.result _ a.at _ c.unkept-in-Fault.ensures
-    (refused a.edition (card_of a.c a.store.now) a.at a.s.now (rw (← c.first_bad-bad.ensures) c.if-bad-s.false)
-    (sym c.in-Fault.is ∙ c.parts_of.ensures))).1 }
+    let w : (read_by c.unkept-in-Fault.result a.store.now a.s.now ≡ judge_line a.edition (card_of a.c a.store.now) a.at a.s.now) × Keeping a.c a.s.now (added_by a.edition a.c.seen a.s.now) c.unkept-in-Fault.result =
+        stopped a.c a.store.now a.s.now c.unkept-in-Fault.result _ a.at _ c.unkept-in-Fault.ensures
+        (refused a.edition (card_of a.c a.store.now) a.at a.s.now (rw (← c.first_bad-bad.ensures) c.if-bad-s.false) (sym c.in-Fault.is ∙ c.parts_of.ensures)) in
+    record { s_value = w.0; keeping = w.1 }
 
 pub returns-in-Line : goal.returns-in-Line
 returns-in-Line c =
-    let a = c.args in record { s_value = c.judge_parts.ensures.s_value
-          ∙ judged a.edition (card_of a.c a.store.now) a.at a.s.now (rw (← c.first_bad-bad.ensures) c.if-bad-s.false) _ (there c); keeping = (subst (λ (q : List ℕ). Keeping a.c a.s.now q c.judge_parts.result) (added_line a.edition a.c.seen a.s.now _ (there c)) c.judge_parts.ensures.keeping) }
+    let a = c.args in
+    let there : Read c.args.edition c.args.s.now c.in-Line.x = read _ _ _ (sym c.in-Line.is ∙ c.parts_of.ensures) in
+    record {
+      s_value = c.judge_parts.ensures.s_value
+          ∙ judged a.edition (card_of a.c a.store.now) a.at a.s.now (rw (← c.first_bad-bad.ensures) c.if-bad-s.false) _ there;
+      keeping = subst (λ (q : List ℕ). Keeping a.c a.s.now q c.judge_parts.result) (added_line a.edition a.c.seen a.s.now _ there) c.judge_parts.ensures.keeping;
+    }

@@ -1,6 +1,6 @@
 -- `card_judge::judge::settle` meets its contract. Assumes nothing.
 use mathlib.Core.Path.{subst, ◌∙◌}
-use mathlib.Core.List.{◌++◌}
+use mathlib.Core.List.{◌++◌, []}
 use Prim.Native.Nat.{ℕ, ◌+◌, ◌-◌, ◌≤◌}
 use native.Mathlib.Omega.{arith}
 use Rattle.card_line.specs.Parts.{altid_name, first_value}
@@ -20,7 +20,7 @@ instance_of-i-requires c =
 pub returns-then-i : goal.returns-then-i
 returns-then-i c =
     let a = c.args in
-    record { s_value = (stopped a.c a.store.now a.s.now c.unkept.result 10 a.at _ c.unkept.ensures
+    record { s_value = (stopped {added = []} a.c a.store.now a.s.now c.unkept.result 10 a.at _ c.unkept.ensures
     (told_second a.c a.store.now a.s.now a.once (first_value altid_name a.s.now) c.instance_of-i.result c.instance_of-i.ensures a.at a.x.row a.value.now
     c.requires.row_lt_all.1.0 c.if-i.true)).0; keeping = (stopped a.c a.store.now a.s.now c.unkept.result 10 a.at _ c.unkept.ensures
     (told_second a.c a.store.now a.s.now a.once (first_value altid_name a.s.now) c.instance_of-i.result c.instance_of-i.ensures a.at a.x.row a.value.now
@@ -36,7 +36,7 @@ pub enter-step-requires : goal.enter-step-requires
 enter-step-requires c =
     let a = c.args in
     let stored = c.requires.stored in
-    let n = takes_counts a.c a.store.now a.s.now a.once (first_value altid_name a.s.now) c.instance_of-i.result c.instance_of-i.ensures c.with_value-kept.result c.with_value-kept.ensures stored.lies stored.short in record { counted = rw (n.0, n.1) c.requires.counted; once_value = (c.requires.row_lt_all.1, takes_lies a.c a.store.now a.s.now a.once (first_value altid_name a.s.now) c.instance_of-i.result c.instance_of-i.ensures c.with_value-kept.result c.with_value-kept.ensures stored.lies stored.short); lies =  }
+    let n = takes_counts a.c a.store.now a.s.now a.once (first_value altid_name a.s.now) c.instance_of-i.result c.instance_of-i.ensures c.with_value-kept.result c.with_value-kept.ensures stored.lies stored.short in record { counted = rw (n.0, n.1) c.requires.counted; once_value = c.requires.row_lt_all.1; lies = takes_lies a.c a.store.now a.s.now a.once (first_value altid_name a.s.now) c.instance_of-i.result c.instance_of-i.ensures c.with_value-kept.result c.with_value-kept.ensures stored.lies stored.short }
 
 pub returns : goal.returns
 unfolding read_by
@@ -47,10 +47,10 @@ returns c =
     let j = c.instance_of-i.result in
     let size = takes_used a.c a.store.now a.s.now a.once (first_value altid_name a.s.now) j told c.with_value-kept.result c.with_value-kept.ensures stored.lies stored.short in record { s_value = c.enter-step.ensures.by_index (a.store.now ++ part j.from j.to a.s.now)
           ∙ told_on a.c a.store.now a.s.now a.once (first_value altid_name a.s.now) j told a.at a.x.row a.value.now c.requires.row_lt_all.1.0
-          c.with_value-kept.result c.with_value-kept.ensures stored.lies stored.short stored.all c.if-i.false; keeping = (record {
+          c.with_value-kept.result c.with_value-kept.ensures stored.lies stored.short stored.all c.if-i.false; keeping = record {
         order = told.order;
         inside = told.inside;
         holds = subst (λ (n : ℕ). Holds n c.enter-step.result) size c.enter-step.ensures.holds.0;
         adds = λ d z. added_is a.c a.store.now a.s.now a.once (first_value altid_name a.s.now) j told a.x.row c.requires.row_lt_all.1.0;
         counts = subst (λ (n : ℕ). KeepsOn n c.enter-step.result) size c.enter-step.ensures.holds.1;
-      }, ) }
+      } }

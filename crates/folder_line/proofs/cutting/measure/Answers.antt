@@ -1,7 +1,6 @@
 -- `folder_line::cutting::measure` meets its contract. Assumes nothing.
-use Prim.Native.Nat.{◌+◌, ◌-◌, ◌≤◌, ◌<◌}
+use Prim.Native.Nat.{◌≤◌}
 use native.Mathlib.Omega.{arith}
-use lib.ListN.{length}
 use Rattle.folder_line.specs.Pieces.{pieces, folded}
 use Rattle.folder_line.proofs.Turns.{turn_fits, turn_clean, turn_length, last_length}
 use Rattle.folder_line.proofs.cutting.measure.Goals as goal

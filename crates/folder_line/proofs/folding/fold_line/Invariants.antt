@@ -1,7 +1,7 @@
 -- `folder_line::folding::fold_line` meets its contract. Assumes nothing.
 use Prim.Native.Nat.{◌-◌, ◌≤◌}
 use lib.ListN.{length, drop}
-use Rattle.octets.proofs.Writes.{Written, room}
+use Rattle.octets.proofs.Writes.{Written}
 use Rattle.folder_line.specs.Pieces.{folded, Clean}
 use Rattle.folder_line.proofs.Turns.{folded_from}
 use Rattle.folder_line.proofs.folding.fold_line.Given as goal

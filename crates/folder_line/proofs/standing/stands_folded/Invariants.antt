@@ -1,7 +1,7 @@
 -- `folder_line::standing::stands_folded` meets its contract. Assumes nothing.
 use mathlib.Core.Path.{◌≡◌}
 use mathlib.Core.List.{[], ◌∷◌, ◌++◌}
-use Prim.Native.Nat.{◌+◌, ◌-◌, ◌≤◌}
+use Prim.Native.Nat.{◌-◌, ◌≤◌}
 use lib.ListN.{length, drop}
 use Rattle.line_folds.specs.Folds.{unfolded}
 use Rattle.folder_line.specs.Pieces.{folded, Clean}

@@ -1,6 +1,5 @@
 -- `version3_text::marks::next_mark` meets its contract. Assumes nothing.
 use mathlib.Core.Path.{sym, ◌∙◌}
-use Prim.Native.Nat.{◌-◌}
 use native.Mathlib.Omega.{arith}
 use Rattle.version3_text.specs.Renewed.{unmarked}
 use Rattle.octets.proofs.Runs.{run_stop, run_step, run_end}
