@@ -1,7 +1,7 @@
 -- Writing to room that may be too small: a piece alone, a run with a line behind it, and the last run of a text. Assumes nothing.
 use mathlib.Core.Path.{◌≡◌, refl, sym, ap, ◌∙◌}
 use mathlib.Core.Bool.{Bool, true, false}
-use mathlib.Core.List.{List, [], ◌∷◌, ◌++◌, append-nil}
+use mathlib.Core.List.{List, [], ◌++◌, append-nil}
 use Prim.Native.Nat.{ℕ, ◌+◌, ◌-◌, ◌<◌, ◌≤◌}
 use native.Mathlib.Omega.{arith}
 use lib.Dec.{leb}
@@ -36,7 +36,7 @@ module _ {xs d₀ d : List ℕ} {n : ℕ} (f : Fitted xs d₀ d n) where
   missed h = go (leb (length xs) (length d₀)) refl
     where
       go : (t : Bool) → leb (length xs) (length d₀) ≡ t → length d₀ < length xs
-      go true e = let l = leb-true _ _ e in absurd (omega (arith, (f.fits l).0))
+      go true e = let l : length xs ≤ length d₀ = leb-true _ _ e in absurd (omega (arith, (f.fits l).0))
       go false e = leb-false _ _ e
 
 -- ---- a piece is put behind what was written

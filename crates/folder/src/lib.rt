@@ -1,5 +1,6 @@
 // The folder: the logical lines of an input, folded, in either style and either edition.
 #![tactic(auto)]
+
 ghost use Rattle.std.specs.Prelude.{◌≡◌};
 ghost use Rattle.octets.specs.Room.{filled};
 ghost use Rattle.folder.specs.Outcome.{fold_in};

@@ -22,6 +22,6 @@ returns-then-is_roomy c =
     let p = c.is_roomy.ensures c.if-is_roomy.true in
     let n : length xs ≤ length a.out.now = omega (arith, styled_lines a.style (logical_lines a.s.now), text_most a.s.now, p.0) in
     let f = r.ensures.fits n in
-    ap (λ (v : Written). filled v r.new.1.1.0) f.0
+    ap (λ (v : Written). filled v r.new.d) f.0
     ∙ fill_fits xs a.out.now (length xs) refl n _ f.1
     ∙ within_bound xs a.out.now (length xs) refl (omega (arith, styled_lines a.style (logical_lines a.s.now), text_most a.s.now, p.1))

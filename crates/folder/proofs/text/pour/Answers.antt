@@ -4,13 +4,13 @@ use mathlib.Core.List.{List, ◌++◌, map, append_assoc}
 use Prim.Native.Nat.{ℕ, ◌+◌, ◌-◌, ◌≤◌}
 use native.Mathlib.Omega.{arith}
 use lib.ListN.{length, take, drop, length-append, length-take, length-drop}
-use borrow.Rule.Slice.PartMut.{put_mid, same_len_mid}
+use borrow.Rule.Slice.PartMut.{same_len_mid}
 use Rattle.octets.proofs.Writes.{start}
 use Rattle.line_folds.specs.Folds.{unfolded}
 use Rattle.line_folds.specs.Logical.{logical_lines}
 use Rattle.line_folds.proofs.SpanLaws.{whole}
 use Rattle.line_unfolding.proofs.PutLaws.{put_part}
-use Rattle.folder_line.specs.Pieces.{folded, folded_lines, Clean, All}
+use Rattle.folder_line.specs.Pieces.{folded, folded_lines}
 use Rattle.folder_raising.specs.Walk.{written}
 use Rattle.folder.proofs.TextLaws.{fold_turn, clean_turn}
 use Rattle.folder.proofs.FitLaws.{reach, missed, left_as, whole_length, over_poured, poured_whole}
@@ -150,7 +150,7 @@ pub put_run-requires : goal.put_run-requires
 put_run-requires c = c.loop-at.invariant.3.inside
 
 pub shape_of-d : goal.shape_of-d
-shape_of-d c = c.put_run.auto.1.0 ∙ c.loop-at.invariant.3.same
+shape_of-d c = c.put_run.auto.d ∙ c.loop-at.invariant.3.same
 
 pub returns : goal.returns
 returns c =

@@ -14,7 +14,7 @@ pub slice_bounds-put_line-end : goal.slice_bounds-put_line-end
 slice_bounds-put_line-end c = omega (arith, unfold_shorter c.args.s.now, c.requires)
 
 pub slice_bounds-put_line-end-2 : goal.slice_bounds-put_line-end-2
-slice_bounds-put_line-end-2 c = simp length-take (omega (arith, c.unfold-n.ensures.0, c.unfold-n.auto.1.0, unfold_shorter c.args.s.now, c.requires))
+slice_bounds-put_line-end-2 c = simp length-take (omega (arith, c.unfold-n.ensures.0, c.unfold-n.auto.d, unfold_shorter c.args.s.now, c.requires))
 
 pub put_line-requires : goal.put_line-requires
 put_line-requires c =

@@ -1,9 +1,6 @@
 -- src/text.rt:52:27
 use native.Mathlib.Omega.{arith}
 use lib.ListN.{length-take}
-use Rattle.folder.proofs.text.raise_start.Reads as reads
-use Rattle.folder.proofs.text.raise_start.Lts as lts
-use Rattle.folder_raising.proofs.raise.Reads as raise-reads
 use Rattle.folder.proofs.text.raise_start.Goals as goal
 
 -- src/text.rt:52:27
