@@ -3,7 +3,6 @@ use mathlib.Core.Path.{◌≡◌, refl, sym, ap, ◌∙◌}
 use mathlib.Core.List.{List, map}
 use Prim.Native.Nat.{ℕ, zero, suc, ◌-◌, ◌<◌, ◌≤◌}
 use native.Mathlib.Omega.{arith}
-use lib.Dec.{eqb}
 use lib.ListN.{length, get_or}
 use borrow.Author.Tests.{eq-eqb, ne_eqb}
 use Rattle.line_folds.specs.Logical.{logical_lines}
@@ -11,9 +10,9 @@ use Rattle.reader.specs.Outcome.{judge_of}
 use Rattle.reader.specs.declared.Verdict.{Verdict}
 use Rattle.reader.specs.declared.Verdict.TheVariants.{Accepted, Refused}
 use Rattle.report_lines.specs.Rows.{one, line_counts}
-use Rattle.report_weights.specs.Counts.{Count, counts, refusal_at, total_at, count_at}
+use Rattle.report_weights.specs.Counts.{counts, refusal_at, total_at, count_at}
 use Rattle.report_weights.specs.Parts.{refused_part, accepted_part, part_by, part, weights}
-use Rattle.report_weights.proofs.PlaceLaws.{at_total, at_refusal, at_property}
+use Rattle.report_weights.proofs.PlaceLaws.{at_refusal, at_property}
 
 -- an upload refused with n
 module _ (n : ℕ) where

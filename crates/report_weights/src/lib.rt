@@ -1,5 +1,6 @@
 // What one judgement adds to each count of a report.
 #![tactic(auto)]
+
 ghost use Rattle.std.specs.Prelude.{◌≡◌, map, ◌<◌, ◌≤◌};
 ghost use Rattle.numbers.specs.Counts as places;
 ghost use Rattle.report_weights.specs.Counts.{refusal_at, count_at, counts};

@@ -1,7 +1,6 @@
 -- `report_weights::weigh_accepted` meets its contract. Assumes nothing.
 use borrow.Author.Rules.{rules}
 use mathlib.Core.Path.{refl}
-use Prim.Native.Nat.{◌-◌}
 use lib.ListN.{length-replicate, length-set}
 use Rattle.report_weights.specs.Parts.{accepted_part}
 use Rattle.report_weights.proofs.PlaceLaws.{each_next, each_done}
