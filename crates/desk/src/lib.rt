@@ -1,5 +1,6 @@
 // The upload desk: 1 to 40 slots of 16,384 octets in a lent pool, and a session in each open one.
 #![tactic(auto)]
+
 ghost use Rattle.std.specs.Prelude.{◌≡◌, ◌<◌};
 ghost use Rattle.numbers.specs.Limits as limit;
 ghost use Rattle.desk_pool.specs.Pools.{Lies};

@@ -25,7 +25,7 @@ use Rattle.desk.specs.declared.Desk.{Desk}
 use Rattle.desk_ledger.specs.Answers.{Reply, refused as refusal, told, counts, part, verdict, said}
 use Rattle.desk_ledger.specs.Ledger.{Deed, adds, judges, shows, asks, releases, Call, opens, on, Found, absent, present, shut, answer, leaves, Ledger, lookup, change, Out, ledger_step, fresh_ledger, after}
 use Rattle.desk_ledger.specs.Uploads.{keep, mine, own, solo, joined}
-use Rattle.desk_ledger.specs.Ticks.{deed, releasing, Ticked, opens_at, adds_at, asks_of, plain, Clocked, stamp_of, counted, idle, Whose, nobody, of, lowest_idle, taken, takes, freed, clocked_by, plain_out, clocked_step, fresh_clocked, run_ticked, after_ticked, ReclaimsNone, SameTicked, same_opening, same_add, same_ask, SameTickedCalls, none, next}
+use Rattle.desk_ledger.specs.Ticks.{releasing, Ticked, opens_at, adds_at, asks_of, plain, Clocked, stamp_of, counted, idle, Whose, nobody, of, lowest_idle, taken, takes, freed, clocked_by, plain_out, clocked_step, fresh_clocked, run_ticked, after_ticked, ReclaimsNone, SameTicked, same_opening, same_add, same_ask, SameTickedCalls, none, next}
 use Rattle.desk_ledger.specs.Desks.{World, desk_step, fresh, Proper, answers, world, ledger_answers, ledger}
 use Rattle.desk_laws.specs.Demand.{OpenOn, OpenIn, Holds, Afterwards, Grants, Kept, own_answers, deeds_on, on_at, asked, Alike, Taken, Reclaims, Closed, used_up, no_slot, Opening, Demand3, Demand3AsAsked}
 use Rattle.desk_laws.proofs.LedgerRows.{no, Below, below_absent, length_close}

@@ -1,5 +1,5 @@
 -- The ledger with ticks is the plain ledger with a release before each opening that takes a session; and whose session that is. Assumes nothing.
-use Prim.Native.Nat.{ℕ, ◌+◌, ◌≤◌}
+use Prim.Native.Nat.{ℕ, ◌≤◌}
 use mathlib.Core.Path.{◌≡◌, refl, sym, ap, ◌∙◌}
 use mathlib.Core.Bool.{Bool, true, false}
 use mathlib.Core.List.{List, [], ◌∷◌, ◌++◌, map}
@@ -10,7 +10,7 @@ use Rattle.octets.specs.Pick.{pick}
 use Rattle.desk_entries.proofs.Searches.{clash}
 use Rattle.desk_ledger.specs.Ledger.{Deed, adds, releases, Call, on, Reply, refused, told, counts, part, present, Row, Ledger, lookup, Out, ledger_step, run, after}
 use Rattle.desk_ledger.specs.Uploads.{keep, mine, own, chunk, joined}
-use Rattle.desk_ledger.specs.Ticks.{Ticked, opens_at, adds_at, asks_of, plain, deed, Clocked, counted, idle, Whose, nobody, of, lower_if, lowest_idle, takes, taken, freed, clocked_by, plain_out, clocked_step, run_ticked, after_ticked, Spares, Spared, ReclaimsNone}
+use Rattle.desk_ledger.specs.Ticks.{Ticked, opens_at, adds_at, asks_of, plain, deed, Clocked, counted, idle, Whose, nobody, of, lower_if, lowest_idle, taken, freed, clocked_by, plain_out, clocked_step, run_ticked, after_ticked, Spares, Spared, ReclaimsNone}
 use Rattle.desk_laws.proofs.LedgerRows.{no}
 
 -- ---- one call

@@ -1,5 +1,6 @@
 // The reader: judges an input of cards, and writes its copy and its records.
 #![tactic(auto)]
+
 ghost use Rattle.std.specs.Prelude.{◌≡◌, List, ℕ, ◌≤◌, ltb, length};
 ghost use Rattle.numbers.specs.Limits as limit;
 ghost use Rattle.line_folds.specs.Folds.{unfolded};

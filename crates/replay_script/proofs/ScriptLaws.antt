@@ -15,7 +15,7 @@ use Rattle.octets.specs.Scan.{scan}
 use Rattle.octets.proofs.Scans.{scan_stop, scan_step, scan_end}
 use Rattle.desk_ledger.specs.Ticks.{judging, showing, counting, releasing, Ticked, opens_at, adds_at, asks_of}
 use Rattle.replay_script.specs.Numerals.{two_at, four_at}
-use Rattle.replay_script.specs.Scripts.{needed, width, call_of, calls_in, calls, decode}
+use Rattle.replay_script.specs.Scripts.{needed, width, call_of, calls_in, decode}
 use Rattle.replay_script.specs.Counts.{shows, shown, counted}
 use Rattle.replay_script.specs.declared.Counted.TheVariants.{Calls, Broken}
 

@@ -1,5 +1,6 @@
 // The calls of a script, counted and measured.
 #![tactic(auto)]
+
 pub mod call;
 pub mod numerals;
 

@@ -1,18 +1,17 @@
 -- What a chunk makes of a state with no fault known, and of its buffer. Assumes nothing.
 use mathlib.Core.Path.{◌≡◌, refl, sym, ap, subst, ◌∙◌}
-use mathlib.Core.Bool.{Bool, true, false, ◌||◌}
+use mathlib.Core.Bool.{true, false, ◌||◌}
 use mathlib.Core.List.{List, [], ◌∷◌, ◌++◌, append_assoc, append-nil}
-use Prim.Native.Nat.{ℕ, zero, suc, ◌+◌, ◌-◌, ◌<◌, ◌≤◌}
+use Prim.Native.Nat.{ℕ, ◌+◌, ◌-◌, ◌<◌, ◌≤◌}
 use native.Mathlib.Omega.{arith}
-use lib.Dec.{eqb, ltb, leb}
+use lib.Dec.{ltb, leb}
 use lib.ListN.{length, take, drop, replicate, length-drop, length-append}
 use lib.Seq.{length-take-le, take_at, drop_at}
-use borrow.Author.Tests.{lt-ltb, le-ltb, le-leb, lt-leb}
-use Rattle.octets.specs.Pick.{pick}
-use Rattle.octets.proofs.Bools.{by, or_right}
+use borrow.Author.Tests.{le-ltb, lt-leb}
+use Rattle.octets.proofs.Bools.{or_right}
 use Rattle.property_table.specs.declared.Edition.TheVariants.{First}
-use Rattle.card_state.specs.State.{Card, Step, Next, Refused, Flawed, fresh_card}
-use Rattle.card_state.specs.Kept.{Lies, card_of, step_of, fresh_kept}
+use Rattle.card_state.specs.State.{Card, Step, Next, fresh_card}
+use Rattle.card_state.specs.Kept.{card_of, step_of}
 use Rattle.card_state.specs.declared.Card.{Card as Kept}
 use Rattle.card_state.specs.declared.Step.{Step as KeptStep}
 use Rattle.card_state.specs.declared.Step.TheVariants.{Next as next, Refused as refused, Flawed as flawed}
@@ -21,16 +20,16 @@ use Rattle.desk_pool.specs.Pools.{patch}
 use Rattle.reader.specs.Outcome.{verdict_of}
 use Rattle.reader_walk.specs.Walk.{onward, judge_lines}
 use Rattle.watch_buffer.specs.Buffer.{padded}
-use Rattle.watch_buffer.proofs.BufferLaws.{append_padded, clear_padded, padded_front, padded_rest}
+use Rattle.watch_buffer.proofs.BufferLaws.{append_padded, padded_rest}
 use Rattle.watch_arrivals.specs.Arrivals.{tail_from, lone_from, next_from}
 use Rattle.watch_arrivals.proofs.ArrivalLaws.{lone_append, tail_append}
-use Rattle.watch_lines.specs.Parting.{Parting, with_line, opened, parted, ended_lines, open_line}
+use Rattle.watch_lines.specs.Parting.{Parting, with_line, parted, ended_lines, open_line}
 use Rattle.watch_lines.specs.Values.{halted, values_on, values_from}
 use Rattle.watch_lines.specs.Taking.{kept, joined_line, Within, Went}
 use Rattle.watch_lines.proofs.RunLaws.{sizes, judge_append, values_append, halted_values, open_law, ended_all, open_all, none_ends, some_ends, two_there, line_ends}
 use Rattle.watch.specs.Octets.{judged, altid_octets, known, used, buffer_after}
 use Rattle.watch.specs.declared.Watch.{Watch}
-use Rattle.watch.specs.State.{quiet_state, open_state, stopped_state, claims, Sound, Live, Quiet, Faulty, Stands, After}
+use Rattle.watch.specs.State.{open_state, stopped_state, claims, Live, After}
 use Rattle.watch.specs.State.Stands.{live, faulty}
 
 abbrev Fine : List ℕ → Type 0

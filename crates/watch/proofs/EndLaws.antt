@@ -1,14 +1,12 @@
 -- What the end answers, by what the state knows. Assumes nothing.
-use mathlib.Core.Path.{◌≡◌, refl, sym, ap, subst, ◌∙◌}
-use mathlib.Core.Bool.{Bool, true, false}
-use mathlib.Core.List.{List, [], ◌∷◌, ◌++◌}
-use Prim.Native.Nat.{ℕ, zero, suc, ◌+◌, ◌-◌, ◌<◌, ◌≤◌}
+use mathlib.Core.Path.{◌≡◌, refl, sym, ap, ◌∙◌}
+use mathlib.Core.Bool.{true, false}
+use mathlib.Core.List.{List, [], ◌∷◌}
+use Prim.Native.Nat.{ℕ, ◌+◌, ◌-◌, ◌<◌, ◌≤◌}
 use native.Mathlib.Omega.{arith}
-use lib.Dec.{eqb, ltb}
 use lib.ListN.{length, take, drop}
 use lib.Seq.{take-take}
 use borrow.Author.Tests.{lt-ltb, le-ltb, eq-eqb, ne_eqb}
-use Rattle.octets.specs.Pick.{pick}
 use Rattle.line_breaks.specs.Lone.{first_lone, ends_cr_lf}
 use Rattle.line_folds.specs.Folds.{line_length}
 use Rattle.line_folds.specs.Logical.{raw_lines}
@@ -16,21 +14,19 @@ use Rattle.property_table.specs.declared.Edition.TheVariants.{First}
 use Rattle.card_state.specs.State.{Card, Step, Next, Refused, Flawed, fresh_card}
 use Rattle.card_state.specs.Kept.{card_of}
 use Rattle.reader.specs.Outcome.{verdict_of, judge_in, judge_of}
-use Rattle.reader.specs.declared.Verdict.{Verdict}
 use Rattle.reader.specs.declared.Verdict.TheVariants.{Refused as Judged}
 use Rattle.reader_walk.specs.Walk.{onward, settled, judge_lines}
 use Rattle.watch_arrivals.specs.Arrivals.{tail_from, lone_from}
 use Rattle.watch_arrivals.proofs.ArrivalLaws.{first_fine, first_waits, first_known, ends_law, line_left, break_none}
 use Rattle.watch_lines.specs.Parting.{ended_lines, open_line}
-use Rattle.watch_lines.specs.Values.{halted}
 use Rattle.watch_lines.specs.Taking.{judgement}
 use Rattle.watch_lines.proofs.RunLaws.{sizes, judge_append, open_law}
 use Rattle.watch.specs.Octets.{judged, buffer_after}
 use Rattle.watch.specs.declared.Watch.{Watch}
-use Rattle.watch.specs.State.{Live, Faulty, Broken, Over, Stands, Reached}
+use Rattle.watch.specs.State.{Live, Stands}
 use Rattle.watch.specs.State.Stands.{live, faulty, broken, over}
 use Rattle.watch.proofs.ArriveLaws.{line_is}
-use Rattle.watch.proofs.FaultLaws.{counted, whole, stays, lives}
+use Rattle.watch.proofs.FaultLaws.{counted, whole, stays}
 
 -- the reader's answer by what it looks at
 answer_over : (i : List ℕ) → 16384 < length i → Judged 1 16384 ≡ judge_of i

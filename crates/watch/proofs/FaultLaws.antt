@@ -1,29 +1,29 @@
 -- What a chunk makes of a state by the faults of 1 and 3, and of one that knows a fault. Assumes nothing.
-use mathlib.Core.Path.{◌≡◌, refl, sym, ap, subst, ◌∙◌}
-use mathlib.Core.Bool.{true, false, ◌||◌, false≢true}
-use mathlib.Core.List.{List, [], ◌∷◌, ◌++◌}
-use Prim.Native.Nat.{ℕ, zero, suc, ◌+◌, ◌-◌, ◌<◌, ◌≤◌}
+use mathlib.Core.Path.{◌≡◌, refl, sym, ap, ◌∙◌}
+use mathlib.Core.Bool.{true, ◌||◌, false≢true}
+use mathlib.Core.List.{List, [], ◌++◌}
+use Prim.Native.Nat.{ℕ, ◌+◌, ◌-◌, ◌<◌, ◌≤◌}
 use native.Mathlib.Omega.{arith}
-use lib.Dec.{eqb, ltb, leb}
-use lib.ListN.{length, take, drop, replicate, length-append}
+use lib.Dec.{ltb, leb}
+use lib.ListN.{length, drop, replicate, length-append}
 use borrow.Author.Tests.{lt-ltb, le-leb}
 use Rattle.octets.proofs.Bools.{or_left, or_right}
 use Rattle.property_table.specs.declared.Edition.TheVariants.{First}
 use Rattle.card_state.specs.State.{Card, Step, Next, Refused, Flawed, fresh_card}
-use Rattle.card_state.specs.Kept.{card_of, fresh_kept}
+use Rattle.card_state.specs.Kept.{card_of}
 use Rattle.desk_pool.specs.Pools.{patch}
 use Rattle.reader.specs.Outcome.{verdict_of}
 use Rattle.reader_walk.specs.Walk.{onward, judge_lines}
 use Rattle.watch_buffer.specs.Buffer.{padded}
 use Rattle.watch_buffer.proofs.BufferLaws.{clear_padded, padded_rest}
-use Rattle.watch_arrivals.specs.Arrivals.{tail_from, lone_from, next_from}
+use Rattle.watch_arrivals.specs.Arrivals.{tail_from, lone_from}
 use Rattle.watch_arrivals.proofs.ArrivalLaws.{lone_append, lone_known, lone_le, tail_append}
 use Rattle.watch_lines.specs.Parting.{ended_lines, open_line}
 use Rattle.watch_lines.specs.Values.{halted}
 use Rattle.watch_lines.proofs.RunLaws.{sizes, judge_append, ended_all}
-use Rattle.watch.specs.Octets.{judged, altid_octets, known, used, buffer_after}
+use Rattle.watch.specs.Octets.{judged, altid_octets, known, buffer_after}
 use Rattle.watch.specs.declared.Watch.{Watch}
-use Rattle.watch.specs.State.{quiet_state, claims, Live, Quiet, Faulty, Broken, Over, Stands, After}
+use Rattle.watch.specs.State.{quiet_state, claims, Live, Stands, After}
 use Rattle.watch.specs.State.Stands.{live, faulty, broken, over}
 use Rattle.watch.proofs.ArriveLaws.{known_none, known_line, buffer_zero, buffer_open}
 

@@ -3,7 +3,6 @@ use mathlib.Core.Path.{◌≡◌, refl, sym, ap, subst, ◌∙◌}
 use mathlib.Core.List.{List, [], ◌∷◌, ◌++◌}
 use Prim.Native.Nat.{ℕ, ◌+◌, ◌-◌, ◌<◌, ◌≤◌}
 use native.Mathlib.Omega.{arith}
-use lib.Dec.{eqb, ltb, leb}
 use lib.ListN.{length, take, drop, replicate, length-drop, length-append, take-append-drop}
 use lib.Seq.{length-take-le, take-append-le, take-take}
 use borrow.Author.Tests.{eq-eqb, ne_eqb, lt-ltb, le-ltb, le-leb, lt-leb}
@@ -17,17 +16,16 @@ use Rattle.card_state.specs.declared.Step.TheVariants.{Next as next, Refused as 
 use Rattle.card_state.proofs.KeptLaws.{card_front, none_lie}
 use Rattle.desk_pool.specs.Pools.{patch}
 use Rattle.reader.specs.Outcome.{verdict_of}
-use Rattle.reader.specs.declared.Verdict.{Verdict}
 use Rattle.reader.specs.declared.Verdict.TheVariants.{Refused as Judged}
 use Rattle.reader_walk.specs.Walk.{settled, judge_lines}
 use Rattle.watch_arrivals.specs.Arrivals.{tail_step, tail_from, lone_from, next_from}
 use Rattle.watch_arrivals.proofs.ArrivalLaws.{tail_append, tail_short, next_tail}
-use Rattle.watch_lines.specs.Parting.{ended_lines, open_line}
+use Rattle.watch_lines.specs.Parting.{open_line}
 use Rattle.watch_lines.specs.Values.{values_from, buffers_from}
 use Rattle.watch_lines.specs.Taking.{kept, judgement, joined_line, Within, Went}
 use Rattle.watch_lines.proofs.RunLaws.{open_law}
 use Rattle.watch.specs.State.{quiet_state, open_state, stopped_state, claims, Sound}
-use Rattle.watch.specs.Outcome.{View, view_of, quiet_view, open_view, Came, came, count, cleared, new_lines, after_lines, lines_came, octets_came, chunk_came, begun, Comes, last_line, end_came}
+use Rattle.watch.specs.Outcome.{view_of, quiet_view, open_view, Came, came, count, cleared, new_lines, after_lines, lines_came, octets_came, chunk_came, begun, Comes, last_line, end_came}
 use Rattle.watch.specs.declared.Watch.{Watch}
 
 abbrev Stopped : KeptStep → Type 0

@@ -1,13 +1,11 @@
 -- States that were handed on: they can be worked with, claim no more than the buffer has, and start with any buffer. Assumes nothing.
 use mathlib.Core.Path.{◌≡◌, refl, sym, ap, subst, ◌∙◌}
-use mathlib.Core.Bool.{false}
 use mathlib.Core.List.{List, [], ◌∷◌, ◌++◌}
-use Prim.Native.Nat.{ℕ, zero, suc, ◌+◌, ◌-◌, ◌<◌, ◌≤◌}
+use Prim.Native.Nat.{ℕ, ◌+◌, ◌-◌, ◌<◌, ◌≤◌}
 use native.Mathlib.Omega.{arith}
 use lib.ListN.{length, take, drop, replicate, drop_of_length-le}
-use Rattle.octets.specs.Scan.{scan}
-use Rattle.card_state.specs.State.{Card, Step, Next, fresh_card}
-use Rattle.card_state.specs.Kept.{card_of, fresh_kept}
+use Rattle.card_state.specs.State.{Next, fresh_card}
+use Rattle.card_state.specs.Kept.{fresh_kept}
 use Rattle.card_state.specs.declared.Card.{Card as Kept}
 use Rattle.card_state.proofs.KeptLaws.{card_front, none_lie, fresh_card_lem}
 use Rattle.desk_pool.specs.Pools.{patch}
@@ -16,13 +14,13 @@ use Rattle.watch_buffer.specs.Buffer.{padded}
 use Rattle.watch_buffer.proofs.BufferLaws.{clear_padded}
 use Rattle.watch_arrivals.specs.Arrivals.{tail_from, lone_from, next_from}
 use Rattle.watch_arrivals.proofs.ArrivalLaws.{tail_short}
-use Rattle.watch_lines.specs.Parting.{part_by, parted, ended_lines, open_line}
+use Rattle.watch_lines.specs.Parting.{part_by, parted, open_line}
 use Rattle.watch_lines.specs.Values.{values_from}
 use Rattle.watch_lines.specs.Taking.{Within}
 use Rattle.watch_lines.proofs.RunLaws.{open_law}
-use Rattle.watch.specs.Octets.{judged, altid_octets, known, used, buffer_after}
+use Rattle.watch.specs.Octets.{judged, altid_octets, buffer_after}
 use Rattle.watch.specs.declared.Watch.{Watch}
-use Rattle.watch.specs.State.{fresh_watch, claims, Counts, Sound, Live, Quiet, Faulty, Broken, Over, Stands, Reached}
+use Rattle.watch.specs.State.{fresh_watch, claims, Sound, Quiet, Stands, Reached}
 use Rattle.watch.specs.State.Stands.{live, faulty, broken, over}
 use Rattle.watch.proofs.ArriveLaws.{known_none, buffer_open}
 use Rattle.watch.proofs.FaultLaws.{counted}

@@ -1,5 +1,6 @@
 // The reader that takes an input in chunks, cut anywhere: its state, and one lent buffer of 16,384 octets.
 #![tactic(auto)]
+
 ghost use Rattle.std.specs.Prelude.{◌≡◌, true, List, ◌++◌, ℕ, ◌+◌, ◌-◌, ◌<◌, ◌≤◌, ltb, length, take, drop};
 ghost use Rattle.numbers.specs.Limits as limit;
 ghost use Rattle.numbers.specs.Refusals as refusal;

@@ -1,17 +1,15 @@
 -- The lines of an input that goes on: one more line, and octets that come later. Assumes nothing.
-use mathlib.Core.Path.{◌≡◌, refl, sym, ap, subst, ◌∙◌}
-use mathlib.Core.Bool.{Bool, true, false}
+use mathlib.Core.Path.{◌≡◌, refl, sym, ap, ◌∙◌}
 use mathlib.Core.List.{List, [], ◌∷◌, ◌++◌}
-use Prim.Native.Nat.{ℕ, zero, suc, ◌+◌, ◌-◌, ◌<◌, ◌≤◌}
+use Prim.Native.Nat.{ℕ, zero, suc, ◌-◌, ◌<◌, ◌≤◌}
 use native.Mathlib.Omega.{arith}
-use lib.Dec.{eqb, ltb}
+use lib.Dec.{ltb}
 use lib.ListN.{length, take, drop, length-drop, length-append}
-use lib.Seq.{drop-append-le, take-append-le, drop-drop}
+use lib.Seq.{drop-append-le, take-append-le}
 use borrow.Author.Tests.{ltb-true, ltb-false, lt-ltb, le-ltb}
-use Rattle.octets.specs.Pick.{pick}
 use Rattle.octets.proofs.Bools.{by}
-use Rattle.watch_arrivals.specs.Arrivals.{tail_from, lone_from, next_from}
-use Rattle.watch_arrivals.proofs.ArrivalLaws.{next_known, next_le}
+use Rattle.watch_arrivals.specs.Arrivals.{next_from}
+use Rattle.watch_arrivals.proofs.ArrivalLaws.{next_known}
 use Rattle.watch_lines.specs.Parting.{Parting, with_line, opened, part_by, parted, ended_lines, open_line}
 
 -- a line has an octet

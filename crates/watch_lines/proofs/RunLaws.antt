@@ -1,17 +1,16 @@
 -- Lines judged in two runs, and the reader's lines of an input that has ended. Assumes nothing.
 use mathlib.Core.Path.{◌≡◌, refl, sym, ap, subst, ◌∙◌}
-use mathlib.Core.Bool.{Bool, true, false, false≢true}
+use mathlib.Core.Bool.{true, false≢true}
 use mathlib.Core.List.{List, [], ◌∷◌, ◌++◌, append_assoc}
 use Prim.Native.Nat.{ℕ, zero, suc, ◌+◌, ◌-◌, ◌<◌, ◌≤◌}
 use native.Mathlib.Omega.{arith}
-use lib.Dec.{eqb, ltb}
-use lib.ListN.{length, take, drop, length-drop, length-append, take-append-drop, drop_of_length-le}
-use lib.Seq.{length-take-le, take-append-le, drop-append-add, take_all}
-use borrow.Author.Tests.{ltb-true, ltb-false, lt-ltb, le-ltb}
-use Rattle.octets.specs.Pick.{pick}
+use lib.Dec.{ltb}
+use lib.ListN.{length, take, drop, length-drop, length-append, take-append-drop}
+use lib.Seq.{length-take-le, take-append-le, drop-append-add}
+use borrow.Author.Tests.{ltb-true, ltb-false}
 use Rattle.octets.proofs.Bools.{by}
 use Rattle.line_folds.specs.Folds.{line_length, unfolded}
-use Rattle.line_folds.specs.Logical.{lines_by, raw_lines}
+use Rattle.line_folds.specs.Logical.{raw_lines}
 use Rattle.line_folds.proofs.LineLaws.{lines_step, lines_end}
 use Rattle.property_table.specs.declared.Edition.{Edition}
 use Rattle.property_table.specs.declared.Edition.TheVariants.{First}
@@ -19,10 +18,10 @@ use Rattle.card_state.specs.State.{Card, Step, Next, Refused, Flawed}
 use Rattle.card_judge.specs.Judge.{judge_line}
 use Rattle.reader_walk.specs.Walk.{onward, settled, judge_lines}
 use Rattle.watch_arrivals.specs.Arrivals.{tail_from, lone_from, next_from}
-use Rattle.watch_arrivals.proofs.ArrivalLaws.{next_append, next_known, next_le, next_tail, next_least, next_line, tail_append, tails_other, fine_next, line_left}
+use Rattle.watch_arrivals.proofs.ArrivalLaws.{next_append, next_le, next_tail, next_least, next_line, tail_append, tails_other, fine_next}
 use Rattle.watch_lines.specs.Parting.{Parting, with_line, opened, parted, ended_lines, open_line}
 use Rattle.watch_lines.specs.Values.{halted, values_on, values_next, values_from}
-use Rattle.watch_lines.proofs.PartingLaws.{parted_step, parted_open, parted_append, joined}
+use Rattle.watch_lines.proofs.PartingLaws.{parted_step, parted_open, parted_append}
 
 -- the octets of lines with their ends
 unfoldable pub sizes : List (List ℕ) → ℕ

@@ -1,8 +1,8 @@
 -- One line judged with the buffer, and the lines one after the other. Assumes nothing.
 use mathlib.Core.Path.{◌≡◌, refl, sym, ap, subst, ◌∙◌}
-use mathlib.Core.Bool.{Bool, true, false, not, false≢true}
+use mathlib.Core.Bool.{true, false, not, false≢true}
 use mathlib.Core.List.{List, [], ◌∷◌, ◌++◌, append_assoc}
-use Prim.Native.Nat.{ℕ, zero, suc, ◌+◌, ◌-◌, ◌<◌, ◌≤◌}
+use Prim.Native.Nat.{ℕ, ◌+◌, ◌-◌, ◌<◌, ◌≤◌}
 use native.Mathlib.Omega.{arith}
 use lib.Dec.{eqb, ltb}
 use lib.ListN.{length, take, drop, replicate, length-drop, length-append, length-replicate}
@@ -17,18 +17,18 @@ use Rattle.line_folds.proofs.QuickLaws.{no_fold}
 use Rattle.line_folds.proofs.SpanLaws.{part_length}
 use Rattle.property_table.specs.declared.Edition.TheVariants.{First}
 use Rattle.card_state.specs.State.{Card, Step, Next, Refused, Flawed}
-use Rattle.card_state.specs.Kept.{Lies, card_of, step_of, Holds}
+use Rattle.card_state.specs.Kept.{card_of, step_of, Holds}
 use Rattle.card_state.specs.declared.Card.{Card as Kept}
 use Rattle.card_state.specs.declared.Step.{Step as KeptStep}
 use Rattle.card_state.specs.declared.Step.TheVariants.{Next as next, Refused as refused, Flawed as flawed}
 use Rattle.card_state.proofs.KeptLaws.{card_front}
-use Rattle.card_judge.specs.Judge.{judge_line, added_by}
+use Rattle.card_judge.specs.Judge.{judge_line}
 use Rattle.card_judge.proofs.CardLaws.{one_more}
 use Rattle.desk_pool.specs.Pools.{patch}
 use Rattle.reader_walk.specs.Walk.{onward, settled, judge_lines, added_of, Left}
 use Rattle.reader_walk.proofs.WalkLaws.{settled_next}
 use Rattle.watch_buffer.specs.Buffer.{padded}
-use Rattle.watch_buffer.proofs.BufferLaws.{clear_padded, padded_front, padded_rest}
+use Rattle.watch_buffer.proofs.BufferLaws.{clear_padded, padded_rest}
 use Rattle.watch_arrivals.specs.Arrivals.{lone_from, next_from}
 use Rattle.watch_arrivals.proofs.ArrivalLaws.{line_next, fine_next}
 use Rattle.watch_lines.specs.Parting.{Parting, with_line, opened, parted, ended_lines, open_line}

@@ -13,7 +13,6 @@ use Rattle.reader_walk.specs.Walk.{settled, judge_lines}
 use Rattle.watch_buffer.specs.Buffer.{padded}
 use Rattle.watch_lines.specs.Parting.{ended_lines, open_line}
 use Rattle.watch_lines.specs.Values.{values_on, values_next, values_from, laid_in, buffers_from}
-use Rattle.watch_lines.specs.declared.Walked.{Walked}
 
 -- the values that the state keeps, at the front of the buffer
 abbrev pub kept : Kept → List ℕ → List ℕ

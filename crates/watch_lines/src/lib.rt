@@ -1,5 +1,6 @@
 // The lines that end with a chunk, each judged once: the open one, and those that lie in the chunk; their ALTID values are kept.
 #![tactic(auto)]
+
 ghost use Rattle.std.specs.Prelude.{◌≡◌, false, List, ◌++◌, ℕ, ◌+◌, ◌-◌, ◌≤◌, length, take, drop};
 ghost use Rattle.numbers.specs.Limits as limit;
 ghost use Rattle.octets.specs.Pick.{pick};

@@ -1,7 +1,6 @@
 -- `replay_script::count` meets its contract. Assumes nothing.
 use Prim.Native.Nat.{◌-◌}
 use lib.ListN.{length}
-use Rattle.replay_script.specs.Counts.{shows}
 use Rattle.replay_script.proofs.ScriptLaws.{Counting}
 use Rattle.replay_script.proofs.count.Given as goal
 

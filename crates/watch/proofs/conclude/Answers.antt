@@ -38,8 +38,11 @@ pub returns : goal.returns
 returns c =
     let a = c.args in
     let p = c.requires in
-    let j = c.last_line-last.ensures in record { by_index = λ i r.
+    let j = c.last_line-last.ensures in record {
+      by_index = λ i r.
           let l = lives a.w a.buffer.now i [] c.if-w-eq-TOO_LONG.false c.if-w-eq-LONE_BREAK.false c.if-w-eq-LINE_FAULT.false r.stands in
           let pos : 0 < length i = omega (arith, counted a.w a.buffer.now i c.if-w-eq-TOO_LONG.false r.stands, c.if-n-eq0.false) in
           c.conclude.ensures j.0
-          ∙ end_live a.w a.buffer.now i c.if-w-eq-TOO_LONG.false c.if-w-eq-LONE_BREAK.false r.stands p.0.counts.short c.if-n-eq0.false c.if-w-ne-AFTER_CR_LF.false l (r.holds pos) (step_of j.0 c.last_line-last.result) j.1; value = (c.conclude.ensures j.0 ∙ ap (verdict_of _) j.1 ∙ end_is_judged a.w a.buffer.now c.if-w-eq-TOO_LONG.false c.if-n-eq0.false c.if-w-eq-LONE_BREAK.false c.if-w-eq-AFTER_CR.false c.if-w-ne-AFTER_CR_LF.false c.if-w-eq-LINE_FAULT.false) }
+          ∙ end_live a.w a.buffer.now i c.if-w-eq-TOO_LONG.false c.if-w-eq-LONE_BREAK.false r.stands p.0.counts.short c.if-n-eq0.false c.if-w-ne-AFTER_CR_LF.false l (r.holds pos) (step_of j.0 c.last_line-last.result) j.1;
+      value = (c.conclude.ensures j.0 ∙ ap (verdict_of _) j.1 ∙ end_is_judged a.w a.buffer.now c.if-w-eq-TOO_LONG.false c.if-n-eq0.false c.if-w-eq-LONE_BREAK.false c.if-w-eq-AFTER_CR.false c.if-w-ne-AFTER_CR_LF.false c.if-w-eq-LINE_FAULT.false);
+    }

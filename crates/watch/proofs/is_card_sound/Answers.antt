@@ -14,8 +14,7 @@ pub returns-then-c : goal.returns-then-c
 returns-then-c c = (λ e. no_way e, λ w. absurd (omega (arith, c.if-c.true, w.cards)))
 
 pub returns : goal.returns
-returns c =
-    (
+returns c = (
   λ e. record { lies = c.far_end.ensures.0 c.args.c.used (omega (arith, c.if-c-far_end.false)); used = omega (arith, c.if-start-c.false); cards = omega (arith, c.if-c.false); lines = leb-true c.args.c.lines c.args.start e },
   λ w. le-leb c.args.c.lines c.args.start w.lines,
 )

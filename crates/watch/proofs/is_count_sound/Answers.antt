@@ -18,8 +18,7 @@ pub returns-then-w-eq-LINE_FAULT : goal.returns-then-w-eq-LINE_FAULT
 returns-then-w-eq-LINE_FAULT c = (λ e. record { short = omega (arith, c.if-w-gt-OCTETS.false, c.if-w.false); tail = omega (arith, c.if-w-2.false); line = λ n. absurd (n c.if-w-eq-LINE_FAULT.true) }, λ w. refl)
 
 pub returns : goal.returns
-returns c =
-    (
+returns c = (
   λ e. record { short = omega (arith, c.if-w-gt-OCTETS.false, c.if-w.false); tail = omega (arith, c.if-w-2.false); line = λ n. leb-true c.args.w.tail c.args.w.«open» e },
   λ w. le-leb c.args.w.tail c.args.w.«open» (w.line c.if-w-eq-LINE_FAULT.false),
 )

@@ -14,5 +14,8 @@ returns-then-next-chunk c = let a = c.args in record { by_index = λ i l h. c.ta
 pub returns : goal.returns
 returns c =
     let a = c.args in
-    let p = c.requires in record { by_index = λ i l h. subst (λ (x : Watch). After x c.go_on.new.buffer (i ++ a.chunk.now)) (sym c.go_on.ensures.value)
-          (after_open a.w a.buffer.now i a.chunk.now l h c.requires.tail_bound.1 c.requires.chunk_value (omega (arith, c.if-next-chunk.false, c.next_line-next.ensures)) c.tail_after-tail.result c.tail_after-tail.ensures c.go_on.new.buffer c.go_on.ensures.buffer_after); comes = (octets_open a.w a.buffer.now a.chunk.now (omega (arith, c.if-next-chunk.false, c.next_line-next.ensures)) c.requires.sound.0.card c.requires.tail_bound.0 c.requires.tail_bound.1 (omega (arith, c.requires.sound.0.card.used, c.requires.sound.0.counts.short, c.requires.sound.1)) c.tail_after-tail.result c.tail_after-tail.ensures c.go_on.result c.go_on.ensures.value c.go_on.new.buffer c.go_on.ensures.buffer_after) }
+    let p = c.requires in record {
+      by_index = λ i l h. subst (λ (x : Watch). After x c.go_on.new.buffer (i ++ a.chunk.now)) (sym c.go_on.ensures.value)
+          (after_open a.w a.buffer.now i a.chunk.now l h c.requires.tail_bound.1 c.requires.chunk_value (omega (arith, c.if-next-chunk.false, c.next_line-next.ensures)) c.tail_after-tail.result c.tail_after-tail.ensures c.go_on.new.buffer c.go_on.ensures.buffer_after);
+      comes = (octets_open a.w a.buffer.now a.chunk.now (omega (arith, c.if-next-chunk.false, c.next_line-next.ensures)) c.requires.sound.0.card c.requires.tail_bound.0 c.requires.tail_bound.1 (omega (arith, c.requires.sound.0.card.used, c.requires.sound.0.counts.short, c.requires.sound.1)) c.tail_after-tail.result c.tail_after-tail.ensures c.go_on.result c.go_on.ensures.value c.go_on.new.buffer c.go_on.ensures.buffer_after);
+    }

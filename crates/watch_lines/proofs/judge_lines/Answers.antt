@@ -1,7 +1,7 @@
 -- `watch_lines::judge_lines` meets its contract. Assumes nothing.
 use native.Mathlib.Omega.{arith}
 use mathlib.Core.Path.{◌≡◌, refl, sym, subst}
-use mathlib.Core.Bool.{Bool, false}
+use mathlib.Core.Bool.{Bool}
 use mathlib.Core.List.{List}
 use Prim.Native.Nat.{ℕ, ◌+◌, ◌-◌}
 use lib.ListN.{length, take, drop, length-drop}
@@ -70,8 +70,11 @@ returns-in_default c =
     let a = c.args in
     let l = c.loop-after in
     let j = c.take_line-j in
-    let k = a.chunk.now in record { went = hand_refused a.c a.line.now (drop a.from k) a.buffer.now a.start l.card (hand_line l.first a.line.now k l.at l.end) (drop l.next k) l.buffer l.place l.invariant.6
-          j.new.buffer (l.card.used + (l.n + 2)) (omega (arith, l.invariant.2)) j.result c.in_default.not-Next j.ensures (drop l.next k); from_le_at = ((l.invariant.1.0, l.invariant.1.3)) }
+    let k = a.chunk.now in record {
+      went = hand_refused a.c a.line.now (drop a.from k) a.buffer.now a.start l.card (hand_line l.first a.line.now k l.at l.end) (drop l.next k) l.buffer l.place l.invariant.6
+          j.new.buffer (l.card.used + (l.n + 2)) (omega (arith, l.invariant.2)) j.result c.in_default.not-Next j.ensures (drop l.next k);
+      from_le_at = ((l.invariant.1.0, l.invariant.1.3));
+    }
 
 pub line_at-span-requires : goal.line_at-span-requires
 line_at-span-requires c = c.loop-after.invariant.1.3
@@ -99,8 +102,11 @@ returns-then-chunk-span-le2 c =
     let w = within_next l.card d s l.buffer b l.place to l.invariant.5 t in
     let m = length-drop a.from k in
     let full : length b ≡ 16384 = omega (arith, j, l.invariant.0) in
-    let r = hand_next a.c a.line.now (drop a.from k) a.buffer.now a.start l.card s (drop l.next k) l.buffer l.place l.invariant.6 b to (omega (arith, l.invariant.2)) d (omega (arith, full, w.used, l.invariant.6.place, m, c.requires.from_in_bounds)) t in record { went = rest_open a.c a.line.now (drop a.from k) a.buffer.now a.start d (drop l.next k) b (l.place + length s + 2) r
-          (turn_last k l.next v.result.end l.invariant.1.3 v.ensures.1 v.ensures.2 l.invariant.4 c.if-chunk-span-le2.true) w (omega (arith, m, length-drop l.next k, l.invariant.1)); from_le_at = ((l.invariant.1.0, l.invariant.1.3)) }
+    let r = hand_next a.c a.line.now (drop a.from k) a.buffer.now a.start l.card s (drop l.next k) l.buffer l.place l.invariant.6 b to (omega (arith, l.invariant.2)) d (omega (arith, full, w.used, l.invariant.6.place, m, c.requires.from_in_bounds)) t in record {
+      went = rest_open a.c a.line.now (drop a.from k) a.buffer.now a.start d (drop l.next k) b (l.place + length s + 2) r
+          (turn_last k l.next v.result.end l.invariant.1.3 v.ensures.1 v.ensures.2 l.invariant.4 c.if-chunk-span-le2.true) w (omega (arith, m, length-drop l.next k, l.invariant.1));
+      from_le_at = ((l.invariant.1.0, l.invariant.1.3));
+    }
 
 pub overflow_add-place : goal.overflow_add-place
 overflow_add-place c =

@@ -1,5 +1,4 @@
 -- `desk::Desk::begin` meets its contract. Assumes nothing.
-use Rattle.desk.specs.Steps.{grant}
 use Rattle.desk.proofs.Desk.begin.Goals as goal
 
 pub returns : goal.returns
