@@ -36,7 +36,7 @@ module _ {xs d₀ d : List ℕ} {n : ℕ} (f : Fitted xs d₀ d n) where
   missed h = go (leb (length xs) (length d₀)) refl
     where
       go : (t : Bool) → leb (length xs) (length d₀) ≡ t → length d₀ < length xs
-      go true e = let l = leb-true _ _ e in absurd (omega (arith, (f.fits l).0))
+      go true e = let l : length xs ≤ length d₀ = leb-true _ _ e in absurd (omega (arith, (f.fits l).0))
       go false e = leb-false _ _ e
 
 -- ---- a piece is put behind what was written

@@ -1,7 +1,7 @@
 -- As read, two inputs are written to equal octets exactly when their copies are equal; in either style what is written has the fewest physical
 -- lines. Assumes nothing.
 use mathlib.Core.Path.{◌≡◌, sym, ap, subst, ◌∙◌}
-use mathlib.Core.List.{List, map}
+use mathlib.Core.List.{List}
 use mathlib.Core.Logic.{◌↔◌}
 use Prim.Native.Nat.{ℕ, ◌≤◌}
 use lib.ListN.{length}

@@ -1,6 +1,6 @@
 -- No octets with the logical lines of an input, in short physical lines of whole characters, have fewer physical lines than what is written for
 -- it. Assumes nothing.
-use mathlib.Core.Path.{◌≡◌, refl, sym, ap, subst, ◌∙◌}
+use mathlib.Core.Path.{◌≡◌, refl, sym, ap, ◌∙◌}
 use mathlib.Core.List.{List, [], ◌∷◌, ◌++◌, append_assoc}
 use Prim.Native.Nat.{ℕ, suc, ◌+◌, ◌≤◌}
 use native.Mathlib.Omega.{arith}
@@ -8,7 +8,7 @@ use lib.ListN.{length, length-append}
 use Rattle.utf8.specs.Rfc3629.{Characters}
 use Rattle.utf8.proofs.Chains.{NoEnd, none, more, no_end}
 use Rattle.line_laws.specs.Lined.{Folded, end, octet, fold, Lined, no_line, and_then}
-use Rattle.folder_line.specs.Pieces.{first, later, pieces, joined, folded, folded_lines, Clean, All}
+use Rattle.folder_line.specs.Pieces.{pieces, joined, folded, folded_lines, Clean, All}
 use Rattle.folder_line.proofs.Turns.{clean_chars}
 use Rattle.folder_laws.specs.Cuttings.{UpTo}
 use Rattle.folder_laws.specs.Foldings.{Billed}

@@ -13,7 +13,7 @@ use Rattle.utf8.specs.Rfc3629.{Characters}
 use Rattle.utf8_laws.specs.Texts.{Each}
 use Rattle.utf8_laws.proofs.Utf8.{allowed_only}
 use Rattle.utf8.proofs.Chars.{ascii}
-use Rattle.utf8.proofs.Chains.{Chars, start, NoEnd, none, more, no_end}
+use Rattle.utf8.proofs.Chains.{Chars, start, NoEnd, more, no_end}
 use Rattle.line_laws.specs.Lined.{Blank, Folded, end, octet, fold}
 use Rattle.folder_line.specs.Pieces.{pieces, Clean, All}
 use Rattle.folder_line.proofs.Turns.{clean_chars, chars_clean}

@@ -1,5 +1,6 @@
 // Two edits of one card: the planner proposes pairs of lines, and the checker accepts exactly the plans that pass.
 #![tactic(auto)]
+
 ghost use Rattle.std.specs.Prelude.{◌≡◌, true, ◌+◌, ◌<◌, ◌≤◌, min, length, take, replicate};
 ghost use Rattle.numbers.specs.Limits as limit;
 ghost use Rattle.octets.specs.Room.{overlay};

@@ -16,7 +16,7 @@ use Rattle.line_parser.specs.Grammar.{Line}
 use Rattle.property_table.specs.declared.Edition.TheVariants.{First}
 use Rattle.card_line.specs.Parts.{row_of_line}
 use Rattle.reader_grammar.specs.Cards.{counts, count, lines_of}
-use Rattle.merge_sides.specs.Lines.{field_at, value_at, same_from, same_octets, same_property, first_line, one, count_lines}
+use Rattle.merge_sides.specs.Lines.{field_at, value_at, same_from, same_octets, same_property, first_line, count_lines}
 use Rattle.merge_partners.specs.Pairs.{same_uids}
 use Rattle.merge.specs.Sides.{Side}
 use Rattle.merge_words.specs.Lists.{At}
@@ -109,6 +109,7 @@ tells_head rs i x xs t = ap (λ (k : ℕ). field_at rs k 0) (omega arith) ∙ t 
 module _ (rs : List ℕ) (row : ℕ) where
   line_at : (xs : List Line) (i n : ℕ) (x : Line) → Tells rs i xs → Leading row xs n x → first_line rs row i (length xs) ≡ i + n
   unfolding first_line
+  line_at [] i n y t h = elim h [ ]
   line_at (x ∷ xs) i n y t (now e) = rw (tells_head rs i x xs t, eq-eqb (row_of_line First x) row e) (omega arith)
   line_at (x ∷ xs) i n y t (then {n = m} d l) =
       rw (tells_head rs i x xs t, ne_eqb (row_of_line First x) row d) (line_at xs (i + 1) m y (tells_tail rs i x xs t) l ∙ omega arith)
@@ -136,6 +137,7 @@ module _ (rs : List ℕ) (row : ℕ) where
 -- where a line of the row is the only one, it is the first
 counted : (row : ℕ) (xs : List Line) (n : ℕ) (x : Line) → At xs n x → row_of_line First x ≡ row → 1 ≤ lines_of First row xs
 unfolding count
+counted row [] n y h e = elim h [ ]
 counted row (x ∷ xs) n y first e = rw (eq-eqb (row_of_line First x) row e) (omega arith)
 counted row (x ∷ xs) n y (later {i = m} h) e =
     by (eqb (row_of_line First x) row)
@@ -144,6 +146,7 @@ counted row (x ∷ xs) n y (later {i = m} h) e =
 
 pub only_leads : (row : ℕ) (xs : List Line) (n : ℕ) (x : Line) → At xs n x → row_of_line First x ≡ row → lines_of First row xs ≡ 1 → Leading row xs n x
 unfolding count
+only_leads row [] n y h e c = elim h [ ]
 only_leads row (x ∷ xs) n y first e c = now e
 only_leads row (x ∷ xs) n y (later {i = m} h) e c =
     by (eqb (row_of_line First x) row)

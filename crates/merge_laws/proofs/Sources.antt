@@ -67,6 +67,7 @@ pub record FoundAt (c : List ℕ) (es : List Source) (i k n : ℕ) (uri : List �
 module _ (c : List ℕ) (es : List Source) (n : ℕ) where
   pub leads_found : {xs : List Line} {m : List Source} (i : ℕ) (uri : List ℕ) → Held c xs m → Rowed es i m → Leads xs n uri → FoundAt c es i (length m) n uri
   unfolding first_in
+  leads_found i uri no-entry r h = elim h [ ]
   leads_found i uri (passed d h) r (found p) = absurd (d p.row)
   leads_found i uri (passed d h) r (further f l) = leads_found i uri h r l
   leads_found i uri (entry {m = m} {e = e} q h) r (found p) =

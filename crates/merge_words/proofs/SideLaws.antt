@@ -69,6 +69,7 @@ marks_from_lem c rs (more {i = i} {w = w} {x = x} {xs = xs} s ss) h =
 -- ---- a line by its number
 
 stands_from : (c rs : List ℕ) {i w : ℕ} {xs : List Line} → AllStand c rs i w xs → {j : ℕ} {x : Line} → At xs j x → (v : ℕ) × Stands c rs (i + j) v x
+stands_from c rs none a = elim a [ ]
 stands_from c rs (more {i = i} {w = w} {x = x} s ss) first =
     let e : i + 0 ≡ i = omega arith in
     (w, rw e s)

@@ -187,13 +187,13 @@ module _ (c rs : List ℕ) (short : length c ≤ 4294967295) where
   pub row_only : {i w : ℕ} {xs : List Line} {m : List Source} → RowOf w xs m → AllStand c rs i w xs → AllLow xs → m ≡ lines_sources w xs
   unfolding lines_sources
   row_only sources.none none low = refl
-  row_only (sources.passed {w = w} {x = x} {xs = xs} d r) (more s ss) low =
-      rw (ne_eqb (row_of_line First x) 32 d) (row_only r ss (λ y h. low y (there h)))
-  row_only (sources.entry {w = w} {x = x} {xs = xs} {m = m} {e = e} {uri = u} t p l r) (more s ss) low =
+  row_only {i = i} (sources.passed {w = w} {x = x} {xs = xs} d r) (more s ss) low =
+      rw (ne_eqb (row_of_line First x) 32 d) (row_only {i = suc i} r ss (λ y h. low y (there h)))
+  row_only {i = i} (sources.entry {w = w} {x = x} {xs = xs} {m = m} {e = e} {uri = u} t p l r) (more s ss) low =
       let q : source_in x.value (w + length (front x)) ≡ e =
       source_law x e.number u w t (omega (arith, s.inside))
       ∙ same_source (source (capped e.number) (w + length (render x) - length u) (length u)) e (capped_low e.number (low x here e.number u t)) (omega (arith, p)) (omega (arith, l)) in
-      let ih = row_only r ss (λ y h. low y (there h)) in
+      let ih = row_only {i = suc i} r ss (λ y h. low y (there h)) in
       rw (eq-eqb (row_of_line First x) 32 t.row, q) (ap (λ (es : List Source). e ∷ es) ih)
 
   -- and theirs is
@@ -232,9 +232,9 @@ module _ (c rs : List ℕ) (short : length c ≤ 4294967295) where
   -- the URIs stand in the copy where such a row says
   pub row_held : {i w : ℕ} {xs : List Line} {m : List Source} → RowOf w xs m → AllStand c rs i w xs → Held c xs m
   row_held sources.none none = sides.none
-  row_held (sources.passed d r) (more s ss) = sides.passed d (row_held r ss)
-  row_held (sources.entry {w = w} {x = x} {e = e} {uri = u} t p l r) (more {i = i} s ss) =
-      sides.entry (subst (λ (a : List ℕ). Maps x e.number a) (sym (uri_at i w x e u s t p l)) t) (row_held r ss)
+  row_held {i = i} (sources.passed d r) (more s ss) = sides.passed d (row_held {i = suc i} r ss)
+  row_held {i = i} (sources.entry {w = w} {x = x} {e = e} {uri = u} t p l r) (more s ss) =
+      sides.entry (subst (λ (a : List ℕ). Maps x e.number a) (sym (uri_at i w x e u s t p l)) t) (row_held {i = suc i} r ss)
 
 -- ---- sources and lines
 
@@ -297,6 +297,7 @@ module _ (c rs : List ℕ) (short : length c ≤ 4294967295) where
 
   pub line_source : {i w : ℕ} {x : Line} {xs : List Line} → AllStand c rs i w xs → Member x xs → (n : ℕ) (u : List ℕ) → Maps x n u → LineSource n (lines_sources w xs)
   unfolding lines_sources
+  line_source none m n u t = elim m [ ]
   line_source (more {i = i} {w = w} {x = x} {xs = xs} s ss) here n u t =
       rw (eq-eqb (row_of_line First x) 32 t.row)
       (record { source = source_in x.value (w + length (front x)); member = here; number_is = here_number i w x n u s t })

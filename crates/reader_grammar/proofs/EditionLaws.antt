@@ -10,18 +10,18 @@ use Rattle.utf8.specs.Characters.{allowed, first_bad}
 use Rattle.line_folds.specs.Folds.{unfolded}
 use Rattle.line_folds.specs.Logical.{raw_lines, logical_lines}
 use Rattle.line_parser.specs.Parse.{got}
-use Rattle.line_parser.specs.Grammar.{Line, Each, WellFormed, front, render}
+use Rattle.line_parser.specs.Grammar.{Line, Each, front, render}
 use Rattle.line_parser.specs.Rule.{parse_line}
 use Rattle.line_parameters.proofs.Law.{line_law}
 use Rattle.property_table.specs.declared.Edition.TheVariants.{First, Second}
-use Rattle.property_table.specs.Rows.{row_of, is_new, line_kind, value_name, calscale_name}
+use Rattle.property_table.specs.Rows.{line_kind, value_name, calscale_name}
 use Rattle.value_kinds.specs.Kinds.{value_in}
 use Rattle.value_kinds.specs.declared.Fault.TheVariants.{Fits}
 use Rattle.value_laws.specs.Words.{Components}
 use Rattle.value_laws.proofs.NewLaws.{old_row}
 use Rattle.card_state.specs.State.{Card, Step, Next, fresh_card}
-use Rattle.card_line.specs.Parts.{param_value, row_of_line, kind_of_line, altid_of}
-use Rattle.card_judge.specs.Judge.{entered, judge_parts, judge_line}
+use Rattle.card_line.specs.Parts.{param_value, row_of_line, kind_of_line}
+use Rattle.card_judge.specs.Judge.{judge_parts, judge_line}
 use Rattle.card_judge.proofs.CardLaws.{passed}
 use Rattle.reader_walk.specs.Walk.{onward, settled, judge_lines}
 use Rattle.reader_walk.proofs.WalkLaws.{onward_next}
@@ -31,7 +31,7 @@ use Rattle.reader.specs.declared.Verdict.{Verdict}
 use Rattle.reader.specs.declared.Verdict.TheVariants.{Accepted}
 use Rattle.reader.proofs.AcceptLaws.{accepting}
 use Rattle.reader_laws.proofs.SameLines.{accepted}
-use Rattle.reader_grammar.specs.Values.{OfKind, anything, text, texts, uri, name, address, components, gender, pidmap, date, timestamp, offset, Fitting}
+use Rattle.reader_grammar.specs.Values.{OfKind, anything, text, texts, uri, name, address, components, gender, pidmap, date, timestamp, offset}
 use Rattle.reader_grammar.specs.Cards.{Readable}
 use Rattle.reader_grammar.specs.Inputs.{InputIn}
 use Rattle.reader_grammar.specs.Editions.{Old}

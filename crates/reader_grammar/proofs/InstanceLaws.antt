@@ -1,20 +1,18 @@
 -- How many instances of a property there are among lines: counted along them, and that the first line decides. Assumes nothing.
 use mathlib.Core.Path.{◌≡◌, refl, sym, ap, ◌∙◌}
-use mathlib.Core.Bool.{Bool, true, false, not, ◌&&◌, ◌||◌, false≢true}
+use mathlib.Core.Bool.{Bool, true, false, not, ◌&&◌, false≢true}
 use mathlib.Core.List.{List, [], ◌∷◌, ◌++◌, append-nil}
 use mathlib.Core.Option.{some}
 use mathlib.Core.Logic.{◌↔◌}
 use Prim.Native.Nat.{ℕ, suc, ◌+◌, ◌≤◌}
 use native.Mathlib.Omega.{arith}
-use lib.Dec.{eqb}
 use lib.Seq.{append_snoc}
-use borrow.Author.Tests.{eqb-true, eqb-false, eq-eqb, ne_eqb}
+use borrow.Author.Tests.{eqb-true, eq-eqb, ne_eqb}
 use Rattle.line_parser.specs.Grammar.{Line, Each}
-use Rattle.octets.proofs.Bools.{by, and_both, or_none_left, or_none_right}
-use Rattle.card_state.specs.State.{same_tag}
-use Rattle.card_line.specs.Parts.{row_of_line, altid_of}
+use Rattle.octets.proofs.Bools.{by, or_none_left, or_none_right}
+use Rattle.card_line.specs.Parts.{row_of_line}
 use Rattle.reader_grammar.specs.Cards.{counts, count, of_row, lines_of, any, OneInstance, alike, same_instance, instances}
-use Rattle.reader_grammar.proofs.Known.{any_last, any_some, some_any, each_last, instance_law}
+use Rattle.reader_grammar.proofs.Known.{any_last, each_last, instance_law}
 use Rattle.property_table.specs.declared.Edition.{Edition}
 
 module _ (ed : Edition) where

@@ -1,6 +1,5 @@
 -- The numbers of the refusals of an input: 1 to 5, 7 to 12 and 40 to 43. Assumes nothing.
 use Prim.Native.Nat.{ℕ, ◌≤◌}
-use mathlib.Core.Path.{refl}
 use mathlib.Core.List.{List}
 use mathlib.Core.Logic.{inl, inr}
 use native.Mathlib.Omega.{arith}

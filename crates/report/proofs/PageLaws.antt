@@ -1,13 +1,13 @@
 -- A text that fits a page stands there whole. Assumes nothing.
-use mathlib.Core.Path.{◌≡◌, refl, sym, ap, ◌∙◌}
+use mathlib.Core.Path.{◌≡◌, sym, ap, ◌∙◌}
 use mathlib.Core.List.{List, [], ◌∷◌, ◌++◌, append_assoc}
-use Prim.Native.Nat.{ℕ, suc, ◌+◌, ◌<◌, ◌≤◌}
+use Prim.Native.Nat.{ℕ, suc, ◌+◌, ◌≤◌}
 use native.Mathlib.Nat.{add-zero}
 use native.Mathlib.Numerals.{add-one}
 use native.Mathlib.Omega.{arith}
 use lib.ListN.{length, take, drop, set, length-set, length-append, take-append-drop}
 use lib.Seq.{take_at, take-suc-set, drop-set-lt}
-use Rattle.program_output.specs.Pages.{Page, page, one, added}
+use Rattle.program_output.specs.Pages.{Page, page, added}
 use Rattle.program_output.proofs.PageLaws.{one_fits}
 
 -- t from n on

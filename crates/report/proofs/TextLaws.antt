@@ -1,6 +1,6 @@
 -- The rows of a report, place by place, and how long they are. Assumes nothing.
-use mathlib.Core.Path.{◌≡◌, refl, sym, ap, ◌∙◌}
-use mathlib.Core.Bool.{Bool, true, false, not, ◌||◌}
+use mathlib.Core.Path.{◌≡◌, refl, ap, ◌∙◌}
+use mathlib.Core.Bool.{Bool, true, false, not}
 use mathlib.Core.List.{List, [], ◌∷◌, ◌++◌}
 use Prim.Native.Nat.{ℕ, zero, suc, ◌+◌, ◌-◌, ◌*◌, ◌/◌, ◌<◌, ◌≤◌}
 use native.Mathlib.Nat.{add-zero}
@@ -9,14 +9,13 @@ use native.Mathlib.Omega.{arith}
 use lib.Dec.{ltb, eqb}
 use lib.ListN.{length, get_or, drop, length-append, drop_of_length-le}
 use lib.Seq.{drop-cons, drop-drop, get_or-drop}
-use borrow.Author.Tests.{ltb-true, ltb-false, eq-eqb, ne_eqb}
+use borrow.Author.Tests.{ltb-true, ltb-false}
 use Rattle.octets.specs.Ascii as ascii
 use Rattle.octets.specs.Pick.{pick}
 use Rattle.program_output.specs.Digits.{decimal_in, decimal}
 use Rattle.program_output.specs.Pages.{Page, added}
-use Rattle.program_output.proofs.PageLaws.{then}
 use Rattle.report_weights.specs.Counts.{Count, uploads, accepted, cards, lines, octets, refused_with, lines_of, counts, refusal_at, total_at, count_at}
-use Rattle.report_weights.proofs.PlaceLaws.{count_at_lem, counts_length, at_total, at_refusal, at_property}
+use Rattle.report_weights.proofs.PlaceLaws.{count_at_lem, counts_length, at_refusal, at_property}
 use Rattle.report.specs.Text.{name, always, row, has, shown, rows_of}
 
 -- ---- lengths

@@ -8,7 +8,6 @@ use Rattle.octets.specs.Pick.{pick}
 use Rattle.report_lines.specs.Rows.{numbers_from}
 use Rattle.report_weights.specs.Parts.{weights}
 use Rattle.report.specs.declared.Report.{Report}
-use Rattle.report.specs.declared.Answer.{Answer}
 use Rattle.report.specs.declared.Answer.TheVariants.{Counted, Refused}
 use Rattle.report.specs.declared.Taken.{Taken}
 

@@ -1,5 +1,6 @@
 // The morning report: counts of judgements, taken one by one and printed.
 #![tactic(auto)]
+
 pub mod rows;
 
 ghost use Rattle.std.specs.Prelude.{◌≡◌, false, length};

@@ -1,19 +1,19 @@
 -- Kinds 9, 10 and 11 are the dates, timestamps and offsets of RFC 6350, section 4.3. Assumes nothing.
 use mathlib.Core.Path.{◌≡◌, refl, sym, ap, subst, ◌∙◌}
-use mathlib.Core.Bool.{Bool, true, false, not, ◌&&◌, ◌||◌, false≢true}
+use mathlib.Core.Bool.{Bool, true, false, not, ◌&&◌, ◌||◌}
 use mathlib.Core.List.{List, [], ◌∷◌, ◌++◌}
 use mathlib.Core.Logic.{◌⊎◌, inl, inr, ⊎_elim, ◌↔◌}
-use Prim.Native.Nat.{ℕ, suc, ◌+◌, ◌-◌, ◌*◌, ◌/◌, ◌%◌, ◌<◌, ◌≤◌}
+use Prim.Native.Nat.{ℕ, suc, ◌+◌, ◌*◌, ◌/◌, ◌%◌, ◌<◌, ◌≤◌}
 use native.Mathlib.Omega.{arith}
-use lib.Dec.{leb, ltb, eqb}
+use lib.Dec.{leb, eqb}
 use mathlib.Core.List.{append-nil}
-use borrow.Author.Tests.{leb-true, ltb-true, eqb-true, le-leb, lt-ltb, eq-eqb, eqb-false}
+use borrow.Author.Tests.{leb-true, ltb-true, eqb-true, le-leb, lt-ltb, eqb-false}
 use Rattle.octets.specs.Pick.{pick}
 use Rattle.octets.proofs.Bools.{by, and_both, or_some}
 use Rattle.octets.proofs.Upto.{upto}
 use Rattle.property_table.specs.declared.Edition.{Edition}
-use Rattle.value_kinds.specs.Octets.{Octets, digit, the_t, the_z, minus, sign, figures, among, holds}
-use Rattle.value_kinds.specs.Shapes.{Shape, never, empty, one, ◌then◌, ◌or◌, Matches, nullable, chain, is_never, fork, derivative}
+use Rattle.value_kinds.specs.Octets.{Octets, the_t, the_z, minus, sign, among, holds}
+use Rattle.value_kinds.specs.Shapes.{Shape, empty, one, ◌then◌, ◌or◌, Matches, nullable, chain, is_never, fork, derivative}
 use Rattle.value_kinds.specs.Kinds.{shape_in, kind_in}
 use Rattle.value_kinds.specs.declared.Fault.TheVariants.{Fits as fitting}
 use Rattle.value_laws.proofs.KindLaws.{fits_kind}

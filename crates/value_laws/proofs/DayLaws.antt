@@ -1,21 +1,17 @@
 -- Kinds 9, 10 and 11 in plain words: the two-digit parts, each by one computed test over the numbers below 100. Assumes nothing.
-use mathlib.Core.Path.{◌≡◌, refl, sym, ap, subst, ◌∙◌}
-use mathlib.Core.Bool.{Bool, true, false, not, ◌&&◌, ◌||◌, false≢true}
-use mathlib.Core.List.{List, [], ◌∷◌, ◌++◌}
-use mathlib.Core.Logic.{◌⊎◌, inl, inr, ⊎_elim, ◌↔◌}
-use Prim.Native.Nat.{ℕ, suc, ◌+◌, ◌-◌, ◌*◌, ◌/◌, ◌%◌, ◌<◌, ◌≤◌}
-use native.Mathlib.Omega.{arith}
+use mathlib.Core.Path.{◌≡◌, refl}
+use mathlib.Core.Bool.{Bool, true, false, not, ◌&&◌, false≢true}
+use mathlib.Core.List.{List, ◌++◌}
+use Prim.Native.Nat.{ℕ, ◌/◌, ◌%◌, ◌<◌}
 use lib.Dec.{leb, ltb, eqb}
-use borrow.Author.Tests.{leb-true, ltb-true, eqb-true, le-leb, lt-ltb, eq-eqb}
 use Rattle.octets.specs.Pick.{pick}
 use Rattle.octets.specs.Classes.{digit as is_digit}
-use Rattle.octets.proofs.Bools.{by, and_both}
 use Rattle.octets.proofs.Upto.{upto, alike}
-use Rattle.value_kinds.specs.Octets.{Octets, digit, the_t, the_z, minus, sign, figures, among, holds}
-use Rattle.value_kinds.specs.Shapes.{Shape, never, empty, one, ◌then◌, ◌or◌, Matches, nullable, chain, is_never, fork, derivative}
-use Rattle.value_kinds.specs.Dates.{fours, others, year, months, month, day28, day29, day30, day31, hour, minute, second, last_minute, offset, zoned, past_minute, past_hour, clock, last_second, time, timed, leap_date, common_date, no_year, date_and_or_time, full_time, leap_full, common_full, timestamp}
+use Rattle.value_kinds.specs.Octets.{among, holds}
+use Rattle.value_kinds.specs.Shapes.{Shape, never, empty, ◌or◌, Matches, nullable, chain, is_never, fork, derivative}
+use Rattle.value_kinds.specs.Dates.{months, month, day28, day29, day30, day31, hour, minute, second, last_minute, offset, zoned, past_minute, past_hour, clock, last_second, timed, full_time, leap_full, common_full}
 use Rattle.value_laws.proofs.Pairs.{figured, led, starts, Pair, pair}
-use Rattle.value_laws.specs.Calendar.{two, four, is_leap, february, days}
+use Rattle.value_laws.specs.Calendar.{two, is_leap, days}
 
 -- two digits whose number passes a test, and then the shape a
 pub record Tested (r : Shape) (t : ℕ → Bool) (a : Shape) : Type 0 where

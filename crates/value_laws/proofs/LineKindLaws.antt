@@ -1,8 +1,8 @@
 -- A line has the kind that its row and its parameters give it in plain words, and no other. Assumes nothing.
 use mathlib.Core.Path.{◌≡◌, refl, sym, ap, subst, ◌∙◌}
-use mathlib.Core.Bool.{Bool, true, false, ◌||◌, false≢true}
+use mathlib.Core.Bool.{true, false, ◌||◌, false≢true}
 use mathlib.Core.List.{List}
-use mathlib.Core.Logic.{◌⊎◌, inl, inr, ⊎_elim, ◌↔◌}
+use mathlib.Core.Logic.{inl, inr, ⊎_elim, ◌↔◌}
 use mathlib.Core.Option.{Option, none, some}
 use Prim.Native.Nat.{ℕ, ◌<◌}
 use native.Mathlib.Omega.{arith}
@@ -15,7 +15,7 @@ use Rattle.property_table.specs.Rows.{rows, newer, all_rows, row_at, kind_at, fr
 use Rattle.octets.proofs.Bools.{by, or_some}
 use Rattle.octets.proofs.Upto.{upto, alike}
 use Rattle.value_laws.proofs.RowLaws.{same_both}
-use Rattle.value_laws.specs.LineKinds.{Is, IsOther, Birthday, Valued, Fixed, KindOf, date_text, date_foreign, date, offset, text, uri, other, unnamed, fixed}
+use Rattle.value_laws.specs.LineKinds.{Is, IsOther, Birthday, Valued, KindOf, date_text, date_foreign, date, offset, text, uri, other, unnamed, fixed}
 
 -- the rule of a row, by what the row is
 rule_by : (n : ℕ) → n < 44 → rule_at n ≡ pick (eqb n 10 || eqb n 11) 2 (pick (eqb n 18) 3 (pick (takes_value n) 1 0))

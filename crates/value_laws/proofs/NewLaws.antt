@@ -1,17 +1,15 @@
 -- The names that edition two adds: edition one has no row for them, and for any other name both editions have one row. Assumes nothing.
-use mathlib.Core.Path.{◌≡◌, refl, sym, ap, ◌∙◌}
-use mathlib.Core.Bool.{Bool, true, false, false≢true}
+use mathlib.Core.Path.{◌≡◌, refl, sym, ◌∙◌}
+use mathlib.Core.Bool.{true, false}
 use mathlib.Core.List.{List, [], ◌∷◌}
-use Prim.Native.Nat.{ℕ, zero, suc, ◌<◌}
+use Prim.Native.Nat.{ℕ, suc, ◌<◌}
 use native.Mathlib.Omega.{arith}
 use lib.Dec.{ltb}
-use lib.ListN.{drop}
 use borrow.Author.Tests.{lt-ltb, ltb-true, ltb-false}
-use Rattle.octets.specs.Pick.{pick}
 use Rattle.octets.specs.Cases.{same}
 use Rattle.octets.proofs.Bools.{by}
 use Rattle.property_table.specs.declared.Edition.TheVariants.{First, Second}
-use Rattle.property_table.specs.Rows.{Row, rows, newer, all_rows, search, row_of, is_new, row_at}
+use Rattle.property_table.specs.Rows.{Row, rows, newer, all_rows, search, row_of, is_new}
 use Rattle.property_table.proofs.RowLaws.{search_from, row_low, second_row}
 use Rattle.value_laws.proofs.RowLaws.{named, found}
 

@@ -1,17 +1,16 @@
 -- Shapes of two digits and what comes after them, by the number that they make. Assumes nothing.
-use mathlib.Core.Path.{◌≡◌, refl, sym, ap, subst, ◌∙◌}
+use mathlib.Core.Path.{◌≡◌, sym, ap, subst, ◌∙◌}
 use mathlib.Core.Bool.{Bool, true, false, not, ◌&&◌, ◌||◌, false≢true}
 use mathlib.Core.List.{List, [], ◌∷◌, ◌++◌}
-use mathlib.Core.Logic.{◌⊎◌, inl, inr, ⊎_elim, ◌↔◌}
-use Prim.Native.Nat.{ℕ, suc, ◌+◌, ◌-◌, ◌*◌, ◌/◌, ◌%◌, ◌<◌, ◌≤◌}
+use mathlib.Core.Logic.{inl, inr}
+use Prim.Native.Nat.{ℕ, ◌+◌, ◌-◌, ◌*◌, ◌/◌, ◌%◌, ◌<◌, ◌≤◌}
 use native.Mathlib.Omega.{arith}
-use lib.Dec.{leb, eqb}
+use lib.Dec.{leb}
 use borrow.Author.Tests.{leb-true}
-use Rattle.octets.specs.Pick.{pick}
 use Rattle.octets.specs.Classes.{digit as is_digit}
 use Rattle.value_kinds.specs.Octets.{Octets, any, plain, inner, escapee, backslash, comma, semicolon, colon, letter, scheme, graphic, digit, sex, the_v, the_c, the_a, the_r, the_d, four, point, nought, the_t, the_z, minus, sign, figures, among, holds}
 use Rattle.value_kinds.specs.Shapes.{Shape, never, empty, one, ◌then◌, ◌or◌, many, Matches, nullable, derivative}
-use Rattle.octets.proofs.Bools.{by, and_both, or_some}
+use Rattle.octets.proofs.Bools.{and_both}
 use Rattle.octets.proofs.Upto.{upto, alike}
 use Rattle.value_kinds.proofs.ShapeLaws.{nil_cons, move, end_to, derivative_to}
 use Rattle.value_laws.proofs.Places.{derivative_from}

@@ -1,5 +1,5 @@
 -- Which kind a line's value has, to be held beside REFERENCE, The VALUE rule. Assumes nothing.
-use Rattle.std.specs.Prelude.{ℕ, ◌<◌, ◌≡◌, true, false, List, ◌⊎◌}
+use Rattle.std.specs.Prelude.{ℕ, ◌≡◌, true, false, List, ◌⊎◌}
 use Rattle.std.proofs.Math.Option.{Option, none, some}
 use Rattle.numbers.specs.Properties as property
 use Rattle.numbers.specs.Kinds as kinds

@@ -1,14 +1,11 @@
 -- The outcome of taking in and giving out, test by test. Assumes nothing.
-use mathlib.Core.Path.{◌≡◌, refl, sym, ap, ◌∙◌}
-use mathlib.Core.Bool.{Bool, true, false}
+use mathlib.Core.Path.{◌≡◌, sym}
+use mathlib.Core.Bool.{true, false}
 use mathlib.Core.List.{List}
 use Prim.Native.Nat.{ℕ, ◌<◌, ◌≤◌}
-use native.Mathlib.Omega.{arith}
-use lib.Dec.{eqb, ltb}
 use lib.ListN.{length}
 use borrow.Author.Tests.{lt-ltb, le-ltb, eq-eqb, ne_eqb}
-use Rattle.octets.specs.Pick.{pick}
-use Rattle.octets.specs.Room.{Filled, refuse, fill_bounded}
+use Rattle.octets.specs.Room.{refuse, fill_bounded}
 use Rattle.line_breaks.specs.Lone.{first_lone, ends_cr_lf}
 use Rattle.line_folds.specs.Logical.{raw_lines}
 use Rattle.version3_parameters.specs.declared.Way.{Way}

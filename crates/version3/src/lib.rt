@@ -1,5 +1,6 @@
 // Cards of version 3 taken in as version 4, and cards of version 4 given out as version 3.
 #![tactic(auto)]
+
 ghost use Rattle.std.specs.Prelude.{◌≡◌, ◌≤◌, length};
 ghost use Rattle.numbers.specs.Limits as limit;
 ghost use Rattle.octets.specs.Room.{filled};

@@ -1,13 +1,12 @@
 -- The judgement of a line, test by test. Assumes nothing.
 use mathlib.Core.Path.{◌≡◌, refl, sym, ap, ◌∙◌}
-use mathlib.Core.Bool.{Bool, true, false, not, ◌&&◌, ◌||◌}
-use mathlib.Core.List.{List, [], ◌∷◌}
+use mathlib.Core.Bool.{Bool, true, false, not, ◌&&◌}
+use mathlib.Core.List.{List}
 use Prim.Native.Nat.{ℕ, ◌-◌, ◌<◌, ◌≤◌}
 use native.Mathlib.Omega.{arith}
 use lib.Dec.{eqb, ltb}
 use lib.ListN.{length, take, drop}
 use borrow.Author.Tests.{lt-ltb, le-ltb, eq-eqb, ne_eqb}
-use Rattle.octets.specs.Pick.{pick}
 use Rattle.octets.specs.Ascii.{octets}
 use Rattle.octets.specs.Cases.{same}
 use Rattle.utf8.specs.Characters.{allowed, first_bad}
@@ -18,7 +17,7 @@ use Rattle.property_table.specs.declared.Edition.TheVariants.{First}
 use Rattle.property_table.specs.Rows.{framing}
 use Rattle.card_line.specs.Parts.{line_parts_by, line_parts_of}
 use Rattle.card_line.specs.declared.Parts.{Parts}
-use Rattle.card_line.specs.declared.LineParts.TheVariants.{Line as line, Fault as fault}
+use Rattle.card_line.specs.declared.LineParts.TheVariants.{Fault as fault}
 use Rattle.card_line.proofs.PartLaws.{Read}
 use Rattle.card_judge.specs.Judge.{laden}
 use Rattle.version3_text.specs.Renewed.{semicolons}
@@ -29,7 +28,6 @@ use Rattle.version3_parameters.specs.declared.Way.TheVariants.{Inward, Outward}
 use Rattle.version3_parameters.specs.Params.{prefs_fit}
 use Rattle.version3_parameters.specs.Places.{params_by, params_of}
 use Rattle.version3_judge.specs.declared.Set.{Set}
-use Rattle.version3_judge.specs.declared.Step.{Step}
 use Rattle.version3_judge.specs.declared.Step.TheVariants.{Next, Refused, Flawed}
 use Rattle.version3_judge.specs.Judge.{number_of, in_place, common, of_kind, short, fills, goes_over, version_read, whole, frames, goes, good, noted, judge_parts, judge_parsed, judge_line}
 

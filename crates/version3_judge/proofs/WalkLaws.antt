@@ -1,11 +1,9 @@
 -- One turn of the walk over the logical lines of an input. Assumes nothing.
 use mathlib.Core.Path.{◌≡◌, refl, sym, ap, ◌∙◌}
-use mathlib.Core.List.{List, [], ◌∷◌}
+use mathlib.Core.List.{List}
 use Prim.Native.Nat.{ℕ, ◌+◌, ◌-◌, ◌<◌, ◌≤◌}
 use native.Mathlib.Omega.{arith}
 use lib.ListN.{length, take, drop}
-use denote.Enum.Declared.{tag_of}
-use types.Run.{OneOf, miss}
 use Rattle.line_folds.specs.Folds.{line_length, unfolded}
 use Rattle.line_folds.specs.Logical.{raw_lines}
 use Rattle.line_folds.proofs.SpanLaws.{lines_turn, part_length}
@@ -13,7 +11,6 @@ use Rattle.version3_parameters.specs.declared.Way.{Way}
 use Rattle.version3_judge.specs.declared.Set.{Set}
 use Rattle.version3_judge.specs.declared.Step.{Step}
 use Rattle.version3_judge.specs.declared.Step.TheVariants.{Next, Refused, Flawed}
-use Rattle.version3_judge.specs.contracts.Step.{the_type}
 use Rattle.version3_judge.specs.Judge.{judge_line, onward, settled, judge_lines}
 
 -- the line from `at` to e is the first of those that are left; it was judged r
@@ -28,13 +25,13 @@ module _ (w : Way) (s : List ℕ) (at e : ℕ) (lt : at < length s) (he : e ≡ 
       ∙ ap (λ (q : Step). onward (settled at (take (e - at) (drop at s)) q) (judge_lines w (raw_lines (drop (e + 2) s)) (e + 2))) (sym hr)
 
 -- a refusal is handed up with its place, and the lines after it are not judged
-pub stopped_step : (p : ℕ) (l : List ℕ) (f : Set → Step) (r : Step) → OneOf (1 ∷ 2 ∷ []) (tag_of the_type r) → onward (settled p l r) f ≡ settled p l r
-stopped_step p l f (Next c) h = absurd (miss (1 ∷ 2 ∷ []) 0 tt h)
+pub stopped_step : (p : ℕ) (l : List ℕ) (f : Set → Step) (r : Step) → ((c : Set) → r ≡ Next c → ⊥) → onward (settled p l r) f ≡ settled p l r
+stopped_step p l f (Next c) h = absurd (h c refl)
 stopped_step p l f (Refused n q) h = refl
 stopped_step p l f (Flawed n o) h = refl
 
 -- a step that names no octet of the line is settled already
-pub settled_step : (p : ℕ) (l : List ℕ) (r : Step) → OneOf (0 ∷ 1 ∷ []) (tag_of the_type r) → r ≡ settled p l r
+pub settled_step : (p : ℕ) (l : List ℕ) (r : Step) → ((n o : ℕ) → r ≡ Flawed n o → ⊥) → r ≡ settled p l r
 settled_step p l (Next c) h = refl
 settled_step p l (Refused n q) h = refl
-settled_step p l (Flawed n o) h = absurd (miss (0 ∷ 1 ∷ []) 2 tt h)
+settled_step p l (Flawed n o) h = absurd (h n o refl)

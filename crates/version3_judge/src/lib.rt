@@ -1,5 +1,6 @@
 // The judgement of a card that is taken in from version 3 or given out to it, line by line: 5, 40 to 43, 9, 8, and 50 or 51.
 #![tactic(auto)]
+
 ghost use Rattle.std.specs.Prelude.{◌≡◌, false, not, ◌&&◌, ◌||◌, eqb, ◌+◌, ◌≤◌, ◌<◌, length, drop};
 ghost use Rattle.numbers.specs.Kinds as kinds;
 ghost use Rattle.numbers.specs.Limits as limit;

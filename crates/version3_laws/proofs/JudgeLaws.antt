@@ -229,6 +229,7 @@ passes_good w c x h f =
     ∙ rw (h.row, h.prefs, h.over) (by (eqb (row_of_line First x) 7) (λ q. rw (q, f (eqb-true (row_of_line First x) 7 q))) (λ q. rw q))
 
 advance_good : (w : Way) (c : Set) (x : Line) {b d : Before} → Tells c b → Advances w b x d → is_good w c x ≡ true
+advance_good w c x (at_whole e) h = elim h [ ]
 advance_good w c x (at_nothing e) (begins h) = good_begin w c x h.row ∙ rw (h.value, phase_fresh c e)
 advance_good w c x (at_begun {ys = ys} e hf hn hv) (version h z) =
     good_version w c x (version_row w x h) ∙ rw (hv ∙ none_any First (of_row First 34) ys z, number_from w x.value (version_number w x h))
@@ -256,6 +257,7 @@ unfolding noted
 noted_end c x r = at_whole (rw r)
 
 pub advance_tells : (w : Way) (c : Set) (x : Line) {b d : Before} → Tells c b → Advances w b x d → Tells (noted c (row_of_line First x)) d
+advance_tells w c x (at_whole e) h = elim h [ ]
 advance_tells w c x (at_nothing e) (begins h) = noted_first c x e h.row
 advance_tells w c x (at_begun {ys = ys} e hf hn hv) (version h z) = noted_begun c x ys (λ q. omega (arith, version_row w x h)) hf hn hv
 advance_tells w c x (at_begun {ys = ys} e hf hn hv) (passes h f) = noted_begun c x ys (eleven_no (eleven_to (row_of_line First x) h.row)).1 hf hn hv

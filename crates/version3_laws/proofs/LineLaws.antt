@@ -7,7 +7,6 @@ use mathlib.Core.Option.{Option}
 use Prim.Native.Nat.{ℕ}
 use lib.Dec.{eqb}
 use borrow.Author.Tests.{eqb-true, ne_eqb}
-use Rattle.octets.specs.Ascii.{octets}
 use Rattle.octets.specs.Classes.{valued}
 use Rattle.utf8.specs.Characters.{allowed}
 use Rattle.utf8_laws.specs.Texts.{Each as EachOctet}

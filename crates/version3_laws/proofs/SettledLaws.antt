@@ -1,5 +1,4 @@
 -- Taking in and giving out write octets, or refuse and leave the room as it was. Assumes nothing.
-use mathlib.Core.Path.{◌≡◌, refl, ap}
 use mathlib.Core.Bool.{Bool, true, false}
 use mathlib.Core.List.{List}
 use Prim.Native.Nat.{ℕ}
@@ -14,7 +13,7 @@ use Rattle.reader.specs.Outcome.{judge_of}
 use Rattle.reader.specs.declared.Verdict.{Verdict}
 use Rattle.reader.specs.declared.Verdict.TheVariants.{Accepted, Refused as Rejected}
 use Rattle.version3_parameters.specs.declared.Way.{Way}
-use Rattle.version3_parameters.specs.declared.Way.TheVariants.{Inward, Outward}
+use Rattle.version3_parameters.specs.declared.Way.TheVariants.{Outward}
 use Rattle.version3_judge.specs.declared.Step.{Step}
 use Rattle.version3_judge.specs.declared.Step.TheVariants.{Next, Refused, Flawed}
 use Rattle.version3_judge.specs.Judge.{fresh_set, judge_lines}

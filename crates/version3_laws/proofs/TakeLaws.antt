@@ -97,13 +97,13 @@ split_at i ds l es f q =
 -- ---- a line that is refused
 
 -- the refusal of a line, and its judgement
-line_from : {b : Before} {l raw : List ℕ} {n : ℕ} {w : Where} (at : ℕ) → LineRefused b l n w → (c : Set) → Tells c b
+line_from : {b : Before} {l : List ℕ} {n : ℕ} {w : Where} (raw : List ℕ) (at : ℕ) → LineRefused b l n w → (c : Set) → Tells c b
     → (s : Step) × Judged Inward b c at l s × (settled at raw s ≡ Refused n (at + place_in First raw w))
-line_from at (octet {o = o} h) c t = (Flawed 5 o, flawed h, refl)
-line_from at (rule {n = n} h f) c t = (Refused n at, ruled h f, ap (Refused n) (sym (add-zero at)))
-line_from at (order x r f) c t = (Refused 9 at, misplaced x r f, ap (Refused 9) (sym (add-zero at)))
-line_from at (laden x r h f) c t = (Refused 8 at, heavy x r h f, ap (Refused 8) (sym (add-zero at)))
-line_from at (not_taken x r h u f) c t =
+line_from raw at (octet {o = o} h) c t = (Flawed 5 o, flawed h, refl)
+line_from raw at (rule {n = n} h f) c t = (Refused n at, ruled h f, ap (Refused n) (sym (add-zero at)))
+line_from raw at (order x r f) c t = (Refused 9 at, misplaced x r f, ap (Refused 9) (sym (add-zero at)))
+line_from raw at (laden x r h f) c t = (Refused 8 at, heavy x r h f, ap (Refused 8) (sym (add-zero at)))
+line_from raw at (not_taken x r h u f) c t =
     (Refused 50 at, unwanted x r h u (not_taken_from x (value_unbroken x r.readable) c t h u f), ap (Refused 50) (sym (add-zero at)))
 
 record Told (b : Before) (l raw : List ℕ) (at n p : ℕ) : Type 0 where
@@ -171,7 +171,7 @@ module _ (i room : List ℕ) where
       let at = length (ended ds) in
       stop_answer Inward i room ds r es n (at + place_in First r w) f (raw_there ds es ls ms r l e c)
       (subst (λ (x : List (List ℕ)). SoFar Inward x b) (lines_there ds es ls ms r l e c) h)
-      (λ d t. line_from at (subst (λ (x : List ℕ). LineRefused b x n w) (line_there ds es ls ms r l e c) k) d t)
+      (λ d t. line_from _ at (subst (λ (x : List ℕ). LineRefused b x n w) (line_there ds es ls ms r l e c) k) d t)
       ∙ ap (λ (m : ℕ). refuse n (at + m) room) (placed_so l r (lined_there ds es ls ms r l e c).1 w q a)
   refused_from (reasons.RefusedIn.unfinished rs ls ys f e h) =
       open_answer Inward i room ys f (subst (λ (x : List (List ℕ)). SoFar Inward x (begun ys)) (lined_only e).1 h)

@@ -119,6 +119,7 @@ module _ (w : Way) where
 
   pub so_next : {ls : List (List ℕ)} {b d : Before} (x : Line) → SoFar w ls b → Advances w b x d → Readable x → Kinded w x → SoFar w (ls ++ (render x ∷ [])) d
   unfolding Each count
+  so_next x (after_card h c) a r k = elim a [ ]
   so_next x no_line (begins h) r k = in_card {ys = []} h (r, tt) (record { each = tt; versions = omega arith; names = omega arith })
   so_next x (in_card {b = b} {ys = ys} h q i) (version v z) r k =
       let s = version_row w x v in

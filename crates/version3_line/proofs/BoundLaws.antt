@@ -1,11 +1,11 @@
 -- A line as the other version has it is at most twice as long, and a few octets more. Assumes nothing.
-use mathlib.Core.Path.{◌≡◌, refl, sym, ap, ◌∙◌}
+use mathlib.Core.Path.{◌≡◌, refl, ap}
 use mathlib.Core.Bool.{Bool, true, false, ◌&&◌}
-use mathlib.Core.List.{List, [], ◌∷◌, ◌++◌, append-nil}
-use Prim.Native.Nat.{ℕ, zero, suc, pred, ◌+◌, ◌-◌, ◌*◌, ◌<◌, ◌≤◌}
+use mathlib.Core.List.{List, [], ◌∷◌, ◌++◌}
+use Prim.Native.Nat.{ℕ, zero, suc, pred, ◌+◌, ◌*◌, ◌≤◌}
 use native.Mathlib.Omega.{arith}
 use lib.Dec.{eqb}
-use lib.ListN.{length, get_or, drop, replicate, length-append}
+use lib.ListN.{length, get_or, drop, length-append}
 use Rattle.octets.specs.Pick.{pick}
 use Rattle.octets.specs.Scan.{gather}
 use Rattle.line_parser.specs.Parse.{Parse, got, bad}
@@ -15,14 +15,14 @@ use Rattle.line_parameters.proofs.Sound.{line_sound}
 use Rattle.property_table.specs.declared.Edition.TheVariants.{First}
 use Rattle.card_line.specs.Parts.{row_of_line, kind_of_line}
 use Rattle.version3_text.specs.Renewed.{pair_at, small, passed, bare_at, anew, renewed}
-use Rattle.version3_geo.specs.Floats.{schemed, made_new, made_old, swapped}
+use Rattle.version3_geo.specs.Floats.{schemed, made_old, swapped}
 use Rattle.version3_geo.proofs.GeoLaws.{made_new_length, old_length}
 use Rattle.version3_parameters.specs.declared.Way.{Way}
 use Rattle.version3_parameters.specs.declared.Way.TheVariants.{Inward, Outward}
 use Rattle.version3_parameters.specs.Params.{is_pref, kept, values_of, with_values, is_type, is_pref_param, changed, changed_all, any_prefers, mark, new_params, params_text}
-use Rattle.version3_parameters.proofs.EachLaws.{led_append, each_next}
+use Rattle.version3_parameters.proofs.EachLaws.{led_append}
 use Rattle.version3_parameters.proofs.RestLaws.{mark_in, mark_out}
-use Rattle.version3_line.specs.Lines.{needed, parted, anew_by, lacking, filled_by, version_text, geo_by, text_by, new_value, new_line, written_by}
+use Rattle.version3_line.specs.Lines.{needed, parted, anew_by, lacking, version_text, geo_by, text_by, new_value, new_line, written_by}
 use Rattle.version3_line.proofs.LineLaws.{filled_length, version_length}
 
 pick_le : (t : Bool) (a b : List ℕ) (n : ℕ) → length a ≤ n → length b ≤ n → length (pick t a b) ≤ n

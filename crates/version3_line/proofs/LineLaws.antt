@@ -1,19 +1,17 @@
 -- What is written for a value, case by case, and for a line, piece by piece. Assumes nothing.
 use mathlib.Core.Path.{◌≡◌, refl, sym, ap, ◌∙◌}
-use mathlib.Core.Bool.{Bool, true, false, ◌&&◌, ◌||◌}
+use mathlib.Core.Bool.{true, false}
 use mathlib.Core.List.{List, [], ◌∷◌, ◌++◌, append_assoc}
-use Prim.Native.Nat.{ℕ, suc, ◌+◌, ◌-◌, ◌<◌, ◌≤◌}
-use native.Mathlib.Nat.{add-zero}
+use Prim.Native.Nat.{ℕ, ◌+◌, ◌-◌, ◌<◌, ◌≤◌}
 use native.Mathlib.Omega.{arith}
 use lib.Dec.{eqb}
 use lib.ListN.{length, take, drop, set, replicate, length-append, length-replicate}
-use lib.Seq.{take-append_seam, length-take-le}
+use lib.Seq.{take-append_seam}
 use borrow.Author.Tests.{eq-eqb, ne_eqb}
 use Rattle.octets.specs.Room.{overlay}
 use Rattle.octets.specs.Ascii.{octets}
 use Rattle.folder_line.proofs.Puts.{marked}
-use Rattle.line_parser.specs.Parse.{got}
-use Rattle.line_parser.specs.Grammar.{Line, led, param_text, group_text, front, render, name_end}
+use Rattle.line_parser.specs.Grammar.{led, param_text, group_text, front, render, name_end}
 use Rattle.line_parser.specs.Rule.{parse_line}
 use Rattle.line_parameters.proofs.Sound.{line_sound}
 use Rattle.property_table.specs.declared.Edition.TheVariants.{First}

@@ -1,5 +1,6 @@
 // A line of one version written as a line of the other: its parameters and its value.
 #![tactic(auto)]
+
 ghost use Rattle.std.specs.Prelude.{◌≡◌, ◌+◌, ◌≤◌, length};
 ghost use Rattle.octets.specs.Room.{overlay};
 ghost use Rattle.octets.specs.Classes.{Classes};

@@ -2,11 +2,9 @@
 use mathlib.Core.Path.{ap, ◌∙◌}
 use mathlib.Core.List.{List, ◌++◌}
 use Prim.Native.Nat.{ℕ, ◌-◌}
-use native.Mathlib.Omega.{arith}
 use lib.ListN.{length, replicate}
 use Rattle.program_output.specs.Pages.{page, added}
 use Rattle.program_output.proofs.PageLaws.{then}
-use Rattle.program_output.proofs.Decimals.{decimal_is}
 use Rattle.cabbook_columns.proofs.put_right.Goals as goal
 
 pub returns : goal.returns
@@ -15,4 +13,4 @@ returns c =
     let p = page a.at a.room.now in
     let e = c.decimal-k.ensures in
     then _ _ p c.put_gap-gap_end.ensures c.put_all.ensures
-    ∙ ap (λ (l : List ℕ). added (replicate (a.width - length l) 32 ++ l) p) (e.1.1 ∙ decimal_is a.n c.decimal-k.result e.1.0 (omega arith))
+    ∙ ap (λ (l : List ℕ). added (replicate (a.width - length l) 32 ++ l) p) e.value

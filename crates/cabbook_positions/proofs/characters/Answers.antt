@@ -4,6 +4,7 @@ use mathlib.Core.Bool.{not}
 use Prim.Native.Nat.{◌<◌}
 use native.Mathlib.Omega.{arith}
 use lib.ListN.{length}
+use borrow.Author.Tests.{not-true, not-false}
 use Rattle.cabbook_positions.specs.Positions.{is_first}
 use Rattle.cabbook_positions.proofs.PositionLaws.{count_one, count_none, count_end}
 use Rattle.cabbook_positions.proofs.characters.Goals as goal
@@ -15,8 +16,8 @@ loop-i-preserved c =
     let i = c.loop-i.i in
     let h : i < length s = c.loop-i-test.true in
     elim c.if-not-tail.branch [
-      | then-not-tail w ↦ omega (arith, count_one is_first s i h (ap not (sym c.is_tail-tail.ensures ∙ w.if-not-tail.true)))
-      | else-not-tail w ↦ omega (arith, count_none is_first s i h (ap not (sym c.is_tail-tail.ensures ∙ w.if-not-tail.false)))
+      | then-not-tail w ↦ omega (arith, count_one is_first s i h (ap not (sym c.is_tail-tail.ensures ∙ not-true _ w.if-not-tail.true-raw)))
+      | else-not-tail w ↦ omega (arith, count_none is_first s i h (ap not (sym c.is_tail-tail.ensures ∙ not-false _ w.if-not-tail.false-raw)))
     ]
 
 pub returns : goal.returns

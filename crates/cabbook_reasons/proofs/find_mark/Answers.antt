@@ -1,6 +1,5 @@
 -- `cabbook_reasons::find_mark` meets its contract. Assumes nothing.
 use mathlib.Core.Path.{refl, sym, ◌∙◌}
-use Prim.Native.Nat.{◌-◌}
 use Rattle.cabbook_reasons.proofs.MarkLaws.{mark_here, mark_on, mark_end}
 use Rattle.cabbook_reasons.proofs.find_mark.Goals as goal
 

@@ -1,5 +1,4 @@
 -- `console_parts::entries_of` meets its contract. Assumes nothing.
-use Prim.Native.Nat.{◌-◌}
 use mathlib.Core.Path.{◌≡◌, refl, ap, ◌∙◌}
 use native.Mathlib.Omega.{arith}
 use Rattle.console_parts.specs.Parts.{sources_up_to}

@@ -7,7 +7,7 @@ pub returns-then-end-line : goal.returns-then-end-line
 returns-then-end-line c =
     let a = c.args in
     let e = c.next-end in
-    record { goes = past_end a.line.now a.from e.result e.ensures.0 c.if-end-line.true; inside = omega arith }
+    record { goes = past_end a.line.now a.from e.result e.ensures.value c.if-end-line.true; inside = omega arith }
 
 pub overflow_add-result : goal.overflow_add-result
 overflow_add-result c = omega (arith, c.next-end.ensures.upper_bound c.requires)
@@ -16,4 +16,4 @@ pub returns : goal.returns
 returns c =
     let a = c.args in
     let e = c.next-end in
-    record { goes = past_one a.line.now a.from e.result e.ensures.0; inside = omega (arith, e.ensures.1 c.requires) }
+    record { goes = past_one a.line.now a.from e.result e.ensures.value; inside = omega (arith, e.ensures.upper_bound c.requires) }

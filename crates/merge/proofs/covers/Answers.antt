@@ -1,7 +1,6 @@
 -- `merge::covers` meets its contract. Assumes nothing.
 use borrow.Author.Tests.{not-true, not-false}
 use mathlib.Core.Path.{refl, sym, ◌∙◌}
-use Prim.Native.Nat.{◌-◌}
 use native.Mathlib.Omega.{arith}
 use Rattle.merge_sides.proofs.Walks.{left, over}
 use Rattle.merge.specs.Plans.{covers_from}

@@ -1,8 +1,7 @@
 -- `merge::enter_plan` meets its contract. Assumes nothing.
 use borrow.Author.Tests.{not-true, not-false}
 use mathlib.Core.Path.{refl, sym, ap, ◌∙◌}
-use mathlib.Core.Bool.{true}
-use Prim.Native.Nat.{ℕ, ◌-◌}
+use Prim.Native.Nat.{ℕ}
 use native.Mathlib.Omega.{arith}
 use lib.ListN.{get_or}
 use Rattle.merge_partners.specs.Pairs.{first_of}
@@ -38,7 +37,7 @@ loop-at-preserved c =
     let a = c.args in
     let l = c.loop-at in
     let step = enter_step a.ca.now a.ra.now a.na a.cb.now a.rb.now a.nb l.p l.t in
-    let e = c.type_inv.t.ensures ∙ ap (λ (i : ℕ). step i c.wide_number-j.result) c.wide_number-i.ensures.0 ∙ ap (step (get_or a.plan.now l.at 0)) c.wide_number-j.ensures.0 in
+    let e = c.enter_step.ensures ∙ ap (λ (i : ℕ). step i c.wide_number-j.result) c.wide_number-i.ensures.0 ∙ ap (step (get_or a.plan.now l.at 0)) c.wide_number-j.ensures.0 in
     l.invariant ∙ enter_on a.ca.now a.ra.now a.na a.cb.now a.rb.now a.nb a.plan.now l.at l.p l.t _ _ _ e (omega (arith, c.if-plan-at-lt-PAIR.false)) (not-false _ c.if-not-enter_step.false-raw)
 
 pub returns : goal.returns

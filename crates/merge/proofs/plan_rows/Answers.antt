@@ -42,8 +42,8 @@ overflow_mul-n c =
     let a = c.args in
     let x : Side = (side c.read-v.new.copy c.read-v.new.records c.in-Accepted.ka c.in-Accepted.na) in
     let y : Side = (side c.read-w.new.copy c.read-w.new.records c.in-Accepted-w.kb c.in-Accepted-w.nb) in
-    let p : List ℕ = c.type_inv.p.new.1.1.1.1.1.1.1.1.1.1.0 in
-    let count = pair_count x y a.a a.b (replicate 4096 0) c.in-Pairs.n p (ap (λ (r : Paired). settled r p) (sym c.in-Pairs.is) ∙ c.type_inv.p.ensures) in
+    let p : List ℕ = c.settle-s.new.p in
+    let count = pair_count x y a.a a.b (replicate 4096 0) c.in-Pairs.n p (ap (λ (r : Paired). settled r p) (sym c.in-Pairs.is) ∙ c.settle-s.ensures) in
     omega (arith, count, pairs_few p 0 4096)
 
 pub overflow_mul-result : goal.overflow_mul-result

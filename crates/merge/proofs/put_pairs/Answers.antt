@@ -18,7 +18,7 @@ pub put_partner-at-requires : goal.put_partner-at-requires
 put_partner-at-requires c = c.loop-i-test.true
 
 pub loop-i-preserved : goal.loop-i-preserved
-loop-i-preserved c = (omega arith, c.put_partner-at.auto.1.1.0 ∙ c.loop-i.invariant.1, c.loop-i.invariant.2 ∙ partners_turn (marked c.loop-i.at c.loop-i.out) c.args.p.now 4096 c.loop-i.i c.loop-i-test.true ∙ ap (λ (s : Marked). put_partners s c.args.p.now (c.loop-i.i + 1) (4096 - (c.loop-i.i + 1))) (sym c.put_partner-at.ensures))
+loop-i-preserved c = (omega arith, c.put_partner-at.auto.out ∙ c.loop-i.invariant.1, c.loop-i.invariant.2 ∙ partners_turn (marked c.loop-i.at c.loop-i.out) c.args.p.now 4096 c.loop-i.i c.loop-i-test.true ∙ ap (λ (s : Marked). put_partners s c.args.p.now (c.loop-i.i + 1) (4096 - (c.loop-i.i + 1))) (sym c.put_partner-at.ensures))
 
 pub shape_of-out : goal.shape_of-out
 shape_of-out c = c.loop-i.invariant.1

@@ -77,10 +77,10 @@ returns-then-not-same_uids c =
     sym (no_uids x y a.a a.b a.p.now (sym oa ∙ c.if-is_over.false) (sym ob ∙ c.if-is_over-2.false) (sym sa ∙ not-false _ c.if-not-same_row.false-raw) (sym sb ∙ not-false _ c.if-not-same_row-2.false-raw) (sym c.same_uids.ensures ∙ not-true _ c.if-not-same_uids.true-raw))
 
 pub slice_bounds-join_all-end : goal.slice_bounds-join_all-end
-slice_bounds-join_all-end c = sym (c.put_marks-ea.auto.1.1.1.1.0 ∙ length-replicate {A = ℕ} 12288 0)
+slice_bounds-join_all-end c = sym (c.put_marks-ea.auto.out ∙ length-replicate {A = ℕ} 12288 0)
 
 pub slice_bounds-join_all-end-2 : goal.slice_bounds-join_all-end-2
-slice_bounds-join_all-end-2 c = sym (c.put_marks-eb.auto.1.1.1.1.0 ∙ length-replicate {A = ℕ} 12288 0)
+slice_bounds-join_all-end-2 c = sym (c.put_marks-eb.auto.out ∙ length-replicate {A = ℕ} 12288 0)
 
 pub returns-then-not-join_all : goal.returns-then-not-join_all
 unfolding marks_of row_in

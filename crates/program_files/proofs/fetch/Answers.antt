@@ -1,5 +1,4 @@
 -- `program_files::fetch` meets its contract. Assumes nothing.
-use Prim.Native.Nat.{◌-◌}
 use native.Mathlib.Omega.{arith}
 use Rattle.program_files.proofs.Rooms.{filled_on, filled_end}
 use Rattle.program_files.proofs.fetch.Goals as goal

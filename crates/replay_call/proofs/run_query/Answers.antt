@@ -9,36 +9,42 @@ use Rattle.replay_call.proofs.run_query.Goals as goal
 
 pub put_verdict-requires : goal.put_verdict-requires
 put_verdict-requires c =
-    let a = c.args in
-    let judged : (ask_step (world_of a.desk a.pool.now) a.t (query_of a.name)).reply ≡ verdict c.judge.result = query_judge (world_of a.desk a.pool.now) a.t a.name c.if-name-eq-JUDGE.true ∙ ap verdict (sym c.judge.ensures) in
+    let judged : let a = c.args in
+    (ask_step (world_of a.desk a.pool.now) a.t (query_of a.name)).reply ≡ verdict c.judge.result = let a = c.args in
+    query_judge (world_of a.desk a.pool.now) a.t a.name c.if-name-eq-JUDGE.true ∙ ap verdict (sym c.judge.ensures) in
     rw judged at c.requires
 
 pub returns-then-name-eq-JUDGE : goal.returns-then-name-eq-JUDGE
 returns-then-name-eq-JUDGE c =
-    let a = c.args in
-    let judged : (ask_step (world_of a.desk a.pool.now) a.t (query_of a.name)).reply ≡ verdict c.judge.result = query_judge (world_of a.desk a.pool.now) a.t a.name c.if-name-eq-JUDGE.true ∙ ap verdict (sym c.judge.ensures) in
+    let judged : let a = c.args in
+    (ask_step (world_of a.desk a.pool.now) a.t (query_of a.name)).reply ≡ verdict c.judge.result = let a = c.args in
+    query_judge (world_of a.desk a.pool.now) a.t a.name c.if-name-eq-JUDGE.true ∙ ap verdict (sym c.judge.ensures) in
     rw judged c.put_verdict.ensures
 
 pub put_part-requires : goal.put_part-requires
 put_part-requires c =
-    let a = c.args in
-    let shown : (ask_step (world_of a.desk a.pool.now) a.t (query_of a.name)).reply ≡ part c.show.result.now = query_show (world_of a.desk a.pool.now) a.t a.name c.if-name-eq-SHOW.true ∙ ap part (sym c.show.ensures.octets) in
+    let shown : let a = c.args in
+    (ask_step (world_of a.desk a.pool.now) a.t (query_of a.name)).reply ≡ part c.show.result.now = let a = c.args in
+    query_show (world_of a.desk a.pool.now) a.t a.name c.if-name-eq-SHOW.true ∙ ap part (sym c.show.ensures.octets) in
     rw shown at c.requires
 
 pub returns-then-name-eq-SHOW : goal.returns-then-name-eq-SHOW
 returns-then-name-eq-SHOW c =
-    let a = c.args in
-    let shown : (ask_step (world_of a.desk a.pool.now) a.t (query_of a.name)).reply ≡ part c.show.result.now = query_show (world_of a.desk a.pool.now) a.t a.name c.if-name-eq-SHOW.true ∙ ap part (sym c.show.ensures.octets) in
+    let shown : let a = c.args in
+    (ask_step (world_of a.desk a.pool.now) a.t (query_of a.name)).reply ≡ part c.show.result.now = let a = c.args in
+    query_show (world_of a.desk a.pool.now) a.t a.name c.if-name-eq-SHOW.true ∙ ap part (sym c.show.ensures.octets) in
     rw shown c.put_part.ensures
 
 pub put_answer-requires : goal.put_answer-requires
 put_answer-requires c =
-    let a = c.args in
-    let held : (ask_step (world_of a.desk a.pool.now) a.t (query_of a.name)).reply ≡ said c.held.result = query_held (world_of a.desk a.pool.now) a.t a.name c.if-name-eq-JUDGE.false c.if-name-eq-SHOW.false ∙ ap said (sym c.held.ensures) in
+    let held : let a = c.args in
+    (ask_step (world_of a.desk a.pool.now) a.t (query_of a.name)).reply ≡ said c.held.result = let a = c.args in
+    query_held (world_of a.desk a.pool.now) a.t a.name c.if-name-eq-JUDGE.false c.if-name-eq-SHOW.false ∙ ap said (sym c.held.ensures) in
     rw held at c.requires
 
 pub returns : goal.returns
 returns c =
-    let a = c.args in
-    let held : (ask_step (world_of a.desk a.pool.now) a.t (query_of a.name)).reply ≡ said c.held.result = query_held (world_of a.desk a.pool.now) a.t a.name c.if-name-eq-JUDGE.false c.if-name-eq-SHOW.false ∙ ap said (sym c.held.ensures) in
+    let held : let a = c.args in
+    (ask_step (world_of a.desk a.pool.now) a.t (query_of a.name)).reply ≡ said c.held.result = let a = c.args in
+    query_held (world_of a.desk a.pool.now) a.t a.name c.if-name-eq-JUDGE.false c.if-name-eq-SHOW.false ∙ ap said (sym c.held.ensures) in
     rw held c.put_answer.ensures

@@ -1,7 +1,6 @@
 -- `report::add` meets its contract. Assumes nothing.
 use borrow.Author.Rules.{rules}
 use mathlib.Core.Path.{refl}
-use Prim.Native.Nat.{◌-◌}
 use native.Mathlib.Omega.{arith}
 use lib.ListN.{length-replicate, length-set}
 use Rattle.report.proofs.StepLaws.{sum_fits, sums_next, sums_done}

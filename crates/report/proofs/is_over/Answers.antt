@@ -1,7 +1,6 @@
 -- `report::is_over` meets its contract. Assumes nothing.
 use borrow.Author.Rules.{rules}
 use mathlib.Core.Path.{sym, ◌∙◌}
-use Prim.Native.Nat.{◌-◌}
 use native.Mathlib.Omega.{arith}
 use Rattle.report.proofs.StepLaws.{over_all, over_here, over_later, over_end}
 use Rattle.report.proofs.is_over.Goals as goal

@@ -1,13 +1,8 @@
 -- src/lib.rt:24:20
 use mathlib.Core.Path.{sym, ap, ◌∙◌}
-use mathlib.Core.Bool.{true, false}
-use Prim.Native.Nat.{◌-◌}
 use Rattle.version3_judge.specs.declared.Step.{Step}
 use Rattle.version3.specs.Outcome.{concluded}
 use Rattle.version3.proofs.OutcomeLaws.{conclude_open, conclude_done}
-use Rattle.version3.proofs.conclude.Reads as reads
-use Rattle.version3.proofs.conclude.Lts as lts
-use Rattle.version3.proofs.sheet.write_card.Reads as write-card-reads
 use Rattle.version3.proofs.conclude.Goals as goal
 
 -- src/lib.rt:26:17

@@ -1,20 +1,9 @@
 -- src/lib.rt:40:9
 use mathlib.Core.Path.{sym, ap, ◌∙◌}
-use mathlib.Core.Bool.{true, false}
-use Prim.Native.Nat.{◌-◌}
 use borrow.Author.Tests.{not-true, not-false}
 use Rattle.version3_judge.specs.declared.Step.{Step}
 use Rattle.version3.specs.Outcome.{concluded}
 use Rattle.version3.proofs.OutcomeLaws.{convert_long, convert_empty, convert_lone, convert_unended, convert_on}
-use Rattle.version3.proofs.convert.Reads as reads
-use Rattle.version3.proofs.convert.Lts as lts
-use Rattle.line_breaks.proofs.ends_cr_lf.Reads as ends-cr-lf-reads
-use Rattle.line_breaks.proofs.first_lone.Reads as first-lone-reads
-use Rattle.octets.proofs.classes.table.Reads as classes-table-reads
-use Rattle.property_table.proofs.table.Reads as table-reads
-use Rattle.value_automaton.proofs.scanner.table.Reads as scanner-table-reads
-use Rattle.version3.proofs.conclude.Reads as conclude-reads
-use Rattle.version3_judge.proofs.walk.Reads as walk-reads
 use Rattle.version3.proofs.convert.Goals as goal
 
 pub returns-then-input-gt-OCTETS : goal.returns-then-input-gt-OCTETS

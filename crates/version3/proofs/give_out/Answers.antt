@@ -1,12 +1,7 @@
 -- src/lib.rt:73:9
 use mathlib.Core.Path.{sym, ap, ◌∙◌}
-use Prim.Native.Nat.{◌-◌}
 use Rattle.reader.specs.declared.Verdict.{Verdict}
 use Rattle.version3.specs.Outcome.{give_by, give_outcome}
-use Rattle.version3.proofs.give_out.Reads as reads
-use Rattle.version3.proofs.give_out.Lts as lts
-use Rattle.reader.proofs.judge.Reads as judge-reads
-use Rattle.version3.proofs.convert.Reads as convert-reads
 use Rattle.version3.proofs.give_out.Goals as goal
 
 -- src/lib.rt:70:1

@@ -1,12 +1,6 @@
 -- src/lib.rt:176:9
 use mathlib.Core.Path.{sym, ◌∙◌}
-use mathlib.Core.Bool.{true, false}
-use Prim.Native.Nat.{◌-◌}
 use Rattle.version3_judge.proofs.JudgeLaws.{fills_name, fills_address, fills_other}
-use Rattle.version3_judge.proofs.does_fill.Reads as reads
-use Rattle.version3_judge.proofs.does_fill.Lts as lts
-use Rattle.version3_judge.proofs.is_of_kind.Reads as is-of-kind-reads
-use Rattle.version3_judge.proofs.is_short.Reads as is-short-reads
 use Rattle.version3_judge.proofs.does_fill.Goals as goal
 
 -- src/lib.rt:176:9

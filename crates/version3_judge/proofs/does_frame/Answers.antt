@@ -1,15 +1,8 @@
 -- src/lib.rt:245:13
 use mathlib.Core.Path.{sym, ◌∙◌}
-use mathlib.Core.Bool.{true, false}
-use Prim.Native.Nat.{◌-◌}
 use borrow.Author.Tests.{not-true, not-false}
 use Rattle.octets.specs.Ascii.{octets}
 use Rattle.version3_judge.proofs.JudgeLaws.{frames_again, frames_version, frames_other, frames_begin, frames_end}
-use Rattle.version3_judge.proofs.does_frame.Reads as reads
-use Rattle.version3_judge.proofs.does_frame.Lts as lts
-use Rattle.octets.proofs.cases.same_name.Reads as same-name-reads
-use Rattle.version3_judge.proofs.is_version.Reads as is-version-reads
-use Rattle.version3_judge.proofs.is_whole.Reads as is-whole-reads
 use Rattle.version3_judge.proofs.does_frame.Goals as goal
 
 pub returns-then-c : goal.returns-then-c

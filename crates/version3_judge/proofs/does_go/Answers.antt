@@ -1,16 +1,8 @@
 -- src/lib.rt:282:9
 use mathlib.Core.Path.{sym, ◌∙◌}
-use mathlib.Core.Bool.{true, false}
-use Prim.Native.Nat.{◌-◌}
 use borrow.Author.Tests.{not-true, not-false}
 use Rattle.version3_parameters.specs.Places.{params_of}
 use Rattle.version3_judge.proofs.JudgeLaws.{goes_foreign, goes_second, goes_preferred, goes_by}
-use Rattle.version3_judge.proofs.does_go.Reads as reads
-use Rattle.version3_judge.proofs.does_go.Lts as lts
-use Rattle.version3_judge.proofs.does_go_over.Reads as does-go-over-reads
-use Rattle.version3_judge.proofs.is_common.Reads as is-common-reads
-use Rattle.version3_judge.proofs.is_second.Reads as is-second-reads
-use Rattle.version3_parameters.proofs.do_prefs_fit.Reads as do-prefs-fit-reads
 use Rattle.version3_judge.proofs.does_go.Goals as goal
 
 -- src/lib.rt:283:9

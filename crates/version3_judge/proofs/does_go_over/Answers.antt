@@ -1,13 +1,6 @@
 -- src/lib.rt:202:16
 use mathlib.Core.Path.{sym, ◌∙◌}
-use mathlib.Core.Bool.{true, false}
-use Prim.Native.Nat.{◌-◌}
 use Rattle.version3_judge.proofs.JudgeLaws.{over_in_geo, over_in, over_out_geo, over_out}
-use Rattle.version3_judge.proofs.does_go_over.Reads as reads
-use Rattle.version3_judge.proofs.does_go_over.Lts as lts
-use Rattle.version3_geo.proofs.is_new.Reads as is-new-reads
-use Rattle.version3_judge.proofs.does_fill.Reads as does-fill-reads
-use Rattle.version3_judge.proofs.is_old_geo.Reads as is-old-geo-reads
 use Rattle.version3_judge.proofs.does_go_over.Goals as goal
 
 -- src/lib.rt:203:17

@@ -1,9 +1,5 @@
 -- src/lib.rt:90:9
-use mathlib.Core.Bool.{true, false}
-use Prim.Native.Nat.{◌-◌}
 use Rattle.version3_judge.proofs.JudgeLaws.{place_inside, place_outside}
-use Rattle.version3_judge.proofs.in_order.Reads as reads
-use Rattle.version3_judge.proofs.in_order.Lts as lts
 use Rattle.version3_judge.proofs.in_order.Goals as goal
 
 pub returns-then-phase-eq-INSIDE : goal.returns-then-phase-eq-INSIDE

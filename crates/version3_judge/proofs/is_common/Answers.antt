@@ -1,11 +1,7 @@
 -- src/lib.rt:113:9
 use mathlib.Core.Path.{sym}
-use mathlib.Core.Bool.{true, false}
-use Prim.Native.Nat.{◌-◌}
 use borrow.Author.Tests.{eq-eqb, ne_eqb}
 use Rattle.version3_judge.specs.Judge.{common}
-use Rattle.version3_judge.proofs.is_common.Reads as reads
-use Rattle.version3_judge.proofs.is_common.Lts as lts
 use Rattle.version3_judge.proofs.is_common.Goals as goal
 
 pub returns-then-row-eq-TEL : goal.returns-then-row-eq-TEL

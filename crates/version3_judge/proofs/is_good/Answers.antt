@@ -1,14 +1,7 @@
 -- src/lib.rt:309:8
 use mathlib.Core.Path.{sym, ◌∙◌}
-use mathlib.Core.Bool.{true, false}
-use Prim.Native.Nat.{◌-◌}
 use Rattle.version3_parameters.specs.Places.{params_of}
 use Rattle.version3_judge.proofs.JudgeLaws.{good_frame, good_other}
-use Rattle.version3_judge.proofs.is_good.Reads as reads
-use Rattle.version3_judge.proofs.is_good.Lts as lts
-use Rattle.property_table.proofs.is_framing.Reads as is-framing-reads
-use Rattle.version3_judge.proofs.does_frame.Reads as does-frame-reads
-use Rattle.version3_judge.proofs.does_go.Reads as does-go-reads
 use Rattle.version3_judge.proofs.is_good.Goals as goal
 
 -- src/lib.rt:310:9

@@ -1,13 +1,8 @@
 -- src/lib.rt:99:9
 use mathlib.Core.Path.{sym, ◌∙◌}
-use mathlib.Core.Bool.{true, false}
-use Prim.Native.Nat.{◌-◌}
 use borrow.Author.Tests.{not-true, not-false}
 use borrow.Author.Tests.{eq-eqb, ne_eqb}
 use Rattle.card_judge.specs.Judge.{laden}
-use Rattle.version3_judge.proofs.is_laden.Reads as reads
-use Rattle.version3_judge.proofs.is_laden.Lts as lts
-use Rattle.property_table.proofs.is_framing.Reads as is-framing-reads
 use Rattle.version3_judge.proofs.is_laden.Goals as goal
 
 -- src/lib.rt:100:9

@@ -1,10 +1,6 @@
 -- src/lib.rt:151:9
 use mathlib.Core.Path.{sym, ap, ◌∙◌}
-use Prim.Native.Nat.{◌-◌}
 use Rattle.version3_judge.specs.Judge.{is_fit, of_kind}
-use Rattle.version3_judge.proofs.is_of_kind.Reads as reads
-use Rattle.version3_judge.proofs.is_of_kind.Lts as lts
-use Rattle.value_automaton.proofs.value_fault.Reads as value-fault-reads
 use Rattle.version3_judge.proofs.is_of_kind.Goals as goal
 
 -- src/lib.rt:146:1

@@ -1,11 +1,6 @@
 -- src/lib.rt:189:9
 use mathlib.Core.Path.{sym, ◌∙◌}
-use mathlib.Core.Bool.{true, false}
-use Prim.Native.Nat.{◌-◌}
 use borrow.Author.Tests.{eq-eqb, ne_eqb}
-use Rattle.version3_judge.proofs.is_old_geo.Reads as reads
-use Rattle.version3_judge.proofs.is_old_geo.Lts as lts
-use Rattle.version3_geo.proofs.is_old.Reads as is-old-reads
 use Rattle.version3_judge.proofs.is_old_geo.Goals as goal
 
 pub returns-then-kind-eq-TEXT : goal.returns-then-kind-eq-TEXT

@@ -1,10 +1,6 @@
 -- src/lib.rt:263:9
 use mathlib.Core.Path.{sym}
-use mathlib.Core.Bool.{true, false}
-use Prim.Native.Nat.{◌-◌}
 use borrow.Author.Tests.{eq-eqb, ne_eqb}
-use Rattle.version3_judge.proofs.is_second.Reads as reads
-use Rattle.version3_judge.proofs.is_second.Lts as lts
 use Rattle.version3_judge.proofs.is_second.Goals as goal
 
 pub returns-then-row-ne-N : goal.returns-then-row-ne-N

@@ -1,12 +1,7 @@
 -- src/lib.rt:163:9
 use mathlib.Core.Path.{sym, ◌∙◌}
-use Prim.Native.Nat.{◌-◌}
 use borrow.Author.Tests.{not-true, not-false}
 use Rattle.version3_judge.proofs.JudgeLaws.{short_no, short_on}
-use Rattle.version3_judge.proofs.is_short.Reads as reads
-use Rattle.version3_judge.proofs.is_short.Lts as lts
-use Rattle.version3_judge.proofs.is_of_kind.Reads as is-of-kind-reads
-use Rattle.version3_text.proofs.count_semicolons.Reads as count-semicolons-reads
 use Rattle.version3_judge.proofs.is_short.Goals as goal
 
 -- src/lib.rt:164:9

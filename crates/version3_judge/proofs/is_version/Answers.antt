@@ -1,12 +1,8 @@
 -- src/lib.rt:221:41
 use mathlib.Core.Path.{sym, ap, ◌∙◌}
-use Prim.Native.Nat.{◌-◌}
 use Rattle.octets.specs.Ascii.{octets}
 use Rattle.octets.specs.Cases.{same}
 use Rattle.version3_judge.specs.Judge.{version_read}
-use Rattle.version3_judge.proofs.is_version.Reads as reads
-use Rattle.version3_judge.proofs.is_version.Lts as lts
-use Rattle.octets.proofs.cases.same_name.Reads as same-name-reads
 use Rattle.version3_judge.proofs.is_version.Goals as goal
 
 -- src/lib.rt:217:1

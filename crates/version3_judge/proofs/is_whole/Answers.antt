@@ -1,11 +1,7 @@
 -- src/lib.rt:231:9
 use mathlib.Core.Path.{sym}
-use mathlib.Core.Bool.{true, false}
-use Prim.Native.Nat.{◌-◌}
 use borrow.Author.Tests.{not-true, not-false}
 use Rattle.version3_judge.specs.Judge.{whole}
-use Rattle.version3_judge.proofs.is_whole.Reads as reads
-use Rattle.version3_judge.proofs.is_whole.Lts as lts
 use Rattle.version3_judge.proofs.is_whole.Goals as goal
 
 pub returns-then-not-c : goal.returns-then-not-c

@@ -1,15 +1,8 @@
 -- the line by its parts
 use mathlib.Core.Path.{sym, ◌∙◌}
-use mathlib.Core.Bool.{true, false}
-use Prim.Native.Nat.{◌-◌}
 use Rattle.property_table.specs.declared.Edition.TheVariants.{First}
 use Rattle.card_line.proofs.PartLaws.{Read, read, read_accepted}
 use Rattle.version3_judge.proofs.JudgeLaws.{line_flawed, line_fault, line_parts}
-use Rattle.version3_judge.proofs.judge_line.Reads as reads
-use Rattle.version3_judge.proofs.judge_line.Lts as lts
-use Rattle.card_line.proofs.parts_of.Reads as parts-of-reads
-use Rattle.utf8_screening.proofs.units.first_bad.Reads as first-bad-reads
-use Rattle.version3_judge.proofs.judge_parts.Reads as judge-parts-reads
 use Rattle.version3_judge.proofs.judge_line.Goals as goal
 
 -- src/lib.rt:390:9

@@ -1,18 +1,10 @@
 -- src/lib.rt:362:9
 use mathlib.Core.Path.{sym, ap, ◌∙◌}
-use mathlib.Core.Bool.{true, false}
-use Prim.Native.Nat.{ℕ, ◌-◌}
+use Prim.Native.Nat.{ℕ}
 use borrow.Author.Tests.{not-true, not-false}
 use Rattle.version3_parameters.specs.Places.{params_of}
 use Rattle.version3_judge.specs.declared.Step.TheVariants.{Next, Refused}
 use Rattle.version3_judge.proofs.JudgeLaws.{parts_order, parts_laden, parts_not, parts_next}
-use Rattle.version3_judge.proofs.judge_parts.Reads as reads
-use Rattle.version3_judge.proofs.judge_parts.Lts as lts
-use Rattle.version3_judge.proofs.in_order.Reads as in-order-reads
-use Rattle.version3_judge.proofs.is_good.Reads as is-good-reads
-use Rattle.version3_judge.proofs.is_laden.Reads as is-laden-reads
-use Rattle.version3_judge.proofs.note.Reads as note-reads
-use Rattle.version3_judge.proofs.number_of.Reads as number-of-reads
 use Rattle.version3_judge.proofs.judge_parts.Goals as goal
 
 -- src/lib.rt:363:9

@@ -1,6 +1,5 @@
 -- the scratch holds the line unfolded
 use mathlib.Core.Path.{◌≡◌, sym, ap, ◌∙◌}
-use Prim.Native.Nat.{◌-◌}
 use native.Mathlib.Omega.{arith}
 use lib.ListN.{length, take}
 use borrow.Author.Tests.{not-true}
@@ -8,10 +7,6 @@ use lib.Seq.{take_at}
 use Rattle.line_folds.specs.Folds.{unfolded}
 use Rattle.line_folds.proofs.FoldLaws.{unfold_shorter}
 use Rattle.version3_judge.specs.Judge.{judge_line}
-use Rattle.version3_judge.proofs.judge_span.Reads as reads
-use Rattle.version3_judge.proofs.judge_span.Lts as lts
-use Rattle.line_unfolding.proofs.unfold.Reads as unfold-reads
-use Rattle.version3_judge.proofs.judge_line.Reads as judge-line-reads
 use Rattle.version3_judge.proofs.judge_span.Goals as goal
 
 -- src/lib.rt:419:9

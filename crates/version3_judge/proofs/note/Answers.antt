@@ -1,10 +1,5 @@
 -- src/lib.rt:340:16
-use Prim.Native.Nat.{◌-◌}
 use Rattle.version3_judge.specs.Judge.{noted}
-use Rattle.version3_judge.proofs.note.Reads as reads
-use Rattle.version3_judge.proofs.note.Lts as lts
-use Rattle.version3_judge.proofs.either.Reads as either-reads
-use Rattle.version3_judge.proofs.phase_after.Reads as phase-after-reads
 use Rattle.version3_judge.proofs.note.Goals as goal
 
 -- src/lib.rt:336:1

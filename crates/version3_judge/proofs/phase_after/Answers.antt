@@ -1,10 +1,6 @@
 -- src/lib.rt:330:9
 use mathlib.Core.Path.{sym}
-use mathlib.Core.Bool.{true, false}
-use Prim.Native.Nat.{◌-◌}
 use borrow.Author.Tests.{eq-eqb, ne_eqb}
-use Rattle.version3_judge.proofs.phase_after.Reads as reads
-use Rattle.version3_judge.proofs.phase_after.Lts as lts
 use Rattle.version3_judge.proofs.phase_after.Goals as goal
 
 pub returns-then-row-eq-END : goal.returns-then-row-eq-END

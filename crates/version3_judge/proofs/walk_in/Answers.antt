@@ -1,5 +1,5 @@
 -- `version3_judge::walk_in` meets its contract. Assumes nothing.
-use mathlib.Core.Path.{◌≡◌, refl, sym, ap, ◌∙◌}
+use mathlib.Core.Path.{refl, sym, ap, ◌∙◌}
 use mathlib.Core.List.{List}
 use Prim.Native.Nat.{ℕ, ◌+◌, ◌-◌}
 use native.Mathlib.Omega.{arith}
@@ -8,25 +8,9 @@ use Rattle.line_folds.specs.Logical.{raw_lines}
 use Rattle.line_folds.proofs.LineLaws.{lines_end}
 use Rattle.line_folds.proofs.SpanLaws.{whole, part_length}
 use Rattle.version3_judge.specs.declared.Step.{Step}
-use Rattle.version3_judge.specs.Judge.{fresh_set, onward, settled, judge_lines}
+use Rattle.version3_judge.specs.Judge.{onward, settled, judge_lines}
 use Rattle.version3_judge.proofs.WalkLaws.{judged, stopped_step}
 use Rattle.version3_judge.proofs.walk_in.Goals as goal
-
--- the line at hand, as it came
-abbrev line : tie.After-judge-span invariant-loop decreases-loop → List ℕ
-line c =
-    let at = c.before.before.before.before.before.before.loop.at in
-    take (c.before.before.before.before.line_at.result.end - at) (drop at c.before.before.before.before.before.before.before.before.before.before.args.s.now)
-
--- one turn, judged
-turn : (c : tie.After-judge-span invariant-loop decreases-loop)
-    → judge_lines c.before.before.before.before.before.before.before.before.before.before.args.way (raw_lines c.before.before.before.before.before.before.before.before.before.before.args.s.now) 0 fresh_set
-    ≡ onward (settled c.before.before.before.before.before.before.loop.at (line c) c.judge-span.result) (judge_lines c.before.before.before.before.before.before.before.before.before.before.args.way (raw_lines (drop (c.before.before.before.before.line_at.result.end + 2) c.before.before.before.before.before.before.before.before.before.before.args.s.now)) (c.before.before.before.before.line_at.result.end + 2))
-turn c =
-    let l = c.before.before.before.before.before.before.loop in
-    let v = c.before.before.before.before.line_at in
-    let a = c.before.before.before.before.before.before.before.before.before.before.args in
-    l.invariant.1 ∙ judged a.way a.s.now l.at v.result.end c.before.before.before.before.before.loop-test.true v.ensures.1 v.ensures.2 l.c c.judge-span.result c.judge-span.ensures
 
 pub loop-at-init : goal.loop-at-init
 loop-at-init c = (refl, ap (judge_lines c.args.way (raw_lines c.args.s.now) 0) (sym c.fresh-c.ensures))
@@ -47,11 +31,8 @@ settle-requires c =
     let n = part_length a.s.now l.at v.result.end c.loop-at-test.true v.ensures.1 v.ensures.2 in
     omega (arith, n, c.loop-at-test.true, v.ensures.1, v.ensures.2, c.requires.s_in_bounds)
 
-pub shape_of-scratch-in_default : goal.shape_of-scratch-in_default
-shape_of-scratch-in_default c = omega (arith, c.judge_span-j, c.loop-at.invariant.0)
-
 pub returns-in_default : goal.returns-in_default
-returns-in_default c = c.settle.ensures ∙ sym (turn c ∙ stopped_step _ (line c) _ c.judge_span-j.result c.in_default.keys2)
+returns-in_default c = c.settle.ensures ∙ sym (c.loop-at.invariant.1 ∙ judged c.args.way c.args.s.now c.loop-at.at c.line_at-span.result.end c.loop-at-test.true c.line_at-span.ensures.1 c.line_at-span.ensures.2 c.loop-at.c c.judge_span-j.result c.judge_span-j.ensures ∙ stopped_step _ (take (c.line_at-span.result.end - c.loop-at.at) (drop c.loop-at.at c.args.s.now)) _ c.judge_span-j.result c.in_default.not-Next)
 
 pub overflow_add-at : goal.overflow_add-at
 overflow_add-at c = omega (arith, c.line_at-span.ensures.2, c.requires.s_in_bounds)
@@ -61,10 +42,7 @@ loop-at-preserved c =
     let v = c.line_at-span in
     let a = c.args in
     let l = c.loop-at in
-    (omega (arith, c.judge_span-j, l.invariant.0), turn c ∙ ap (λ (r : Step). onward (settled l.at (line c) r) (judge_lines a.way (raw_lines (drop (v.result.end + 2) a.s.now)) (v.result.end + 2))) c.in-Next.is)
-
-pub shape_of-scratch : goal.shape_of-scratch
-shape_of-scratch c = c.loop-at.invariant.0
+    (omega (arith, c.judge_span-j, l.invariant.0), c.loop-at.invariant.1 ∙ judged c.args.way c.args.s.now c.loop-at.at c.line_at-span.result.end c.loop-at-test.true c.line_at-span.ensures.1 c.line_at-span.ensures.2 c.loop-at.c c.judge_span-j.result c.judge_span-j.ensures ∙ ap (λ (r : Step). onward (settled l.at (take (c.line_at-span.result.end - c.loop-at.at) (drop c.loop-at.at c.args.s.now)) r) (judge_lines a.way (raw_lines (drop (v.result.end + 2) a.s.now)) (v.result.end + 2))) c.in-Next.is)
 
 pub returns : goal.returns
 unfolding judge_lines

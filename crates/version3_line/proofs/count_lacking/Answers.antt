@@ -1,11 +1,5 @@
 -- src/lib.rt:63:9
-use mathlib.Core.Bool.{true}
-use Prim.Native.Nat.{◌-◌}
 use Rattle.version3_line.proofs.LineLaws.{lacking_none, lacking_full, lacking_some}
-use Rattle.version3_line.proofs.count_lacking.Reads as reads
-use Rattle.version3_line.proofs.count_lacking.Lts as lts
-use Rattle.version3_line.proofs.needed.Reads as needed-reads
-use Rattle.version3_text.proofs.count_semicolons.Reads as count-semicolons-reads
 use Rattle.version3_line.proofs.count_lacking.Goals as goal
 
 -- src/lib.rt:65:9

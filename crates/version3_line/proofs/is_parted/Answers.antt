@@ -1,9 +1,5 @@
 -- src/lib.rt:36:9
-use mathlib.Core.Bool.{true, false}
-use Prim.Native.Nat.{◌-◌}
 use Rattle.version3_line.proofs.LineLaws.{parted_name, parted_address, parted_by}
-use Rattle.version3_line.proofs.is_parted.Reads as reads
-use Rattle.version3_line.proofs.is_parted.Lts as lts
 use Rattle.version3_line.proofs.is_parted.Goals as goal
 
 pub returns-then-kind-eq-NAME : goal.returns-then-kind-eq-NAME

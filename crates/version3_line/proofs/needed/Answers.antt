@@ -1,9 +1,5 @@
 -- src/lib.rt:23:9
-use mathlib.Core.Bool.{true, false}
-use Prim.Native.Nat.{◌-◌}
 use Rattle.version3_line.proofs.LineLaws.{needed_name, needed_address, needed_none}
-use Rattle.version3_line.proofs.needed.Reads as reads
-use Rattle.version3_line.proofs.needed.Lts as lts
 use Rattle.version3_line.proofs.needed.Goals as goal
 
 pub returns-then-kind-eq-NAME : goal.returns-then-kind-eq-NAME

@@ -1,18 +1,13 @@
 -- src/lib.rt:79:9
 use mathlib.Core.Path.{ap, ◌∙◌}
 use mathlib.Core.List.{List, ◌++◌}
-use Prim.Native.Nat.{ℕ, ◌+◌, ◌-◌}
+use Prim.Native.Nat.{ℕ}
 use native.Mathlib.Omega.{arith}
 use lib.ListN.{length, length-take, length-drop}
 use Rattle.version3_text.proofs.PutLaws.{overlay_length, two_pieces}
 use lib.ListN.{replicate, length-replicate}
 use Rattle.version3_line.specs.Lines.{anew_by, lacking, filled_by}
 use Rattle.version3_line.proofs.LineLaws.{filled_length}
-use Rattle.version3_line.proofs.put_filled.Reads as reads
-use Rattle.version3_line.proofs.put_filled.Lts as lts
-use Rattle.version3_line.proofs.count_lacking.Reads as count-lacking-reads
-use Rattle.version3_line.proofs.put_text.Reads as put-text-reads
-use Rattle.version3_text.proofs.put_semicolons.Reads as put-semicolons-reads
 use Rattle.version3_line.proofs.put_filled.Goals as goal
 
 pub put_text-n-requires : goal.put_text-n-requires

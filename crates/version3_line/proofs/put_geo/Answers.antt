@@ -1,9 +1,4 @@
 -- src/lib.rt:108:53
-use Prim.Native.Nat.{◌-◌}
-use Rattle.version3_line.proofs.put_geo.Reads as reads
-use Rattle.version3_line.proofs.put_geo.Lts as lts
-use Rattle.version3_geo.proofs.put_new.Reads as put-new-reads
-use Rattle.version3_geo.proofs.put_old.Reads as put-old-reads
 use Rattle.version3_line.proofs.put_geo.Goals as goal
 
 -- src/lib.rt:103:1

@@ -1,15 +1,8 @@
 -- src/lib.rt:50:9
 use mathlib.Core.Path.{refl, sym, ap, ◌∙◌}
-use mathlib.Core.Bool.{true, false}
-use Prim.Native.Nat.{◌-◌}
 use native.Mathlib.Omega.{arith}
 use lib.ListN.{length}
 use Rattle.version3_line.proofs.LineLaws.{anew_text, anew_parted, anew_other}
-use Rattle.version3_line.proofs.put_text.Reads as reads
-use Rattle.version3_line.proofs.put_text.Lts as lts
-use Rattle.octets.proofs.copying.copy_in.Reads as copy-in-reads
-use Rattle.version3_line.proofs.is_parted.Reads as is-parted-reads
-use Rattle.version3_text.proofs.renew.Reads as renew-reads
 use Rattle.version3_line.proofs.put_text.Goals as goal
 
 pub renew-requires : goal.renew-requires

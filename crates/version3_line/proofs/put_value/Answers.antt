@@ -1,17 +1,9 @@
 -- src/lib.rt:119:9
 use mathlib.Core.Path.{ap, ◌∙◌}
-use mathlib.Core.Bool.{true, false}
-use Prim.Native.Nat.{◌-◌}
 use native.Mathlib.Omega.{arith}
 use lib.ListN.{length}
 use Rattle.version3_line.specs.Lines.{text_by}
 use Rattle.version3_line.proofs.LineLaws.{value_version, value_geo, value_other, version_length}
-use Rattle.version3_line.proofs.put_value.Reads as reads
-use Rattle.version3_line.proofs.put_value.Lts as lts
-use Rattle.version3_line.proofs.put_filled.Reads as put-filled-reads
-use Rattle.version3_line.proofs.put_geo.Reads as put-geo-reads
-use Rattle.version3_line.proofs.put_text.Reads as put-text-reads
-use Rattle.version3_line.proofs.put_version.Reads as put-version-reads
 use Rattle.version3_line.proofs.put_value.Goals as goal
 
 pub put_version-requires : goal.put_version-requires

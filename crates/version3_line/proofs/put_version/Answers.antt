@@ -1,10 +1,6 @@
 -- src/lib.rt:92:38
 use mathlib.Core.Path.{refl}
-use Prim.Native.Nat.{◌-◌}
 use Rattle.octets.specs.Ascii.{octets}
-use Rattle.version3_line.proofs.put_version.Reads as reads
-use Rattle.version3_line.proofs.put_version.Lts as lts
-use Rattle.octets.proofs.copying.copy_in.Reads as copy-in-reads
 use Rattle.version3_line.proofs.put_version.Goals as goal
 
 -- src/lib.rt:86:1

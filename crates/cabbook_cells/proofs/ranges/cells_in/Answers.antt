@@ -1,6 +1,5 @@
 -- `cabbook_cells::ranges::cells_in` meets its contract. Assumes nothing.
 use mathlib.Core.Path.{refl, sym, ◌∙◌}
-use Prim.Native.Nat.{◌-◌}
 use native.Mathlib.Omega.{arith}
 use Rattle.cabbook_cells.proofs.RangeLaws.{range_here, no_range}
 use Rattle.cabbook_cells.proofs.ranges.cells_in.Goals as goal

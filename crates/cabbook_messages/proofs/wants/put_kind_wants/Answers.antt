@@ -1,7 +1,6 @@
 -- `cabbook_messages::wants::put_kind_wants` meets its contract. Assumes nothing.
 use Rattle.octets.specs.Ascii.{octets}
 use Rattle.cabbook_messages.specs.Wants.{kind_wants}
-use native.Mathlib.Omega.{arith}
 use borrow.Author.Tests.{ne_eqb}
 use Rattle.cabbook_messages.proofs.wants.put_kind_wants.Goals as goal
 
@@ -33,4 +32,4 @@ pub returns-in_default : goal.returns-in_default
 unfolding octets kind_wants
 returns-in_default c =
     let a = c.args in
-    rw (ne_eqb a.kind 1 (omega arith), ne_eqb a.kind 3 (omega arith), ne_eqb a.kind 4 (omega arith), ne_eqb a.kind 5 (omega arith), ne_eqb a.kind 6 (omega arith), ne_eqb a.kind 7 (omega arith)) c.put_other_wants.ensures
+    rw (ne_eqb a.kind 1 c.in_default.in_default-own.rest.0.0.0.0.0.1, ne_eqb a.kind 3 c.in_default.in_default-own.rest.0.0.0.0.1, ne_eqb a.kind 4 c.in_default.in_default-own.rest.0.0.0.1, ne_eqb a.kind 5 c.in_default.in_default-own.rest.0.0.1, ne_eqb a.kind 6 c.in_default.in_default-own.rest.0.1, ne_eqb a.kind 7 c.in_default.in_default-own.rest.1) c.put_other_wants.ensures

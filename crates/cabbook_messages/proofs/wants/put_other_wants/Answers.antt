@@ -1,7 +1,6 @@
 -- `cabbook_messages::wants::put_other_wants` meets its contract. Assumes nothing.
 use Rattle.octets.specs.Ascii.{octets}
 use Rattle.cabbook_messages.specs.Wants.{other_wants}
-use native.Mathlib.Omega.{arith}
 use borrow.Author.Tests.{ne_eqb}
 use Rattle.cabbook_messages.proofs.wants.put_other_wants.Goals as goal
 
@@ -25,4 +24,4 @@ pub returns-in_default : goal.returns-in_default
 unfolding octets other_wants
 returns-in_default c =
     let a = c.args in
-    rw (ne_eqb a.kind 8 (omega arith), ne_eqb a.kind 9 (omega arith), ne_eqb a.kind 10 (omega arith), ne_eqb a.kind 11 (omega arith)) c.put_all-in_default.ensures
+    rw (ne_eqb a.kind 8 c.in_default.in_default-own.rest.0.0.0.1, ne_eqb a.kind 9 c.in_default.in_default-own.rest.0.0.1, ne_eqb a.kind 10 c.in_default.in_default-own.rest.0.1, ne_eqb a.kind 11 c.in_default.in_default-own.rest.1) c.put_all-in_default.ensures

@@ -1,7 +1,6 @@
 -- `cabbook_messages::wants::put_wants` meets its contract. Assumes nothing.
 use Rattle.octets.specs.Ascii.{octets}
 use Rattle.cabbook_messages.specs.Wants.{wants}
-use native.Mathlib.Omega.{arith}
 use borrow.Author.Tests.{ne_eqb}
 use Rattle.cabbook_messages.proofs.wants.put_wants.Goals as goal
 
@@ -21,4 +20,4 @@ pub returns-in_default : goal.returns-in_default
 unfolding wants
 returns-in_default c =
     let a = c.args in
-    rw (ne_eqb a.row 1 (omega arith), ne_eqb a.row 2 (omega arith), ne_eqb a.row 34 (omega arith)) c.put_value_wants.ensures
+    rw (ne_eqb a.row 1 c.in_default.in_default-own.rest.0.0.1, ne_eqb a.row 2 c.in_default.in_default-own.rest.0.1, ne_eqb a.row 34 c.in_default.in_default-own.rest.1) c.put_value_wants.ensures

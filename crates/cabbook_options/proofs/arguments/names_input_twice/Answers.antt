@@ -1,5 +1,4 @@
 -- `cabbook_options::arguments::names_input_twice` is safe and ends. Assumes nothing.
-use Prim.Native.Nat.{◌-◌}
 use native.Mathlib.Omega.{arith}
 use Rattle.cabbook_options.proofs.arguments.names_input_twice.Goals as goal
 

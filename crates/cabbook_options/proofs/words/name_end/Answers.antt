@@ -1,6 +1,5 @@
 -- `cabbook_options::words::name_end` meets its contract. Assumes nothing.
 use mathlib.Core.Path.{sym, ◌∙◌}
-use Prim.Native.Nat.{◌-◌}
 use native.Mathlib.Omega.{arith}
 use native.Mathlib.Nat.{zero-add}
 use Rattle.octets.proofs.Scans.{scan_stop, scan_step, scan_end}

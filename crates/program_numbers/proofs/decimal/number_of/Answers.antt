@@ -1,9 +1,7 @@
 -- `program_numbers::decimal::number_of` meets its contract. Assumes nothing.
 use mathlib.Core.Path.{sym, ◌∙◌}
-use Prim.Native.Nat.{◌-◌}
 use native.Mathlib.Omega.{arith}
 use borrow.Author.Tests.{eq-eqb, ne_eqb}
-use Rattle.numbers.specs.Limits as limit
 use Rattle.program_numbers.specs.Decimal.{number_of}
 use Rattle.program_numbers.proofs.NumberLaws.{number_stop, number_large, number_step, number_end}
 use Rattle.program_numbers.proofs.decimal.number_of.Goals as goal

@@ -1,10 +1,10 @@
 -- `program_numbers::hex::decode` meets its contract. Assumes nothing.
 use mathlib.Core.Path.{◌≡◌, refl, ◌∙◌}
-use Prim.Native.Nat.{◌+◌, ◌*◌, ◌-◌}
+use Prim.Native.Nat.{◌+◌, ◌*◌}
 use native.Mathlib.Omega.{arith}
 use lib.ListN.{get_or, length-set}
 use Rattle.octets.proofs.Copies.{copy_step, copy_done}
-use Rattle.program_numbers.specs.Hex.{value, decoded}
+use Rattle.program_numbers.specs.Hex.{decoded}
 use Rattle.program_numbers.proofs.HexLaws.{digit_low, decoded_length, decoded_at}
 use Rattle.program_numbers.proofs.hex.decode.Goals as goal
 

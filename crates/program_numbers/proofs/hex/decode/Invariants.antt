@@ -1,7 +1,7 @@
 -- `program_numbers::hex::decode` meets its contract. Assumes nothing.
 use mathlib.Core.Path.{◌≡◌}
 use mathlib.Core.List.{◌++◌}
-use Prim.Native.Nat.{◌+◌, ◌-◌, ◌/◌, ◌≤◌}
+use Prim.Native.Nat.{◌-◌, ◌/◌, ◌≤◌}
 use lib.ListN.{length, take, drop}
 use Rattle.program_numbers.specs.Hex.{decoded}
 use Rattle.program_numbers.proofs.hex.decode.Given as goal

@@ -15,31 +15,34 @@ use Rattle.report.proofs.Report.print.Goals as goal
 pub returns-then-out-n : goal.returns-then-out-n
 unfolding report_text
 returns-then-out-n c =
-    let h : Holds (report_text c.args.self) c.put_rows-n.result c.put_rows-n.new.room = holds _ _ _ _ c.put_rows-n.ensures (omega (arith, text_few c.args.self.counts)) in
+    let here : Holds (report_text c.args.self) c.put_rows-n.result c.put_rows-n.new.room = holds _ _ _ _ c.put_rows-n.ensures (omega (arith, text_few c.args.self.counts)) in
+    let h = here in
     fill_short _ _ _ h.count c.if-out-n.true
 
 pub slice_bounds-page-end : goal.slice_bounds-page-end
 unfolding report_text
 slice_bounds-page-end c =
-    let h : Holds (report_text c.args.self) c.put_rows-n.result c.put_rows-n.new.room = holds _ _ _ _ c.put_rows-n.ensures (omega (arith, text_few c.args.self.counts)) in
-    h.fits
+    let here : Holds (report_text c.args.self) c.put_rows-n.result c.put_rows-n.new.room = holds _ _ _ _ c.put_rows-n.ensures (omega (arith, text_few c.args.self.counts)) in
+    here.fits
 
 pub slice_bounds-copy_in-end : goal.slice_bounds-copy_in-end
 unfolding report_text
-slice_bounds-copy_in-end c = 
-    let h : Holds (report_text c.args.self) c.put_rows-n.result c.put_rows-n.new.room = holds _ _ _ _ c.put_rows-n.ensures (omega (arith, text_few c.args.self.counts)) in
-    sym (length-take-le _ _ h.fits)
+slice_bounds-copy_in-end c =
+    let here : Holds (report_text c.args.self) c.put_rows-n.result c.put_rows-n.new.room = holds _ _ _ _ c.put_rows-n.ensures (omega (arith, text_few c.args.self.counts)) in
+    let h = here in sym (length-take-le _ _ h.fits)
 
 pub copy_in-requires : goal.copy_in-requires
 unfolding report_text
 copy_in-requires c =
-    let h : Holds (report_text c.args.self) c.put_rows-n.result c.put_rows-n.new.room = holds _ _ _ _ c.put_rows-n.ensures (omega (arith, text_few c.args.self.counts)) in
+    let here : Holds (report_text c.args.self) c.put_rows-n.result c.put_rows-n.new.room = holds _ _ _ _ c.put_rows-n.ensures (omega (arith, text_few c.args.self.counts)) in
+    let h = here in
     rw h.octets (omega (arith, h.count, c.if-out-n.false))
 
 pub returns : goal.returns
 unfolding report_text
 returns c =
-    let h : Holds (report_text c.args.self) c.put_rows-n.result c.put_rows-n.new.room = holds _ _ _ _ c.put_rows-n.ensures (omega (arith, text_few c.args.self.counts)) in
+    let here : Holds (report_text c.args.self) c.put_rows-n.result c.put_rows-n.new.room = holds _ _ _ _ c.put_rows-n.ensures (omega (arith, text_few c.args.self.counts)) in
+    let h = here in
     let out = c.args.out.now in
     let text = report_text c.args.self in
     fill_fits _ _ _ h.count c.if-out-n.false _

@@ -1,7 +1,6 @@
 -- `report::rows::put_name` meets its contract. Assumes nothing.
 use mathlib.Core.Path.{◌∙◌}
 use mathlib.Core.List.{[], ◌∷◌}
-use Rattle.octets.specs.Ascii as ascii
 use Rattle.program_output.proofs.PageLaws.{then}
 use Rattle.report.proofs.TextLaws.{as_text, refusal_named, property_named}
 use Rattle.report.proofs.rows.put_name.Goals as goal

@@ -1,5 +1,4 @@
 -- `report::rows::put_row` meets its contract. Assumes nothing.
-use borrow.Author.Tests.{not-true, not-false}
 use mathlib.Core.Path.{sym, ◌∙◌}
 use mathlib.Core.List.{[], ◌∷◌}
 use Rattle.program_output.proofs.PageLaws.{then}
@@ -7,9 +6,9 @@ use Rattle.report.proofs.TextLaws.{as_text, not_shown, is_row}
 use Rattle.report.proofs.rows.put_row.Goals as goal
 
 pub returns-then-not-is_shown : goal.returns-then-not-is_shown
-returns-then-not-is_shown c = not_shown _ _ _ (sym c.is_shown.ensures ∙ not-true _ c.if-not-is_shown.true-raw)
+returns-then-not-is_shown c = not_shown _ _ _ (sym c.is_shown.ensures ∙ c.if-not-is_shown.true)
 
 pub returns : goal.returns
 returns c =
     as_text _ _ _ (then _ _ _ c.put_name-named.ensures (then (32 ∷ []) _ _ c.put-spaced.ensures (then _ (10 ∷ []) _ c.put_number-numbered.ensures c.put.ensures)))
-    (is_row _ _ (sym c.is_shown.ensures ∙ not-false _ c.if-not-is_shown.false-raw))
+    (is_row _ _ (sym c.is_shown.ensures ∙ c.if-not-is_shown.false))

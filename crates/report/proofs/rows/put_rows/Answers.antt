@@ -1,7 +1,6 @@
 -- `report::rows::put_rows` meets its contract. Assumes nothing.
 use borrow.Author.Rules.{rules}
 use mathlib.Core.Path.{refl, sym, ap, ◌∙◌}
-use Prim.Native.Nat.{◌-◌}
 use Rattle.program_output.proofs.PageLaws.{added_piece}
 use Rattle.report_weights.specs.Counts.{count_at}
 use Rattle.report.specs.Text.{shown}

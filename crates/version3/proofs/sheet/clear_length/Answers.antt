@@ -1,12 +1,7 @@
 -- src/sheet.rt:60:9
 use mathlib.Core.Path.{sym, ap}
-use mathlib.Core.Bool.{true, false}
-use Prim.Native.Nat.{◌-◌}
 use lib.ListN.{length}
 use Rattle.version3.proofs.CardLaws.{clear_not, clear_all}
-use Rattle.version3.proofs.sheet.clear_length.Reads as reads
-use Rattle.version3.proofs.sheet.clear_length.Lts as lts
-use Rattle.utf8_screening.proofs.units.first_bad.Reads as first-bad-reads
 use Rattle.version3.proofs.sheet.clear_length.Goals as goal
 
 -- src/sheet.rt:62:9

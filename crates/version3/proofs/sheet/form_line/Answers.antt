@@ -1,7 +1,7 @@
 -- src/sheet.rt:73:11
 use mathlib.Core.Path.{sym, ap, ◌∙◌}
 use mathlib.Core.List.{List}
-use Prim.Native.Nat.{ℕ, ◌-◌}
+use Prim.Native.Nat.{ℕ}
 use native.Mathlib.Omega.{arith}
 use lib.ListN.{length, take}
 use Rattle.octets.specs.Room.{overlay}
@@ -14,12 +14,6 @@ use Rattle.version3_line.specs.Lines.{written_by}
 use Rattle.version3_line.proofs.BoundLaws.{written_most}
 use Rattle.version3.specs.Card.{clear}
 use Rattle.version3.proofs.CardLaws.{fault_form, line_turn, clear_taken, form_of_lem}
-use Rattle.version3.proofs.sheet.form_line.Reads as reads
-use Rattle.version3.proofs.sheet.form_line.Lts as lts
-use Rattle.card_line.proofs.parts_of.Reads as parts-of-reads
-use Rattle.version3.proofs.sheet.clear_length.Reads as clear-length-reads
-use Rattle.version3.proofs.sheet.turn_of.Reads as turn-of-reads
-use Rattle.version3_line.proofs.put_line.Reads as put-line-reads
 use Rattle.version3.proofs.sheet.form_line.Goals as goal
 
 pub parts_of-requires : goal.parts_of-requires

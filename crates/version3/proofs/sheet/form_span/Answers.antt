@@ -1,7 +1,7 @@
 -- the scratch holds the line unfolded
 use mathlib.Core.Path.{◌≡◌, sym, ap, ◌∙◌, subst}
 use mathlib.Core.List.{List}
-use Prim.Native.Nat.{ℕ, ◌-◌}
+use Prim.Native.Nat.{ℕ}
 use native.Mathlib.Omega.{arith}
 use lib.ListN.{length, take}
 use borrow.Author.Tests.{not-true}
@@ -9,10 +9,6 @@ use lib.Seq.{take_at}
 use Rattle.line_folds.specs.Folds.{unfolded}
 use Rattle.line_folds.proofs.FoldLaws.{unfold_shorter}
 use Rattle.version3.specs.Card.{Formed}
-use Rattle.version3.proofs.sheet.form_span.Reads as reads
-use Rattle.version3.proofs.sheet.form_span.Lts as lts
-use Rattle.line_unfolding.proofs.unfold.Reads as unfold-reads
-use Rattle.version3.proofs.sheet.form_line.Reads as form-line-reads
 use Rattle.version3.proofs.sheet.form_span.Goals as goal
 
 -- src/sheet.rt:105:9

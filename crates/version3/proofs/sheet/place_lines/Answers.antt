@@ -1,5 +1,5 @@
 -- `version3::sheet::place_lines` meets its contract. Assumes nothing.
-use mathlib.Core.Path.{refl, sym, ap, ◌∙◌, subst}
+use mathlib.Core.Path.{◌≡◌, refl, sym, ap, ◌∙◌, subst}
 use mathlib.Core.List.{List}
 use Prim.Native.Nat.{ℕ, ◌+◌, ◌-◌, ◌*◌, ◌≤◌}
 use native.Mathlib.Omega.{arith}
@@ -8,22 +8,19 @@ use Rattle.line_folds.specs.Folds.{unfolded}
 use Rattle.line_folds.proofs.FoldLaws.{unfold_shorter}
 use Rattle.line_folds.proofs.SpanLaws.{whole, part_length}
 use Rattle.folder_line.specs.Pieces.{Clean}
+use Rattle.version3_parameters.specs.declared.Way.{Way}
 use Rattle.version3.specs.Card.{form_of}
 use Rattle.version3.proofs.CardLaws.{form_clean, form_most, turn_place}
 use Rattle.version3.proofs.PlaceLaws.{within, ended, onward, cramped}
 use Rattle.version3.proofs.sheet.place_lines.Goals as goal
 
--- after the form of the line at hand was written
-module _ (c : tie.After-form-span invariant-loop decreases-loop) where
-  abbrev line : List ℕ
-  line = take (c.before.before.before.before.before.before.line_at.result.end - c.before.before.before.before.before.before.before.before.loop.at) (drop c.before.before.before.before.before.before.before.before.loop.at c.before.before.before.before.before.before.before.before.before.before.before.before.before.before.before.args.s.now)
+-- the line from `at` up to `end`
+abbrev line : List ℕ → ℕ → ℕ → List ℕ
+line s at end = take (end - at) (drop at s)
 
-  -- how long it is at most
-  size : length (form_of c.before.before.before.before.before.before.before.before.before.before.before.before.before.before.before.args.way (unfolded line)) ≤ 2 * (c.before.before.before.before.before.before.line_at.result.end - c.before.before.before.before.before.before.before.before.loop.at) + 16
-  size =
-      let v = c.before.before.before.before.before.before.line_at in
-      let n = part_length c.before.before.before.before.before.before.before.before.before.before.before.before.before.before.before.args.s.now c.before.before.before.before.before.before.before.before.loop.at v.result.end c.before.before.before.before.before.before.before.loop-test.true v.ensures.1 v.ensures.2 in
-      omega (arith, n, form_most c.before.before.before.before.before.before.before.before.before.before.before.before.before.before.before.args.way (unfolded line), unfold_shorter line)
+-- how long its form is at most
+size : (w : Way) (s : List ℕ) (at end : ℕ) → length (line s at end) ≡ end - at → length (form_of w (unfolded (line s at end))) ≤ 2 * (end - at) + 16
+size w s at end n = omega (arith, n, form_most w (unfolded (line s at end)), unfold_shorter (line s at end))
 
 pub loop-at-init : goal.loop-at-init
 loop-at-init c = (refl, refl, refl, refl, refl, c.requires.halfway)
@@ -55,7 +52,13 @@ form_span-f-requires c =
     record { classes = c.requires.classes; s_len_bound = (omega (arith, n, v.ensures.2, c.requires.s_len_bound.0), omega (arith, n, c.if-most-end.false, l.invariant.0, c.requires.s_len_bound.1), omega (arith, n, c.if-most-end.false, l.invariant.1, c.requires.s_len_bound.2)); s_value = whole a.s.now l.at v.result.cr v.result.end v.ensures.0 }
 
 pub slice_bounds-place_line-end : goal.slice_bounds-place_line-end
-slice_bounds-place_line-end c = omega (arith, c.form_span-f, size c, c.loop-at.invariant.1, c.form_span-f.ensures.count, c.if-most-end.false, c.requires.s_len_bound.2)
+slice_bounds-place_line-end c =
+    let a = c.args in
+    let l = c.loop-at in
+    let v = c.line_at-span in
+    let n = part_length a.s.now l.at v.result.end c.loop-at-test.true v.ensures.1 v.ensures.2 in
+    let k = size a.way a.s.now l.at v.result.end n in
+    omega (arith, c.form_span-f, k, l.invariant.1, c.form_span-f.ensures.count, c.if-most-end.false, c.requires.s_len_bound.2)
 
 pub slice_bounds-place_line-end-in-loop-at : goal.slice_bounds-place_line-end-in-loop-at
 slice_bounds-place_line-end-in-loop-at c = sym (ap length c.form_span-f.ensures.text ∙ sym c.form_span-f.ensures.count)
@@ -63,7 +66,8 @@ slice_bounds-place_line-end-in-loop-at c = sym (ap length c.form_span-f.ensures.
 pub place_line-placed-requires : goal.place_line-placed-requires
 place_line-placed-requires c =
     let h = c.loop-at.invariant.5 in
-    (subst Clean (sym c.form_span-f.ensures.text) (form_clean c.args.way (unfolded (line c))), omega (arith, c.form_span-f.ensures.turn, turn_place (unfolded (line c))), within h (omega (arith, c.loop-at.invariant.2, c.requires.lent.0), omega (arith, c.loop-at.invariant.3, c.requires.lent.1), omega (arith, c.loop-at.invariant.4, c.requires.lent.2)))
+    let s = unfolded (line c.args.s.now c.loop-at.at c.line_at-span.result.end) in
+    (subst Clean (sym c.form_span-f.ensures.text) (form_clean c.args.way s), omega (arith, c.form_span-f.ensures.turn, turn_place s), within h (omega (arith, c.loop-at.invariant.2, c.requires.lent.0), omega (arith, c.loop-at.invariant.3, c.requires.lent.1), omega (arith, c.loop-at.invariant.4, c.requires.lent.2)))
 
 pub overflow_add-at : goal.overflow_add-at
 overflow_add-at c = omega (arith, c.line_at-span.ensures.2, c.requires.s_len_bound.0)

@@ -1,9 +1,5 @@
 -- src/sheet.rt:47:9
-use mathlib.Core.Bool.{true, false}
-use Prim.Native.Nat.{◌-◌}
 use Rattle.version3.proofs.CardLaws.{turn_first, turn_second, turn_other}
-use Rattle.version3.proofs.sheet.turn_of.Reads as reads
-use Rattle.version3.proofs.sheet.turn_of.Lts as lts
 use Rattle.version3.proofs.sheet.turn_of.Goals as goal
 
 pub returns-then-row-eq-BEGIN : goal.returns-then-row-eq-BEGIN
