@@ -1,5 +1,6 @@
 // The parts of a line: its property's row, where its group, name and value stand, and the kind of its value.
 #![tactic(auto)]
+
 ghost use Rattle.std.specs.Prelude.{◌≡◌, List, ℕ, ◌≤◌, ◌<◌, length};
 ghost use Rattle.std.proofs.Math.Option.{none};
 ghost use Rattle.numbers.specs.Limits as limit;

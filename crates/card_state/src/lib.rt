@@ -1,5 +1,6 @@
 // What is known of the card that is being read, and what a line or an END does to it.
 #![tactic(auto)]
+
 ghost use Rattle.std.specs.Prelude.{◌≡◌, false, ◌||◌, ◌&&◌, eqb, ℕ, ◌<◌, ◌≤◌, List};
 ghost use Rattle.numbers.specs.Limits as limit;
 ghost use Rattle.numbers.specs.Properties as property;

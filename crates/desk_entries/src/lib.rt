@@ -1,5 +1,6 @@
 // The entries of a desk: each is free or holds a session.
 #![tactic(auto)]
+
 ghost use Rattle.std.specs.Prelude.{◌≡◌};
 ghost use Rattle.desk_entries.specs.Entries.{ticket_of, fits};
 ghost use Rattle.desk_entries.specs.Ticks.{idle_ticket};

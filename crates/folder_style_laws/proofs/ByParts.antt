@@ -1,19 +1,17 @@
 -- Raised octet by octet, a line is the one with its parts raised. Assumes nothing.
 use mathlib.Core.Path.{◌≡◌, refl, sym, ap, ◌∙◌}
-use mathlib.Core.Bool.{Bool, true, false, not, ◌&&◌, ◌||◌, true≢false}
+use mathlib.Core.Bool.{Bool, true, false, true≢false}
 use mathlib.Core.List.{List, [], ◌∷◌, ◌++◌, map, append_assoc}
-use Prim.Native.Nat.{ℕ, ◌-◌, ◌<◌, ◌≤◌}
-use native.Mathlib.Omega.{arith}
-use lib.Dec.{eqb, leb}
-use borrow.Author.Tests.{eqb-true, ne_eqb}
-use Rattle.octets.specs.Pick.{pick}
-use Rattle.octets.specs.Classes.{within, letter, digit, hyphen, valued, quoted, bare, named}
-use Rattle.line_parser.specs.Grammar.{Value, plain, in_quotes, Param, Line, Each, Is, Word, GoodValue, GoodParam, WellFormed, led, value_text, param_text, group_text, front, render}
+use Prim.Native.Nat.{ℕ}
+use lib.Dec.{eqb}
+use borrow.Author.Tests.{ne_eqb}
+use Rattle.octets.specs.Classes.{letter, digit, hyphen, valued, quoted, bare, named}
+use Rattle.line_parser.specs.Grammar.{Value, plain, in_quotes, Param, Line, Each, Is, GoodValue, GoodParam, WellFormed, led, value_text, param_text, group_text, front, render}
 use Rattle.folder_raising.specs.Letters.{upper}
 use Rattle.folder_style_laws.specs.Capitals.{raised_param, raised_line}
-use Rattle.folder_raising.specs.Walk.{after, turned, raised_from, raised}
+use Rattle.folder_raising.specs.Walk.{raised_from, raised}
 use Rattle.folder_raising.specs.declared.Spot.{Spot}
-use Rattle.folder_raising.specs.declared.Spot.TheVariants.{Name, Values, Quotes, Past}
+use Rattle.folder_raising.specs.declared.Spot.TheVariants.{Name, Values, Quotes}
 use Rattle.folder_raising.proofs.Steps.{past}
 
 -- an octet that a class has is none that it lacks

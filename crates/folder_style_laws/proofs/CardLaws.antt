@@ -2,19 +2,18 @@
 use mathlib.Core.Path.{◌≡◌, refl, sym, ap, subst, ◌∙◌}
 use mathlib.Core.Bool.{Bool, false, not, ◌&&◌, ◌||◌}
 use mathlib.Core.List.{List, [], ◌∷◌, ◌++◌, map}
-use Prim.Native.Nat.{ℕ, ◌≤◌}
+use Prim.Native.Nat.{ℕ}
 use lib.Dec.{eqb}
 use Rattle.numbers.specs.Properties as property
 use Rattle.utf8_laws.proofs.Utf8.{allowed_only}
 use Rattle.line_parser.specs.Grammar.{Line, Each, render}
 use Rattle.property_table.specs.Rows.{is_group}
-use Rattle.card_line.specs.Parts.{row_of_line, altid_name, altid_of}
+use Rattle.card_line.specs.Parts.{altid_name, altid_of}
 use Rattle.reader_grammar.specs.Values.{OfKind}
 use Rattle.reader_grammar.specs.Cards.{Readable, Frame, Inside, count, counts, of_row, any, same_instance, instances, says_group, Body, CardLines, card, Cards, none, more}
 use Rattle.folder_line.specs.Pieces.{Clean}
 use Rattle.folder_raising.specs.Letters.{upper}
 use Rattle.folder_style_laws.specs.Capitals.{raised_param, raised_line}
-use Rattle.folder_raising.specs.Walk.{raised}
 use Rattle.folder_raising.specs.declared.Style.TheVariants.{Raised}
 use Rattle.folder_raising.proofs.CleanLaws.{clean_written}
 use Rattle.folder_style_laws.proofs.ByParts.{raised_render}

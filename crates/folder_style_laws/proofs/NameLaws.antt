@@ -1,17 +1,15 @@
 -- A line with its names raised has the row and the kind of the line, is by the line rule, and its parts are as long. Assumes nothing.
 use mathlib.Core.Path.{◌≡◌, refl, sym, ap, ◌∙◌}
-use mathlib.Core.Bool.{Bool, true, false, ◌&&◌, ◌||◌}
-use mathlib.Core.List.{List, [], ◌∷◌, ◌++◌, map}
+use mathlib.Core.Bool.{true}
+use mathlib.Core.List.{List, [], ◌∷◌, map}
 use mathlib.Core.Option.{Option}
-use Prim.Native.Nat.{ℕ, suc, ◌+◌, ◌-◌, ◌<◌, ◌≤◌}
+use Prim.Native.Nat.{ℕ, suc, ◌+◌, ◌-◌, ◌≤◌}
 use native.Mathlib.Omega.{arith}
-use lib.Dec.{leb, eqb}
 use lib.ListN.{length, length-append, length-map}
 use borrow.Author.Tests.{le-leb, lt-leb}
-use Rattle.octets.specs.Pick.{pick}
-use Rattle.octets.specs.Classes.{within, letter, named}
+use Rattle.octets.specs.Classes.{letter, named}
 use Rattle.octets.specs.Cases.{lower, same}
-use Rattle.line_parser.specs.Grammar.{Value, Param, Line, Each, Is, Word, GoodParam, WellFormed, front, render}
+use Rattle.line_parser.specs.Grammar.{Param, Line, Each, Is, Word, GoodParam, WellFormed, front, render}
 use Rattle.line_parameters.specs.First.{first_named}
 use Rattle.property_table.specs.Rows.{Row, search, rows_of, row_of, line_kind, value_name, calscale_name}
 use Rattle.card_line.specs.Parts.{octets_of, param_value, row_of_line, kind_of_line}

@@ -2,18 +2,16 @@
 use mathlib.Core.Path.{◌≡◌, refl, sym, ap, subst, ◌∙◌}
 use mathlib.Core.Bool.{Bool, true, false}
 use mathlib.Core.List.{List, [], ◌∷◌, ◌++◌, map, append_assoc}
-use Prim.Native.Nat.{ℕ, ◌+◌, ◌≤◌}
+use Prim.Native.Nat.{ℕ, ◌+◌}
 use native.Mathlib.Omega.{arith}
 use lib.Dec.{ltb}
 use lib.ListN.{length, length-append, length-map}
 use Rattle.octets.specs.Pick.{pick}
-use Rattle.octets.specs.Room.{Filled, fill_bounded, overlay}
+use Rattle.octets.specs.Room.{fill_bounded, overlay}
 use Rattle.line_folds.specs.Logical.{logical_lines}
-use Rattle.line_laws.specs.Lined.{Folded}
-use Rattle.line_parser.specs.Grammar.{Line, Each, WellFormed, front, render}
-use Rattle.card_line.specs.Parts.{row_of_line, kind_of_line}
+use Rattle.line_parser.specs.Grammar.{Line, Each, render}
 use Rattle.reader_records.specs.Records.{record_of, records_from}
-use Rattle.reader.specs.Outcome.{judge_in, ended, copy_of, records_in, Taken, took, write_outcome, outcome_by, read_in}
+use Rattle.reader.specs.Outcome.{ended, copy_of, records_in, Taken, took, write_outcome, outcome_by, read_in}
 use Rattle.reader.specs.declared.Verdict.{Verdict}
 use Rattle.reader.specs.declared.Verdict.TheVariants.{Accepted, Refused}
 use Rattle.reader_grammar.specs.Cards.{Readable, Cards}

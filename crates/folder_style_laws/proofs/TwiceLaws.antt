@@ -1,13 +1,10 @@
 -- A second raising changes nothing. Assumes nothing.
 use mathlib.Core.Path.{◌≡◌, refl, sym, ap, ◌∙◌}
-use mathlib.Core.Bool.{Bool}
 use mathlib.Core.List.{List, [], ◌∷◌, map}
 use Prim.Native.Nat.{ℕ, ◌-◌, ◌≤◌}
 use native.Mathlib.Omega.{arith}
-use lib.Dec.{eqb, leb}
+use lib.Dec.{eqb}
 use borrow.Author.Tests.{ne_eqb, lt-leb}
-use Rattle.octets.specs.Pick.{pick}
-use Rattle.octets.specs.Classes.{within}
 use Rattle.folder_raising.specs.Letters.{upper}
 use Rattle.folder_raising.specs.Walk.{after, turned, raised_from, raised, written}
 use Rattle.folder_raising.specs.declared.Style.{Style}

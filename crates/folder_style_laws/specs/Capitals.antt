@@ -1,5 +1,5 @@
 -- Names in capitals: the parts of a line with the ASCII letters of group, property name and parameter names raised. Assumes nothing.
-use Rattle.std.specs.Prelude.{List, map}
+use Rattle.std.specs.Prelude.{map}
 use Rattle.line_parser.specs.Grammar.{Param, Line}
 use Rattle.folder_raising.specs.Letters.{upper}
 use Rattle.folder_raising.specs.declared.Style.{Style}

@@ -1,5 +1,6 @@
 // The ends of lines over the whole input: a lone CR or LF, and CR LF at the end.
 #![tactic(auto)]
+
 ghost use Rattle.std.specs.Prelude.{◌≡◌, true, false, ℕ, ◌+◌, ◌-◌, ◌<◌, ◌≤◌, eqb, length, drop};
 ghost use Rattle.octets.specs.Ascii as ascii;
 ghost use Rattle.octets.specs.Classes.{bit};

@@ -14,7 +14,7 @@ use Rattle.octets.proofs.Bools.{by, clash}
 use Rattle.reader_grammar.specs.Refusals.{Judging}
 use Rattle.reader_grammar.proofs.Numbers.{refusal_number}
 use Rattle.merge_sources.specs.declared.Source.{Source}
-use Rattle.merge_partners.specs.Pairs.{Pair, pair}
+use Rattle.merge_partners.specs.Pairs.{Pair}
 use Rattle.merge.specs.Plans.{flatten}
 use Rattle.merge.specs.Outcome.{Planned, planned, plan_outcome, check_outcome}
 use Rattle.merge.specs.declared.Paired.{Paired}

@@ -28,7 +28,7 @@ use Rattle.merge_partners.proofs.WalkLaws.{sets_at, sets_length}
 use Rattle.merge_partners.specs.Pairs.{Pair, pair, hit_pair, key_pair, hit_pairs, mark_pairs, shared_pairs, row_pairs, single_pairs, keys_of, demanded_pairs}
 use Rattle.merge.specs.Sides.{Side, marks_of}
 use Rattle.merge_words.specs.Lists.{Member, At}
-use Rattle.merge_words.specs.Lists.Member.{here, there}
+use Rattle.merge_words.specs.Lists.Member.{here}
 use Rattle.merge_words.specs.Pids.{PidOf}
 use Rattle.merge_words.specs.Sources.{Over}
 use Rattle.merge_words.specs.Sources.Over.{entries, first as over_first, source as over-source}

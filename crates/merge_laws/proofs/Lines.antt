@@ -16,7 +16,7 @@ use Rattle.line_parser.specs.Grammar.{Line}
 use Rattle.property_table.specs.declared.Edition.TheVariants.{First}
 use Rattle.card_line.specs.Parts.{row_of_line}
 use Rattle.reader_grammar.specs.Cards.{counts, count, lines_of}
-use Rattle.merge_sides.specs.Lines.{field_at, value_at, same_from, same_octets, same_property, first_line, one, count_lines}
+use Rattle.merge_sides.specs.Lines.{field_at, value_at, same_from, same_octets, same_property, first_line, count_lines}
 use Rattle.merge_partners.specs.Pairs.{same_uids}
 use Rattle.merge.specs.Sides.{Side}
 use Rattle.merge_words.specs.Lists.{At}

@@ -1,5 +1,6 @@
 // Octets: their classes, runs of a class, names without case, copying, zeroing, lent room and slices.
 #![tactic(auto)]
+
 pub mod cases;
 pub mod class_table;
 pub mod classes;

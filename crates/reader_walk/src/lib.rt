@@ -1,5 +1,6 @@
 // The walk over the logical lines of an input, each judged in turn.
 #![tactic(auto)]
+
 ghost use Rattle.std.specs.Prelude.{◌≡◌, false, List, [], ℕ, ◌+◌, ◌≤◌, length, take, drop};
 ghost use Rattle.numbers.specs.Limits as limit;
 ghost use Rattle.octets.specs.Pick.{pick};

@@ -1,5 +1,6 @@
 // Replaying a record of calls: a script of them is run on a fresh desk, and the answers are written to a log.
 #![tactic(auto)]
+
 ghost use Rattle.std.specs.Prelude.{◌≡◌, true, ◌≤◌, length};
 ghost use Rattle.octets.specs.Scan.{scan};
 ghost use Rattle.desk_slots.specs.Sound.{bounds};

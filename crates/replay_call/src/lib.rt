@@ -1,5 +1,6 @@
 // A call run on a desk, with its answer in a log.
 #![tactic(auto)]
+
 ghost use Rattle.std.specs.Prelude.{◌≡◌, ◌≤◌, length};
 ghost use Rattle.desk_ledger.specs.Desks.{said, ask_step, desk_step};
 ghost use Rattle.replay_script.specs.Scripts.{width, query_of, call_of};

@@ -1,5 +1,6 @@
 // RFC 3629: how long a character is.
 #![tactic(auto)]
+
 ghost use Rattle.std.specs.Prelude.{◌≡◌, ◌<◌, length, drop};
 ghost use Rattle.octets.specs.Classes.{within};
 ghost use Rattle.utf8.specs.Characters.{length_by, second, tail, char_length};

@@ -1,5 +1,6 @@
 // Whether a value satisfies its kind, and if not, from which octet on nothing could.
 #![tactic(auto)]
+
 ghost use Rattle.std.specs.Prelude.{◌≡◌, true, ◌<◌};
 ghost use Rattle.numbers.specs.Kinds as kinds;
 ghost use Rattle.octets.specs.Classes.{bit};

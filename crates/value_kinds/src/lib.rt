@@ -1,5 +1,6 @@
 // The kinds of value are regular expressions; here are tests of each octet by itself that settle most values.
 #![tactic(auto)]
+
 ghost use Rattle.std.specs.Prelude.{◌≡◌, not};
 ghost use Rattle.octets.specs.Classes.{bit};
 ghost use Rattle.octets.specs.Counts.{all_in, count};

@@ -1,5 +1,6 @@
 // The minutes that an offset from UTC stands for.
 #![tactic(auto)]
+
 ghost use Rattle.std.specs.Prelude.{◌≡◌, ◌≤◌};
 ghost use Rattle.value_offsets.specs.Minutes.{digit_at, pair_at, time_of, is_behind, signed, most_minutes, Bounded, minutes_of};
 

@@ -36,6 +36,10 @@ use Rattle.watch_lines.specs.Values.{halted, values_on, values_next, values_from
 use Rattle.watch_lines.specs.Taking.{kept, judgement, values_after, Took, Within, Went}
 use Rattle.watch_lines.proofs.PartingLaws.{parted_step, parted_open}
 
+-- the line at hand of a walk over the lines that end with a chunk
+abbrev pub hand_line : Bool → List ℕ → List ℕ → ℕ → ℕ → List ℕ
+hand_line first line chunk at end = pick first line (take (end - at) (drop at chunk))
+
 -- a step that is no card
 abbrev Stopped : KeptStep → Type 0
 Stopped j = (d : Kept) → j ≡ next d → ⊥

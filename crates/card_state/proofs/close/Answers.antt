@@ -26,12 +26,15 @@ returns c =
     let k = c.args.c in
     let kept : (k.has_member && not k.is_group) ≡ false =
     elim c.if-c.branch [
-      then-c+else-not-c-2 w ↦ simp (not-false k.is_group w.if-not-c-2.false, and-false)
-    | else-c w ↦ simp w.if-c.false
+      | then-c+else-not-c-2 w ↦ simp (not-false k.is_group w.if-not-c-2.false, and-false)
+      | else-c w ↦ simp w.if-c.false
     ] in
-    record { by_index = λ store.
-      simp (
-        not-false c.args.c.has_fn c.if-not-c.false,
-        kept,
-        c.fresh-next.ensures,
-      ); holds = rw c.fresh-next.ensures (none_lie, omega arith) }
+    record {
+      by_index = λ store.
+          simp (
+            not-false c.args.c.has_fn c.if-not-c.false,
+            kept,
+            c.fresh-next.ensures,
+          );
+      holds = rw c.fresh-next.ensures (none_lie, omega arith);
+    }

@@ -15,4 +15,4 @@ returns c =
     let put_all_lem = c.put_all-word in
     let a = c.args in
     then (octets "no") (spaced (decimal a.number) ++ spaced (decimal a.place)) (page a.at a.out.now) put_all_lem.ensures
-    (then (spaced (decimal a.number)) (spaced (decimal a.place)) (page put_all_lem.result put_all_lem.new.0) put-after.ensures put-after2.ensures)
+    (then (spaced (decimal a.number)) (spaced (decimal a.place)) (page put_all_lem.result put_all_lem.new.room) put-after.ensures put-after2.ensures)

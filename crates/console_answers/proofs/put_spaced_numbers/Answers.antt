@@ -1,5 +1,4 @@
 -- `console_answers::put_spaced_numbers` meets its contract. Assumes nothing.
-use Prim.Native.Nat.{◌-◌}
 use mathlib.Core.Path.{refl, sym, ◌∙◌}
 use mathlib.Core.List.{[], ◌∷◌, ◌++◌}
 use native.Mathlib.Omega.{arith}
@@ -75,4 +74,4 @@ returns c =
     rw (joined_some s if1.false)
     (sym (stop further others others_nil s l.i (omega arith) (page l.end l.out)) ∙ l.invariant.1
     ∙ then (32 ∷ []) (first ++ rest) (page a.at a.out.now) put.ensures
-    (then first rest (page put.result put.new.0) put-number.ensures refl))
+    (then first rest (page put.result put.new.room) put-number.ensures refl))

@@ -8,8 +8,7 @@ unfolding verdict_text
 returns-in-Accepted c =
     let put-after = c.put_after in
     let put_done = c.put_done-end in
-    let v = c.v-1 in
-    rw v.given.1 (then _ _ _ put_done.ensures put-after.ensures)
+    rw c.in-Accepted.is (then _ _ _ put_done.ensures put-after.ensures)
 
 pub returns-in-Refused : goal.returns-in-Refused
 unfolding verdict_text

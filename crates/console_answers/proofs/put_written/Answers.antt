@@ -10,8 +10,7 @@ returns-in-Wrote c =
     let put-spaced-octets = c.put_spaced_octets in
     let part = c.part in
     let put_done = c.put_done-end in
-    let w = c.w-1 in
-    rw (w.given.1, sym part.ensures) (then _ _ _ put_done.ensures put-spaced-octets.ensures)
+    rw (c.in-Wrote.is, sym part.ensures) (then _ _ _ put_done.ensures put-spaced-octets.ensures)
 
 pub returns-in-Refused : goal.returns-in-Refused
 unfolding written_text

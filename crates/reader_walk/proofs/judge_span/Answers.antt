@@ -97,7 +97,7 @@ keep_part-requires c =
     let line = hand_line a.c a.scratch.now a.s.now (unfolded a.s.now) lies fits a.folded plain in
     let store = store_is a.c a.scratch.now (hand a.folded a.s.now) (length (hand a.folded a.s.now)) lies laid_room refl in
     let heard : Heard a.edition a.c a.s.now a.folded a.at a.scratch.now j.result =
-        (rw (u.ensures.scratch_after, u.ensures.value, line, store) at j.ensures.s_value, rw (u.ensures.scratch_after, u.ensures.value, line) at j.ensures.keeping) in
+    (rw (u.ensures.scratch_after, u.ensures.value, line, store) at j.ensures.s_value, rw (u.ensures.scratch_after, u.ensures.value, line) at j.ensures.keeping) in
     let k = heard.1 in
     record { from_le_to = (k.order, omega (arith, k.inside, fits, long)); to_in_bounds = λ e. omega (arith, k.inside, ap length (plain e)) }
 
@@ -113,7 +113,7 @@ returns c =
     let line = hand_line a.c a.scratch.now a.s.now (unfolded a.s.now) lies fits a.folded plain in
     let store = store_is a.c a.scratch.now (hand a.folded a.s.now) (length (hand a.folded a.s.now)) lies laid_room refl in
     let heard : Heard a.edition a.c a.s.now a.folded a.at a.scratch.now j.result =
-        (rw (u.ensures.scratch_after, u.ensures.value, line, store) at j.ensures.s_value, rw (u.ensures.scratch_after, u.ensures.value, line) at j.ensures.keeping) in
+    (rw (u.ensures.scratch_after, u.ensures.value, line, store) at j.ensures.s_value, rw (u.ensures.scratch_after, u.ensures.value, line) at j.ensures.keeping) in
     let m = c.keep_part in
     let there = subst (λ (x : List ℕ). m.new.scratch ≡ behind a.c.used (part j.result.from j.result.to (pick a.folded (drop a.c.used x) a.s.now)) x) u.ensures.scratch_after m.ensures in
     record {

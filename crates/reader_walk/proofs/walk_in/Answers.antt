@@ -58,8 +58,8 @@ returns-in_default c =
     let a = c.args in
     let line = take (v.result.end - l.at) (drop l.at a.s.now) in
     let turn : judge_lines a.edition (raw_lines a.s.now) 0 fresh_card
-        ≡ onward (settled l.at (take (v.result.end - l.at) (drop l.at a.s.now)) (step_of j.new.scratch j.result)) (judge_lines a.edition (raw_lines (drop (v.result.end + 2) a.s.now)) (v.result.end + 2)) =
-        l.invariant.5 ∙ judged a.edition a.s.now l.at v.result.end c.loop-at-test.true v.ensures.1 v.ensures.2 (card_of l.c l.scratch) (step_of j.new.scratch j.result) j.ensures.result_after in
+    ≡ onward (settled l.at (take (v.result.end - l.at) (drop l.at a.s.now)) (step_of j.new.scratch j.result)) (judge_lines a.edition (raw_lines (drop (v.result.end + 2) a.s.now)) (v.result.end + 2)) =
+    l.invariant.5 ∙ judged a.edition a.s.now l.at v.result.end c.loop-at-test.true v.ensures.1 v.ensures.2 (card_of l.c l.scratch) (step_of j.new.scratch j.result) j.ensures.result_after in
     let store = j.new.scratch in
     (store, c.settle.ensures store ∙ sym (turn ∙ stopped_step store _ line _ j.result c.in_default.not-Next))
 
@@ -80,8 +80,8 @@ loop-at-preserved c =
     let n = part_length a.s.now l.at v.result.end c.loop-at-test.true v.ensures.1 v.ensures.2 in
     let line = take (v.result.end - l.at) (drop l.at a.s.now) in
     let turn : judge_lines a.edition (raw_lines a.s.now) 0 fresh_card
-        ≡ onward (settled l.at (take (v.result.end - l.at) (drop l.at a.s.now)) (step_of j.new.scratch j.result)) (judge_lines a.edition (raw_lines (drop (v.result.end + 2) a.s.now)) (v.result.end + 2)) =
-        l.invariant.5 ∙ judged a.edition a.s.now l.at v.result.end c.loop-at-test.true v.ensures.1 v.ensures.2 (card_of l.c l.scratch) (step_of j.new.scratch j.result) j.ensures.result_after in
+    ≡ onward (settled l.at (take (v.result.end - l.at) (drop l.at a.s.now)) (step_of j.new.scratch j.result)) (judge_lines a.edition (raw_lines (drop (v.result.end + 2) a.s.now)) (v.result.end + 2)) =
+    l.invariant.5 ∙ judged a.edition a.s.now l.at v.result.end c.loop-at-test.true v.ensures.1 v.ensures.2 (card_of l.c l.scratch) (step_of j.new.scratch j.result) j.ensures.result_after in
     let holds = subst (Holds (l.c.used + length (take (v.result.end - l.at) (drop l.at a.s.now)))) e j.ensures.holds.0 in
     let more = one_more a.edition (card_of l.c l.scratch) (card_of next j.new.scratch) l.at _ (sym j.ensures.result_after ∙ ap (step_of j.new.scratch) e) in (
       omega (arith, j, l.invariant.0),

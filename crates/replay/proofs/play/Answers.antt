@@ -37,8 +37,8 @@ pub returns-in-Broken : goal.returns-in-Broken
 returns-in-Broken c =
     let a = c.args in played_broken a.slots a.script.now a.pool.now a.log.now _ (sym c.in-Broken.is ∙ c.count-counted.ensures)
 
-pub returns : goal.returns
-returns c =
+pub returns-else-not-has_room : goal.returns-else-not-has_room
+returns-else-not-has_room c =
     let a = c.args in
     let found = decodes c.args.script.now c.in-Calls.calls c.in-Calls.shows (sym c.in-Calls.is ∙ c.count-counted.ensures) in
     let roomy : leb (9 * c.in-Calls.calls + 16380 * c.in-Calls.shows) (length c.args.log.now) ≡ true = sym c.has_room.ensures ∙ not-false _ c.if-not-has_room.false-raw in

@@ -14,8 +14,8 @@ returns-in-Refused c =
     let a = c.args in
     outcome_refused a.slots a.script.now a.pool.now a.log.now _ _ (sym (ap (λ (t : Turn). t.answer) c.new-turn.ensures) ∙ c.in-Refused.is)
 
-pub returns : goal.returns
-returns c =
+pub returns-in-Done : goal.returns-in-Done
+returns-in-Done c =
     let a = c.args in
     let fresh = fresh_bounds c.args.slots _ (sym (ap (λ (t : Turn). t.answer) c.new-turn.ensures) ∙ c.in-Done.is) in
     c.play.ensures ∙ outcome_played a.slots a.script.now a.pool.now a.log.now fresh

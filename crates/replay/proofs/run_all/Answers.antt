@@ -59,7 +59,7 @@ overflow_add-to c =
     let roomy = next_room l.invariant c.loop-at-test.true c.requires.script_in_bounds in
     let r = c.run_call-r in
     let step : Running (world_of c.args.desk c.args.pool.now) s c.args.log.now r.result.desk r.new.pool (put_mid l.to (length l.log - l.to) l.log r.new.log) (l.at + c.width-w.result) (l.to + r.result.wrote) =
-        rw wide (next l.invariant c.loop-at-test.true c.requires.script_in_bounds r.result.desk r.new.pool r.new.log r.result.wrote r.auto.pool (rw (tail_is s l.at) at r.ensures)) in
+    rw wide (next l.invariant c.loop-at-test.true c.requires.script_in_bounds r.result.desk r.new.pool r.new.log r.result.wrote r.auto.pool (rw (tail_is s l.at) at r.ensures)) in
     omega (arith, step.logged.inside, step.logged.same)
 
 pub overflow_add-at : goal.overflow_add-at
@@ -71,7 +71,7 @@ overflow_add-at c =
     let roomy = next_room l.invariant c.loop-at-test.true c.requires.script_in_bounds in
     let r = c.run_call-r in
     let step : Running (world_of c.args.desk c.args.pool.now) s c.args.log.now r.result.desk r.new.pool (put_mid l.to (length l.log - l.to) l.log r.new.log) (l.at + c.width-w.result) (l.to + r.result.wrote) =
-        rw wide (next l.invariant c.loop-at-test.true c.requires.script_in_bounds r.result.desk r.new.pool r.new.log r.result.wrote r.auto.pool (rw (tail_is s l.at) at r.ensures)) in
+    rw wide (next l.invariant c.loop-at-test.true c.requires.script_in_bounds r.result.desk r.new.pool r.new.log r.result.wrote r.auto.pool (rw (tail_is s l.at) at r.ensures)) in
     omega (arith, step.inside)
 
 pub loop-at-smaller : goal.loop-at-smaller
@@ -83,7 +83,7 @@ loop-at-smaller c =
     let roomy = next_room l.invariant c.loop-at-test.true c.requires.script_in_bounds in
     let r = c.run_call-r in
     let step : Running (world_of c.args.desk c.args.pool.now) s c.args.log.now r.result.desk r.new.pool (put_mid l.to (length l.log - l.to) l.log r.new.log) (l.at + c.width-w.result) (l.to + r.result.wrote) =
-        rw wide (next l.invariant c.loop-at-test.true c.requires.script_in_bounds r.result.desk r.new.pool r.new.log r.result.wrote r.auto.pool (rw (tail_is s l.at) at r.ensures)) in
+    rw wide (next l.invariant c.loop-at-test.true c.requires.script_in_bounds r.result.desk r.new.pool r.new.log r.result.wrote r.auto.pool (rw (tail_is s l.at) at r.ensures)) in
     omega (arith, step.inside)
 
 pub loop-at-preserved : goal.loop-at-preserved
@@ -95,7 +95,7 @@ loop-at-preserved c =
     let roomy = next_room l.invariant c.loop-at-test.true c.requires.script_in_bounds in
     let r = c.run_call-r in
     let step : Running (world_of c.args.desk c.args.pool.now) s c.args.log.now r.result.desk r.new.pool (put_mid l.to (length l.log - l.to) l.log r.new.log) (l.at + c.width-w.result) (l.to + r.result.wrote) =
-        rw wide (next l.invariant c.loop-at-test.true c.requires.script_in_bounds r.result.desk r.new.pool r.new.log r.result.wrote r.auto.pool (rw (tail_is s l.at) at r.ensures)) in
+    rw wide (next l.invariant c.loop-at-test.true c.requires.script_in_bounds r.result.desk r.new.pool r.new.log r.result.wrote r.auto.pool (rw (tail_is s l.at) at r.ensures)) in
     step
 
 pub shape_of-pool : goal.shape_of-pool

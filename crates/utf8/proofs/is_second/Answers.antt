@@ -24,7 +24,6 @@ returns-then-b-eq240 c =
       eq-eqb _ _ c.if-b-eq240.true,
     ) c.in_range-then-b-eq240.ensures
 
-
 pub returns-then-b-eq244 : goal.returns-then-b-eq244
 unfolding second
 returns-then-b-eq244 c =

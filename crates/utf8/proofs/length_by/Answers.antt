@@ -18,7 +18,6 @@ pub returns-then-b-lt224 : goal.returns-then-b-lt224
 unfolding length_by
 returns-then-b-lt224 c = simp (le-ltb _ _ c.if-b-lt128.false, le-ltb _ _ c.if-b-lt194.false, lt-ltb _ _ c.if-b-lt224.true)
 
-
 pub returns-then-b-lt240 : goal.returns-then-b-lt240
 unfolding length_by
 returns-then-b-lt240 c =

@@ -19,5 +19,8 @@ unfolding minutes_of
 returns c =
     let fits = subst (SFits w32) (sym c.signed.ensures) (signed_fits c.is_behind.result c.time_of.result c.time_of.ensures.upper_bound) in
     let back = to_z-of_z w32 c.signed.result fits in
-    let size = ap nat_abs c.signed.ensures ∙ signed_size c.is_behind.result c.time_of.result in record { value = ap Minutes back
-          ∙ rw (c.signed.ensures, c.is_behind.ensures, c.time_of.ensures.value, sym c.value_fault-f.ensures ∙ c.in_default.is); bounded = (subst (λ (z : ℤ). nat_abs z ≤ most_minutes) (sym back) (rw size c.time_of.ensures.upper_bound)) }
+    let size = ap nat_abs c.signed.ensures ∙ signed_size c.is_behind.result c.time_of.result in record {
+      value = ap Minutes back
+          ∙ rw (c.signed.ensures, c.is_behind.ensures, c.time_of.ensures.value, sym c.value_fault-f.ensures ∙ c.in_default.is);
+      bounded = (subst (λ (z : ℤ). nat_abs z ≤ most_minutes) (sym back) (rw size c.time_of.ensures.upper_bound));
+    }

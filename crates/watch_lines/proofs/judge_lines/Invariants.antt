@@ -8,7 +8,7 @@ use Rattle.octets.specs.Pick.{pick}
 use Rattle.line_folds.specs.Folds.{unfolded}
 use Rattle.watch_arrivals.specs.Arrivals.{lone_from}
 use Rattle.watch_lines.specs.Taking.{Within}
-use Rattle.watch_lines.proofs.TakingLaws.{Hand}
+use Rattle.watch_lines.proofs.TakingLaws.{Hand, hand_line}
 use Rattle.watch_lines.proofs.judge_lines.Given as goal
 
 -- the line at hand: the first, or that of the chunk from `at` up to `end`

@@ -9,10 +9,13 @@ use Rattle.card_judge.proofs.judge.enter.Goals as goal
 
 pub returns-then-row-eq-END : goal.returns-then-row-eq-END
 returns-then-row-eq-END c =
-    record { by_index = λ store. simp (eq-eqb _ _ c.if-row-eq-END.true) (c.close.ensures.by_index store); holds = ((
-    holds_more c.close.result 0 c.args.c.used (omega arith) c.close.ensures.holds,
-    end_keeps c.args.c c.args.at _ c.close.result (c.close.ensures.by_index []) c.close.ensures.holds,
-  )) }
+    record {
+      by_index = λ store. simp (eq-eqb _ _ c.if-row-eq-END.true) (c.close.ensures.by_index store);
+      holds = ((
+        holds_more c.close.result 0 c.args.c.used (omega arith) c.close.ensures.holds,
+        end_keeps c.args.c c.args.at _ c.close.result (c.close.ensures.by_index []) c.close.ensures.holds,
+      ));
+    }
 
 pub returns : goal.returns
 unfolding step_of Holds gone_on

@@ -20,8 +20,8 @@ returns-then-bad-s c =
     let a = c.args in
     let l = a.s.now in
     let w : (read_by c.unkept.result a.store.now a.s.now ≡ judge_line a.edition (card_of a.c a.store.now) a.at a.s.now) × Keeping a.c a.s.now (added_by a.edition a.c.seen a.s.now) c.unkept.result =
-        flawed_stop a.c a.store.now l c.unkept.result 5 _ _ c.unkept.ensures
-        (simp (c.first_bad-bad.ensures, lt-ltb (first_bad (allowed false) l) (length l) (rw (← c.first_bad-bad.ensures) c.if-bad-s.true))) in
+    flawed_stop a.c a.store.now l c.unkept.result 5 _ _ c.unkept.ensures
+    (simp (c.first_bad-bad.ensures, lt-ltb (first_bad (allowed false) l) (length l) (rw (← c.first_bad-bad.ensures) c.if-bad-s.true))) in
     record { s_value = w.0; keeping = w.1 }
 
 pub slice_bounds-judge_parts-count : goal.slice_bounds-judge_parts-count
@@ -54,8 +54,8 @@ pub returns-in-Fault : goal.returns-in-Fault
 returns-in-Fault c =
     let a = c.args in
     let w : (read_by c.unkept-in-Fault.result a.store.now a.s.now ≡ judge_line a.edition (card_of a.c a.store.now) a.at a.s.now) × Keeping a.c a.s.now (added_by a.edition a.c.seen a.s.now) c.unkept-in-Fault.result =
-        stopped a.c a.store.now a.s.now c.unkept-in-Fault.result _ a.at _ c.unkept-in-Fault.ensures
-        (refused a.edition (card_of a.c a.store.now) a.at a.s.now (rw (← c.first_bad-bad.ensures) c.if-bad-s.false) (sym c.in-Fault.is ∙ c.parts_of.ensures)) in
+    stopped a.c a.store.now a.s.now c.unkept-in-Fault.result _ a.at _ c.unkept-in-Fault.ensures
+    (refused a.edition (card_of a.c a.store.now) a.at a.s.now (rw (← c.first_bad-bad.ensures) c.if-bad-s.false) (sym c.in-Fault.is ∙ c.parts_of.ensures)) in
     record { s_value = w.0; keeping = w.1 }
 
 pub returns-in-Line : goal.returns-in-Line

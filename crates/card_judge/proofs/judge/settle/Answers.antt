@@ -20,11 +20,14 @@ instance_of-i-requires c =
 pub returns-then-i : goal.returns-then-i
 returns-then-i c =
     let a = c.args in
-    record { s_value = (stopped {added = []} a.c a.store.now a.s.now c.unkept.result 10 a.at _ c.unkept.ensures
-    (told_second a.c a.store.now a.s.now a.once (first_value altid_name a.s.now) c.instance_of-i.result c.instance_of-i.ensures a.at a.x.row a.value.now
-    c.requires.row_lt_all.1.0 c.if-i.true)).0; keeping = (stopped a.c a.store.now a.s.now c.unkept.result 10 a.at _ c.unkept.ensures
-    (told_second a.c a.store.now a.s.now a.once (first_value altid_name a.s.now) c.instance_of-i.result c.instance_of-i.ensures a.at a.x.row a.value.now
-    c.requires.row_lt_all.1.0 c.if-i.true)).1 }
+    record {
+      s_value = (stopped {added = []} a.c a.store.now a.s.now c.unkept.result 10 a.at _ c.unkept.ensures
+          (told_second a.c a.store.now a.s.now a.once (first_value altid_name a.s.now) c.instance_of-i.result c.instance_of-i.ensures a.at a.x.row a.value.now
+          c.requires.row_lt_all.1.0 c.if-i.true)).0;
+      keeping = (stopped a.c a.store.now a.s.now c.unkept.result 10 a.at _ c.unkept.ensures
+          (told_second a.c a.store.now a.s.now a.once (first_value altid_name a.s.now) c.instance_of-i.result c.instance_of-i.ensures a.at a.x.row a.value.now
+          c.requires.row_lt_all.1.0 c.if-i.true)).1;
+    }
 
 pub with_value-kept-requires : goal.with_value-kept-requires
 with_value-kept-requires c =
@@ -45,12 +48,15 @@ returns c =
     let told = c.instance_of-i.ensures in
     let stored = c.requires.stored in
     let j = c.instance_of-i.result in
-    let size = takes_used a.c a.store.now a.s.now a.once (first_value altid_name a.s.now) j told c.with_value-kept.result c.with_value-kept.ensures stored.lies stored.short in record { s_value = c.enter-step.ensures.by_index (a.store.now ++ part j.from j.to a.s.now)
+    let size = takes_used a.c a.store.now a.s.now a.once (first_value altid_name a.s.now) j told c.with_value-kept.result c.with_value-kept.ensures stored.lies stored.short in record {
+      s_value = c.enter-step.ensures.by_index (a.store.now ++ part j.from j.to a.s.now)
           ∙ told_on a.c a.store.now a.s.now a.once (first_value altid_name a.s.now) j told a.at a.x.row a.value.now c.requires.row_lt_all.1.0
-          c.with_value-kept.result c.with_value-kept.ensures stored.lies stored.short stored.all c.if-i.false; keeping = record {
+          c.with_value-kept.result c.with_value-kept.ensures stored.lies stored.short stored.all c.if-i.false;
+      keeping = record {
         order = told.order;
         inside = told.inside;
         holds = subst (λ (n : ℕ). Holds n c.enter-step.result) size c.enter-step.ensures.holds.0;
         adds = λ d z. added_is a.c a.store.now a.s.now a.once (first_value altid_name a.s.now) j told a.x.row c.requires.row_lt_all.1.0;
         counts = subst (λ (n : ℕ). KeepsOn n c.enter-step.result) size c.enter-step.ensures.holds.1;
-      } }
+      };
+    }

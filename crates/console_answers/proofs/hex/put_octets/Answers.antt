@@ -1,5 +1,4 @@
 -- `console_answers::hex::put_octets` meets its contract. Assumes nothing.
-use Prim.Native.Nat.{◌-◌}
 use mathlib.Core.Path.{refl, sym, ◌∙◌}
 use native.Mathlib.Omega.{arith}
 use Rattle.program_output.specs.Pages.{page}

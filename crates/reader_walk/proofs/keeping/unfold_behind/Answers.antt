@@ -12,5 +12,8 @@ pub returns : goal.returns
 returns c =
     let a = c.args in
     let u = c.unfold in
-    let room = take (length a.scratch.now - a.used) (drop a.used a.scratch.now) in record { value = u.ensures.0; scratch_after = (put_behind a.scratch.now (unfolded a.s.now) u.new.d a.used (omega arith)
-          (u.ensures.1 ∙ ap (λ (n : ℕ). unfolded a.s.now ++ drop n room) u.ensures.0)) }
+    let room = take (length a.scratch.now - a.used) (drop a.used a.scratch.now) in record {
+      value = u.ensures.0;
+      scratch_after = (put_behind a.scratch.now (unfolded a.s.now) u.new.d a.used (omega arith)
+          (u.ensures.1 ∙ ap (λ (n : ℕ). unfolded a.s.now ++ drop n room) u.ensures.0));
+    }

@@ -3,13 +3,8 @@ use mathlib.Core.Path.{refl}
 use Rattle.octets.specs.Ascii.{octets}
 use Rattle.console_requests.specs.Names.{rows, row_at, entries, Lists}
 use Rattle.octets.specs.Tables.{entries_from, TableOf}
-use Rattle.console_requests.proofs.names.table.Statement.{statement}
-use Rattle.console_requests.proofs.names.table.Tie as tie
+use Rattle.console_requests.proofs.names.table.Goals as goal
 
-returns : tie.Need-returns
+pub returns : goal.returns
 unfolding Lists TableOf entries_from entries row_at rows octets
-returns c =
-    refl
-
-pub table_spec : {M : Type 1} → statement M
-table_spec = tie.close (tie.spec returns)
+returns c = refl
