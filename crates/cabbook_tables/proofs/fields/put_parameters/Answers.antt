@@ -21,4 +21,4 @@ unfolding meanings
 returns c =
     let w = c.write-n in
     let s = c.args.parameters.now in
-    rw (le-ltb _ _ c.if-parameters-gt-OCTETS.false, ← c.part.ensures ∙ part_front (decoded Rfc6868 s) _ _ w.result w.ensures.1 w.ensures.0) c.put_column-2.ensures
+    rw (le-ltb _ _ c.if-parameters-gt-OCTETS.false, ← c.part.ensures ∙ part_front (decoded Rfc6868 s) _ _ w.result w.ensures.value w.ensures.out_after) c.put_column-2.ensures
