@@ -1,9 +1,8 @@
 -- One judgement adds at most 16,384 to a count, so that 80 is long in coming. Assumes nothing.
-use mathlib.Core.Path.{◌≡◌, refl, sym, ap, ◌∙◌}
+use mathlib.Core.Path.{◌≡◌, refl}
 use mathlib.Core.Bool.{Bool, true, false}
-use mathlib.Core.List.{List, [], ◌∷◌, ◌++◌, map}
-use Prim.Native.Nat.{ℕ, zero, suc, ◌+◌, ◌*◌, ◌<◌, ◌≤◌}
-use native.Mathlib.Nat.{mul-suc}
+use mathlib.Core.List.{List, [], ◌∷◌}
+use Prim.Native.Nat.{ℕ, ◌*◌, ◌<◌, ◌≤◌}
 use native.Mathlib.Omega.{arith}
 use lib.Dec.{eqb, ltb}
 use lib.ListN.{length, get_or, length-append}
@@ -15,7 +14,6 @@ use Rattle.reader.specs.declared.Verdict.{Verdict}
 use Rattle.reader.specs.declared.Verdict.TheVariants.{Accepted, Refused}
 use Rattle.reader.proofs.AcceptLaws.{lines_few, lines_counted}
 use Rattle.reader_grammar.specs.Cards.{CardLines, card, Cards, none, more}
-use Rattle.reader_grammar.specs.Inputs.{InputOf}
 use Rattle.reader_grammar.proofs.Accepted.{accepted_law}
 use Rattle.report_lines.specs.Rows.{row_of_name, one, lines_with, line_counts}
 use Rattle.report_lines.proofs.CountLaws.{counts_at}

@@ -2,12 +2,11 @@
 use mathlib.Core.Path.{◌≡◌, refl, sym, ap, ◌∙◌}
 use mathlib.Core.Bool.{Bool, true, false}
 use mathlib.Core.List.{List, [], ◌∷◌, map}
-use Prim.Native.Nat.{ℕ, suc, ◌+◌, ◌<◌, ◌≤◌}
+use Prim.Native.Nat.{ℕ, suc, ◌+◌, ◌≤◌}
 use native.Mathlib.Omega.{arith}
 use lib.Dec.{eqb, ltb}
 use lib.ListN.{length, get_or, drop, get_or-eq_default}
 use borrow.Author.Tests.{ltb-true, ltb-false, eq-eqb, ne_eqb}
-use Rattle.octets.specs.Pick.{pick}
 use Rattle.line_folds.specs.Logical.{logical_lines}
 use Rattle.line_parser.specs.Parse.{got}
 use Rattle.line_parser.specs.Grammar.{Line, Each, WellFormed, front, render}
@@ -28,7 +27,7 @@ use Rattle.reader_grammar.proofs.Refused.{refused_law}
 use Rattle.report_lines.specs.Rows.{row_by, row_of_name, one, lines_with, line_counts}
 use Rattle.report_lines.proofs.CountLaws.{counts_length, counts_at}
 use Rattle.report_weights.specs.Counts.{Count, uploads, accepted, cards, lines, octets, refused_with, lines_of}
-use Rattle.report_weights.specs.Parts.{refused_part, accepted_part, part_by, part}
+use Rattle.report_weights.specs.Parts.{refused_part, part_by, part}
 use Rattle.report_laws.specs.Reports.{AddsAccepted, AddsRefused}
 use Rattle.property_table.specs.declared.Edition.TheVariants.{First}
 

@@ -1,13 +1,13 @@
 -- Every count that a judgement moves has a place of its own. Assumes nothing.
-use mathlib.Core.Path.{◌≡◌, refl, sym, ap, subst, ◌∙◌}
+use mathlib.Core.Path.{◌≡◌, refl, sym, ap, ◌∙◌}
 use mathlib.Core.Bool.{Bool, true, false}
 use mathlib.Core.List.{List, [], ◌∷◌}
 use mathlib.Core.Logic.{inl, inr}
-use Prim.Native.Nat.{ℕ, zero, suc, ◌+◌, ◌-◌, ◌<◌, ◌≤◌}
+use Prim.Native.Nat.{ℕ, suc, ◌+◌, ◌-◌, ◌<◌, ◌≤◌}
 use native.Mathlib.Omega.{arith}
 use lib.Dec.{eqb, ltb}
 use lib.ListN.{length, get_or}
-use borrow.Author.Tests.{ltb-true, ltb-false, lt-ltb, le-ltb, eqb-true, ne_eqb}
+use borrow.Author.Tests.{ltb-true, ltb-false, eqb-true, ne_eqb}
 use Rattle.octets.specs.Pick.{pick}
 use Rattle.octets.proofs.Upto.{upto, from, alike}
 use Rattle.line_folds.specs.Logical.{logical_lines}
@@ -17,7 +17,7 @@ use Rattle.reader.specs.declared.Verdict.TheVariants.{Accepted, Refused}
 use Rattle.reader_grammar.specs.Refusals.{Judging}
 use Rattle.reader_grammar.proofs.Numbers.{refusal_number}
 use Rattle.reader_grammar.proofs.Refused.{refused_law}
-use Rattle.report_lines.specs.Rows.{numbers_from, one}
+use Rattle.report_lines.specs.Rows.{one}
 use Rattle.report_weights.specs.Counts.{Count, uploads, accepted, cards, lines, octets, refused_with, lines_of, judging, refusal_at, total_at, count_at}
 use Rattle.report_weights.specs.Parts.{part}
 use Rattle.report_weights.proofs.PlaceLaws.{at_refusal, at_property}

@@ -7,12 +7,11 @@ use native.Mathlib.Nat.{pow-suc}
 use native.Mathlib.Omega.{arith}
 use lib.Dec.{eqb, ltb}
 use lib.ListN.{length, get_or, drop, length-append}
-use borrow.Author.Tests.{eqb-true, eqb-false, ltb-true, ltb-false, lt-ltb, eq-eqb, ne_eqb}
+use borrow.Author.Tests.{eqb-true, ltb-true, lt-ltb, eq-eqb, ne_eqb}
 use Rattle.program_output.specs.Digits.{hex_digit_ascii}
 use Rattle.octets.specs.Ascii as ascii
 use Rattle.octets.specs.Pick.{pick}
 use Rattle.octets.proofs.Bools.{and_both, clash}
-use Rattle.line_parser.specs.Grammar.{Each}
 use Rattle.program_output.specs.Digits.{decimal_in, decimal}
 use Rattle.report_lines.specs.Rows.{numbers_from}
 use Rattle.report_weights.specs.Counts.{Count, uploads, accepted, cards, lines, octets, refused_with, lines_of, counts}

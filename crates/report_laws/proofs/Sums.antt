@@ -5,9 +5,9 @@ use mathlib.Core.List.{List, [], ◌∷◌, map}
 use mathlib.Core.Logic.{inl, inr}
 use Prim.Native.Nat.{ℕ, zero, suc, ◌+◌, ◌-◌, ◌<◌, ◌≤◌}
 use native.Mathlib.Omega.{arith}
-use lib.Dec.{eqb, ltb}
-use lib.ListN.{length, get_or}
-use borrow.Author.Tests.{eqb-true, eqb-false, eq-eqb, ne_eqb}
+use lib.Dec.{eqb}
+use lib.ListN.{length}
+use borrow.Author.Tests.{eqb-true, eqb-false, ne_eqb}
 use Rattle.octets.proofs.Upto.{upto, from}
 use Rattle.line_folds.specs.Folds.{unfolded}
 use Rattle.line_folds.specs.Logical.{raw_lines, logical_lines}
@@ -21,7 +21,7 @@ use Rattle.reader.proofs.AcceptLaws.{lines_counted}
 use Rattle.reader_grammar.specs.Refusals.{Judging}
 use Rattle.reader_grammar.proofs.Numbers.{refusal_number}
 use Rattle.reader_grammar.proofs.Refused.{refused_law}
-use Rattle.report_lines.specs.Rows.{row_by, row_of_name, one, lines_with, numbers_from, line_counts}
+use Rattle.report_lines.specs.Rows.{row_by, row_of_name, one, lines_with, numbers_from}
 use Rattle.report_lines.proofs.CountLaws.{counts_at}
 use Rattle.report_weights.specs.Counts.{uploads, accepted, lines, refused_with, lines_of, judging}
 use Rattle.report_weights.specs.Parts.{part}

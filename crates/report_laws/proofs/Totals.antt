@@ -12,9 +12,8 @@ use Rattle.octets.proofs.Bools.{clash}
 use Rattle.report_weights.specs.Counts.{Count, count_at}
 use Rattle.report_weights.specs.Parts.{part, weights}
 use Rattle.report_weights.proofs.PlaceLaws.{each_at}
-use Rattle.report.specs.Steps.{sum_at, over, sums, fresh_report, take_step}
+use Rattle.report.specs.Steps.{over, sums, fresh_report, take_step}
 use Rattle.report.specs.declared.Report.{Report}
-use Rattle.report.specs.declared.Answer.{Answer}
 use Rattle.report.specs.declared.Answer.TheVariants.{Counted, Refused}
 use Rattle.report.specs.declared.Taken.{Taken}
 use Rattle.report.proofs.StepLaws.{sum_fits, passing, sums_length, sums_at, refused_take, counted_take}

@@ -1,10 +1,10 @@
 -- The ALTID values that are kept are those of the grammar's lines since the last END that has ended. Assumes nothing.
 use mathlib.Core.Path.{◌≡◌, refl, sym, ap, subst, ◌∙◌}
-use mathlib.Core.Bool.{Bool, true, false, not, ◌&&◌, ◌||◌, false≢true, or-true, or-false}
+use mathlib.Core.Bool.{Bool, true, false, not, ◌||◌, false≢true, or-true, or-false}
 use mathlib.Core.List.{List, [], ◌∷◌, ◌++◌, map, append-nil, append_assoc}
-use Prim.Native.Nat.{ℕ, ◌+◌, ◌<◌}
+use Prim.Native.Nat.{ℕ, ◌+◌}
 use native.Mathlib.Omega.{arith}
-use lib.Dec.{eqb, ltb, leb}
+use lib.Dec.{eqb, ltb}
 use lib.ListN.{length}
 use lib.Seq.{append_snoc}
 use borrow.Author.Tests.{eq-eqb, ne_eqb}
@@ -12,19 +12,18 @@ use Rattle.octets.specs.Pick.{pick}
 use Rattle.octets.proofs.Bools.{by, or_none_right}
 use Rattle.line_folds.specs.Folds.{unfolded}
 use Rattle.line_parser.specs.Grammar.{Line, Each, front, render}
-use Rattle.line_parser.specs.Rule.{parse_line}
 use Rattle.line_parameters.proofs.Law.{line_law, line_unique}
 use Rattle.property_table.specs.declared.Edition.TheVariants.{First}
 use Rattle.property_table.specs.Rows.{single, once_at}
 use Rattle.card_line.specs.Parts.{row_of_line, altid_of}
 use Rattle.card_line.proofs.PartLaws.{row_of_line_lem}
-use Rattle.card_state.specs.State.{Card, Step, Next, Refused, fresh_card, once_flag, is_seen, phase_after, line_card as next_card}
-use Rattle.card_judge.specs.Judge.{judge_line, octets_of, added_at, added_parsed, added_by}
+use Rattle.card_state.specs.State.{Card, Step, fresh_card, phase_after, line_card as next_card}
+use Rattle.card_judge.specs.Judge.{octets_of, added_at, added_parsed, added_by}
 use Rattle.reader.specs.Outcome.{ended}
 use Rattle.reader_walk.specs.Walk.{onward, settled, judge_lines}
 use Rattle.reader_grammar.specs.Cards.{Readable, of_row, any}
 use Rattle.reader_grammar.proofs.Flags.{once_some}
-use Rattle.reader_grammar.proofs.Known.{any_last, Known, Joins, fresh_known, line_card, line_known, end_card, end_known}
+use Rattle.reader_grammar.proofs.Known.{any_last, Known, fresh_known, line_card, line_known, end_card, end_known}
 use Rattle.reader_grammar.proofs.LineLaws.{Judged, refused, goes_on, ends, outcome, decided}
 use Rattle.reader_grammar.proofs.Walks.{fresh_reached, settled_place, Walked, finished, stopped, walk}
 use Rattle.watch_buffer.specs.Buffer.{padded}

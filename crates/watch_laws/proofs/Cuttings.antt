@@ -1,15 +1,12 @@
 -- Every cutting of an input leads to the same: proved by the contracts of the calls alone. Assumes nothing.
-use mathlib.Core.Path.{◌≡◌, refl, sym, ap, subst, ◌∙◌}
+use mathlib.Core.Path.{◌≡◌, sym, subst, ◌∙◌}
 use mathlib.Core.List.{List, [], ◌∷◌, ◌++◌, append_assoc, append-nil}
-use Prim.Native.Nat.{ℕ, ◌<◌, ◌≤◌}
+use Prim.Native.Nat.{ℕ}
 use native.Mathlib.Omega.{arith}
 use lib.ListN.{length}
-use Rattle.reader.specs.Outcome.{judge_of}
-use Rattle.watch.specs.Octets.{known, used, buffer_after}
-use Rattle.watch.specs.State.{fresh_watch, claims, Stands, After, Reached}
-use Rattle.watch.specs.Outcome.{ChunkOf, EndOf}
+use Rattle.watch.specs.State.{fresh_watch, After, Reached}
+use Rattle.watch.specs.Outcome.{ChunkOf}
 use Rattle.watch.specs.declared.Watch.{Watch}
-use Rattle.watch.specs.declared.Arrived.{Arrived}
 use Rattle.watch.specs.declared.Arrived.TheVariants.{Next as goes_on}
 use Rattle.watch.proofs.ReachLaws.{reached_sound, sound_claims, fresh_stands}
 use Rattle.watch_laws.specs.Cuttings.{joined, Fed, Demand6}

@@ -1,15 +1,14 @@
 -- An input as its ended lines and the open one, and the values that are kept. Assumes nothing.
 use mathlib.Core.Path.{◌≡◌, refl, sym, ap, subst, ◌∙◌}
-use mathlib.Core.Bool.{Bool, true, false, not, ◌&&◌, ◌||◌, false≢true}
+use mathlib.Core.Bool.{true, false, not, ◌&&◌, ◌||◌}
 use mathlib.Core.List.{List, [], ◌∷◌, ◌++◌, append_assoc}
 use mathlib.Core.Logic.{◌⊎◌, inl, inr}
 use Prim.Native.Nat.{ℕ, zero, suc, ◌+◌, ◌-◌, ◌<◌, ◌≤◌}
 use native.Mathlib.Omega.{arith}
 use lib.Dec.{eqb, ltb, leb}
 use lib.ListN.{length, get_or, take, drop, replicate, length-drop, length-append, take-append-drop}
-use lib.Seq.{length-take-le, take-take, take-suc, take-length, get_or-take}
+use lib.Seq.{length-take-le, take-take, take-suc, take-length}
 use borrow.Author.Tests.{ltb-true, ltb-false, eqb-true, eq-eqb, ne_eqb, leb-true}
-use Rattle.octets.specs.Pick.{pick}
 use Rattle.octets.proofs.Bools.{by, and_both, or_some}
 use Rattle.line_breaks.specs.Lone.{first_lone, ends_cr_lf}
 use Rattle.line_folds.specs.Folds.{line_length, unfolded}
@@ -22,11 +21,11 @@ use Rattle.reader_walk.specs.Walk.{onward, settled, judge_lines}
 use Rattle.watch_arrivals.specs.Arrivals.{tail_from, lone_from, next_from}
 use Rattle.watch_arrivals.proofs.ArrivalLaws.{next_tail, next_least, ends_law, line_left, lone_known, lone_first}
 use Rattle.watch_buffer.specs.Buffer.{padded}
-use Rattle.watch_lines.specs.Parting.{Parting, with_line, opened, parted, ended_lines, open_line}
+use Rattle.watch_lines.specs.Parting.{Parting, ended_lines, open_line}
 use Rattle.watch_lines.specs.Values.{halted, values_on, values_next, values_from}
 use Rattle.watch_lines.proofs.PartingLaws.{parted_step, parted_open}
 use Rattle.watch_lines.proofs.RunLaws.{open_law}
-use Rattle.watch.specs.Octets.{judged, altid_octets, known, used, buffer_after}
+use Rattle.watch.specs.Octets.{judged, altid_octets, known, buffer_after}
 use Rattle.watch.proofs.ArriveLaws.{known_line, buffer_zero}
 use Rattle.watch.proofs.FaultLaws.{known_over, known_lone, halted_append}
 

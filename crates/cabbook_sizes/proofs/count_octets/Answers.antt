@@ -1,5 +1,4 @@
 -- `cabbook_sizes::count_octets` is safe and ends. Assumes nothing.
-use Prim.Native.Nat.{◌-◌}
 use Rattle.cabbook_sizes.proofs.count_octets.Goals as goal
 
 pub loop-i-init : goal.loop-i-init

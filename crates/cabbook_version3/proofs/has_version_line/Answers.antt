@@ -1,5 +1,4 @@
 -- `cabbook_version3::has_version_line` is safe and ends. Assumes nothing.
-use Prim.Native.Nat.{◌-◌}
 use Rattle.cabbook_version3.proofs.has_version_line.Goals as goal
 
 pub loop-i-init : goal.loop-i-init

@@ -1,19 +1,13 @@
 -- `watch_lines::judge_lines` meets its contract. Assumes nothing.
 use native.Mathlib.Omega.{arith}
 use mathlib.Core.Path.{◌≡◌, refl, sym, subst}
-use mathlib.Core.Bool.{Bool}
-use mathlib.Core.List.{List}
-use Prim.Native.Nat.{ℕ, ◌+◌, ◌-◌}
+use Prim.Native.Nat.{◌+◌, ◌-◌}
 use lib.ListN.{length, take, drop, length-drop}
-use Rattle.octets.specs.Pick.{pick}
 use Rattle.card_state.specs.declared.Step.{Step as KeptStep}
 use Rattle.line_folds.proofs.SpanLaws.{whole, part_length}
 use Rattle.watch_lines.specs.Taking.{Took, Within}
-use Rattle.watch_lines.proofs.TakingLaws.{Hand, hand_start, hand_refused, hand_next, rest_hand, rest_open, within_next, turn_last, turn_next, turn_fine, turn_size, whole_line}
+use Rattle.watch_lines.proofs.TakingLaws.{Hand, hand_line, hand_start, hand_refused, hand_next, rest_hand, rest_open, within_next, turn_last, turn_next, turn_fine, turn_size, whole_line}
 use Rattle.watch_lines.proofs.judge_lines.Goals as goal
-
-abbrev hand_line : Bool → List ℕ → List ℕ → ℕ → ℕ → List ℕ
-hand_line first line chunk at end = pick first line (take (end - at) (drop at chunk))
 
 pub loop-after-init : goal.loop-after-init
 loop-after-init c =

@@ -1,19 +1,13 @@
 -- `watch_lines::judge_lines` meets its contract. Assumes nothing.
 use mathlib.Core.Path.{◌≡◌}
-use mathlib.Core.Bool.{Bool, false}
-use mathlib.Core.List.{List}
-use Prim.Native.Nat.{ℕ, ◌+◌, ◌-◌, ◌≤◌}
-use lib.ListN.{length, take, drop}
-use Rattle.octets.specs.Pick.{pick}
+use mathlib.Core.Bool.{false}
+use Prim.Native.Nat.{◌+◌, ◌-◌, ◌≤◌}
+use lib.ListN.{length, drop}
 use Rattle.line_folds.specs.Folds.{unfolded}
 use Rattle.watch_arrivals.specs.Arrivals.{lone_from}
 use Rattle.watch_lines.specs.Taking.{Within}
 use Rattle.watch_lines.proofs.TakingLaws.{Hand, hand_line}
 use Rattle.watch_lines.proofs.judge_lines.Given as goal
-
--- the line at hand: the first, or that of the chunk from `at` up to `end`
-abbrev hand_line : Bool → List ℕ → List ℕ → ℕ → ℕ → List ℕ
-hand_line first line chunk at end = pick first line (take (end - at) (drop at chunk))
 
 abbrev pub invariant-loop-after : goal.invariant-loop-after
 invariant-loop-after l = (length l.buffer ≡ 16384) × ((l.from ≤ l.next) × (l.at ≤ l.end) × (l.end ≤ length l.chunk) × (l.next ≤ length l.chunk)) × (l.n ≡ length (hand_line l.first l.line l.chunk l.at l.end))
