@@ -7,10 +7,10 @@ pub returns-in-Done : goal.returns-in-Done
 returns-in-Done c =
     let a = c.args in
     let t = c.add-t.result in
-    add_done a.k a.t1 (turned t c.add-t.new.pool) _ c.add-t.ensures _ c.in-Done.is
+    add_done a.k a.m (turned t c.add-t.new.pool) _ c.add-t.ensures _ c.in-Done.is
 
 pub returns-in-Refused : goal.returns-in-Refused
 returns-in-Refused c =
     let a = c.args in
     let t = c.add-t.result in
-    add_ended a.k a.t1 (turned t c.add-t.new.pool) _ c.add-t.ensures _ _ c.in-Refused.is _ _ c.finish.ensures
+    add_ended a.k a.m (turned t c.add-t.new.pool) _ c.add-t.ensures _ _ c.in-Refused.is _ _ c.finish.ensures

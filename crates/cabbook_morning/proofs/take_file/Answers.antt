@@ -23,18 +23,18 @@ returns-then-number-eq-NO_FREE_SLOT c =
     let a = c.args in
     let n = c.next_file-i in
     let o = c.open-t in
-    opened n.result n.ensures (omega arith) (open_waits a.k n.result (from (n.result + 1) a.t1) (turned o.result o.new.1.0) _ o.ensures _ _ c.in-Refused.is c.if-number-eq-NO_FREE_SLOT.true _ refl) (ap (λ (t : Turned). t.pool) o.ensures)
+    opened n.result n.ensures (omega arith) (open_waits a.k n.result (from (n.result + 1) a.m) (turned o.result o.new.pool) _ o.ensures _ _ c.in-Refused.is c.if-number-eq-NO_FREE_SLOT.true _ refl) (ap (λ (t : Turned). t.pool) o.ensures)
 
 pub returns-in-Done : goal.returns-in-Done
 returns-in-Done c =
     let a = c.args in
     let n = c.next_file-i in
     let o = c.open-t in
-    opened n.result n.ensures (omega arith) (open_done a.k n.result (from (n.result + 1) a.t1) (turned o.result o.new.1.0) _ o.ensures _ c.in-Done.is (to_z w32 (of_z w32 c.open_argument-fd.result)) _ (rw (c.ticket_of.ensures, c.more.ensures))) (ap (λ (t : Turned). t.pool) o.ensures)
+    opened n.result n.ensures (omega arith) (open_done a.k n.result (from (n.result + 1) a.m) (turned o.result o.new.pool) _ o.ensures _ c.in-Done.is (to_z w32 (of_z w32 c.open_argument-fd.result)) _ (rw (c.ticket_of.ensures, c.more.ensures))) (ap (λ (t : Turned). t.pool) o.ensures)
 
 pub returns-else-number-eq-NO_FREE_SLOT : goal.returns-else-number-eq-NO_FREE_SLOT
 returns-else-number-eq-NO_FREE_SLOT c =
     let a = c.args in
     let n = c.next_file-i in
     let o = c.open-t in
-    opened n.result n.ensures (omega (arith, c.if-i-m.false)) (open_refused a.k n.result (from (n.result + 1) a.t1) (turned o.result o.new.1.0) _ o.ensures _ _ c.in-Refused.is c.if-number-eq-NO_FREE_SLOT.false _ c.count_verdict.ensures) (ap (λ (t : Turned). t.pool) o.ensures)
+    opened n.result n.ensures (omega (arith, c.if-i-m.false)) (open_refused a.k n.result (from (n.result + 1) a.m) (turned o.result o.new.pool) _ o.ensures _ _ c.in-Refused.is c.if-number-eq-NO_FREE_SLOT.false _ c.count_verdict.ensures) (ap (λ (t : Turned). t.pool) o.ensures)
