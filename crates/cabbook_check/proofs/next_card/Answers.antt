@@ -1,5 +1,4 @@
 -- `cabbook_check::next_card` is safe and ends, and meets its contract. Assumes nothing.
-use Prim.Native.Nat.{◌-◌}
 use Rattle.cabbook_check.proofs.next_card.Goals as goal
 
 pub loop-i-init : goal.loop-i-init

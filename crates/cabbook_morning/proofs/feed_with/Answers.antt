@@ -2,7 +2,7 @@
 use Rattle.cabbook_morning.proofs.feed_with.Goals as goal
 
 pub returns-in_default : goal.returns-in_default
-returns-in_default c = rw c.in_default.is (rw c.count_unread.ensures at c.release.ensures.value, rw c.count_unread.ensures at c.release.ensures.pool_after)
+returns-in_default c = let f = rw c.count_unread.ensures at c.release.ensures in rw c.in_default.is (f.value, f.pool_after)
 
 pub returns-then-n-eq0 : goal.returns-then-n-eq0
 returns-then-n-eq0 c = rw c.in-Octets.is (λ e. rw c.judge.ensures at c.finish.ensures, λ h. absurd (h c.if-n-eq0.true))

@@ -2,4 +2,4 @@
 use Rattle.cabbook_morning.proofs.finish.Goals as goal
 
 pub returns : goal.returns
-returns c = (c.compare-same.result, (rw c.count_verdict.ensures at c.release.ensures.value, rw c.count_verdict.ensures at c.release.ensures.pool_after))
+returns c = let f = rw c.count_verdict.ensures at c.release.ensures in (c.compare-same.result, (f.value, f.pool_after))

@@ -1,6 +1,5 @@
 -- `cabbook_watch::watch_files` is safe and ends, and meets its contract. Assumes nothing.
 
-use Prim.Native.Nat.{◌-◌}
 use native.Mathlib.Omega.{arith}
 use Rattle.cabbook_watch.proofs.watch_files.Goals as goal
 use Rattle.cabbook_watch.proofs.watch_files.Goals.{then-status-one, else-status-one}

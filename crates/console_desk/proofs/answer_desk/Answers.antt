@@ -27,7 +27,7 @@ returns c =
     let if1 = c.if-n-pool in
     let a = c.args in
     let p = a.pool.now in
-    let q = fill.new.0 in
+    let q = fill.new.room in
     let o = page a.c.at a.out.now in
     rw (le-ltb _ _ if1.false)
     (ap (λ (x : State). with_pool x (q ++ drop (a.n - 0) p)) answer-turn.ensures

@@ -12,10 +12,10 @@ use Rattle.console_entries.proofs.RoomLaws.{less_none}
 use Rattle.console_desk.proofs.answer_look.Goals as goal
 
 pub overflow_cast-n : goal.overflow_cast-n
-overflow_cast-n c = omega (arith, (c.is_callable.ensures.1 c.if-is_callable.true).0)
+overflow_cast-n c = omega (arith, (c.is_callable.ensures.n_le_largest c.if-is_callable.true).0)
 
 pub slice_bounds-put_look-end : goal.slice_bounds-put_look-end
-slice_bounds-put_look-end c = omega (arith, (c.is_callable.ensures.1 c.if-is_callable.true).1)
+slice_bounds-put_look-end c = omega (arith, (c.is_callable.ensures.n_le_largest c.if-is_callable.true).1)
 
 pub returns-then-is_callable : goal.returns-then-is_callable
 unfolding look_answer
@@ -23,7 +23,7 @@ returns-then-is_callable c =
     let a = c.args in
     let p = a.pool.now in
     let o = page a.c.at a.out.now in
-    rw (← c.is_callable.ensures.0, c.if-is_callable.true)
+    rw (← c.is_callable.ensures.value, c.if-is_callable.true)
     (c.end_line.ensures
     ∙ ap (state a.c.desk a.c.size)
     (then (look_text a.which a.c.desk (take (a.c.size - 0) p) a.n) line_end o c.put_look-end.ensures refl
@@ -31,4 +31,4 @@ returns-then-is_callable c =
 
 pub returns : goal.returns
 unfolding look_answer
-returns c = rw (← c.is_callable.ensures.0, c.if-is_callable.false) c.answer_bad.ensures
+returns c = rw (← c.is_callable.ensures.value, c.if-is_callable.false) c.answer_bad.ensures

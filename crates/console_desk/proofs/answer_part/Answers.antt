@@ -12,10 +12,10 @@ use Rattle.console_entries.proofs.RoomLaws.{part_whole}
 use Rattle.console_desk.proofs.answer_part.Goals as goal
 
 pub overflow_add-from : goal.overflow_add-from
-overflow_add-from c = omega (arith, c.lies_inside.ensures.1 c.if-lies_inside.true)
+overflow_add-from c = omega (arith, c.lies_inside.ensures.count_in_bounds c.if-lies_inside.true)
 
 pub slice_bounds-put_octets-end : goal.slice_bounds-put_octets-end
-slice_bounds-put_octets-end c = omega (arith, c.lies_inside.ensures.1 c.if-lies_inside.true)
+slice_bounds-put_octets-end c = omega (arith, c.lies_inside.ensures.count_in_bounds c.if-lies_inside.true)
 
 pub returns-then-lies_inside : goal.returns-then-lies_inside
 returns-then-lies_inside c =
@@ -23,11 +23,11 @@ returns-then-lies_inside c =
     let s = a.lent.now in
     let e = a.from + a.count in
     let o = page a.c.at a.out.now in
-    rw (← c.lies_inside.ensures.0, c.if-lies_inside.true)
+    rw (← c.lies_inside.ensures.value, c.if-lies_inside.true)
     (c.end_line.ensures
     ∙ ap (state a.c.desk a.c.size)
     (then (octets_word (take (e - a.from) (drop a.from s))) line_end o c.put_octets-end.ensures refl
-    ∙ ap (λ (l : List ℕ). added (octets_word l ++ line_end) o) (sym (part_whole s a.from e (omega arith) (c.lies_inside.ensures.1 c.if-lies_inside.true)))))
+    ∙ ap (λ (l : List ℕ). added (octets_word l ++ line_end) o) (sym (part_whole s a.from e (omega arith) (c.lies_inside.ensures.count_in_bounds c.if-lies_inside.true)))))
 
 pub returns : goal.returns
-returns c = rw (← c.lies_inside.ensures.0, c.if-lies_inside.false) c.answer_bad.ensures
+returns c = rw (← c.lies_inside.ensures.value, c.if-lies_inside.false) c.answer_bad.ensures

@@ -12,4 +12,4 @@ pub returns : goal.returns
 unfolding ticked
 returns c =
     let f = c.is_callable.ensures in
-    record { value = rw (le-ltb _ _ c.if-tick-gt-LARGEST.false) f.0; n_le_largest = λ e. ((f.1 e).0, c.if-tick-gt-LARGEST.false, (f.1 e).1) }
+    record { value = rw (le-ltb _ _ c.if-tick-gt-LARGEST.false) f.value; n_le_largest = λ e. ((f.n_le_largest e).0, c.if-tick-gt-LARGEST.false, (f.n_le_largest e).1) }

@@ -14,24 +14,21 @@ unfolding look_text
 returns-in-Check c =
     let put-verdict = c.put_verdict in
     let judge = c.judge in
-    let enum-told1 = c.enum_told-1 in
     let a = c.args in
-    rw enum-told1.given.1 (put-verdict.ensures ∙ ap (λ (v : Verdict). added (verdict_text v) (page a.at a.out.now)) judge.ensures)
+    rw c.in-Check.is (put-verdict.ensures ∙ ap (λ (v : Verdict). added (verdict_text v) (page a.at a.out.now)) judge.ensures)
 
 pub returns-in-Show : goal.returns-in-Show
 unfolding look_text
 returns-in-Show c =
     let put-octets = c.put_octets in
     let show = c.show in
-    let enum-told2 = c.enum_told-in-Show-1 in
     let a = c.args in
-    rw enum-told2.given.1 (put-octets.ensures ∙ ap (λ (l : List ℕ). added (octets_word l) (page a.at a.out.now)) show.ensures.octets)
+    rw c.in-Show.is (put-octets.ensures ∙ ap (λ (l : List ℕ). added (octets_word l) (page a.at a.out.now)) show.ensures.octets)
 
 pub returns-in-Held : goal.returns-in-Held
 unfolding look_text
 returns-in-Held c =
     let put-answer = c.put_answer in
     let held = c.held in
-    let enum-told3 = c.enum_told-in-Held-1 in
     let a = c.args in
-    rw enum-told3.given.1 (put-answer.ensures ∙ ap (λ (x : Answer). added (answer_text x) (page a.at a.out.now)) held.ensures)
+    rw c.in-Held.is (put-answer.ensures ∙ ap (λ (x : Answer). added (answer_text x) (page a.at a.out.now)) held.ensures)

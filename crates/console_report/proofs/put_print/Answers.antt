@@ -22,7 +22,7 @@ returns c =
     let print = c.print-w in
     let a = c.args in
     let o = page a.at a.out.now in
-    let room = print.new.1.0 in
+    let room = print.new.out in
     then (written_text print.result room) (room_end is-kept.result) o Put-written.ensures put-room-end.ensures
     ∙ ap (λ (b : Bool). added (written_text print.result room ++ room_end b) o) is-kept.ensures
     ∙ ap (λ (n : ℕ). added (written_text print.result room ++ room_end (all octet_fill (drop n room))) o) count_of.ensures

@@ -19,4 +19,4 @@ returns c =
     ap (λ (z : Session). watching_of z after) c.with_kept.ensures
     ∙ ap (λ (z : Kept). watching (kept_of z after) a.s.watch a.s.size) c.with_console.ensures
     ∙ ap (λ (t : State). watching (kept t k.report) a.s.watch a.s.size)
-    (c.answer_part.ensures ∙ ap (λ (l : List ℕ). part_of a.from a.count (state_of k.console a.out.now) l) (lent_part a.s.size c.lent_length-n.result a.buffer.now c.lent_length-n.ensures.0))
+    (c.answer_part.ensures ∙ ap (λ (l : List ℕ). part_of a.from a.count (state_of k.console a.out.now) l) (lent_part a.s.size c.lent_length-n.result a.buffer.now c.lent_length-n.ensures.value))

@@ -12,6 +12,6 @@ returns c =
     let text = verdict_text c.end-v.result in
     record {
       verdict = c.end-v.result;
-      ends = rw (lent_part a.s.size c.lent_length-n.result a.buffer.now c.lent_length-n.ensures.0) at c.end-v.ensures;
+      ends = rw (lent_part a.s.size c.lent_length-n.result a.buffer.now c.lent_length-n.ensures.value) at c.end-v.ensures;
       says = says_all_lem a.s a.out.now (text ++ line_end) c.with_output.ensures (rw (← c.at.ensures) (then text line_end (page c.at.result a.out.now) c.put_verdict-end.ensures c.put_end-at.ensures));
     }

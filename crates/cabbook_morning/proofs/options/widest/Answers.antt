@@ -1,5 +1,6 @@
 -- `cabbook_morning::options::widest` meets its contract. Assumes nothing.
 
+use Prim.Native.Nat.{◌-◌}
 use native.Mathlib.Omega.{arith}
 use Rattle.cabbook_morning.proofs.options.widest.Goals as goal
 use Rattle.cabbook_morning.proofs.options.widest.Goals.{then-width-one, else-width-one}

@@ -8,4 +8,4 @@ pub returns : goal.returns
 returns c =
     let put-bad = c.put_bad-at in
     let a = c.args in
-    ap (λ (x : Console). state_of x put-bad.new.0) c.with_output.ensures ∙ ap (state a.self.desk a.self.size) put-bad.ensures
+    ap (λ (x : Console). state_of x put-bad.new.out) c.with_output.ensures ∙ ap (state a.self.desk a.self.size) put-bad.ensures

@@ -17,4 +17,4 @@ returns c =
     let a = c.args in
     let o = page a.at a.out.now in
     then (offset_text minutes.result) line_end o put-offset.ensures put-end.ensures
-    ∙ ap (λ (v : Offset). added (offset_text v ++ line_end) o) minutes.ensures.0
+    ∙ ap (λ (v : Offset). added (offset_text v ++ line_end) o) minutes.ensures.value

@@ -18,8 +18,8 @@ returns c =
     let read = c.read-v in
     let a = c.args in
     let o = page a.at a.out.now in
-    let copy = read.new.1.1.0 in
-    let records = read.new.1.1.1.0 in
+    let copy = read.new.copy in
+    let records = read.new.records in
     then (verdict_text read.result) (rooms_text lines_of_lem.result copy records) o put-verdict.ensures put-rooms.ensures
     ∙ ap (λ (n : ℕ). added (verdict_text read.result ++ rooms_text n copy records) o) lines_of_lem.ensures
     ∙ ap (λ (t : Taken). added (taken_answer t) o) read.ensures

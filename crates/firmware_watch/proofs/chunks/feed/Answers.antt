@@ -47,10 +47,11 @@ pub loop-at-preserved : goal.loop-at-preserved
 loop-at-preserved c =
     let l = c.loop-at in
     let k = c.chunk-a in
-    let e = c.chunk_end-end in
-    (e.ensures.1,
+    let e = c.chunk_end-end in (
+      e.ensures.1,
       omega (arith, k, l.invariant.1),
-      moved l.w c.in-Next.v l.buffer k.new.buffer c.args.input.now l.at e.result k.result l.invariant.2 l.invariant.1 k.ensures c.in-Next.is (omega (arith, e.ensures.0)))
+      moved l.w c.in-Next.v l.buffer k.new.buffer c.args.input.now l.at e.result k.result l.invariant.2 l.invariant.1 k.ensures c.in-Next.is (omega (arith, e.ensures.0)),
+    )
 
 pub returns : goal.returns
 returns c =

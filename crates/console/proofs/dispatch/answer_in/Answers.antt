@@ -1,0 +1,16 @@
+-- `console::dispatch::answer_in` meets its contract. Assumes nothing.
+use mathlib.Core.Path.{subst}
+use mathlib.Core.List.{List}
+use Prim.Native.Nat.{ℕ}
+use Rattle.console_requests.specs.Requests.{Requested}
+use Rattle.console.specs.Dispatch.{all_of, AnswerTo, AnswerFrom, AnswerIn}
+use Rattle.console.proofs.dispatch.answer_in.Goals as goal
+
+pub returns : goal.returns
+unfolding AnswerIn
+returns c =
+    let a = c.args in
+    let d = c.answer_request in
+    let x = all_of a.s a.out.now a.buffer.now a.pool.now in
+    let y = all_of d.result d.new.out d.new.buffer d.new.pool in
+    subst (λ (z : Requested). AnswerFrom z x y) c.request_of-q.ensures (subst (λ (l : List ℕ). AnswerTo c.request_of-q.result l x y) c.part.ensures d.ensures)
