@@ -1,5 +1,4 @@
 -- `cabbook_merge::show_firsts` is safe and ends. Assumes nothing.
-use Prim.Native.Nat.{◌-◌}
 use Rattle.cabbook_merge.proofs.show_firsts.Goals as goal
 
 pub loop-i-init : goal.loop-i-init

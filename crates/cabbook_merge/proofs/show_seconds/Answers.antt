@@ -1,5 +1,4 @@
 -- `cabbook_merge::show_seconds` is safe and ends. Assumes nothing.
-use Prim.Native.Nat.{◌-◌}
 use Rattle.cabbook_merge.proofs.show_seconds.Goals as goal
 
 pub loop-j-init : goal.loop-j-init

@@ -1,5 +1,4 @@
 -- `cabbook_merge::clash::meet_all` is safe and ends. Assumes nothing.
-use Prim.Native.Nat.{◌-◌}
 use Rattle.cabbook_merge.proofs.clash.meet_all.Goals as goal
 
 pub loop-at-init : goal.loop-at-init

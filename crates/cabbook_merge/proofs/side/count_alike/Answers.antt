@@ -1,6 +1,5 @@
 -- `cabbook_merge::side::count_alike` is safe and ends. Assumes nothing.
 
-use Prim.Native.Nat.{◌-◌}
 use native.Mathlib.Omega.{arith}
 use Rattle.cabbook_merge.proofs.side.count_alike.Goals as goal
 use Rattle.cabbook_merge.proofs.side.count_alike.Goals.{then-is_alike, else-is_alike}

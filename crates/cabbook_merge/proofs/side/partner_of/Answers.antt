@@ -1,5 +1,4 @@
 -- `cabbook_merge::side::partner_of` is safe and ends. Assumes nothing.
-use Prim.Native.Nat.{◌-◌}
 use Rattle.cabbook_merge.proofs.side.partner_of.Goals as goal
 
 pub loop-k-init : goal.loop-k-init
