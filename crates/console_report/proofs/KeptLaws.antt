@@ -13,7 +13,7 @@ use Rattle.program_output.specs.Pages.{Page, page, added}
 use Rattle.report.specs.declared.Report.{Report}
 use Rattle.console_desk.specs.declared.Console.{Console}
 use Rattle.console_desk.specs.DeskAnswers.{State, state, state_of, moved, says}
-use Rattle.console_report.specs.ReportAnswers.{KeptState, kept}
+use Rattle.console_report.specs.ReportAnswers.{kept}
 
 pub kept_says : (c : Console) (out text : List ℕ) {after : List ℕ} {r : Console} {at : ℕ} {x y : Report} → r ≡ moved c at
     → page at after ≡ added text (page c.at out) → x ≡ y → kept (state_of r after) x ≡ kept (says text (state_of c out)) y

@@ -1,5 +1,4 @@
 -- `console_entries::rooms::is_kept` meets its contract. Assumes nothing.
-use Prim.Native.Nat.{◌-◌}
 use mathlib.Core.Path.{refl}
 use native.Mathlib.Omega.{arith}
 use Rattle.console_entries.specs.Rooms.{octet_fill}
