@@ -13,7 +13,7 @@ use borrow.Author.Tests.{le-ltb, eq-eqb, ne_eqb}
 use Rattle.octets.specs.Slices.{part}
 use Rattle.desk.specs.Steps.{Turned}
 use Rattle.desk.specs.declared.Answer.TheVariants.{Done, Refused}
-use Rattle.reader.specs.declared.Verdict.TheVariants.{Refused as NotAdded}
+use Rattle.reader.specs.Outcome.{Refused as NotAdded}
 use Rattle.program_files.specs.Inputs.{Fetched}
 use Rattle.program_files.specs.declared.Input.{Input}
 use Rattle.program_files.specs.declared.Input.TheVariants.{Octets, Unread}

@@ -3,12 +3,12 @@ use Rattle.std.specs.Prelude.{ℕ, Bool, List, [], ◌∷◌, ◌++◌, ℤ, pos
 use Rattle.std.specs.Int.Signed.{lt_z}
 use Rattle.octets.specs.Pick.{pick}
 use Rattle.octets.specs.Ascii.{octets}
-use Rattle.octets.specs.declared.rooms.Written.{Written}
-use Rattle.octets.specs.declared.rooms.Written.TheVariants.{Wrote, Refused as Unwritten}
+use Rattle.octets.specs.Room.{Written}
+use Rattle.octets.specs.Room.{Wrote, Refused as Unwritten}
 use Rattle.octets.specs.Slices.{part}
 use Rattle.program_output.specs.Digits.{decimal, pair}
-use Rattle.reader.specs.declared.Verdict.{Verdict}
-use Rattle.reader.specs.declared.Verdict.TheVariants.{Accepted, Refused}
+use Rattle.reader.specs.Outcome.{Verdict}
+use Rattle.reader.specs.Outcome.{Accepted, Refused}
 use Rattle.value_offsets.specs.declared.Offset.{Offset}
 use Rattle.value_offsets.specs.declared.Offset.TheVariants.{Minutes, Refused as NoOffset}
 use Rattle.desk.specs.declared.Answer.{Answer}

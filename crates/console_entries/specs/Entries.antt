@@ -4,14 +4,14 @@ use Rattle.numbers.specs.Limits as limit
 use Rattle.numbers.specs.Fields as field
 use Rattle.octets.specs.Pick.{pick}
 use Rattle.octets.specs.Room.{Filled}
-use Rattle.octets.specs.declared.rooms.Written.{Written}
-use Rattle.octets.specs.declared.rooms.Written.TheVariants.{Wrote, Refused as Unwritten}
+use Rattle.octets.specs.Room.{Written}
+use Rattle.octets.specs.Room.{Wrote, Refused as Unwritten}
 use Rattle.octets.specs.Slices.{part}
 use Rattle.property_table.specs.declared.Edition.{Edition}
 use Rattle.property_table.specs.declared.Edition.TheVariants.{First, Second}
 use Rattle.reader.specs.Outcome.{judge_in, Taken, read_in}
-use Rattle.reader.specs.declared.Verdict.{Verdict}
-use Rattle.reader.specs.declared.Verdict.TheVariants.{Accepted, Refused}
+use Rattle.reader.specs.Outcome.{Verdict}
+use Rattle.reader.specs.Outcome.{Accepted, Refused}
 use Rattle.folder_raising.specs.declared.Style.TheVariants.{AsRead, Raised}
 use Rattle.folder.specs.Outcome.{fold_in, fold_outcome}
 use Rattle.text.specs.Outcomes.{escape_outcome, unescape_outcome}

@@ -4,7 +4,7 @@ use Rattle.numbers.specs.Limits as limit
 use Rattle.octets.specs.Pick.{pick}
 use Rattle.octets.specs.Room.{overlay}
 use Rattle.program_numbers.specs.Alike.{alike}
-use Rattle.reader.specs.declared.Verdict.{Verdict}
+use Rattle.reader.specs.Outcome.{Verdict}
 use Rattle.watch.specs.State.{fresh_watch}
 use Rattle.watch.specs.Outcome.{ChunkOf, EndOf}
 use Rattle.watch.specs.declared.Watch.{Watch}

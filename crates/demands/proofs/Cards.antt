@@ -6,10 +6,10 @@ use lib.Dec.{ltb}
 use lib.ListN.{length}
 use borrow.Author.Tests.{ltb-true, ltb-false}
 use Rattle.octets.specs.Room.{refuse, fill_bounded}
-use Rattle.octets.specs.declared.rooms.Written.TheVariants.{Refused as Unwritten}
+use Rattle.octets.specs.Room.{Refused as Unwritten}
 use Rattle.reader.specs.Outcome.{judge_in, copy_of, records_in, Taken, took, write_outcome, outcome_by, read_in}
-use Rattle.reader.specs.declared.Verdict.{Verdict}
-use Rattle.reader.specs.declared.Verdict.TheVariants.{Accepted, Refused}
+use Rattle.reader.specs.Outcome.{Verdict}
+use Rattle.reader.specs.Outcome.{Accepted, Refused}
 use Rattle.reader.proofs.ReadLaws.{read_refused, numbers_counted, read_13, read_14}
 use Rattle.folder_line.specs.Pieces.{folded_lines}
 use Rattle.folder_style_laws.specs.Capitals.{styled}

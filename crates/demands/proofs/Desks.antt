@@ -10,8 +10,8 @@ use lib.ListN.{length}
 use borrow.Author.Tests.{ltb-true, ltb-false, lt-ltb, leb-true, le-leb, eqb-true, eqb-false, eq-eqb, ne_eqb}
 use Rattle.octets.specs.Pick.{pick}
 use Rattle.reader.specs.Outcome.{judge_of}
-use Rattle.reader.specs.declared.Verdict.{Verdict}
-use Rattle.reader.specs.declared.Verdict.TheVariants.{Refused as Unread}
+use Rattle.reader.specs.Outcome.{Verdict}
+use Rattle.reader.specs.Outcome.{Refused as Unread}
 use Rattle.desk_entries.specs.Search.{first_at, lowest_at}
 use Rattle.desk_slots.specs.Sound.{state_at, tick_at, bounds}
 use Rattle.desk_slots.specs.Slots.{open_at, free_at, idle_at, idle_of, at_position}

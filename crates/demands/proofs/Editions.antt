@@ -8,7 +8,7 @@ use Rattle.line_parser.specs.Grammar.{Each}
 use Rattle.property_table.specs.declared.Edition.TheVariants.{First, Second}
 use Rattle.property_table.specs.Rows.{rows, newer, all_rows, search, row_of, row_at, kind_at, single}
 use Rattle.value_laws.proofs.NewLaws.{unknown_in_one}
-use Rattle.reader.specs.declared.Verdict.{Verdict}
+use Rattle.reader.specs.Outcome.{Verdict}
 use Rattle.folder_raising.specs.declared.Style.{Style}
 use Rattle.folder.specs.Outcome.{fold_by, fold_in}
 use Rattle.reader_grammar.specs.Inputs.{InputIn}

@@ -12,7 +12,7 @@ use borrow.Author.Tests.{ltb-true, ltb-false, le-ltb}
 use Rattle.octets.specs.Pick.{pick}
 use Rattle.utf8.specs.Characters.{allowed, first_bad}
 use Rattle.octets.specs.Room.{Filled, filled, refuse, overlay, fill, fill_bounded}
-use Rattle.octets.specs.declared.rooms.Written.TheVariants.{Wrote}
+use Rattle.octets.specs.Room.{Wrote}
 use Rattle.text_escaping.specs.Escaped.{escaped}
 use Rattle.text_unescaping.specs.Unescaped.{first_fault, unescaped}
 use Rattle.text.specs.Outcomes.{checked, faultless, escape_outcome, unescape_outcome}
@@ -21,8 +21,8 @@ use Rattle.text_laws.proofs.StandsLaws.{stands_exactly}
 use Rattle.text_laws.proofs.BackLaws.{round_trip}
 use Rattle.line_parser.specs.Grammar.{Line, Each, render}
 use Rattle.reader.specs.Outcome.{judge_in, judge_of, copy_of, records_in, Taken, took, read_in}
-use Rattle.reader.specs.declared.Verdict.{Verdict}
-use Rattle.reader.specs.declared.Verdict.TheVariants.{Accepted, Refused}
+use Rattle.reader.specs.Outcome.{Verdict}
+use Rattle.reader.specs.Outcome.{Accepted, Refused}
 use Rattle.reader.proofs.AcceptLaws.{lines_few, lines_counted}
 use Rattle.reader.proofs.ReadLaws.{read_refused, numbers_counted, read_written, read_13, read_14}
 use Rattle.folder_line.specs.Pieces.{pieces, joined, folded_lines}

@@ -36,7 +36,7 @@ use Rattle.reader_walk.specs.Walk as walk
 use Rattle.reader_records.specs.Records as records
 use Rattle.reader.specs.Outcome as reader
 use Rattle.reader.specs.Outcome.{judge_in}
-use Rattle.reader.specs.declared.Verdict.TheVariants.{Accepted}
+use Rattle.reader.specs.Outcome.{Accepted}
 use Rattle.desk_ledger.specs.Answers.{refused, verdict}
 use Rattle.folder_line.specs.Pieces as pieces
 use Rattle.folder_raising.specs.Letters as capitals

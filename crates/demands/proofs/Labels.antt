@@ -9,7 +9,7 @@ use lib.ListN.{length, take}
 use borrow.Author.Tests.{ltb-true, ltb-false, lt-ltb, le-ltb}
 use Rattle.octets.specs.Classes.{quoted, run}
 use Rattle.octets.specs.Room.{Filled, refuse, overlay, fill, fill_bounded}
-use Rattle.octets.specs.declared.rooms.Written.TheVariants.{Refused}
+use Rattle.octets.specs.Room.{Refused}
 use Rattle.utf8.specs.Characters.{allowed}
 use Rattle.utf8_laws.specs.Texts.{Text}
 use Rattle.utf8_laws.proofs.Utf8.{bad_nowhere}

@@ -9,7 +9,7 @@ use lib.ListN.{length}
 use borrow.Author.Tests.{lt-ltb}
 use Rattle.octets.specs.Room.{fill}
 use Rattle.octets.proofs.RoomLaws.{fill_short}
-use Rattle.octets.specs.declared.rooms.Written.TheVariants.{Refused as Unwritten}
+use Rattle.octets.specs.Room.{Refused as Unwritten}
 use Rattle.report_weights.specs.Counts.{Count}
 use Rattle.report.specs.Steps.{take_step}
 use Rattle.report.specs.Text.{report_text}

@@ -10,7 +10,7 @@ use lib.Seq.{length-take-le}
 use borrow.Author.Tests.{ltb-true, ltb-false, lt-ltb, le-ltb}
 use Rattle.utf8.specs.Characters.{allowed, first_bad}
 use Rattle.octets.specs.Room.{Filled, refuse, fill, fill_bounded}
-use Rattle.octets.specs.declared.rooms.Written.TheVariants.{Wrote, Refused}
+use Rattle.octets.specs.Room.{Wrote, Refused}
 use Rattle.utf8.proofs.Chars.{bad_le}
 use Rattle.octets.proofs.Scans.{scan_le}
 use Rattle.utf8_laws.proofs.Utf8.{bad_at, bad_at_only, bad_nowhere}

@@ -2,10 +2,10 @@
 use Rattle.std.specs.Prelude.{ℕ, ◌≡◌, List, ◌↔◌, take}
 use Rattle.octets.specs.Ascii.{octets}
 use Rattle.octets.specs.Room.{filled, fill_bounded}
-use Rattle.octets.specs.declared.rooms.Written.TheVariants.{Wrote}
+use Rattle.octets.specs.Room.{Wrote}
 use Rattle.line_parser.specs.Grammar.{Line, Each}
 use Rattle.reader.specs.Outcome.{judge_of}
-use Rattle.reader.specs.declared.Verdict.TheVariants.{Accepted}
+use Rattle.reader.specs.Outcome.{Accepted}
 use Rattle.reader_grammar.specs.Cards.{Readable}
 use Rattle.reader_grammar.specs.Inputs.{Written}
 use Rattle.version3.specs.Outcome.{take_outcome, give_outcome}

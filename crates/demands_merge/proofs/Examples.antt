@@ -14,7 +14,7 @@ use Rattle.octets.proofs.Bools.{by}
 use Rattle.line_parser.specs.Grammar.{Each}
 use Rattle.property_table.specs.declared.Edition.TheVariants.{First}
 use Rattle.reader.specs.Outcome.{judge_of}
-use Rattle.reader.specs.declared.Verdict.TheVariants.{Accepted}
+use Rattle.reader.specs.Outcome.{Accepted}
 use Rattle.reader_grammar.proofs.Accepted.{accepted_law}
 use Rattle.merge_sources.specs.Row as source
 use Rattle.merge_sources.specs.Row.{row_of, same_row}

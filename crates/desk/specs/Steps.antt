@@ -4,8 +4,8 @@ use Rattle.numbers.specs.Limits as limit
 use Rattle.numbers.specs.Refusals as refusal
 use Rattle.octets.specs.Pick.{pick}
 use Rattle.reader.specs.Outcome.{judge_of}
-use Rattle.reader.specs.declared.Verdict.{Verdict}
-use Rattle.reader.specs.declared.Verdict.TheVariants.{Refused as Unread}
+use Rattle.reader.specs.Outcome.{Verdict}
+use Rattle.reader.specs.Outcome.{Refused as Unread}
 use Rattle.desk_entries.specs.Search.{first_at}
 use Rattle.desk_entries.specs.Ticks.{higher}
 use Rattle.desk_slots.specs.Sound.{none, bounds, SoundAt, sound_at}

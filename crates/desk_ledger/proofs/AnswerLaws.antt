@@ -2,10 +2,10 @@
 use Prim.Native.Nat.{ℕ}
 use mathlib.Core.Path.{◌≡◌}
 use native.Mathlib.Omega.{arith}
-use Rattle.octets.specs.declared.rooms.Written.{Written}
-use Rattle.octets.specs.declared.rooms.Written.TheVariants.{Wrote, Refused as Unwritten}
-use Rattle.reader.specs.declared.Verdict.{Verdict}
-use Rattle.reader.specs.declared.Verdict.TheVariants.{Accepted, Refused as Unread}
+use Rattle.octets.specs.Room.{Written}
+use Rattle.octets.specs.Room.{Wrote, Refused as Unwritten}
+use Rattle.reader.specs.Outcome.{Verdict}
+use Rattle.reader.specs.Outcome.{Accepted, Refused as Unread}
 use Rattle.desk.specs.declared.Answer.{Answer}
 use Rattle.desk.specs.declared.Answer.TheVariants.{Done, Refused}
 use Rattle.desk_ledger.specs.Answers.{refused, told, counts, verdict, wrote, said}

@@ -1,9 +1,9 @@
 -- Every answer in the numbers of REFERENCE, Refusals: of each enum that an entry answers with, the number and values of each case. Assumes nothing.
 use Rattle.std.specs.Prelude.{ℕ, List}
-use Rattle.octets.specs.declared.rooms.Written.{Written}
-use Rattle.octets.specs.declared.rooms.Written.TheVariants.{Wrote, Refused as Unwritten}
-use Rattle.reader.specs.declared.Verdict.{Verdict}
-use Rattle.reader.specs.declared.Verdict.TheVariants.{Accepted, Refused as Unread}
+use Rattle.octets.specs.Room.{Written}
+use Rattle.octets.specs.Room.{Wrote, Refused as Unwritten}
+use Rattle.reader.specs.Outcome.{Verdict}
+use Rattle.reader.specs.Outcome.{Accepted, Refused as Unread}
 use Rattle.desk.specs.declared.Answer.{Answer}
 use Rattle.desk.specs.declared.Answer.TheVariants.{Done, Refused}
 

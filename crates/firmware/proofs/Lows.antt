@@ -11,8 +11,8 @@ use Rattle.octets.specs.Pick.{pick}
 use Rattle.octets.specs.Scan.{gather}
 use Rattle.octets.specs.Room.{Filled, filled, overlay, refuse, fill, fill_bounded}
 use Rattle.utf8.specs.Characters.{allowed, first_bad}
-use Rattle.octets.specs.declared.rooms.Written.{Written}
-use Rattle.octets.specs.declared.rooms.Written.TheVariants.{Wrote}
+use Rattle.octets.specs.Room.{Written}
+use Rattle.octets.specs.Room.{Wrote}
 use Rattle.text_unescaping.specs.Unescaped.{first_fault, passed, standing, unescaped}
 use Rattle.text.specs.Outcomes.{checked, faultless, unescape_outcome}
 use Rattle.folder_line.specs.Pieces.{folded_lines}
@@ -21,8 +21,8 @@ use Rattle.folder_raising.specs.declared.Style.TheVariants.{Raised}
 use Rattle.folder.specs.Outcome.{fold_by, fold_in, fold_outcome}
 use Rattle.reader.specs.Outcome.{judge_of}
 use Rattle.line_folds.specs.Logical.{logical_lines}
-use Rattle.reader.specs.declared.Verdict.{Verdict}
-use Rattle.reader.specs.declared.Verdict.TheVariants.{Accepted, Refused as Rejected}
+use Rattle.reader.specs.Outcome.{Verdict}
+use Rattle.reader.specs.Outcome.{Accepted, Refused as Rejected}
 use Rattle.firmware.specs.Word.{written_word, Low, worded, word_outcome}
 use Rattle.firmware.proofs.Places.{place_low}
 

@@ -25,8 +25,8 @@ use Rattle.card_judge.specs.Judge.{laden, entered, fitting, judge_parts, judge_p
 use Rattle.line_breaks.specs.Lone.{first_lone, ends_cr_lf}
 use Rattle.reader_walk.specs.Walk.{onward, settled, judge_lines}
 use Rattle.reader.specs.Outcome.{verdict_of, judge_in, judge_of}
-use Rattle.reader.specs.declared.Verdict.{Verdict}
-use Rattle.reader.specs.declared.Verdict.TheVariants.{Accepted, Refused}
+use Rattle.reader.specs.Outcome.{Verdict}
+use Rattle.reader.specs.Outcome.{Accepted, Refused}
 use Rattle.property_table.specs.declared.Edition.TheVariants.{First}
 
 -- a refusal of a line is at its start, or names an octet

@@ -1,10 +1,10 @@
 -- Answers as one number: a count, or a refusal's number times 4,294,967,296. Assumes nothing.
 use Rattle.std.specs.Prelude.{ℕ, ◌*◌}
 use Rattle.numbers.specs.Limits as limit
-use Rattle.octets.specs.declared.rooms.Written.{Written}
-use Rattle.octets.specs.declared.rooms.Written.TheVariants.{Wrote, Refused as Unwritten}
-use Rattle.reader.specs.declared.Verdict.{Verdict}
-use Rattle.reader.specs.declared.Verdict.TheVariants.{Accepted, Refused as Unread}
+use Rattle.octets.specs.Room.{Written}
+use Rattle.octets.specs.Room.{Wrote, Refused as Unwritten}
+use Rattle.reader.specs.Outcome.{Verdict}
+use Rattle.reader.specs.Outcome.{Accepted, Refused as Unread}
 use Rattle.desk.specs.declared.Answer.{Answer}
 use Rattle.desk.specs.declared.Answer.TheVariants.{Done, Refused}
 

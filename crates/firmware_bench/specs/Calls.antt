@@ -2,8 +2,8 @@
 use Rattle.std.specs.Prelude.{ℕ, zero, suc, ◌+◌, List, eqb, ltb}
 use Rattle.numbers.specs.Limits as limit
 use Rattle.octets.specs.Pick.{pick}
-use Rattle.reader.specs.declared.Verdict.{Verdict}
-use Rattle.reader.specs.declared.Verdict.TheVariants.{Accepted, Refused as Unread}
+use Rattle.reader.specs.Outcome.{Verdict}
+use Rattle.reader.specs.Outcome.{Accepted, Refused as Unread}
 use Rattle.desk.specs.Steps.{Turned, turned, new_step, open_step, add_step, release_step, held_step, judge_step}
 use Rattle.desk.specs.declared.Answer.{Answer}
 use Rattle.desk.specs.declared.Answer.TheVariants.{Done, Refused}

@@ -1,8 +1,8 @@
 -- An answer as one number: the count of octets written, or a refusal's number times 4,294,967,296. Assumes nothing.
 use Rattle.std.specs.Prelude.{ℕ, ◌*◌}
 use Rattle.numbers.specs.Limits as limit
-use Rattle.octets.specs.declared.rooms.Written.{Written}
-use Rattle.octets.specs.declared.rooms.Written.TheVariants.{Wrote, Refused}
+use Rattle.octets.specs.Room.{Written}
+use Rattle.octets.specs.Room.{Wrote, Refused}
 
 abbrev pub number : ℕ → ℕ
 number n = n * limit.word

@@ -11,7 +11,7 @@ use Rattle.card_judge.specs.Judge.{judge_line}
 use Rattle.card_judge.proofs.CardLaws.{line_clean}
 use Rattle.reader_walk.specs.Walk.{judge_lines}
 use Rattle.reader.specs.Outcome.{judge_in}
-use Rattle.reader.specs.declared.Verdict.TheVariants.{Accepted}
+use Rattle.reader.specs.Outcome.{Accepted}
 use Rattle.reader_walk.proofs.WalkLaws.{onward_next}
 use Rattle.reader.proofs.AcceptLaws.{accepting}
 use Rattle.folder_line.specs.Pieces.{Clean, All}

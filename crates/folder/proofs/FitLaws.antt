@@ -10,8 +10,8 @@ use lib.Seq.{take_at, take-append_seam, drop-append_seam, drop-drop, length-take
 use borrow.Author.Tests.{leb-true, leb-false}
 use borrow.Rule.Slice.PartMut.{put_mid}
 use Rattle.octets.specs.Room.{overlay}
-use Rattle.octets.specs.declared.rooms.Written.{Written as Answer}
-use Rattle.octets.specs.declared.rooms.Written.TheVariants.{Wrote, Refused}
+use Rattle.octets.specs.Room.{Written as Answer}
+use Rattle.octets.specs.Room.{Wrote, Refused}
 use Rattle.octets.proofs.Writes.{Written, finish}
 use Rattle.line_unfolding.proofs.PutLaws.{put_part}
 use Rattle.folder.specs.Fitting.{Fitted, Poured}

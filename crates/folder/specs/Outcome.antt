@@ -6,8 +6,8 @@ use Rattle.property_table.specs.declared.Edition.{Edition}
 use Rattle.property_table.specs.declared.Edition.TheVariants.{First}
 use Rattle.reader.specs.Outcome.{judge_in}
 use Rattle.line_folds.specs.Logical.{logical_lines}
-use Rattle.reader.specs.declared.Verdict.{Verdict}
-use Rattle.reader.specs.declared.Verdict.TheVariants.{Accepted, Refused}
+use Rattle.reader.specs.Outcome.{Verdict}
+use Rattle.reader.specs.Outcome.{Accepted, Refused}
 use Rattle.folder_line.specs.Pieces.{folded_lines}
 use Rattle.folder_raising.specs.declared.Style.{Style}
 use Rattle.folder_raising.specs.declared.Style.TheVariants.{Raised as raised_style}

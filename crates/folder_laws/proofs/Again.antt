@@ -7,13 +7,13 @@ use native.Mathlib.Omega.{arith}
 use lib.ListN.{length, take, length-append}
 use Rattle.octets.specs.Scan.{scan}
 use Rattle.octets.specs.Room.{filled}
-use Rattle.octets.specs.declared.rooms.Written.TheVariants.{Wrote}
+use Rattle.octets.specs.Room.{Wrote}
 use Rattle.utf8.proofs.Chains.{no_end}
 use Rattle.line_breaks.specs.Lone.{lone_step, first_lone, ends_cr_lf}
 use Rattle.reader.specs.Outcome.{judge_in, ended, copy_of, records_in, write_outcome, outcome_by, read_in}
 use Rattle.line_folds.specs.Logical.{logical_lines}
-use Rattle.reader.specs.declared.Verdict.{Verdict}
-use Rattle.reader.specs.declared.Verdict.TheVariants.{Accepted}
+use Rattle.reader.specs.Outcome.{Verdict}
+use Rattle.reader.specs.Outcome.{Accepted}
 use Rattle.reader.proofs.AcceptLaws.{accepting}
 use Rattle.reader_laws.proofs.SameLines.{same_lines, same_copy, same_records}
 use Rattle.reader_laws.proofs.CopyAgain.{lone_run, ends_lines, lines_some}

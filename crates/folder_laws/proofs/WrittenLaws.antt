@@ -10,14 +10,14 @@ use lib.Seq.{take-append_seam, drop-append_seam}
 use borrow.Author.Tests.{ltb-false}
 use Rattle.octets.specs.Pick.{pick}
 use Rattle.octets.specs.Room.{Filled, filled, refuse, overlay, fill, fill_bounded}
-use Rattle.octets.specs.declared.rooms.Written.TheVariants.{Wrote, Refused}
+use Rattle.octets.specs.Room.{Wrote, Refused}
 use Rattle.card_judge.specs.Judge.{judge_line}
 use Rattle.card_state.specs.State.{Card, Next}
 use Rattle.card_judge.proofs.CardLaws.{line_clean}
 use Rattle.reader.specs.Outcome.{judge_in}
 use Rattle.line_folds.specs.Logical.{logical_lines}
-use Rattle.reader.specs.declared.Verdict.{Verdict}
-use Rattle.reader.specs.declared.Verdict.TheVariants.{Accepted, Refused as Denied}
+use Rattle.reader.specs.Outcome.{Verdict}
+use Rattle.reader.specs.Outcome.{Accepted, Refused as Denied}
 use Rattle.folder_line.specs.Pieces.{folded_lines, Clean, All}
 use Rattle.folder.specs.Outcome.{fold_by, fold_in}
 use Rattle.folder_raising.specs.Walk.{written}

@@ -12,8 +12,8 @@ use Rattle.line_folds.specs.Logical.{logical_lines}
 use Rattle.line_parser.specs.Grammar.{Line, Each, render}
 use Rattle.reader_records.specs.Records.{record_of, records_from}
 use Rattle.reader.specs.Outcome.{ended, copy_of, records_in, Taken, took, write_outcome, outcome_by, read_in}
-use Rattle.reader.specs.declared.Verdict.{Verdict}
-use Rattle.reader.specs.declared.Verdict.TheVariants.{Accepted, Refused}
+use Rattle.reader.specs.Outcome.{Verdict}
+use Rattle.reader.specs.Outcome.{Accepted, Refused}
 use Rattle.reader_grammar.specs.Cards.{Readable, Cards}
 use Rattle.reader_grammar.specs.Inputs.{Written, none, more, InputIn}
 use Rattle.reader_grammar.proofs.Accepted.{accepted_law, lines_law}

@@ -5,8 +5,8 @@ use Rattle.numbers.specs.Refusals as refusal
 use Rattle.octets.specs.Pick.{pick}
 use Rattle.property_table.specs.declared.Edition.TheVariants.{First}
 use Rattle.reader.specs.Outcome.{Taken, read_in}
-use Rattle.reader.specs.declared.Verdict.{Verdict}
-use Rattle.reader.specs.declared.Verdict.TheVariants.{Accepted, Refused as Halted}
+use Rattle.reader.specs.Outcome.{Verdict}
+use Rattle.reader.specs.Outcome.{Accepted, Refused as Halted}
 use Rattle.merge_sources.specs.Row.{filled, same_row}
 use Rattle.merge_sources.specs.declared.Row.{Row}
 use Rattle.merge_pids.specs.Marks.{Marked, marked, put_all, mark_length}

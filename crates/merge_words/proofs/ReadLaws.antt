@@ -8,8 +8,8 @@ use Rattle.octets.specs.Room.{overlay}
 use Rattle.line_parser.specs.Grammar.{Line, Each, WellFormed, led, param_text, group_text, front, render}
 use Rattle.property_table.specs.declared.Edition.TheVariants.{First}
 use Rattle.reader.specs.Outcome.{judge_of, ended, copy_of, records_in, Taken, took, read_in}
-use Rattle.reader.specs.declared.Verdict.{Verdict}
-use Rattle.reader.specs.declared.Verdict.TheVariants.{Accepted, Refused}
+use Rattle.reader.specs.Outcome.{Verdict}
+use Rattle.reader.specs.Outcome.{Accepted, Refused}
 use Rattle.reader.proofs.ReadLaws.{read_refused, read_written}
 use Rattle.reader_laws.proofs.CopyAgain.{copy_shorter}
 use Rattle.reader_grammar.specs.Cards.{Readable}

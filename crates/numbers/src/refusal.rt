@@ -1,5 +1,9 @@
 // Refusals: the number of each, in the order of the table in docs/REFERENCE.md; a comment has the condition and the place.
 
+// What an entry answers that refuses: the refusal's number and its place.
+#[derive(Clone, Copy, Debug, PartialEq, Eq)]
+pub struct Refusal(pub u32, pub usize);
+
 // An input, a text, a value or a label of over 16,384 octets; at 16,384.
 pub const TOO_LONG: u32 = 1;
 

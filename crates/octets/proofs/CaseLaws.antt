@@ -1,6 +1,6 @@
--- The laws of `lower` by its three ranges, and of `same` at a place of two lists. Assumes nothing.
+-- The laws of `lower` by its three ranges, of `same` at a place of two lists, and that both are the library's. Assumes nothing.
 use mathlib.Core.Path.{◌≡◌, refl, ap, ◌∙◌}
-use mathlib.Core.Bool.{true, false, ◌&&◌, and-false}
+use mathlib.Core.Bool.{Bool, true, false, ◌&&◌, and-false}
 use mathlib.Core.List.{List, [], ◌∷◌}
 use Prim.Native.Nat.{ℕ, suc, ◌+◌, ◌<◌, ◌≤◌}
 use native.Mathlib.Numerals.{add-one}
@@ -8,6 +8,12 @@ use lib.Dec.{eqb}
 use lib.ListN.{length, get_or, drop, drop_of_length-le}
 use lib.Seq.{drop-cons}
 use borrow.Author.Tests.{eq-eqb, ne_eqb, le-leb, lt-leb}
+use native.Mathlib.Omega.{arith}
+use Rattle.std.specs.Bool.{Decides}
+use Rattle.std.specs.Char.{to_ascii_lowercase}
+use Rattle.std.specs.Str.{bytes_eq, str_to_ascii_lowercase}
+use Rattle.std.proofs.lemmas.Slice.Eq.{bytes_eq-Decides}
+use Rattle.std.proofs.lemmas.Bool.Decides.{same_from_decides}
 use Rattle.octets.specs.Cases.{lower, same}
 
 pub lower_below : (b : ℕ) → b < 65 → lower b ≡ b
@@ -45,3 +51,17 @@ module _ (a b : List ℕ) (i : ℕ) where
   pub same_over : length a ≤ i → length b ≤ i → same (drop i a) (drop i b) ≡ true
   unfolding same
   same_over g h = rw (drop_of_length-le a g, drop_of_length-le b h)
+
+pub lower_is : (b : ℕ) → to_ascii_lowercase b ≡ lower b
+unfolding lower
+lower_is b = grind arith
+
+same_is : (a b : List ℕ) → bytes_eq (str_to_ascii_lowercase a) (str_to_ascii_lowercase b) ≡ same a b
+unfolding same
+same_is [] [] = refl
+same_is [] (y ∷ ys) = refl
+same_is (x ∷ xs) [] = refl
+same_is (x ∷ xs) (y ∷ ys) = rw (lower_is x, lower_is y, same_is xs ys)
+
+pub same_by : (r : Bool) (a b : List ℕ) → Decides r (str_to_ascii_lowercase a ≡ str_to_ascii_lowercase b) → r ≡ same a b
+same_by r a b h = same_from_decides r _ h (bytes_eq-Decides _ _) ∙ same_is a b

@@ -6,7 +6,7 @@ use native.Mathlib.Omega.{arith}
 use lib.ListN.{length, drop}
 use borrow.Author.Tests.{lt-ltb, le-ltb}
 use Rattle.octets.specs.Room.{filled, refuse, fill, fill_bounded}
-use Rattle.octets.specs.declared.rooms.Written.TheVariants.{Wrote}
+use Rattle.octets.specs.Room.{Wrote}
 
 module _ (xs room : List ℕ) (n : ℕ) (e : n ≡ length xs) where
   pub fill_short : length room < n → refuse 15 n room ≡ fill xs room

@@ -1,14 +1,23 @@
 -- Lent room: what it holds when a list was written to its start, and refusals 15 and 16 of REFERENCE, Refusals. Assumes nothing.
-use Rattle.std.specs.Prelude.{ℕ, List, ◌++◌, ltb, length, drop}
+use Rattle.std.specs.Prelude.{ℕ, List, ◌++◌, Result, Ok, Err, ltb, length, drop}
 use Rattle.numbers.specs.Limits as limit
 use Rattle.numbers.specs.Refusals as refusal
+use Rattle.numbers.specs.declared.refusal.Refusal.{Refusal}
 use Rattle.octets.specs.Pick.{pick}
-use Rattle.octets.specs.declared.rooms.Written.{Written}
-use Rattle.octets.specs.declared.rooms.Written.TheVariants.{Wrote, Refused}
 
 -- the list, and then the room as it was
 abbrev pub overlay : {A : Type 0} → List A → List A → List A
 overlay xs room = xs ++ drop (length xs) room
+
+-- what a writer answers: how many octets were written, or a refusal's number and place
+pub data Written : Type 0 where
+  Wrote : ℕ → Written
+  Refused : ℕ → ℕ → Written
+
+-- the same of a result
+abbrev pub written : Result ℕ Refusal → Written
+written (Ok n) = Wrote n
+written (Err r) = Refused r.0 r.1
 
 -- an answer, and what the room holds then
 pub record Filled : Type 0 where

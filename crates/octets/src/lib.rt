@@ -1,4 +1,4 @@
-// Octets: their classes, runs of a class, names without case, copying, zeroing, lent room and slices.
+// Octets: their classes, runs of a class, names without case, copying, zeroing and slices.
 #![tactic(auto)]
 
 pub mod cases;
@@ -6,5 +6,4 @@ pub mod class_table;
 pub mod classes;
 pub mod copying;
 pub mod indices;
-pub mod rooms;
 pub mod slices;

@@ -7,7 +7,7 @@ pub fn least(a: usize, b: usize) -> usize
     ensures upper_bound { (result ≤ a) × (result ≤ b) }
     ensures value { result ≡ min a b }
 {
-    if a < b { a } else { b }
+    a.min(b)
 }
 
 // The octets from a up to e, or none where there is no such part.

@@ -17,7 +17,7 @@ use Rattle.line_breaks.specs.Lone.{lone_step, first_lone, ends_cr_lf}
 use Rattle.reader_walk.specs.Walk.{judge_lines}
 use Rattle.reader_walk.proofs.WalkLaws.{counted}
 use Rattle.reader.specs.Outcome.{verdict_of, judge_in}
-use Rattle.reader.specs.declared.Verdict.TheVariants.{Accepted, Refused}
+use Rattle.reader.specs.Outcome.{Accepted, Refused}
 
 clash : {A : Type 0} → ◌≡◌ {A = ℕ} 0 1 → A
 clash e = absurd (omega arith)

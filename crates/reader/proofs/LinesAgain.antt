@@ -23,7 +23,7 @@ use Rattle.card_judge.specs.Judge.{judge_line}
 use Rattle.card_judge.proofs.CardLaws.{line_clean}
 use Rattle.reader_walk.specs.Walk.{judge_lines}
 use Rattle.reader.specs.Outcome.{judge_in, ended, copy_of}
-use Rattle.reader.specs.declared.Verdict.TheVariants.{Accepted}
+use Rattle.reader.specs.Outcome.{Accepted}
 use Rattle.reader_walk.proofs.WalkLaws.{onward_next}
 use Rattle.reader.proofs.AcceptLaws.{accepting}
 use Rattle.reader.proofs.CopyUnfolds.{no_fold, line_octet, raw, line_stop}

@@ -12,8 +12,8 @@ use Rattle.line_folds.specs.Folds.{fold_at, unfolded}
 use Rattle.line_folds.specs.Logical.{raw_lines, logical_lines}
 use Rattle.reader_records.specs.Records.{records_from}
 use Rattle.reader.specs.Outcome.{judge_in, copy_of, records_in, took, write_outcome, outcome_by, read_in}
-use Rattle.reader.specs.declared.Verdict.{Verdict}
-use Rattle.reader.specs.declared.Verdict.TheVariants.{Accepted, Refused}
+use Rattle.reader.specs.Outcome.{Verdict}
+use Rattle.reader.specs.Outcome.{Accepted, Refused}
 use Rattle.reader.proofs.AcceptLaws.{accepting, lines_counted}
 use Rattle.reader.proofs.CopyUnfolds.{copy_unfolds}
 use Rattle.reader.proofs.LinesAgain.{copy_lines, copy_flat}

@@ -1,5 +1,5 @@
 -- What the reader answers and writes, by REFERENCE, What the unit reads and writes: the numbers 1 to 14, the copy and the records. Assumes nothing.
-use Rattle.std.specs.Prelude.{ℕ, List, [], ◌∷◌, ◌++◌, eqb, ltb, length}
+use Rattle.std.specs.Prelude.{ℕ, List, [], ◌∷◌, ◌++◌, Result, Ok, Err, eqb, ltb, length}
 use Rattle.numbers.specs.Limits as limit
 use Rattle.numbers.specs.Refusals as refusal
 use Rattle.octets.specs.Pick.{pick}
@@ -11,8 +11,18 @@ use Rattle.reader_walk.specs.Walk.{judge_lines}
 use Rattle.reader_records.specs.Records.{records_from}
 use Rattle.card_state.specs.State.{Step, Next, Refused as Halted, Flawed, before_begin, fresh_card}
 use Rattle.line_breaks.specs.Lone.{first_lone, ends_cr_lf}
-use Rattle.reader.specs.declared.Verdict.{Verdict}
-use Rattle.reader.specs.declared.Verdict.TheVariants.{Accepted, Refused}
+use Rattle.numbers.specs.declared.refusal.Refusal.{Refusal}
+use Rattle.reader.specs.declared.Counts.{Counts}
+
+-- how many cards and lines an accepted input has, or a refusal's number and place
+pub data Verdict : Type 0 where
+  Accepted : ℕ → ℕ → Verdict
+  Refused : ℕ → ℕ → Verdict
+
+-- the same of a result
+abbrev pub verdict : Result Counts Refusal → Verdict
+verdict (Ok c) = Accepted c.cards c.lines
+verdict (Err r) = Refused r.0 r.1
 
 -- after the last line of an input of n octets: 9 inside a card, else the counts of cards and lines; a walk leaves no octet of a line to be placed
 unfoldable pub verdict_of : ℕ → Step → Verdict

@@ -8,32 +8,39 @@ ghost use Rattle.line_folds.specs.Logical.{raw_lines};
 ghost use Rattle.card_state.specs.State.{fresh_card};
 ghost use Rattle.card_state.specs.Kept.{step_of};
 ghost use Rattle.reader_walk.specs.Walk.{judge_lines};
-ghost use Rattle.reader.specs.Outcome.{verdict_of, judge_in, judge_of, took, read_in};
+ghost use Rattle.reader.specs.Outcome.{verdict, verdict_of, judge_in, judge_of, took, read_in};
 
 use card_state::Step;
+use numbers::refusal::Refusal;
 use numbers::{limit, refusal};
 use property_table::Edition;
 
-// The counts of cards and lines, or a refusal's number and place.
-#[derive(Clone, Copy)]
-pub enum Verdict {
-    Accepted(usize, usize),
-    Refused(u32, usize),
+// How many cards and lines an accepted input has.
+#[derive(Clone, Copy, Debug, PartialEq, Eq)]
+pub struct Counts {
+    pub cards: usize,
+    pub lines: usize,
 }
+
+// What judging an input answers.
+pub type Verdict = Result<Counts, Refusal>;
 
 // What the last line leaves, at the end of an input of n octets: 9 inside a card.
 pub fn conclude(n: usize, last: Step) -> Verdict
-    ensures { (store : List ℕ) → result ≡ verdict_of n (step_of store last) }
+    ensures { (store : List ℕ) → verdict result ≡ verdict_of n (step_of store last) }
 {
     match last {
         Step::Next(c) => {
             if c.phase == card_state::BEFORE_BEGIN {
-                return Verdict::Accepted(c.cards, c.lines);
+                return Ok(Counts {
+                    cards: c.cards,
+                    lines: c.lines,
+                });
             }
-            Verdict::Refused(refusal::ORDER, n)
+            Err(Refusal(refusal::ORDER, n))
         }
-        Step::Refused(k, p) => Verdict::Refused(k, p),
-        Step::Flawed(k, o) => Verdict::Refused(k, o),
+        Step::Refused(k, p) => Err(Refusal(k, p)),
+        Step::Flawed(k, o) => Err(Refusal(k, o)),
     }
 }
 
@@ -56,21 +63,21 @@ fn walk(edition: Edition, input: &[u8]) -> Step
 
 // The verdict on an input in an edition: a refusal, or the counts.
 pub fn judge_as(edition: Edition, input: &[u8]) -> Verdict
-    ensures { result ≡ judge_in edition input.now }
+    ensures { verdict result ≡ judge_in edition input.now }
 {
     if limit::OCTETS < input.len() {
-        return Verdict::Refused(refusal::TOO_LONG, limit::OCTETS);
+        return Err(Refusal(refusal::TOO_LONG, limit::OCTETS));
     }
     if input.len() == 0 {
-        return Verdict::Refused(refusal::EMPTY, 0);
+        return Err(Refusal(refusal::EMPTY, 0));
     }
     let lone = line_breaks::first_lone(input);
     if lone < input.len() {
-        return Verdict::Refused(refusal::LONE_CR_OR_LF, lone);
+        return Err(Refusal(refusal::LONE_CR_OR_LF, lone));
     }
     let ended = line_breaks::ends_cr_lf(input);
     if !ended {
-        return Verdict::Refused(refusal::NO_END, input.len());
+        return Err(Refusal(refusal::NO_END, input.len()));
     }
     let last = walk(edition, input);
     conclude(input.len(), last)
@@ -78,7 +85,7 @@ pub fn judge_as(edition: Edition, input: &[u8]) -> Verdict
 
 // The verdict on an input in edition one.
 pub fn judge(input: &[u8]) -> Verdict
-    ensures { result ≡ judge_of input.now }
+    ensures { verdict result ≡ judge_of input.now }
 {
     judge_as(Edition::First, input)
 }
@@ -98,23 +105,20 @@ fn is_copy_short(input: &[u8], room: usize) -> bool
 // The verdict on an input in an edition, 1 to 14 or the counts; where it is accepted, its copy and its records are written to the start of their
 // rooms, and on a refusal nothing is.
 pub fn read(edition: Edition, input: &[u8], copy: &mut [u8], records: &mut [u32]) -> Verdict
-    ensures { took result copy.new records.new ≡ read_in edition input.now copy.old records.old }
+    ensures { took (verdict result) copy.new records.new ≡ read_in edition input.now copy.old records.old }
 {
-    let v = judge_as(edition, input);
-    let Verdict::Accepted(cards, lines) = v else {
-        return v;
-    };
+    let counts = judge_as(edition, input)?;
     let short = is_copy_short(input, copy.len());
     if short {
         let octets = line_unfolding::unfolded_length(input);
-        return Verdict::Refused(refusal::COPY_ROOM, octets);
+        return Err(Refusal(refusal::COPY_ROOM, octets));
     }
-    let numbers = lines * limit::RECORD_LENGTH;
+    let numbers = counts.lines * limit::RECORD_LENGTH;
     if records.len() < numbers {
-        return Verdict::Refused(refusal::RECORD_ROOM, numbers);
+        return Err(Refusal(refusal::RECORD_ROOM, numbers));
     }
     let t = octets::classes::table();
     let rows = property_table::table();
     reader_records::write_lines(&t, &rows, edition, input, copy, records);
-    Verdict::Accepted(cards, lines)
+    Ok(counts)
 }

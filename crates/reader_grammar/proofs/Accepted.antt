@@ -14,7 +14,7 @@ use Rattle.card_state.specs.State.{Card, Step, Next, fresh_card}
 use Rattle.line_breaks.specs.Lone.{first_lone}
 use Rattle.reader_walk.specs.Walk.{judge_lines}
 use Rattle.reader.specs.Outcome.{verdict_of, judge_in, ended}
-use Rattle.reader.specs.declared.Verdict.TheVariants.{Accepted}
+use Rattle.reader.specs.Outcome.{Accepted}
 use Rattle.reader.proofs.AcceptLaws.{accepting}
 use Rattle.reader_grammar.specs.Cards.{Readable, card, Cards, none, more}
 use Rattle.reader_grammar.specs.Inputs.{InputIn}

@@ -27,8 +27,8 @@ use Rattle.reader_walk.specs.Walk.{onward, settled, judge_lines}
 use Rattle.reader_walk.proofs.WalkLaws.{onward_next}
 use Rattle.reader_records.specs.Records.{record_of, records_from}
 use Rattle.reader.specs.Outcome.{judge_in, copy_of, records_in, write_outcome, outcome_by, read_in}
-use Rattle.reader.specs.declared.Verdict.{Verdict}
-use Rattle.reader.specs.declared.Verdict.TheVariants.{Accepted}
+use Rattle.reader.specs.Outcome.{Verdict}
+use Rattle.reader.specs.Outcome.{Accepted}
 use Rattle.reader.proofs.AcceptLaws.{accepting}
 use Rattle.reader_laws.proofs.SameLines.{accepted}
 use Rattle.reader_grammar.specs.Values.{OfKind, anything, text, texts, uri, name, address, components, gender, pidmap, date, timestamp, offset}

@@ -20,7 +20,7 @@ use Rattle.card_judge.specs.Judge.{judge_line}
 use Rattle.line_breaks.specs.Lone.{lone_step, first_lone, ends_cr_lf}
 use Rattle.reader_walk.specs.Walk.{onward, settled, judge_lines}
 use Rattle.reader.specs.Outcome.{verdict_of, judge_in, ended}
-use Rattle.reader.specs.declared.Verdict.TheVariants.{Accepted, Refused}
+use Rattle.reader.specs.Outcome.{Accepted, Refused}
 use Rattle.reader_laws.proofs.LoneLaws.{lone_here, lone_none}
 use Rattle.line_laws.specs.Lined.{Folded, Unbroken, Lined, EndsCrLf}
 use Rattle.line_laws.proofs.PlacedLaws.{placed, placed_only, lined_there}

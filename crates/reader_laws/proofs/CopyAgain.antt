@@ -16,7 +16,7 @@ use Rattle.line_folds.proofs.FoldLaws.{unfold_shorter}
 use Rattle.line_parser.specs.Grammar.{Each}
 use Rattle.reader.specs.Outcome.{judge_in, ended, copy_of, records_in}
 use Rattle.line_folds.specs.Logical.{logical_lines}
-use Rattle.reader.specs.declared.Verdict.TheVariants.{Accepted}
+use Rattle.reader.specs.Outcome.{Accepted}
 use Rattle.reader.proofs.AcceptLaws.{accepting}
 use Rattle.reader.proofs.CopyUnfolds.{ends_append, kept_octet, raw, copy_unfolds}
 use Rattle.reader.proofs.LinesAgain.{Clean, unended, lines_clean, copy_lines}

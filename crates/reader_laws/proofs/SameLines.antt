@@ -15,7 +15,7 @@ use Rattle.card_judge.specs.Judge.{judge_line}
 use Rattle.line_breaks.specs.Lone.{first_lone, ends_cr_lf}
 use Rattle.reader_walk.specs.Walk.{onward, settled, judge_lines}
 use Rattle.reader.specs.Outcome.{verdict_of, judge_in, copy_of, records_in}
-use Rattle.reader.specs.declared.Verdict.TheVariants.{Accepted}
+use Rattle.reader.specs.Outcome.{Accepted}
 use Rattle.reader_walk.proofs.WalkLaws.{onward_next}
 use Rattle.reader.proofs.AcceptLaws.{Accepting, accepting}
 use Rattle.reader_laws.proofs.Anywhere.{any_place}

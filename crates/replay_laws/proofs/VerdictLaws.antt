@@ -13,8 +13,8 @@ use Rattle.reader_walk.specs.Walk.{judge_lines}
 use Rattle.reader.specs.Outcome.{judge_of}
 use Rattle.reader_walk.proofs.WalkLaws.{onward_next}
 use Rattle.reader.proofs.AcceptLaws.{lines_few, accepting, lines_counted}
-use Rattle.reader.specs.declared.Verdict.{Verdict}
-use Rattle.reader.specs.declared.Verdict.TheVariants.{Accepted, Refused}
+use Rattle.reader.specs.Outcome.{Verdict}
+use Rattle.reader.specs.Outcome.{Accepted, Refused}
 use Rattle.firmware.proofs.Places.{place_low}
 use Rattle.reader_grammar.proofs.Refused.{refused_law}
 use Rattle.reader_grammar.proofs.Numbers.{refusal_low}

@@ -10,8 +10,8 @@ use borrow.Author.Tests.{ltb-true, ltb-false}
 use Rattle.line_folds.specs.Logical.{logical_lines}
 use Rattle.line_parser.specs.Grammar.{Line}
 use Rattle.reader.specs.Outcome.{judge_of}
-use Rattle.reader.specs.declared.Verdict.{Verdict}
-use Rattle.reader.specs.declared.Verdict.TheVariants.{Accepted, Refused}
+use Rattle.reader.specs.Outcome.{Verdict}
+use Rattle.reader.specs.Outcome.{Accepted, Refused}
 use Rattle.reader.proofs.AcceptLaws.{lines_few, lines_counted}
 use Rattle.reader_grammar.specs.Cards.{CardLines, card, Cards, none, more}
 use Rattle.reader_grammar.proofs.Accepted.{accepted_law}

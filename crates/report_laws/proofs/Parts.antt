@@ -17,8 +17,8 @@ use Rattle.property_table.specs.Rows.{row_of}
 use Rattle.card_line.specs.Parts.{row_of_line}
 use Rattle.property_table.proofs.RowLaws.{row_low}
 use Rattle.reader.specs.Outcome.{judge_of}
-use Rattle.reader.specs.declared.Verdict.{Verdict}
-use Rattle.reader.specs.declared.Verdict.TheVariants.{Accepted, Refused}
+use Rattle.reader.specs.Outcome.{Verdict}
+use Rattle.reader.specs.Outcome.{Accepted, Refused}
 use Rattle.reader_grammar.specs.Cards.{Readable, counts, count, of_row}
 use Rattle.reader_grammar.specs.Inputs.{InputOf}
 use Rattle.reader_grammar.specs.Refusals.{RefusedBy}

@@ -12,8 +12,8 @@ use Rattle.octets.specs.Pick.{pick}
 use Rattle.octets.proofs.Upto.{upto, from, alike}
 use Rattle.line_folds.specs.Logical.{logical_lines}
 use Rattle.reader.specs.Outcome.{judge_of}
-use Rattle.reader.specs.declared.Verdict.{Verdict}
-use Rattle.reader.specs.declared.Verdict.TheVariants.{Accepted, Refused}
+use Rattle.reader.specs.Outcome.{Verdict}
+use Rattle.reader.specs.Outcome.{Accepted, Refused}
 use Rattle.reader_grammar.specs.Refusals.{Judging}
 use Rattle.reader_grammar.proofs.Numbers.{refusal_number}
 use Rattle.reader_grammar.proofs.Refused.{refused_law}

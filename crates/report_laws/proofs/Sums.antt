@@ -15,8 +15,8 @@ use Rattle.line_parser.specs.Parse.{Parse, got, bad}
 use Rattle.line_parser.specs.Rule.{Head, head}
 use Rattle.property_table.proofs.RowLaws.{row_low}
 use Rattle.reader.specs.Outcome.{judge_of}
-use Rattle.reader.specs.declared.Verdict.{Verdict}
-use Rattle.reader.specs.declared.Verdict.TheVariants.{Accepted, Refused}
+use Rattle.reader.specs.Outcome.{Verdict}
+use Rattle.reader.specs.Outcome.{Accepted, Refused}
 use Rattle.reader.proofs.AcceptLaws.{lines_counted}
 use Rattle.reader_grammar.specs.Refusals.{Judging}
 use Rattle.reader_grammar.proofs.Numbers.{refusal_number}

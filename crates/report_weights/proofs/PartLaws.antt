@@ -7,8 +7,8 @@ use lib.ListN.{length, get_or}
 use borrow.Author.Tests.{eq-eqb, ne_eqb}
 use Rattle.line_folds.specs.Logical.{logical_lines}
 use Rattle.reader.specs.Outcome.{judge_of}
-use Rattle.reader.specs.declared.Verdict.{Verdict}
-use Rattle.reader.specs.declared.Verdict.TheVariants.{Accepted, Refused}
+use Rattle.reader.specs.Outcome.{Verdict}
+use Rattle.reader.specs.Outcome.{Accepted, Refused}
 use Rattle.report_lines.specs.Rows.{one, line_counts}
 use Rattle.report_weights.specs.Counts.{counts, refusal_at, total_at, count_at}
 use Rattle.report_weights.specs.Parts.{refused_part, accepted_part, part_by, part, weights}

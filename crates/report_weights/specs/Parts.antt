@@ -2,8 +2,8 @@
 use Rattle.std.specs.Prelude.{ℕ, List, map, eqb, length, get_or}
 use Rattle.line_folds.specs.Logical.{logical_lines}
 use Rattle.reader.specs.Outcome.{judge_of}
-use Rattle.reader.specs.declared.Verdict.{Verdict}
-use Rattle.reader.specs.declared.Verdict.TheVariants.{Accepted, Refused}
+use Rattle.reader.specs.Outcome.{Verdict}
+use Rattle.reader.specs.Outcome.{Accepted, Refused}
 use Rattle.report_lines.specs.Rows.{one, line_counts}
 use Rattle.report_weights.specs.Counts.{Count, uploads, accepted, cards, lines, octets, refused_with, lines_of, counts}
 

@@ -10,7 +10,7 @@ use lib.Seq.{take_at}
 use borrow.Author.Tests.{eqb-true, ltb-false, le-ltb}
 use Rattle.octets.specs.Pick.{pick}
 use Rattle.octets.specs.Room.{Filled, filled, refuse, overlay, fill, fill_bounded}
-use Rattle.octets.specs.declared.rooms.Written.TheVariants.{Wrote, Refused}
+use Rattle.octets.specs.Room.{Wrote, Refused}
 use Rattle.octets.proofs.Bools.{clash}
 use Rattle.utf8.specs.Characters.{allowed, first_bad}
 use Rattle.utf8.proofs.Chars.{bad_le}

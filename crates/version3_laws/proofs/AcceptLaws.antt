@@ -9,7 +9,7 @@ use lib.ListN.{length, take}
 use lib.Seq.{take-append_seam}
 use borrow.Author.Tests.{eqb-true, eqb-false}
 use Rattle.octets.specs.Room.{filled}
-use Rattle.octets.specs.declared.rooms.Written.TheVariants.{Wrote}
+use Rattle.octets.specs.Room.{Wrote}
 use Rattle.octets.proofs.Bools.{by}
 use Rattle.line_parser.specs.Grammar.{Line, Each, render}
 use Rattle.property_table.specs.declared.Edition.TheVariants.{First}
@@ -18,7 +18,7 @@ use Rattle.card_line.specs.Parts.{row_of_line, kind_of_line}
 use Rattle.folder_line.specs.Pieces.{folded, pieces, joined, folded_lines}
 use Rattle.folder_laws.proofs.BackLaws.{whole_line}
 use Rattle.reader.specs.Outcome.{judge_of}
-use Rattle.reader.specs.declared.Verdict.TheVariants.{Accepted}
+use Rattle.reader.specs.Outcome.{Accepted}
 use Rattle.reader_grammar.specs.Values.{OfKind}
 use Rattle.reader_grammar.specs.Cards.{Readable, Inside, Versions, Once, Body, CardLines, Cards, count, lines_of}
 use Rattle.reader_grammar.specs.Cards as grammar

@@ -10,7 +10,7 @@ use lib.ListN.{length, length-append}
 use borrow.Author.Tests.{le-ltb, lt-ltb, ltb-true, ltb-false, eq-eqb, ne_eqb}
 use Rattle.octets.specs.Pick.{pick}
 use Rattle.octets.specs.Room.{Filled, filled, refuse, overlay, fill, fill_bounded}
-use Rattle.octets.specs.declared.rooms.Written.TheVariants.{Wrote, Refused as refused}
+use Rattle.octets.specs.Room.{Wrote, Refused as refused}
 use Rattle.octets.proofs.Bools.{clash}
 use Rattle.line_breaks.specs.Lone.{first_lone}
 use Rattle.line_folds.specs.Folds.{unfolded}

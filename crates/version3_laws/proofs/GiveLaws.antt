@@ -9,7 +9,7 @@ use lib.Dec.{eqb}
 use lib.ListN.{length, length-map}
 use borrow.Author.Tests.{eqb-true, eqb-false}
 use Rattle.octets.specs.Room.{Filled, filled, refuse, fill_bounded}
-use Rattle.octets.specs.declared.rooms.Written.TheVariants.{Wrote}
+use Rattle.octets.specs.Room.{Wrote}
 use Rattle.octets.proofs.Bools.{by, and_both}
 use Rattle.line_folds.specs.Folds.{unfolded}
 use Rattle.line_folds.specs.Logical.{raw_lines}
@@ -27,8 +27,8 @@ use Rattle.property_table.specs.declared.Edition.TheVariants.{First}
 use Rattle.property_table.specs.Rows.{framing}
 use Rattle.card_line.specs.Parts.{row_of_line, kind_of_line}
 use Rattle.reader.specs.Outcome.{ended, judge_of}
-use Rattle.reader.specs.declared.Verdict.{Verdict}
-use Rattle.reader.specs.declared.Verdict.TheVariants.{Accepted, Refused as Rejected}
+use Rattle.reader.specs.Outcome.{Verdict}
+use Rattle.reader.specs.Outcome.{Accepted, Refused as Rejected}
 use Rattle.reader.proofs.AcceptLaws.{accepting}
 use Rattle.reader_grammar.specs.Cards.{Readable, CardLines, Cards, of_row}
 use Rattle.reader_grammar.specs.Cards as grammar

@@ -8,7 +8,7 @@ use lib.ListN.{length, take}
 use lib.Seq.{take-append_seam}
 use Rattle.octets.specs.Ascii.{octets}
 use Rattle.octets.specs.Room.{filled, fill_bounded}
-use Rattle.octets.specs.declared.rooms.Written.TheVariants.{Wrote}
+use Rattle.octets.specs.Room.{Wrote}
 use Rattle.line_parser.specs.Grammar.{Param, Line, Each}
 use Rattle.property_table.specs.declared.Edition.TheVariants.{First}
 use Rattle.card_line.specs.Parts.{row_of_line, kind_of_line}

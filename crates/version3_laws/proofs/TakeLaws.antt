@@ -11,7 +11,7 @@ use lib.ListN.{length, length-map}
 use borrow.Author.Tests.{ltb-true, ltb-false, lt-ltb, le-ltb, eqb-true, eqb-false, ne_eqb}
 use Rattle.octets.specs.Pick.{pick}
 use Rattle.octets.specs.Room.{Filled, filled, refuse}
-use Rattle.octets.specs.declared.rooms.Written.TheVariants.{Wrote}
+use Rattle.octets.specs.Room.{Wrote}
 use Rattle.octets.proofs.Bools.{by}
 use Rattle.octets.proofs.Scans.{scan_le}
 use Rattle.line_breaks.specs.Lone.{lone_step, first_lone, ends_cr_lf}

@@ -14,7 +14,7 @@ use Rattle.property_table.specs.declared.Edition.TheVariants.{First}
 use Rattle.card_state.specs.State.{Card, Step, Next, Refused, Flawed, fresh_card}
 use Rattle.card_state.specs.Kept.{card_of}
 use Rattle.reader.specs.Outcome.{verdict_of, judge_in, judge_of}
-use Rattle.reader.specs.declared.Verdict.TheVariants.{Refused as Judged}
+use Rattle.reader.specs.Outcome.{Refused as Judged}
 use Rattle.reader_walk.specs.Walk.{onward, settled, judge_lines}
 use Rattle.watch_arrivals.specs.Arrivals.{tail_from, lone_from}
 use Rattle.watch_arrivals.proofs.ArrivalLaws.{first_fine, first_waits, first_known, ends_law, line_left, break_none}

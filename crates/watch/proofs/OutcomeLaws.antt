@@ -16,7 +16,7 @@ use Rattle.card_state.specs.declared.Step.TheVariants.{Next as next, Refused as 
 use Rattle.card_state.proofs.KeptLaws.{card_front, none_lie}
 use Rattle.desk_pool.specs.Pools.{patch}
 use Rattle.reader.specs.Outcome.{verdict_of}
-use Rattle.reader.specs.declared.Verdict.TheVariants.{Refused as Judged}
+use Rattle.reader.specs.Outcome.{Refused as Judged}
 use Rattle.reader_walk.specs.Walk.{settled, judge_lines}
 use Rattle.watch_arrivals.specs.Arrivals.{tail_step, tail_from, lone_from, next_from}
 use Rattle.watch_arrivals.proofs.ArrivalLaws.{tail_append, tail_short, next_tail}

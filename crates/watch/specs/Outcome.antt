@@ -8,8 +8,8 @@ use Rattle.card_state.specs.State.{Card, Step, Next, Refused as Halted, Flawed, 
 use Rattle.card_state.specs.Kept.{card_of}
 use Rattle.desk_pool.specs.Pools.{patch}
 use Rattle.reader.specs.Outcome.{verdict_of, judge_of}
-use Rattle.reader.specs.declared.Verdict.{Verdict}
-use Rattle.reader.specs.declared.Verdict.TheVariants.{Refused as Judged}
+use Rattle.reader.specs.Outcome.{Verdict}
+use Rattle.reader.specs.Outcome.{Refused as Judged}
 use Rattle.reader_walk.specs.Walk.{settled, judge_lines}
 use Rattle.watch_arrivals.specs.Arrivals.{after_other, after_cr, after_cr_lf, tail_from, lone_from, next_from}
 use Rattle.watch_lines.specs.Parting.{ended_lines, open_line}

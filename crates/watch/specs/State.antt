@@ -7,7 +7,7 @@ use Rattle.card_state.specs.declared.Card.{Card as Kept}
 use Rattle.card_state.specs.declared.Step.{Step as KeptStep}
 use Rattle.card_state.specs.declared.Step.TheVariants.{Next as next_kept, Refused as refused_kept, Flawed as flawed_kept}
 use Rattle.reader.specs.Outcome.{verdict_of}
-use Rattle.reader.specs.declared.Verdict.TheVariants.{Refused as Judged}
+use Rattle.reader.specs.Outcome.{Refused as Judged}
 use Rattle.watch_arrivals.specs.Arrivals.{after_other, tail_from, lone_from}
 use Rattle.watch_lines.specs.Parting.{open_line}
 use Rattle.watch_lines.specs.Values.{halted}

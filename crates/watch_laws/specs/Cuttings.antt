@@ -6,7 +6,7 @@ use Rattle.line_folds.specs.Logical.{raw_lines}
 use Rattle.line_parser.specs.Grammar.{Line}
 use Rattle.card_state.specs.State.{Card, Next, before_begin}
 use Rattle.reader.specs.Outcome.{judge_of, ended}
-use Rattle.reader.specs.declared.Verdict.{Verdict}
+use Rattle.reader.specs.Outcome.{Verdict}
 use Rattle.watch_lines.specs.Parting.{ended_lines, open_line}
 use Rattle.watch.specs.Octets.{judged, altid_octets, known, buffer_after}
 use Rattle.watch.specs.State.{fresh_watch, claims, After}

@@ -1,6 +1,6 @@
 -- `folder::fold_styled` meets its contract. Assumes nothing.
 use mathlib.Core.Path.{sym, ap, ◌∙◌}
-use Rattle.reader.specs.declared.Verdict.{Verdict}
+use Rattle.reader.specs.Outcome.{Verdict}
 use Rattle.folder.specs.Outcome.{fold_by, fold_in}
 use Rattle.folder.proofs.Accepted.{accepted}
 use Rattle.folder.proofs.fold_styled.Goals as goal

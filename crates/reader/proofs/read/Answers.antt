@@ -11,7 +11,7 @@ use Rattle.octets.specs.Room.{overlay}
 use Rattle.property_table.specs.declared.Edition.{Edition}
 use Rattle.line_folds.specs.Folds.{unfolded}
 use Rattle.reader.specs.Outcome.{judge_in, copy_of}
-use Rattle.reader.specs.declared.Verdict.TheVariants.{Accepted}
+use Rattle.reader.specs.Outcome.{Accepted}
 use Rattle.reader.proofs.AcceptLaws.{accepting, lines_counted, lines_few}
 use Rattle.reader.proofs.ReadLaws.{copied, flat, recorded, read_refused, numbers_counted, read_13, read_14, read_written}
 use Rattle.reader.proofs.read.Goals as goal

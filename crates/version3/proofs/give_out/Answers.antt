@@ -1,6 +1,6 @@
 -- src/lib.rt:73:9
 use mathlib.Core.Path.{sym, ap, ◌∙◌}
-use Rattle.reader.specs.declared.Verdict.{Verdict}
+use Rattle.reader.specs.Outcome.{Verdict}
 use Rattle.version3.specs.Outcome.{give_by, give_outcome}
 use Rattle.version3.proofs.give_out.Goals as goal
 

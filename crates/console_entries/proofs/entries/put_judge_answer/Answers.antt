@@ -2,7 +2,7 @@
 use mathlib.Core.Path.{ap, ◌∙◌}
 use Rattle.program_output.specs.Pages.{page, added}
 use Rattle.console_answers.specs.Texts.{line_end, verdict_text}
-use Rattle.reader.specs.declared.Verdict.{Verdict}
+use Rattle.reader.specs.Outcome.{Verdict}
 use Rattle.program_output.proofs.PageLaws.{then}
 use Rattle.console_entries.specs.Entries.{judge_answer}
 use mathlib.Core.List.{◌++◌}

@@ -3,7 +3,7 @@ use mathlib.Core.Path.{refl, ap, ◌∙◌}
 use native.Mathlib.Omega.{arith}
 use lib.ListN.{length-take}
 use Rattle.octets.specs.Room.{filled}
-use Rattle.octets.specs.declared.rooms.Written.{Written}
+use Rattle.octets.specs.Room.{Written}
 use Rattle.octets.proofs.RoomLaws.{fill_short, fill_fits, over_bound, within_bound}
 use Rattle.folder.proofs.FitLaws.{from_buffer, poured_wrote, poured_refused}
 use Rattle.folder.proofs.text.fold_buffered.Goals as goal

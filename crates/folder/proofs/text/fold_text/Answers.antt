@@ -5,7 +5,7 @@ use Prim.Native.Nat.{ℕ, ◌≤◌}
 use native.Mathlib.Omega.{arith}
 use lib.ListN.{length}
 use Rattle.octets.specs.Room.{filled}
-use Rattle.octets.specs.declared.rooms.Written.{Written}
+use Rattle.octets.specs.Room.{Written}
 use Rattle.line_folds.specs.Logical.{logical_lines}
 use Rattle.octets.proofs.RoomLaws.{fill_fits, within_bound}
 use Rattle.folder_line.specs.Pieces.{folded_lines}
