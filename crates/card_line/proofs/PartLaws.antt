@@ -15,8 +15,8 @@ use Rattle.line_parser.specs.Places.{outcome}
 use Rattle.line_parameters.specs.First.{first_named, find_first}
 use Rattle.line_parameters.specs.declared.First.{First}
 use Rattle.line_parameters.specs.declared.First.TheVariants.{Between, Nothing}
-use Rattle.line_parser.specs.declared.rule.Part.{Part as Answer}
-use Rattle.line_parser.specs.declared.rule.Part.TheVariants.{Upto, Named, Listed, Parsed, Fault}
+use Rattle.line_parser.specs.Places.{Part as Answer}
+use Rattle.line_parser.specs.Places.{Upto, Named, Listed, Parsed, Fault}
 use Rattle.line_parser.specs.contracts.rule.Part.{the_type}
 use denote.Enum.Declared.{tag_of}
 use types.Run.{OneOf, miss}

@@ -6,8 +6,8 @@ use Rattle.line_parser.specs.Parse.{Parse, got, bad}
 use Rattle.line_parser.specs.Grammar.{Value, Line, name_end}
 use Rattle.line_parser.specs.Rule.{parse_line}
 use Rattle.line_parameters.specs.First.{first_named, value_octets}
-use Rattle.line_parser.specs.declared.rule.Part.{Part}
-use Rattle.line_parser.specs.declared.rule.Part.TheVariants.{Upto, Named, Listed, Parsed, Fault}
+use Rattle.line_parser.specs.Places.{Part}
+use Rattle.line_parser.specs.Places.{Upto, Named, Listed, Parsed, Fault}
 use Rattle.property_table.specs.declared.Edition.{Edition}
 use Rattle.property_table.specs.Rows.{row_of, line_kind, value_name, calscale_name}
 use Rattle.card_line.specs.declared.LineParts.{LineParts}

@@ -6,8 +6,8 @@ use Rattle.line_parser.specs.Parse.{got}
 use Rattle.line_parser.specs.Grammar.{Param}
 use Rattle.line_parser.specs.Rule.{param}
 use Rattle.line_parser.specs.Places.{place}
-use Rattle.line_parser.specs.declared.rule.Part.{Part}
-use Rattle.line_parser.specs.declared.rule.Part.TheVariants.{Upto}
+use Rattle.line_parser.specs.Places.{Part}
+use Rattle.line_parser.specs.Places.{Upto}
 use Rattle.octets.specs.Classes.{run, has, name_mask}
 use mathlib.Core.List.{List}
 use lib.ListN.{length, drop, length-drop}
