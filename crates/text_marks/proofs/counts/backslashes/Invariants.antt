@@ -6,8 +6,5 @@ use Rattle.text_marks.specs.Marks.{backslash}
 use Rattle.octets.specs.Counts.{count}
 use Rattle.text_marks.proofs.counts.backslashes.Given as goal
 
-abbrev pub invariant-loop-i : goal.invariant-loop-i
-invariant-loop-i l = (l.i ≤ length l.s) × (l.n ≤ l.i) × (count backslash l.s ≡ l.n + count backslash (drop l.i l.s))
-
-abbrev pub decreases-loop-i : goal.decreases-loop-i
-decreases-loop-i l = length l.s - l.i
+abbrev pub invariant-loop-b : goal.b-indexnvariant-loop-b
+invariant-loop-b l = (l.n ≤ l.b-index) × (count backslash l.s ≡ l.n + count backslash (drop l.b-index l.s))
