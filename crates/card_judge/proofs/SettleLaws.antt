@@ -19,8 +19,8 @@ use Rattle.card_state.specs.declared.Step.{Step as KeptStep}
 use Rattle.card_state.specs.declared.Step.TheVariants.{Next as next, Refused as refused, Flawed as flawed}
 use Rattle.card_state.proofs.KeptLaws.{holds_more, keep_lies, gone_card, keep_card}
 use Rattle.line_parameters.specs.First.{find_first}
-use Rattle.line_parameters.specs.declared.First.{First}
-use Rattle.line_parameters.specs.declared.First.TheVariants.{Between, Nothing}
+use Rattle.line_parameters.specs.First.{First}
+use Rattle.line_parameters.specs.First.{Between, Nothing}
 use Rattle.card_line.specs.Parts.{Accepted, first_value}
 use Rattle.card_line.proofs.PartLaws.{value_missing, value_there}
 use Rattle.card_judge.specs.Judge.{entered, part, read_by, octets_of, added_at, KeepsOn, Keeping, Spans, Told, Takes}

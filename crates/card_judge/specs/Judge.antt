@@ -24,8 +24,8 @@ use Rattle.card_state.specs.declared.Step.TheVariants.{Next as next_kept}
 use Rattle.card_line.specs.Parts.{row_of_line, kind_of_line, altid_of, line_parts_of}
 use Rattle.card_line.specs.declared.Parts.{Parts}
 use Rattle.card_line.specs.declared.LineParts.TheVariants.{Line as line}
-use Rattle.line_parameters.specs.declared.First.{First}
-use Rattle.line_parameters.specs.declared.First.TheVariants.{Between, Nothing}
+use Rattle.line_parameters.specs.First.{First}
+use Rattle.line_parameters.specs.First.{Between, Nothing}
 use Rattle.card_judge.specs.declared.judge.Judgement.{Judgement}
 use Rattle.card_judge.specs.declared.judge.Instance.{Instance}
 

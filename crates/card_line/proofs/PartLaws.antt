@@ -13,8 +13,8 @@ use Rattle.line_parser.specs.Grammar.{Value, Param, Line, name_end}
 use Rattle.line_parser.specs.Rule.{parse_line}
 use Rattle.line_parser.specs.Places.{outcome}
 use Rattle.line_parameters.specs.First.{first_named, find_first}
-use Rattle.line_parameters.specs.declared.First.{First}
-use Rattle.line_parameters.specs.declared.First.TheVariants.{Between, Nothing}
+use Rattle.line_parameters.specs.First.{First}
+use Rattle.line_parameters.specs.First.{Between, Nothing}
 use Rattle.line_parser.specs.Places.{Part as Answer}
 use Rattle.line_parser.specs.Places.{Upto, Named, Listed, Parsed, Fault}
 use Rattle.line_parser.specs.contracts.rule.Part.{the_type}

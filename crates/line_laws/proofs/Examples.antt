@@ -14,8 +14,8 @@ use Rattle.line_parser.specs.Places.{outcome}
 use Rattle.line_parameters.specs.First.{find_first}
 use Rattle.line_parser.specs.Places.{Part}
 use Rattle.line_parser.specs.Places.{Parsed, Fault}
-use Rattle.line_parameters.specs.declared.First.{First}
-use Rattle.line_parameters.specs.declared.First.TheVariants.{Between, Nothing}
+use Rattle.line_parameters.specs.First.{First}
+use Rattle.line_parameters.specs.First.{Between, Nothing}
 
 pub record Example : Type 0 where
   pub line : String

@@ -8,8 +8,8 @@ use Prim.Native.Nat.{ℕ}
 use native.Mathlib.Omega.{arith}
 use lib.Dec.{eqb}
 use Rattle.octets.specs.Pick.{pick}
-use Rattle.line_parameters.specs.declared.First.{First}
-use Rattle.line_parameters.specs.declared.First.TheVariants.{Between, Nothing}
+use Rattle.line_parameters.specs.First.{First}
+use Rattle.line_parameters.specs.First.{Between, Nothing}
 use Rattle.card_line.specs.Parts.{altid_name, first_value}
 use Rattle.card_judge.specs.Judge.{Spans}
 use Rattle.card_judge.proofs.SettleLaws.{found_once, told_none, told_first, told_again}
