@@ -22,7 +22,7 @@ use property_table::rows::PropertyTable;
 use value_kinds::Fault;
 
 // What a line makes of its card, and which octets of the line are to be kept behind those in the store, from `from` to `to`.
-#[derive(Clone, Copy)]
+#[derive(Clone, Copy, Debug, PartialEq, Eq)]
 pub struct Judgement {
     pub step: Step,
     pub from: usize,

@@ -19,7 +19,7 @@ use property_table::Edition;
 use property_table::rows::PropertyTable;
 
 // The parts of a line that keeps the line rule.
-#[derive(Clone, Copy)]
+#[derive(Clone, Copy, Debug, PartialEq, Eq)]
 pub struct Parts {
     // The property's number, 0 for a name that is not listed.
     pub row: usize,
@@ -36,7 +36,7 @@ pub struct Parts {
 }
 
 // The parts of a line, or the fault by which it breaks the line rule.
-#[derive(Clone, Copy)]
+#[derive(Clone, Copy, Debug, PartialEq, Eq)]
 pub enum LineParts {
     Line(Parts),
     Fault(u32),

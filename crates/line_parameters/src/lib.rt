@@ -10,7 +10,7 @@ use octets::classes;
 use octets::classes::ClassTable;
 
 // Where the octets of a parameter's first value stand in a line.
-#[derive(Clone, Copy)]
+#[derive(Clone, Copy, Debug, PartialEq, Eq)]
 pub enum First {
     // The value stands from `start` up to `end`.
     Between { start: usize, end: usize },

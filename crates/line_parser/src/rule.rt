@@ -9,7 +9,7 @@ use octets::classes;
 use octets::classes::ClassTable;
 
 // What reading a part of a line answers; a fault is handed up unchanged.
-#[derive(Clone, Copy)]
+#[derive(Clone, Copy, Debug, PartialEq, Eq)]
 pub enum Part {
     // The part ends here.
     Upto(usize),

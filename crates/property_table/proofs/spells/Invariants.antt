@@ -7,7 +7,5 @@ use Rattle.property_table.specs.Rows.{row_at}
 use Rattle.property_table.proofs.spells.Given as goal
 
 abbrev pub invariant-loop-i : goal.invariant-loop-i
-invariant-loop-i l = (same l.name (row_at l.row).name ≡ same (drop l.i l.name) (drop l.i (row_at l.row).name)) × (0 < l.i)
+invariant-loop-i l = (same l.name (row_at l.row).name ≡ same (drop l.i l.name) (drop l.i (row_at l.row).name))
 
-abbrev pub decreases-loop-i : goal.decreases-loop-i
-decreases-loop-i l = length l.name - l.i

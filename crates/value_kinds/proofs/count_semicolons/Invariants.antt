@@ -6,8 +6,6 @@ use Rattle.value_kinds.specs.Octets.{semicolon, holds}
 use Rattle.octets.specs.Counts.{count}
 use Rattle.value_kinds.proofs.count_semicolons.Given as goal
 
-abbrev pub invariant-loop-i : goal.invariant-loop-i
-invariant-loop-i l = (l.i ≤ length l.s) × (l.n ≤ l.i) × (count (holds semicolon) l.s ≡ l.n + count (holds semicolon) (drop l.i l.s))
+abbrev pub invariant-loop-x : goal.invariant-loop-x
+invariant-loop-x l = (l.x-index ≤ length l.s) × (l.n ≤ l.x-index) × (count (holds semicolon) l.s ≡ l.n + count (holds semicolon) (drop l.x-index l.s))
 
-abbrev pub decreases-loop-i : goal.decreases-loop-i
-decreases-loop-i l = length l.s - l.i

@@ -8,8 +8,6 @@ use Rattle.value_kinds.specs.Octets.{graphic, holds}
 use Rattle.octets.specs.Counts.{all_in}
 use Rattle.value_kinds.proofs.is_printing.Given as goal
 
-abbrev pub invariant-loop-i : goal.invariant-loop-i
-invariant-loop-i l = (l.i ≤ length l.s) × (all_in (holds graphic) l.s ≡ (eqb l.hidden 0 && all_in (holds graphic) (drop l.i l.s)))
+abbrev pub invariant-loop-x : goal.invariant-loop-x
+invariant-loop-x l = (l.x-index ≤ length l.s) × (all_in (holds graphic) l.s ≡ (eqb l.hidden 0 && all_in (holds graphic) (drop l.x-index l.s)))
 
-abbrev pub decreases-loop-i : goal.decreases-loop-i
-decreases-loop-i l = length l.s - l.i
