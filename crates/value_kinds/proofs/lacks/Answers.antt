@@ -1,7 +1,6 @@
 -- `value_kinds::lacks` meets its contract. Assumes nothing.
 use borrow.Author.Rules.{rules}
 use mathlib.Core.Path.{refl, sym, ◌∙◌}
-use Prim.Native.Nat.{◌-◌}
 use native.Mathlib.Omega.{arith}
 use Rattle.value_kinds.specs.Octets.{neither}
 use Rattle.octets.proofs.CountLaws.{all_step, all_end}

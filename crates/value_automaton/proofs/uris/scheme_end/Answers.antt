@@ -1,5 +1,5 @@
 -- `value_automaton::uris::scheme_end` meets its contract. Assumes nothing.
-use Rattle.std.proofs.Common.{rules, tests, ◌≡◌, true, ℕ, ◌<◌, ◌≤◌, List, Option, Some, None, length, get_or, arith, sym, subst}
+use Rattle.std.proofs.Common.{rules, tests, ◌≡◌, true, ℕ, ◌<◌, ◌≤◌, List, Option, Some, None, length, get_or, arith, subst}
 use Rattle.std.specs.Bool.{⊤}
 use Rattle.std.specs.List.{AllWithin, HoldsAt}
 use Rattle.std.specs.Option.{MatchOption}
@@ -26,7 +26,9 @@ returns-in-Some c =
     c.in-Some.is
 
 pub returns-in-None : goal.returns-in-None
-returns-in-None c =
-    (omega arith, at_none c.args.s.now c.position.result
-    (IsFirst-from_position _ _ c.position.result (λ b. ⊤) Letter c.position.ensures.ran (YieldsList-from_slice c.args.s.now c.iter.ensures.rest) (λ x q k. tt) (λ x q k. search (rules, tests)))
-    c.in-None.is)
+returns-in-None c = (
+  omega arith,
+  at_none c.args.s.now c.position.result
+      (IsFirst-from_position _ _ c.position.result (λ b. ⊤) Letter c.position.ensures.ran (YieldsList-from_slice c.args.s.now c.iter.ensures.rest) (λ x q k. tt) (λ x q k. search (rules, tests)))
+      c.in-None.is,
+)
