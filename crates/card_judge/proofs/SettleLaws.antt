@@ -23,9 +23,10 @@ use Rattle.line_parameters.specs.First.{First}
 use Rattle.line_parameters.specs.First.{Between, Nothing}
 use Rattle.card_line.specs.Parts.{Accepted, first_value}
 use Rattle.card_line.proofs.PartLaws.{value_missing, value_there}
-use Rattle.card_judge.specs.Judge.{entered, part, read_by, octets_of, added_at, KeepsOn, Keeping, Spans, Told, Takes}
+use Rattle.card_judge.specs.Judge.{entered, part, read_by, octets_of, added_at, KeepsOn, Keeping, Spans, Instance, instance, Told, Takes}
 use Rattle.card_judge.specs.declared.judge.Judgement.{Judgement}
-use Rattle.card_judge.specs.declared.judge.Instance.{Instance}
+use Rattle.card_judge.specs.declared.judge.Instance.{Instance as Found}
+use Rattle.card_judge.specs.declared.judge.Instance.TheVariants.{Second, Opened, Further}
 
 -- END is not marked *1
 end_often : once_at 2 ≡ 0
@@ -283,3 +284,32 @@ module _ (c : Kept) (store l : List ℕ) (k : ℕ) (a : Option (List ℕ)) (i : 
 
       pub told_on : gone ≡ entered (card_of c store) at row a v
       told_on = by i.keeps first_gone other_gone
+
+      -- such a line, entered in the state r, is judged as it should be
+      pub settled : (st : KeptStep)
+          → ((s : List ℕ) → step_of s st ≡ pick (eqb row 2) (closed (card_of r s) at) (Next (card_of (gone_on r row (is_group v)) s)))
+          → Holds r.used st × KeepsOn r.used st
+          → (read_by (record { step = st; from = i.from; to = i.to }) store l ≡ entered (card_of c store) at row a v)
+              × Keeping c l (added_at row c.seen a) (record { step = st; from = i.from; to = i.to })
+      unfolding read_by
+      settled st f h =
+          let size = takes_used r takes lies short in (
+            f kept ∙ told_on,
+            record {
+              order = told.order;
+              inside = told.inside;
+              holds = subst (λ (n : ℕ). Holds n st) size h.0;
+              adds = λ d z. added_is row here;
+              counts = subst (λ (n : ℕ). KeepsOn n st) size h.1;
+            },
+          )
+
+pub not_second : (x : Found) → (x ≡ Second → ⊥) → (instance x).second ≡ false
+not_second Second h = absurd (h refl)
+not_second (Opened from to) h = refl
+not_second Further h = refl
+
+pub nothing_kept : (x : Found) → ((from to : ℕ) → x ≡ Opened from to → ⊥) → ((instance x).from ≡ 0) × ((instance x).to ≡ 0)
+nothing_kept Second h = (refl, refl)
+nothing_kept (Opened from to) h = absurd (h from to refl)
+nothing_kept Further h = (refl, refl)

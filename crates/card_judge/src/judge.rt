@@ -10,7 +10,7 @@ ghost use Rattle.property_table.specs.Rows.{once_at, is_group};
 ghost use Rattle.card_line.specs.Parts.{altid_name, first_value};
 ghost use Rattle.card_state.specs.State.{Next, Counted, singles, in_order, flag_of, once_flag, is_seen, closed};
 ghost use Rattle.card_state.specs.Kept.{Lies, card_of, step_of, Holds, gone_on};
-ghost use Rattle.card_judge.specs.Judge.{Tables, Parted, laden, entered, judge_parts, judge_line, read_by, Stored, added_at, added_by, KeepsOn, Keeping, Spans, Told, Takes};
+ghost use Rattle.card_judge.specs.Judge.{Tables, Parted, laden, entered, judge_parts, judge_line, read_by, Stored, added_at, added_by, KeepsOn, Keeping, Spans, instance, Told, Takes};
 
 use card_line::{LineParts, Parts};
 use card_state::{Card, Step};
@@ -22,7 +22,7 @@ use property_table::rows::PropertyTable;
 use value_kinds::Fault;
 
 // What a line makes of its card, and which octets of the line are to be kept behind those in the store, from `from` to `to`.
-#[derive(Clone, Copy)]
+#[derive(Clone, Copy, Debug, PartialEq, Eq)]
 pub struct Judgement {
     pub step: Step,
     pub from: usize,
@@ -30,32 +30,23 @@ pub struct Judgement {
 }
 
 // Whether a line of the row may stand here.
+#[tactic(auto, unfolding(card_state::specs::State::in_order))]
 fn in_order(phase: u32, row: usize) -> bool
     ensures { result ≡ in_order phase row }
 {
-    if phase == card_state::BEFORE_BEGIN {
-        return row == property::BEGIN;
+    match phase {
+        card_state::BEFORE_BEGIN => row == property::BEGIN,
+        card_state::BEFORE_VERSION => row == property::VERSION,
+        _ => row != property::BEGIN && row != property::VERSION,
     }
-    if phase == card_state::BEFORE_VERSION {
-        return row == property::VERSION;
-    }
-    if row == property::BEGIN {
-        return false;
-    }
-    row != property::VERSION
 }
 
 // Whether a framing line has a group or a parameter.
+#[tactic(auto, unfolding(crate::specs::Judge::laden))]
 fn is_laden(x: Parts) -> bool
     ensures { result ≡ laden x.row x.group_length x.param_count }
 {
-    if !property_table::is_framing(x.row) {
-        return false;
-    }
-    if x.group_length != 0 {
-        return true;
-    }
-    x.param_count != 0
+    property_table::is_framing(x.row) && (x.group_length != 0 || x.param_count != 0)
 }
 
 // Where the ALTID value of a line stands; of a line whose property may stand any number of times it is not looked for.
@@ -102,13 +93,13 @@ fn enter(c: Card, at: usize, row: usize, once: usize, value: &[u8]) -> Step
 
 // What the ALTID of a line makes of its property's instance.
 #[derive(Clone, Copy)]
-struct Instance {
+enum Instance {
     // It starts a second one.
-    second: bool,
-    // It is the first line, with an ALTID from `from` to `to` that is to be kept; else both are 0.
-    keeps: bool,
-    from: usize,
-    to: usize,
+    Second,
+    // It is the first line, with an ALTID from `from` to `to` that is to be kept.
+    Opened { from: usize, to: usize },
+    // It is one more line of the same, or has no ALTID to be kept.
+    Further,
 }
 
 // What a line of the k-th property that a card has at most once, or of any other (0), is by the ALTID that was found in it.
@@ -116,44 +107,38 @@ fn instance_of(s: &[u8], f: First, k: usize, again: bool, store: &[u8], c: Card)
     requires spans { Spans f s.now (pick (eqb k 0) none (first_value altid_name s.now)) }
     requires k_le_singles { (k ≤ singles) × (again ≡ is_seen (flag_of k) c.seen) }
     requires stored { Stored c store.now s.now }
-    ensures { Told c store.now s.now k (first_value altid_name s.now) result }
+    ensures { Told c store.now s.now k (first_value altid_name s.now) (instance result) }
 {
     let First::Between { start, end } = f else {
-        return Instance {
-            second: again,
-            keeps: false,
-            from: 0,
-            to: 0,
+        return if again {
+            Instance::Second
+        } else {
+            Instance::Further
         };
     };
     if !again {
-        return Instance {
-            second: false,
-            keeps: true,
+        return Instance::Opened {
             from: start,
             to: end,
         };
     }
-    let tags = c.tags;
-    let same = card_state::tags::is_kept(tags, k, store, &s[start..end]);
-    Instance {
-        second: !same,
-        keeps: false,
-        from: 0,
-        to: 0,
+    if card_state::tags::is_kept(c.tags, k, store, &s[start..end]) {
+        Instance::Further
+    } else {
+        Instance::Second
     }
 }
 
 // The state with the ALTID value of the line, where it is to be kept.
 fn with_value(c: Card, k: usize, i: Instance) -> Card
-    requires from_le_to { (i.from ≤ i.to) × (c.used + (i.to - i.from) ≤ limit.octets) }
-    requires k_nonzero { i.keeps ≡ true → (0 < k) × (k ≤ singles) }
-    ensures { Takes c k i result }
+    requires from_le_to { ((instance i).from ≤ (instance i).to) × (c.used + ((instance i).to - (instance i).from) ≤ limit.octets) }
+    requires k_nonzero { (instance i).keeps ≡ true → (0 < k) × (k ≤ singles) }
+    ensures { Takes c k (instance i) result }
 {
-    if i.keeps {
-        return card_state::tags::keep(c, k, i.to - i.from);
+    match i {
+        Instance::Opened { from, to } => card_state::tags::keep(c, k, to - from),
+        _ => c,
     }
-    c
 }
 
 // A line that fits its place and its kind: 10 where it starts a second instance, and at END the checks of the card.
@@ -180,15 +165,14 @@ fn settle(
     let row = x.row;
     let f = altid_at(t, s, x, once);
     let i = instance_of(s, f, once, again, store, c);
-    if i.second {
+    if let Instance::Second = i {
         return unkept(Step::Refused(refusal::SECOND, at));
     }
     let kept = with_value(c, once, i);
     let step = enter(kept, at, row, once, value);
-    Judgement {
-        step,
-        from: i.from,
-        to: i.to,
+    match i {
+        Instance::Opened { from, to } => Judgement { step, from, to },
+        _ => unkept(step),
     }
 }
 

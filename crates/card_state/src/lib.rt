@@ -23,7 +23,7 @@ pub const BEFORE_VERSION: u32 = 1;
 pub const INSIDE: u32 = 2;
 
 // What is known of the card that is being read.
-#[derive(Clone, Copy)]
+#[derive(Clone, Copy, Debug, PartialEq, Eq)]
 pub struct Card {
     // The cards that have ended, and the lines that were judged.
     pub cards: usize,
@@ -42,7 +42,7 @@ pub struct Card {
 }
 
 // The card after a line, or the refusal's number and its place in the input, or its number and the octet of the unfolded line.
-#[derive(Clone, Copy)]
+#[derive(Clone, Copy, Debug, PartialEq, Eq)]
 pub enum Step {
     Next(Card),
     Refused(u32, usize),
@@ -65,16 +65,6 @@ pub fn fresh() -> Card
         has_member: false,
         is_group: false,
     }
-}
-
-// Whether one of two holds.
-fn either(a: bool, b: bool) -> bool
-    ensures { result ≡ (a || b) }
-{
-    if a {
-        return true;
-    }
-    b
 }
 
 // The flag of the k-th property that a card has at most once, counted from 1; 0 for none.
@@ -104,10 +94,7 @@ pub fn is_again(seen: u32, k: usize) -> bool
 fn says_group(row: usize, group: bool) -> bool
     ensures { result ≡ (eqb row property.kind && group) }
 {
-    if row != property::KIND {
-        return false;
-    }
-    group
+    row == property::KIND && group
 }
 
 // The phase after a line of the row.
@@ -129,10 +116,8 @@ pub fn close(c: Card, at: usize) -> Step
     if !c.has_fn {
         return Step::Refused(refusal::NO_FN, at);
     }
-    if c.has_member {
-        if !c.is_group {
-            return Step::Refused(refusal::MEMBER, at);
-        }
+    if c.has_member && !c.is_group {
+        return Step::Refused(refusal::MEMBER, at);
     }
     let mut next = fresh();
     next.cards = c.cards + 1;
@@ -156,8 +141,8 @@ pub fn note(c: Card, row: usize, once: usize, group: bool) -> Card
         seen: c.seen | flag_of(once),
         tags,
         used: c.used,
-        has_fn: either(c.has_fn, row == property::FN),
-        has_member: either(c.has_member, row == property::MEMBER),
-        is_group: either(c.is_group, grouped),
+        has_fn: c.has_fn || row == property::FN,
+        has_member: c.has_member || row == property::MEMBER,
+        is_group: c.is_group || grouped,
     }
 }

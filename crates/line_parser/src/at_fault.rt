@@ -9,7 +9,7 @@ use octets::classes;
 use octets::classes::ClassTable;
 
 // The name that is at fault, or that stands before the fault: where it starts and ends, and whether it is a parameter's.
-#[derive(Clone, Copy)]
+#[derive(Clone, Copy, Debug, PartialEq, Eq)]
 pub struct AtFault {
     pub is_param: bool,
     pub start: usize,
@@ -17,7 +17,7 @@ pub struct AtFault {
 }
 
 // What is wrong with the quote marks of a parameter.
-#[derive(Clone, Copy)]
+#[derive(Clone, Copy, Debug, PartialEq, Eq)]
 pub enum QuoteFault {
     // A quoted value is not closed.
     LeftOpen,

@@ -9,7 +9,7 @@ use property_table::Edition;
 use value_kinds::Fault;
 
 // The minutes that an offset is ahead of UTC, below 0 where it is behind; or the refusal, with its place in the value.
-#[derive(Clone, Copy)]
+#[derive(Clone, Copy, Debug, PartialEq, Eq)]
 pub enum Offset {
     Minutes(i32),
     Refused(u32, usize),
@@ -55,10 +55,7 @@ fn time_of(s: &[u8]) -> u32
 fn is_behind(s: &[u8]) -> bool
     ensures { result ≡ is_behind s.now }
 {
-    if s.len() == 0 {
-        return false;
-    }
-    s[0] == b'-'
+    s.starts_with(b"-")
 }
 
 // A number of minutes, below 0 where it is behind.

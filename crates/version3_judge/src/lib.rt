@@ -13,7 +13,7 @@ ghost use Rattle.line_folds.specs.Logical.{raw_lines};
 ghost use Rattle.property_table.specs.declared.Edition.TheVariants.{First};
 ghost use Rattle.value_automaton.specs.States.{Scanner};
 ghost use Rattle.card_line.specs.Parts.{Accepted, line_parts_of};
-ghost use Rattle.card_line.specs.declared.LineParts.TheVariants.{Line as line};
+ghost use Rattle.card_line.specs.Parts.{line};
 ghost use Rattle.card_judge.specs.Judge.{Tables, laden};
 ghost use Rattle.version3_geo.specs.Floats.{old_geo};
 ghost use Rattle.version3_parameters.specs.Places.{params_of};
