@@ -290,7 +290,7 @@ module _ (c : Kept) (store l : List ℕ) (k : ℕ) (a : Option (List ℕ)) (i : 
           → ((s : List ℕ) → step_of s st ≡ pick (eqb row 2) (closed (card_of r s) at) (Next (card_of (gone_on r row (is_group v)) s)))
           → Holds r.used st × KeepsOn r.used st
           → (read_by (record { step = st; from = i.from; to = i.to }) store l ≡ entered (card_of c store) at row a v)
-              × Keeping c l (added_at row c.seen a) (record { step = st; from = i.from; to = i.to })
+          × Keeping c l (added_at row c.seen a) (record { step = st; from = i.from; to = i.to })
       unfolding read_by
       settled st f h =
           let size = takes_used r takes lies short in (

@@ -1,5 +1,5 @@
 -- The numbers that the line rule answers, and what the parts of the line say of them. Assumes nothing.
-use mathlib.Core.Path.{◌≡◌, refl, sym, ap, ◌∙◌, subst}
+use mathlib.Core.Path.{◌≡◌, refl, sym, ap, ◌∙◌}
 use mathlib.Core.Bool.{Bool, true, false}
 use mathlib.Core.Option.{Option, none, some}
 use mathlib.Core.List.{List, [], ◌∷◌}
@@ -17,9 +17,6 @@ use Rattle.line_parameters.specs.declared.First.{First}
 use Rattle.line_parameters.specs.declared.First.TheVariants.{Between, Nothing}
 use Rattle.line_parser.specs.declared.rule.Part.{Part as Answer}
 use Rattle.line_parser.specs.declared.rule.Part.TheVariants.{Upto, Named, Listed, Parsed, Fault}
-use Rattle.line_parser.specs.contracts.rule.Part.{the_type}
-use denote.Enum.Declared.{tag_of}
-use types.Run.{OneOf, miss}
 use Rattle.line_parser.proofs.Inside.{InLine, in_line}
 use Rattle.line_parameters.specs.Placed.{Placed}
 use Rattle.line_parameters.specs.Found.{Found}
@@ -31,7 +28,7 @@ use Rattle.octets.proofs.Upto.{upto, alike}
 use Rattle.octets.specs.Cases.{same}
 use Rattle.octets.specs.Ascii.{octets}
 use Rattle.property_table.specs.declared.Edition.{Edition}
-use Rattle.property_table.specs.Rows.{rows, newer, all_rows, row_at, row_of, kind_at, framing, takes_value, rule_at, kind_named, says, value_kind, date_kind, zone_kind, line_kind, value_name, calscale_name}
+use Rattle.property_table.specs.Rows.{rows, newer, all_rows, row_at, kind_at, framing, takes_value, rule_at, kind_named, says, value_kind, date_kind, zone_kind, line_kind, value_name, calscale_name}
 use Rattle.property_table.proofs.RowLaws.{count_low, row_low, kind_low}
 use Rattle.card_line.specs.Parts.{octets_of, param_value, row_of_line, kind_of_line, fault_of, Accepted, first_value, value_by, line_parts_by, line_parts_of}
 use Rattle.card_line.specs.declared.Parts.{Parts}
