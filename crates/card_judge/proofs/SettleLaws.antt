@@ -15,8 +15,8 @@ use Rattle.property_table.specs.Rows.{rows, newer, all_rows, row_at, single, onc
 use Rattle.card_state.specs.State.{Card, Step, Next, Refused, Flawed, flag_of, once_flag, is_seen, same_tag, tag_of, tagged, second_instance, going, line_card, noted, phase_after, end_card, closed}
 use Rattle.card_state.specs.Kept.{places_of, tag_at, Lies, card_of, step_of, Holds, gone_on, Keeps}
 use Rattle.card_state.specs.declared.Card.{Card as Kept}
-use Rattle.card_state.specs.declared.Step.{Step as KeptStep}
-use Rattle.card_state.specs.declared.Step.TheVariants.{Next as next, Refused as refused, Flawed as flawed}
+use Rattle.card_state.specs.Kept.{KeptStep}
+use Rattle.card_state.specs.Kept.{next, refused, flawed}
 use Rattle.card_state.proofs.KeptLaws.{holds_more, keep_lies, gone_card, keep_card}
 use Rattle.line_parameters.specs.First.{find_first}
 use Rattle.line_parameters.specs.First.{First}
@@ -290,7 +290,7 @@ module _ (c : Kept) (store l : List ℕ) (k : ℕ) (a : Option (List ℕ)) (i : 
           → ((s : List ℕ) → step_of s st ≡ pick (eqb row 2) (closed (card_of r s) at) (Next (card_of (gone_on r row (is_group v)) s)))
           → Holds r.used st × KeepsOn r.used st
           → (read_by (record { step = st; from = i.from; to = i.to }) store l ≡ entered (card_of c store) at row a v)
-              × Keeping c l (added_at row c.seen a) (record { step = st; from = i.from; to = i.to })
+          × Keeping c l (added_at row c.seen a) (record { step = st; from = i.from; to = i.to })
       unfolding read_by
       settled st f h =
           let size = takes_used r takes lies short in (

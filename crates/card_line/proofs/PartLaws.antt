@@ -1,5 +1,5 @@
 -- The numbers that the line rule answers, and what the parts of the line say of them. Assumes nothing.
-use mathlib.Core.Path.{◌≡◌, refl, sym, ap, ◌∙◌, subst}
+use mathlib.Core.Path.{◌≡◌, refl, sym, ap, ◌∙◌}
 use mathlib.Core.Bool.{Bool, true, false}
 use mathlib.Core.Option.{Option, none, some}
 use mathlib.Core.List.{List, [], ◌∷◌}
@@ -34,7 +34,7 @@ use Rattle.octets.proofs.Upto.{upto, alike}
 use Rattle.octets.specs.Cases.{same}
 use Rattle.octets.specs.Ascii.{octets}
 use Rattle.property_table.specs.declared.Edition.{Edition}
-use Rattle.property_table.specs.Rows.{rows, newer, all_rows, row_at, row_of, kind_at, framing, takes_value, rule_at, kind_named, says, value_kind, date_kind, zone_kind, line_kind, value_name, calscale_name}
+use Rattle.property_table.specs.Rows.{rows, newer, all_rows, row_at, kind_at, framing, takes_value, rule_at, kind_named, says, value_kind, date_kind, zone_kind, line_kind, value_name, calscale_name}
 use Rattle.property_table.proofs.RowLaws.{count_low, row_low, kind_low}
 use Rattle.card_line.specs.Parts.{parted, octets_of, param_value, row_of_line, kind_of_line, Accepted, first_value, value_by, line_parts_by, line_parts_of}
 use Rattle.card_line.specs.declared.Parts.{Parts}

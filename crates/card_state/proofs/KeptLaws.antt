@@ -1,24 +1,23 @@
 -- Two texts compared octet for octet, the values that are kept in a store, and that a value kept later leaves those before it. Assumes nothing.
-use mathlib.Core.Path.{◌≡◌, refl, sym, ap, subst, ◌∙◌}
-use mathlib.Core.Bool.{Bool, true, false, ◌&&◌, and-false}
+use mathlib.Core.Path.{◌≡◌, refl, sym, ap, ◌∙◌}
+use mathlib.Core.Bool.{Bool, true}
 use mathlib.Core.List.{List, [], ◌∷◌, ◌++◌, map}
-use mathlib.Core.Option.{Option, none, some}
+use mathlib.Core.Option.{Option, some}
 use Prim.Native.Nat.{ℕ, zero, suc, ◌+◌, ◌-◌, ◌*◌, ◌/◌, ◌%◌, ◌<◌, ◌≤◌}
 use native.Mathlib.Numerals.{add-one}
 use native.Mathlib.Omega.{arith}
 use lib.Dec.{eqb, leb}
-use lib.ListN.{length, get_or, take, drop, set, drop_of_length-le}
-use lib.Seq.{drop-cons, take-append_seam, drop-append_seam, take-append-le, take-length}
-use borrow.Author.Tests.{eq-eqb, ne_eqb, leb-true}
+use lib.ListN.{length, get_or, take, drop, set}
+use lib.Seq.{drop-append_seam, take-append-le, take-length}
+use borrow.Author.Tests.{leb-true}
 use lib.Pointwise.{pointwise}
-use Rattle.octets.specs.Ascii.{octets}
 use Rattle.octets.proofs.Upto.{upto, alike}
 use Rattle.property_table.specs.Rows.{rows, newer, all_rows, row_at, single, marks, once_at}
-use Rattle.card_state.specs.State.{Card, Next, fresh_card, equal, tagged, going}
+use Rattle.card_state.specs.State.{Next, fresh_card, equal, tagged, going}
 use Rattle.card_state.specs.Kept.{places_of, span, place_of, end_of, tag_at, Inside, Lies, card_of, step_of, Holds, no_tags, fresh_kept, gone_on, Keeps}
 use Rattle.card_state.specs.declared.Card.{Card as Kept}
-use Rattle.card_state.specs.declared.Step.{Step as KeptStep}
-use Rattle.card_state.specs.declared.Step.TheVariants.{Next as next, Refused as refused, Flawed as flawed}
+use Rattle.card_state.specs.Kept.{KeptStep}
+use Rattle.card_state.specs.Kept.{next, refused, flawed}
 
 -- there are ten properties marked *1
 pub once_ten : (row : ℕ) → row < 44 → once_at row ≤ 10

@@ -73,13 +73,22 @@ fn with_place(t: Tags, k: usize, place: u32) -> Tags
         1 => Tags { kind: place, ..t },
         2 => Tags { n: place, ..t },
         3 => Tags { bday: place, ..t },
-        4 => Tags { anniversary: place, ..t },
+        4 => Tags {
+            anniversary: place,
+            ..t
+        },
         5 => Tags { gender: place, ..t },
         6 => Tags { prodid: place, ..t },
         7 => Tags { rev: place, ..t },
         8 => Tags { uid: place, ..t },
-        9 => Tags { created: place, ..t },
-        _ => Tags { language: place, ..t },
+        9 => Tags {
+            created: place,
+            ..t
+        },
+        _ => Tags {
+            language: place,
+            ..t
+        },
     }
 }
 

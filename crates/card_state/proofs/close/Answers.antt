@@ -2,7 +2,6 @@
 use borrow.Author.Tests.{not-true, not-false}
 use mathlib.Core.Path.{◌≡◌}
 use native.Mathlib.Omega.{arith}
-use mathlib.Core.Logic.{⊎_elim}
 use mathlib.Core.Bool.{not, false, ◌&&◌, and-false}
 use Rattle.card_state.specs.State.{closed}
 use Rattle.card_state.specs.Kept.{places_of, end_of, tag_at, Inside, card_of, step_of, Holds}

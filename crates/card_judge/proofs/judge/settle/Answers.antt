@@ -2,13 +2,13 @@
 use mathlib.Core.Path.{◌≡◌, ap, subst}
 use mathlib.Core.Bool.{true}
 use mathlib.Core.List.{List}
-use Prim.Native.Nat.{ℕ, ◌+◌, ◌-◌, ◌≤◌}
+use Prim.Native.Nat.{ℕ, ◌≤◌}
 use native.Mathlib.Omega.{arith}
 use Rattle.card_line.specs.Parts.{altid_name, first_value}
 use Rattle.card_state.specs.State.{once_flag}
 use Rattle.card_state.specs.Kept.{card_of}
 use Rattle.card_state.specs.declared.Card.{Card as Kept}
-use Rattle.card_state.specs.declared.Step.{Step as KeptStep}
+use Rattle.card_state.specs.Kept.{KeptStep}
 use Rattle.card_state.proofs.KeptLaws.{once_ten}
 use Rattle.card_judge.specs.Judge.{entered, read_by, added_at, Keeping, instance}
 use Rattle.card_judge.specs.declared.judge.Instance.{Instance as Found}
@@ -26,8 +26,8 @@ returns-in-Second c =
     let a = c.args in
     let second : (instance c.instance_of-i.result).second ≡ true = ap (λ (x : Found). (instance x).second) c.in-Second.is in
     let w = stopped {added = added_at a.x.row a.c.seen (first_value altid_name a.s.now)} a.c a.store.now a.s.now c.unkept.result 10 a.at _ c.unkept.ensures
-        (told_second a.c a.store.now a.s.now a.once (first_value altid_name a.s.now) (instance c.instance_of-i.result) c.instance_of-i.ensures a.at a.x.row a.value.now
-        c.requires.row_lt_all.1.0 second) in
+    (told_second a.c a.store.now a.s.now a.once (first_value altid_name a.s.now) (instance c.instance_of-i.result) c.instance_of-i.ensures a.at a.x.row a.value.now
+    c.requires.row_lt_all.1.0 second) in
     record { s_value = w.0; keeping = w.1 }
 
 pub with_value-kept-requires : goal.with_value-kept-requires
@@ -55,8 +55,8 @@ returns-in-Opened c =
     let st = c.enter-step.result in
     let stored = c.requires.stored in
     let w = settled a.c a.store.now a.s.now a.once (first_value altid_name a.s.now) (instance i) c.instance_of-i.ensures a.at a.x.row a.value.now
-        c.requires.row_lt_all.1.0 c.with_value-kept.result c.with_value-kept.ensures stored.lies stored.short stored.all (not_second i c.in_default.not-Second)
-        st c.enter-step.ensures.by_index c.enter-step.ensures.holds in
+    c.requires.row_lt_all.1.0 c.with_value-kept.result c.with_value-kept.ensures stored.lies stored.short stored.all (not_second i c.in_default.not-Second)
+    st c.enter-step.ensures.by_index c.enter-step.ensures.holds in
     let t = subst (λ (x : Found). Judged a.c a.store.now a.s.now st a.x.row a.at a.value.now (instance x).from (instance x).to) c.in-Opened.is w in
     record { s_value = t.0; keeping = t.1 }
 
@@ -67,9 +67,9 @@ returns-in_default-i c =
     let st = c.enter-step.result in
     let stored = c.requires.stored in
     let w = settled a.c a.store.now a.s.now a.once (first_value altid_name a.s.now) (instance i) c.instance_of-i.ensures a.at a.x.row a.value.now
-        c.requires.row_lt_all.1.0 c.with_value-kept.result c.with_value-kept.ensures stored.lies stored.short stored.all (not_second i c.in_default.not-Second)
-        st c.enter-step.ensures.by_index c.enter-step.ensures.holds in
+    c.requires.row_lt_all.1.0 c.with_value-kept.result c.with_value-kept.ensures stored.lies stored.short stored.all (not_second i c.in_default.not-Second)
+    st c.enter-step.ensures.by_index c.enter-step.ensures.holds in
     let n = nothing_kept i c.in_default-i.not-Opened in
     let t = subst (λ (x : ℕ). Judged a.c a.store.now a.s.now st a.x.row a.at a.value.now x 0) n.0
-        (subst (λ (x : ℕ). Judged a.c a.store.now a.s.now st a.x.row a.at a.value.now (instance i).from x) n.1 w) in
+    (subst (λ (x : ℕ). Judged a.c a.store.now a.s.now st a.x.row a.at a.value.now (instance i).from x) n.1 w) in
     rw c.unkept-in_default-i.ensures (record { s_value = t.0; keeping = t.1 })
