@@ -25,7 +25,7 @@ pub returns-in-Second : goal.returns-in-Second
 returns-in-Second c =
     let a = c.args in
     let second : (instance c.instance_of-i.result).second ≡ true = ap (λ (x : Found). (instance x).second) c.in-Second.is in
-    let w = stopped {added = added_at a.x.row a.c.seen (first_value altid_name a.s.now)} a.c a.store.now a.s.now c.unkept.result 10 a.at _ c.unkept.ensures
+    let w = stopped {added = added_at a.x.row a.c.seen (first_value altid_name a.s.now)} a.c a.store.now a.s.now c.unkept.result _ a.at _ c.unkept.ensures
     (told_second a.c a.store.now a.s.now a.once (first_value altid_name a.s.now) (instance c.instance_of-i.result) c.instance_of-i.ensures a.at a.x.row a.value.now
     c.requires.row_lt_all.1.0 second) in
     record { s_value = w.0; keeping = w.1 }
