@@ -1,40 +1,38 @@
 // Text: escaping, and unescaping, which gives back what was escaped.
 #![tactic(auto)]
 
-ghost use Rattle.std.specs.Prelude.{◌≡◌, false, ◌≤◌, length};
+ghost use Rattle.std.specs.Prelude.{◌≡◌, ◌≤◌, length};
+ghost use Rattle.std.specs.Fn.{FnOnceReturnsAt};
 ghost use Rattle.numbers.specs.Limits as limit;
-ghost use Rattle.utf8.specs.Characters.{allowed, first_bad};
-ghost use Rattle.utf8_screening.specs.Plain.{odd};
 ghost use Rattle.octets.specs.Room.{filled, written, fill, fill_bounded};
 ghost use Rattle.text_escaping.specs.Escaped.{escaped};
 ghost use Rattle.text_unescaping.specs.Unescaped.{unescaped};
-ghost use Rattle.octets.specs.Counts.{any};
-ghost use Rattle.text.specs.Screened.{screened};
+ghost use Rattle.text.specs.Screened.{Screens};
 ghost use Rattle.text.specs.Outcomes.{faultless, escape_outcome, unescape_outcome};
 
 use numbers::limit;
 use numbers::refusal::{self, Refusal};
+use utf8_screening::texts;
 
-// The first bad octet, or the length; where only plain octets were seen there is none.
-fn bad_octet(text: &[u8], seen: u8, lf: bool) -> usize
-    requires { (seen ≡ 0 → any odd text.now ≡ false) × (seen ≡ 2 → any odd text.now ≡ false) }
-    ensures { result ≡ first_bad (allowed lf) text.now }
-{
-    if seen == 0 || seen == 2 {
-        return text.len();
-    }
-    utf8_screening::texts::first_bad(text, lf)
-}
-
-// Refuses a text with TOO_LONG or TEXT_OCTET, else answers what is seen in it: octets that are not plain, and a backslash, a comma, x or y.
-fn screen(text: &[u8], x: u8, y: u8, lf: bool) -> Result<u8, Refusal>
-    ensures { result ≡ screened lf x y text.now }
+// Refuses a text with TOO_LONG or TEXT_OCTET, else answers what `see` sees in it: 1 where an octet may be bad, 2 where one is a mark, 3
+// where both, else 0. `first_bad` finds the first bad octet, and is asked only where one may be bad.
+pub fn screen<S: FnOnce(&[u8]) -> u8, B: FnOnce(&[u8]) -> usize>(
+    text: &[u8],
+    see: S,
+    first_bad: B,
+) -> Result<u8, Refusal>
+    requires see { S.IsAlwaysCallable see }
+    requires first_bad { B.IsAlwaysCallable first_bad }
+    ensures { Screens (FnOnceReturnsAt S.FnOnce see text.now) (FnOnceReturnsAt B.FnOnce first_bad text.now) text.now result }
 {
     if limit::OCTETS < text.len() {
         return Err(Refusal(refusal::TOO_LONG, limit::OCTETS));
     }
-    let seen = text_marks::see(text, x, y);
-    let bad = bad_octet(text, seen, lf);
+    let seen = see(text);
+    if seen == 0 || seen == 2 {
+        return Ok(seen);
+    }
+    let bad = first_bad(text);
     if bad < text.len() {
         return Err(Refusal(refusal::TEXT_OCTET, bad));
     }
@@ -73,7 +71,11 @@ fn escape_each(text: &[u8], out: &mut [u8]) -> Result<usize, Refusal>
 pub fn escape(text: &[u8], out: &mut [u8]) -> Result<usize, Refusal>
     ensures { filled (written result) out.new ≡ escape_outcome text.now out.old }
 {
-    let seen = screen(text, b';', b'\n', true)?;
+    let seen = screen(
+        text,
+        |s| text_marks::see(s, b';', b'\n'),
+        |s| texts::first_bad(s, true),
+    )?;
     if seen < 2 {
         return put(text, out);
     }
@@ -97,7 +99,11 @@ fn unescape_each(text: &[u8], out: &mut [u8]) -> Result<usize, Refusal>
 pub fn unescape(text: &[u8], out: &mut [u8]) -> Result<usize, Refusal>
     ensures { filled (written result) out.new ≡ unescape_outcome text.now out.old }
 {
-    let seen = screen(text, b',', b',', false)?;
+    let seen = screen(
+        text,
+        |s| text_marks::see(s, b',', b','),
+        |s| texts::first_bad(s, false),
+    )?;
     if seen < 2 {
         return put(text, out);
     }
