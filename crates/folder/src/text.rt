@@ -111,19 +111,8 @@ fn stays(style: Style, s: &[u8], at: usize, end: usize, folds: bool) -> bool
     requires s_value { folds ≡ false → unfolded (take (end - at) (drop at s.now)) ≡ take (end - at) (drop at s.now) }
     ensures { result ≡ true → (end + 2 ≤ length s.now) × (folded (written style (unfolded (take (end - at) (drop at s.now)))) ≡ take (end + 2 - at) (drop at s.now)) }
 {
-    if s.len() - end < 2 {
-        return false;
-    }
-    if s[end] != b'\r' {
-        return false;
-    }
-    if s[end + 1] != b'\n' {
-        return false;
-    }
-    if !stands(&s[at..end], folds) {
-        return false;
-    }
-    keeps_names(style, &s[at..end])
+    let line = &s[at..end];
+    s[end..].starts_with(b"\r\n") && stands(line, folds) && keeps_names(style, line)
 }
 
 // Copies the last run of lines to d from w on, where there is room for it: the octets then written in all, or 16.
@@ -188,10 +177,7 @@ fn is_roomy(n: usize, room: usize) -> bool
     ensures { result ≡ true → (4 * n + 2 ≤ room) × (4 * n + 2 ≤ limit.octets) }
 {
     let most = 4 * n + 2;
-    if limit::OCTETS < most {
-        return false;
-    }
-    most <= room
+    most <= limit::OCTETS && most <= room
 }
 
 // Folds a text in a style: 16 where the folded form is over 16,384 octets, 15 where out is too small for it, else the octets written. It is written at
