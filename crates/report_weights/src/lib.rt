@@ -6,8 +6,9 @@ ghost use Rattle.numbers.specs.Counts as places;
 ghost use Rattle.report_weights.specs.Counts.{refusal_at, count_at, counts};
 ghost use Rattle.report_weights.specs.Parts.{refused_part, accepted_part, weights};
 
+use numbers::refusal::Refusal;
 use numbers::{count, refusal};
-use reader::Verdict;
+use reader::Counts;
 use report_lines::LineCounts;
 
 // What a judgement adds to each count, by its place.
@@ -123,10 +124,9 @@ fn weigh_accepted(cards: usize, lines: usize, octets: usize, rows: &LineCounts) 
 pub fn weigh(input: &[u8]) -> Weights
     ensures { result ≡ weights input.now }
 {
-    let v = reader::judge(input);
-    match v {
-        Verdict::Refused(n, p) => weigh_refused(n),
-        Verdict::Accepted(cards, lines) => {
+    match reader::judge(input) {
+        Err(Refusal(n, _)) => weigh_refused(n),
+        Ok(Counts { cards, lines }) => {
             let t = octets::classes::table();
             let rows = property_table::table();
             let by_row = report_lines::count_lines(&t, &rows, input);
