@@ -35,7 +35,11 @@ struct Span {
 pub fn digits_end(s: &[u8], from: usize) -> usize
     ensures { result ≡ from + run digit (drop from s.now) }
 {
-    from + s.iter().skip(from).take_while(|b| b.is_ascii_digit()).count()
+    from + s
+        .iter()
+        .skip(from)
+        .take_while(|b| b.is_ascii_digit())
+        .count()
 }
 
 // What an octet adds as a digit.

@@ -35,12 +35,10 @@ pub struct Taken {
 fn is_over(counts: &Counts, w: &Weights) -> bool
     ensures { result ≡ over counts.now w.now }
 {
-    let mut place: usize = 0;
-    while place < count::ALL {
-        if limit::LARGEST - wide_number(counts[place]) < w[place] {
+    for (place, n) in counts.iter().enumerate() {
+        if limit::LARGEST - wide_number(*n) < w[place] {
             return true;
         }
-        place += 1;
     }
     false
 }
@@ -51,10 +49,8 @@ fn add(counts: &Counts, w: &Weights) -> Counts
     ensures { result ≡ sums counts.now w.now }
 {
     let mut next = [0u32; count::ALL];
-    let mut place: usize = 0;
-    while place < count::ALL {
-        next[place] = (wide_number(counts[place]) + w[place]) as u32;
-        place += 1;
+    for (place, n) in counts.iter().enumerate() {
+        next[place] = (wide_number(*n) + w[place]) as u32;
     }
     next
 }
