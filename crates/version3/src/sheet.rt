@@ -363,7 +363,13 @@ fn place_card(
 
 // Writes what stands in the three places one after the other: 16 where that is over 16,384 octets, 15 where out is too small for it, else the
 // octets written.
-fn join(e: Ends, first: &[u8], second: &[u8], others: &[u8], out: &mut [u8]) -> Result<usize, Refusal>
+fn join(
+    e: Ends,
+    first: &[u8],
+    second: &[u8],
+    others: &[u8],
+    out: &mut [u8],
+) -> Result<usize, Refusal>
     requires { Within e first.now second.now others.now }
     ensures { filled (written result) out.new ≡ fill_bounded (joined_by e first.now second.now others.now) out.old }
 {
