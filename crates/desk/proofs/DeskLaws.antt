@@ -8,18 +8,17 @@ use lib.Dec.{eqb}
 use lib.ListN.{length}
 use borrow.Author.Tests.{lt-ltb, le-ltb, eqb-true, eqb-false}
 use Rattle.octets.specs.Pick.{pick}
-use Rattle.desk_entries.specs.Search.{first_at, same_as}
+use Rattle.numbers.specs.declared.refusal.Refusal.{Refusal}
+use Rattle.std.specs.Prelude.{Result, Ok, Err}
+use Rattle.desk_entries.specs.Search.{Position, At, Nowhere, Barred, first_at, same_as}
 use Rattle.desk_slots.specs.Sound.{ticket_at}
-use Rattle.desk_slots.specs.Slots.{free_at, position_of, idle_at, idle_of}
+use Rattle.desk_slots.specs.Slots.{Held, No, found, free_at, position_of, idle_at, idle_of}
 use Rattle.desk_entries.proofs.Searches.{clash, unbarred, lowest_at_is}
 use Rattle.desk_slots.proofs.SoundLaws.{sound_at_lem as soundness, at_sound as tested}
 use Rattle.desk_slots.proofs.SlotLaws.{Granted as GrantedIn, granted as granted_in, clear, barred, free_position}
-use Rattle.desk_entries.specs.declared.tickets.Position.{Position}
-use Rattle.desk_entries.specs.declared.tickets.Position.TheVariants.{At, Nowhere, Barred}
 use Rattle.desk_entries.specs.declared.Session.{Session}
 use Rattle.desk_entries.specs.declared.State.TheVariants.{Free, Open}
-use Rattle.desk_slots.specs.declared.Slot.{Slot}
-use Rattle.desk_slots.specs.declared.Slot.TheVariants.{Held, No}
+use Rattle.desk_slots.specs.declared.Found.{Found}
 use Rattle.desk_pool.specs.Pools.{patch, zeros}
 use Rattle.desk.specs.Steps.{Sound, sound, guarded, slot_of, seen, idle_slot, Turned, turned, refuse, refused, grant, stamped, open_in, Takes, open_step, grown, add_in, add_step, release_in, release_step}
 use Rattle.desk.specs.declared.Desk.{Desk}
