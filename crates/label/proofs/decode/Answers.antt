@@ -1,5 +1,6 @@
 -- `label::decode` meets its contract. Assumes nothing.
-use mathlib.Core.Path.{◌∙◌}
+use mathlib.Core.Path.{refl, ◌∙◌}
+use Rattle.std.proofs.lemmas.Result.{err_from_is_err_and}
 use Rattle.text.proofs.OutcomeLaws.{refused_outcome, left_outcome, same_outcome}
 use Rattle.label_carets.specs.declared.Rule.TheVariants.{Rfc6350, Rfc6868}
 use Rattle.label.specs.Outcomes.{decode_outcome}
@@ -10,24 +11,25 @@ pub returns-then-seen-lt2 : goal.returns-then-seen-lt2
 unfolding decode_outcome
 returns-then-seen-lt2 c =
     let a = c.args in
-    same_outcome (decoding a.rule) a.label.now a.out.now c.screen_label-s.ensures c.in-Saw.is c.if-seen-lt2.true c.put.ensures
+    same_outcome (decoding a.rule) a.label.now a.out.now c.in_ok-seen.ensures refl c.if-seen-lt2.true c.put.ensures
 
-pub returns-in-Refused : goal.returns-in-Refused
+pub returns-in_err-seen : goal.returns-in_err-seen
 unfolding decode_outcome
-returns-in-Refused c =
+returns-in_err-seen c =
     let a = c.args in
-    refused_outcome (decoding a.rule) a.label.now a.out.now c.screen_label-s.ensures c.in-Refused.is
+    let p = err_from_is_err_and c.from_residual.result c.from_residual.ensures.1 in
+    rw (p.1, p.2) (refused_outcome (decoding a.rule) a.label.now a.out.now c.in_err-seen.ensures refl)
 
 pub returns-in-Rfc6350 : goal.returns-in-Rfc6350
 unfolding decode_outcome
 returns-in-Rfc6350 c =
     let a = c.args in
     rw c.in-Rfc6350.is
-    (left_outcome (decoding Rfc6350) a.label.now a.out.now c.screen_label-s.ensures c.in-Saw.is ((c.put-in-Rfc6350.ensures ∙ old_decode a.label.now a.out.now)))
+    (left_outcome (decoding Rfc6350) a.label.now a.out.now c.in_ok-seen.ensures refl ((c.put-in-Rfc6350.ensures ∙ old_decode a.label.now a.out.now)))
 
 pub returns-in-Rfc6868 : goal.returns-in-Rfc6868
 unfolding decode_outcome
 returns-in-Rfc6868 c =
     let a = c.args in
     rw c.in-Rfc6868.is
-    (left_outcome (decoding Rfc6868) a.label.now a.out.now c.screen_label-s.ensures c.in-Saw.is c.decode_each.ensures)
+    (left_outcome (decoding Rfc6868) a.label.now a.out.now c.in_ok-seen.ensures refl c.decode_each.ensures)
