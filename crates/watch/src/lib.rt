@@ -8,7 +8,7 @@ ghost use Rattle.card_state.specs.Kept.{places_of, end_of, Inside, step_of};
 ghost use Rattle.desk_pool.specs.Pools.{patch};
 ghost use Rattle.value_automaton.specs.States.{Scanner};
 ghost use Rattle.reader_walk.specs.Walk.{settled};
-ghost use Rattle.reader.specs.Outcome.{judge_of};
+ghost use Rattle.reader.specs.Outcome.{judge_of, verdict};
 ghost use Rattle.watch_arrivals.specs.Arrivals.{after_other, tail_from, lone_from, next_from};
 ghost use Rattle.watch_lines.specs.Taking.{Within, judgement};
 ghost use Rattle.watch.specs.Octets.{buffer_after};
@@ -17,6 +17,7 @@ ghost use Rattle.watch.specs.Outcome.{Comes, lines_came, octets_came, chunk_came
 
 use card_state::tags::Tags;
 use card_state::{Card, Step};
+use numbers::refusal::Refusal;
 use numbers::{limit, refusal};
 use reader::Verdict;
 use watch_arrivals::{AFTER_CR, AFTER_CR_LF, AFTER_OTHER};
@@ -344,27 +345,27 @@ fn last_line(w: Watch, buffer: &[u8]) -> Step
 // The verdict on the octets so far, of a state that can be worked with.
 fn conclude(w: Watch, buffer: &[u8]) -> Verdict
     requires { Sound w × (length buffer.now ≡ limit.octets) }
-    ensures by_index { (i : List ℕ) → Reached w buffer.now i → result ≡ judge_of i }
-    ensures value { result ≡ end_came w buffer.now }
+    ensures by_index { (i : List ℕ) → Reached w buffer.now i → verdict result ≡ judge_of i }
+    ensures value { verdict result ≡ end_came w buffer.now }
 {
     let n = w.start + w.open;
     if w.known == TOO_LONG {
-        return Verdict::Refused(refusal::TOO_LONG, limit::OCTETS);
+        return Err(Refusal(refusal::TOO_LONG, limit::OCTETS));
     }
     if n == 0 {
-        return Verdict::Refused(refusal::EMPTY, 0);
+        return Err(Refusal(refusal::EMPTY, 0));
     }
     if w.known == LONE_BREAK {
-        return Verdict::Refused(refusal::LONE_CR_OR_LF, w.place);
+        return Err(Refusal(refusal::LONE_CR_OR_LF, w.place));
     }
     if w.tail == AFTER_CR {
-        return Verdict::Refused(refusal::LONE_CR_OR_LF, n - 1);
+        return Err(Refusal(refusal::LONE_CR_OR_LF, n - 1));
     }
     if w.tail != AFTER_CR_LF {
-        return Verdict::Refused(refusal::NO_END, n);
+        return Err(Refusal(refusal::NO_END, n));
     }
     if w.known == LINE_FAULT {
-        return Verdict::Refused(w.fault, w.place);
+        return Err(Refusal(w.fault, w.place));
     }
     let last = last_line(w, buffer);
     reader::conclude(n, last)
@@ -402,18 +403,18 @@ impl Watch {
 
     // The verdict on the octets so far, as `judge` has it for them; 45, then 46, before all else. The buffer is only read.
     pub fn end(self, buffer: &[u8]) -> Verdict
-        ensures { EndOf self buffer.now result }
+        ensures { EndOf self buffer.now (verdict result) }
     {
         if buffer.len() != limit::OCTETS {
-            return Verdict::Refused(refusal::BUFFER_LENGTH, 0);
+            return Err(Refusal(refusal::BUFFER_LENGTH, 0));
         }
         let over = is_over(self);
         if over {
-            return Verdict::Refused(refusal::CLAIM, 0);
+            return Err(Refusal(refusal::CLAIM, 0));
         }
         let sound = is_sound(self);
         if !sound {
-            return Verdict::Refused(refusal::ORDER, 0);
+            return Err(Refusal(refusal::ORDER, 0));
         }
         conclude(self, buffer)
     }

@@ -1,21 +1,14 @@
 -- `desk_entries::tickets::stands` meets its contract. Assumes nothing.
-use mathlib.Core.Path.{sym, ◌∙◌}
+use Rattle.std.proofs.Common.{◌≡◌, true, sym, ◌∙◌}
 use borrow.Author.Tests.{eq-eqb, ne_eqb}
 use Rattle.desk_entries.specs.Search.{among}
+use Rattle.desk_entries.proofs.Searches.{is_some_place}
 use Rattle.desk_entries.proofs.tickets.stands.Goals as goal
 
-pub returns-then-t-eq0 : goal.returns-then-t-eq0
+pub returns-then-t-ne0 : goal.returns-then-t-ne0
 unfolding among
-returns-then-t-eq0 c = simp (eq-eqb _ _ c.if-t-eq0.true)
+returns-then-t-ne0 c = rw (ne_eqb _ _ c.if-t-ne0.true, sym c.find.ensures) (c.is_some.ensures ∙ is_some_place c.find.result)
 
-pub returns-in-At : goal.returns-in-At
+pub returns-else-t-ne0 : goal.returns-else-t-ne0
 unfolding among
-returns-in-At c = simp (ne_eqb _ _ c.if-t-eq0.false, sym c.find-p.ensures ∙ c.in-At.is)
-
-pub returns-in-Nowhere : goal.returns-in-Nowhere
-unfolding among
-returns-in-Nowhere c = simp (ne_eqb _ _ c.if-t-eq0.false, sym c.find-p.ensures ∙ c.in-Nowhere.is)
-
-pub returns-in-Barred : goal.returns-in-Barred
-unfolding among
-returns-in-Barred c = simp (ne_eqb _ _ c.if-t-eq0.false, sym c.find-p.ensures ∙ c.in-Barred.is)
+returns-else-t-ne0 c = rw (eq-eqb _ _ c.if-t-ne0.false)

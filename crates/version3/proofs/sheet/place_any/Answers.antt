@@ -9,12 +9,9 @@ place_lines-requires c =
     record { classes = c.requires.classes; s_len_bound = (c.requires.s_len_bound, search rules, search rules); lent = c.requires.lent; halfway = c.requires.halfway }
 
 pub returns-in-End : goal.returns-in-End
-returns-in-End c = rw c.in-End.is at c.place_lines.ensures
+returns-in-End c = rw (c.in_ok-e.was, c.in-End.is) at c.place_lines.ensures
 
 pub returns-in-Long : goal.returns-in-Long
 returns-in-Long c =
-    let r = rw c.in-Long.is at c.place_lines.ensures in
+    let r = rw (c.in_ok-e.was, c.in-Long.is) at c.place_lines.ensures in
     absurd (omega (arith, r.0, r.1, c.requires.s_len_bound))
-
-pub returns-in-Cramped : goal.returns-in-Cramped
-returns-in-Cramped c = rw c.in-Cramped.is at c.place_lines.ensures
