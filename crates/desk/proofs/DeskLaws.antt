@@ -1,26 +1,23 @@
 -- What an opening does by the position found, and an add or a release by the slot of a ticket. Assumes nothing.
-use Prim.Native.Nat.{ℕ, ◌+◌, ◌*◌, ◌<◌, ◌≤◌}
+use Prim.Native.Nat.{ℕ, ◌*◌, ◌<◌}
 use mathlib.Core.Path.{◌≡◌, refl, sym, ap, ◌∙◌}
 use mathlib.Core.Bool.{Bool, true, false}
 use mathlib.Core.List.{List}
 use native.Mathlib.Omega.{arith}
 use lib.Dec.{eqb}
 use lib.ListN.{length}
-use borrow.Author.Tests.{lt-ltb, le-ltb, eqb-true, eqb-false, eq-eqb, ne_eqb}
+use borrow.Author.Tests.{eqb-true, eqb-false, eq-eqb, ne_eqb}
 use Rattle.octets.specs.Pick.{pick}
 use Rattle.numbers.specs.declared.refusal.Refusal.{Refusal}
 use Rattle.std.specs.Prelude.{Option, Some, None, Result, Ok, Err}
 use Rattle.desk_entries.specs.Search.{Position, At, Nowhere, Barred, place, first_at, same_as}
 use Rattle.desk_slots.specs.Sound.{ticket_at}
-use Rattle.desk_slots.specs.Slots.{Held, No, position, free_at, position_of, idle_at, idle_of}
+use Rattle.desk_slots.specs.Slots.{Held, position, free_at, position_of, idle_at, idle_of}
 use Rattle.desk_entries.proofs.Searches.{clash, unbarred, lowest_at_is}
 use Rattle.desk_slots.proofs.SoundLaws.{sound_at_lem as soundness, at_sound as tested}
 use Rattle.desk_slots.proofs.SlotLaws.{Granted as GrantedIn, granted as granted_in, clear, barred, free_position}
 use Rattle.desk_entries.specs.declared.Session.{Session}
-use Rattle.desk_entries.specs.declared.State.TheVariants.{Free, Open}
-use Rattle.desk_pool.specs.Pools.{patch, zeros}
-use Rattle.desk.specs.Answer.{answer}
-use Rattle.desk.specs.Steps.{Sound, sound, guarded, slot_of, seen, idle_slot, Turned, turned, refuse, refused, grant, stamped, open_in, Takes, open_step, grown, add_in, add_step, release_in, release_step}
+use Rattle.desk.specs.Steps.{Sound, sound, guarded, slot_of, seen, idle_slot, Turned, turned, refuse, refused, open_in, Takes, open_step}
 use Rattle.desk.specs.declared.Desk.{Desk}
 use Rattle.desk.specs.declared.Turn.{Turn}
 
@@ -104,30 +101,3 @@ can_take d p e l = go (eqb (guarded d (length p) (λ n. n) 0) 0) refl
 pub idle_inside : (d : Desk) (now i : ℕ) → idle_slot d now ≡ At i → i < d.slots
 unfolding idle_of
 idle_inside d now i e = (lowest_at_is (idle_at d.entries d.stamps now) d.slots i e).inside
-
--- ---- calls that name a ticket
-
-module _ (d : Desk) (p : List ℕ) (t : ℕ) where
-  module _ (n : Refusal) (e : No n.0 ≡ slot_of d (length p) t) (z : n.1 ≡ 0) (r : Turn) (g : r ≡ refuse d n.0 n.1) where
-    pub add_barred : (q : List ℕ) (tick : ℕ) → turned r p ≡ add_step d p t q tick
-    unfolding add_step
-    add_barred q tick = turned_refuse d p n z r g ∙ ap (add_in d p q (seen d tick)) e
-
-    pub release_barred : turned r p ≡ release_step d p t
-    unfolding release_step
-    release_barred = turned_refuse d p n z r g ∙ ap (release_in d p) e
-
-  module _ (i : ℕ) (s : Session) (e : Held i s ≡ slot_of d (length p) t) where
-    pub add_full : (q : List ℕ) (tick : ℕ) → 16384 < s.held + length q → (r : Turn) → r ≡ refuse d 23 s.held → turned r p ≡ add_step d p t q tick
-    unfolding add_step
-    add_full q tick h r g = rw (g, ← e, lt-ltb 16384 (s.held + length q) h)
-
-    pub add_done : (q : List ℕ) (tick : ℕ) → s.held + length q ≤ 16384 → (r : Turn)
-        → r ≡ grant (stamped d i (seen d tick)) i (Open (grown s (length q))) (s.held + length q) → (p' : List ℕ) → p' ≡ patch p (i * 16384 + s.held) q
-        → turned r p' ≡ add_step d p t q tick
-    unfolding add_step
-    add_done q tick h r g p' k = rw (g, k, ← e, le-ltb 16384 (s.held + length q) h)
-
-    pub release_done : (r : Turn) → r ≡ grant d i Free 0 → (p' : List ℕ) → p' ≡ patch p (i * 16384) zeros → turned r p' ≡ release_step d p t
-    unfolding release_step
-    release_done r g p' k = rw (g, k, ← e)

@@ -34,6 +34,7 @@ pub struct Turn {
 
 impl Desk {
     // Makes a desk of that many free slots whose first ticket is 1, or refuses with 26.
+    #[tactic(auto, unfolding(crate::specs::Steps::new_step))]
     pub fn new(slots: usize) -> Turn
         ensures { result ≡ new_step slots }
     {
@@ -157,12 +158,18 @@ impl Desk {
     }
 
     // Adds a chunk to an upload and answers the octets held then, or refuses with 25, 24, 22 or 23.
+    #[tactic(auto, unfolding(crate::specs::Steps::add_step))]
     pub fn add(self, pool: &mut [u8], t: u32, chunk: &[u8], tick: u32) -> Turn
         ensures { turned result pool.new ≡ add_step self pool.old t chunk.now tick }
     {
         match self.at_ticket(pool.len(), t) {
             Err(r) => self.refuse(r),
-            Ok(Found { slot: i, session: o }) => {
+            Ok(
+                Found {
+                    slot: i,
+                    session: o,
+                },
+            ) => {
                 let h = o.held as usize;
                 if chunk.len() > limit::OCTETS - h {
                     return self.refuse(Refusal(refusal::SLOT_FULL, h));
@@ -181,19 +188,21 @@ impl Desk {
     }
 
     // Ends an upload, zeroes its slot and answers 0, or refuses with 25, 24 or 22.
+    #[tactic(auto, unfolding(crate::specs::Steps::release_step))]
     pub fn release(self, pool: &mut [u8], t: u32) -> Turn
         ensures { turned result pool.new ≡ release_step self pool.old t }
     {
         match self.at_ticket(pool.len(), t) {
             Err(r) => self.refuse(r),
-            Ok(Found { slot: i, session: _ }) => {
-                desk_pool::clear(pool, i);
-                self.grant(i, State::Free, 0)
+            Ok(at) => {
+                desk_pool::clear(pool, at.slot);
+                self.grant(at.slot, State::Free, 0)
             }
         }
     }
 
     // Hands out the part of the pool itself that holds an upload's octets, an empty one where `held` refuses.
+    #[tactic(auto, unfolding(crate::specs::Steps::show_step))]
     pub fn show(self, pool: &[u8], t: u32) -> &[u8]
         ensures { Lies pool.entry result (show_step self pool.now t) }
     {
@@ -204,14 +213,16 @@ impl Desk {
     }
 
     // Answers how many octets an upload holds, or refuses with 25, 24 or 22.
+    #[tactic(auto, unfolding(crate::specs::Steps::held_step))]
     pub fn held(self, pool: &[u8], t: u32) -> Result<usize, Refusal>
         ensures { answer result ≡ held_step self pool.now t }
     {
-        let at = self.at_ticket(pool.len(), t)?;
-        Ok(at.session.held as usize)
+        let upload = self.at_ticket(pool.len(), t)?;
+        Ok(upload.session.held as usize)
     }
 
     // Answers what the reader answers for an upload's octets, or refuses with 25, 24 or 22.
+    #[tactic(auto, unfolding(crate::specs::Steps::judge_step))]
     pub fn judge(self, pool: &[u8], t: u32) -> Verdict
         ensures { verdict result ≡ judge_step self pool.now t }
     {

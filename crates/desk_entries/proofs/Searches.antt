@@ -29,18 +29,6 @@ next i j h n = omega arith
 
 -- ---- the turns of a loop
 
-pub first_at_none : (p : ℕ → Bool) (n i : ℕ) → n ≤ i → first_at p i (n - i) ≡ Nowhere
-unfolding first_at
-first_at_none p n i h = let e : n - i ≡ 0 = omega arith in rw e
-
-pub first_at_hit : (p : ℕ → Bool) (n i : ℕ) → i < n → p i ≡ true → first_at p i (n - i) ≡ At i
-unfolding first_at
-first_at_hit p n i h e = rw (rest n i h, e)
-
-pub first_at_miss : (p : ℕ → Bool) (n i : ℕ) → i < n → p i ≡ false → first_at p i (n - i) ≡ first_at p (i + 1) (n - (i + 1))
-unfolding first_at
-first_at_miss p n i h e = rw (rest n i h, e)
-
 pub all_at_none : (p : ℕ → Bool) (n i : ℕ) → n ≤ i → all_at p i (n - i) ≡ true
 unfolding all_at
 all_at_none p n i h = let e : n - i ≡ 0 = omega arith in rw e

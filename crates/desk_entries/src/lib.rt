@@ -58,17 +58,6 @@ pub fn fits(e: Entry, i: usize, slots: usize, next: u32) -> bool
 {
     match e.state {
         State::Free => true,
-        State::Open(o) => {
-            if i >= slots {
-                return false;
-            }
-            if o.ticket < 1 {
-                return false;
-            }
-            if o.ticket >= next {
-                return false;
-            }
-            o.held <= limit::HELD
-        }
+        State::Open(o) => { i < slots && 1 <= o.ticket && o.ticket < next && o.held <= limit::HELD }
     }
 }

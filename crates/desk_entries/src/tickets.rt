@@ -34,6 +34,7 @@ pub fn find(tickets: &[u32; limit::SLOTS], t: u32, n: usize) -> Option<usize>
 }
 
 // Tells whether a ticket, which 0 is none of, stands at one of the first n positions.
+#[tactic(auto, using(crate::proofs::Searches::is_some_place), unfolding(crate::specs::Search::among))]
 pub fn stands(tickets: &[u32; limit::SLOTS], t: u32, n: usize) -> bool
     requires { n ≤ limit.slots }
     ensures { result ≡ among (column tickets.now) t n }
@@ -42,6 +43,7 @@ pub fn stands(tickets: &[u32; limit::SLOTS], t: u32, n: usize) -> bool
 }
 
 // Tells the same as `stands`, at once for 0 and for a ticket that is higher than all of them.
+#[tactic(auto, using(crate::proofs::Searches::above_all), unfolding(crate::specs::Search::among))]
 pub fn repeats(tickets: &[u32; limit::SLOTS], t: u32, n: usize, highest: u32) -> bool
     requires { (n ≤ limit.slots) × AtMost (column tickets.now) n highest }
     ensures { result ≡ among (column tickets.now) t n }

@@ -15,7 +15,7 @@ use Rattle.numbers.specs.declared.refusal.Refusal.{Refusal}
 use Rattle.desk_entries.specs.Search.{Position, At, Nowhere, Barred, first_at, all_at, any_at, column, among, AtMost, longer, leading}
 use Rattle.desk_entries.specs.Ticks.{higher, ahead_by}
 use Rattle.desk_slots.specs.Sound.{state_at, Sound, ticket_at, fits_at, good_at, bounds, sound, ahead_in, sound_at}
-use Rattle.desk_slots.specs.Slots.{Slot, Held, No, found, position, free_at, open_at, at_position, position_of, slot_of, met, latest, look_in, look_of, bar, seen_of, Within}
+use Rattle.desk_slots.specs.Slots.{Slot, Held, No, found, free_at, open_at, at_position, position_of, slot_of, met, latest, look_in, look_of, barred, seen_of}
 use Rattle.desk_entries.proofs.Searches.{clash, first_at_is, first_at_not, unbarred, all_at_none, all_at_hit, all_at_miss, any_at_none, any_at_more, any_at_some, leading_none, leading_more, leading_there, leading_not}
 use Rattle.desk_slots.proofs.SoundLaws.{fits_fit, unfit, repeated, good, sound_at_lem}
 use Rattle.desk_slots.proofs.SlotLaws.{Begun, begun_none, begun_more, begun_among, most_more, session_at, free_position}
@@ -241,7 +241,7 @@ module _ (es : List Entry) (slots next : ℕ) (ks : List ℕ) (tick size t : ℕ
     pub seen_few : slots ≤ 40
     seen_few = few_slots es slots next ks tick (seen_sound es slots next ks tick t (Some r) e r refl).0
 
-    pub seen_unsized : (size ≡ slots * 16384 → ⊥) → ◌≡◌ {A = Result Look Refusal} (bar 24) (seen_of es slots next ks tick size t)
+    pub seen_unsized : (size ≡ slots * 16384 → ⊥) → ◌≡◌ {A = Result Look Refusal} (barred 24) (seen_of es slots next ks tick size t)
     unfolding seen_of
     seen_unsized n = rw ((seen_sound es slots next ks tick t (Some r) e r refl).0, ne_eqb size (slots * 16384) n)
 
@@ -251,14 +251,14 @@ module _ (es : List Entry) (slots next : ℕ) (ks : List ℕ) (tick size t : ℕ
         let s = seen_sound es slots next ks tick t (Some r) e r refl in
         rw (s.0, eq-eqb size (slots * 16384) n, s.1)
 
-  pub unseen : None ≡ look_of es slots next ks tick t → ◌≡◌ {A = Result Look Refusal} (bar 25) (seen_of es slots next ks tick size t)
+  pub unseen : None ≡ look_of es slots next ks tick t → ◌≡◌ {A = Result Look Refusal} (barred 25) (seen_of es slots next ks tick size t)
   unfolding seen_of
   unseen e = rw (seen_unsound es slots next ks tick t None e refl)
 
   -- a look that is barred, or one along a sound desk
   module _ (x : Result Look Refusal) (e : x ≡ seen_of es slots next ks tick size t) where
     abbrev Sees : Bool → Bool → Type 0
-    Sees a b = pick {A = Result Look Refusal} a (pick b (Ok (look_in es t)) (bar 24)) (bar 25) ≡ x
+    Sees a b = pick {A = Result Look Refusal} a (pick b (Ok (look_in es t)) (barred 24)) (barred 25) ≡ x
 
     sees : Sees (sound_at es slots next ks tick) (eqb size (slots * 16384))
     unfolding seen_of

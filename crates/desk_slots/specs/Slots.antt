@@ -93,13 +93,13 @@ look_in es t = record { found = latest es t limit.slots; run = leading (free_at 
 unfoldable pub look_of : List Entry → ℕ → ℕ → List ℕ → ℕ → ℕ → Option Look
 look_of es slots next stamps tick t = pick (sound_at es slots next stamps tick) (Some (look_in es t)) None
 
--- a refusal of the desk, at 0
-abbrev pub bar : {A : Type 0} → ℕ → Result A Refusal
-bar n = Err (record { 0 = n; 1 = 0 })
+-- a refusal, at 0
+abbrev pub barred : {A : Type 0} → ℕ → Result A Refusal
+barred n = Err (record { 0 = n; 1 = 0 })
 
 -- 25, 24, or what a look tells
 unfoldable pub seen_of : List Entry → ℕ → ℕ → List ℕ → ℕ → ℕ → ℕ → Result Look Refusal
-seen_of es slots next stamps tick size t = guarded es slots next stamps tick size bar (Ok (look_in es t))
+seen_of es slots next stamps tick size t = guarded es slots next stamps tick size barred (Ok (look_in es t))
 
 -- slot i lies within the desk and its pool of that size, and the octets held within the slot
 pub record Bounded (size i : ℕ) (s : Session) : Type 0 where

@@ -28,16 +28,11 @@ pub struct Look {
 }
 
 // Tells whether the slot count is in range and the next ticket at least 1.
+#[tactic(auto, unfolding(crate::specs::Sound::bounds))]
 pub fn in_bounds(slots: usize, next: u32) -> bool
     ensures { result ≡ bounds slots next }
 {
-    if slots < 1 {
-        return false;
-    }
-    if slots > limit::SLOTS {
-        return false;
-    }
-    next >= 1
+    1 <= slots && slots <= limit::SLOTS && 1 <= next
 }
 
 // Takes the session of entry i where it has the ticket, and else what was found before.
