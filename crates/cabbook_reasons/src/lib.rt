@@ -104,14 +104,12 @@ fn is_mark(s: &[u8], i: usize) -> bool
 fn find_mark(s: &[u8], place: usize) -> usize
     ensures { result ≡ mark_from s.now place (length s.now - place) }
 {
-    let mut i = place;
-    while i < s.len() {
+    for i in place..s.len() {
         if is_mark(s, i) {
             return i;
         }
-        i += 1;
     }
-    i
+    place.max(s.len())
 }
 
 // Adds why VERSION is missing as the second line of a card, by the next such line.
