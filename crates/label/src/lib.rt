@@ -27,7 +27,7 @@ fn encode_same(value: &[u8], out: &mut [u8]) -> Result<usize, Refusal>
     ensures { filled (written result) out.new ≡ sayable Rfc6350 value.now out.old (fill_bounded (encoded Rfc6350 value.now) out.old) }
 {
     if let Some(first) = first_unwritable(value) {
-        return Err(Refusal(refusal::NO_LABEL, first));
+        return Err(Refusal(Reason::NoLabel, first));
     }
     text::put(value, out)
 }
@@ -39,10 +39,10 @@ fn encode_each(value: &[u8], out: &mut [u8]) -> Result<usize, Refusal>
 {
     let n = value.len() + label_marks::count_marks(value, b'\n', b'"');
     if limit::OCTETS < n {
-        return Err(Refusal(refusal::FORM_TOO_LONG, limit::OCTETS));
+        return Err(Refusal(Reason::FormTooLong, limit::OCTETS));
     }
     if out.len() < n {
-        return Err(Refusal(refusal::ROOM, n));
+        return Err(Refusal(Reason::Room, n));
     }
     let t = label_carets::letters();
     text_escaping::write(&t, b'^', value, out);
@@ -77,7 +77,7 @@ fn decode_each(label: &[u8], out: &mut [u8]) -> Result<usize, Refusal>
     }
     let n = label_carets::measure(label);
     if out.len() < n {
-        return Err(Refusal(refusal::ROOM, n));
+        return Err(Refusal(Reason::Room, n));
     }
     label_carets::write(label, out);
     Ok(n)

@@ -26,7 +26,7 @@ pub fn screen<S: FnOnce(&[u8]) -> u8, B: FnOnce(&[u8]) -> usize>(
     ensures { Screens (FnOnceReturnsAt S.FnOnce see text.now) (FnOnceReturnsAt B.FnOnce first_bad text.now) text.now result }
 {
     if limit::OCTETS < text.len() {
-        return Err(Refusal(refusal::TOO_LONG, limit::OCTETS));
+        return Err(Refusal(Reason::TooLong, limit::OCTETS));
     }
     let seen = see(text);
     if seen == 0 || seen == 2 {
@@ -34,7 +34,7 @@ pub fn screen<S: FnOnce(&[u8]) -> u8, B: FnOnce(&[u8]) -> usize>(
     }
     let bad = first_bad(text);
     if bad < text.len() {
-        return Err(Refusal(refusal::TEXT_OCTET, bad));
+        return Err(Refusal(Reason::TextOctet, bad));
     }
     Ok(seen)
 }
@@ -44,7 +44,7 @@ pub fn put(text: &[u8], out: &mut [u8]) -> Result<usize, Refusal>
     ensures { filled (written result) out.new ≡ fill text.now out.old }
 {
     if out.len() < text.len() {
-        return Err(Refusal(refusal::ROOM, text.len()));
+        return Err(Refusal(Reason::Room, text.len()));
     }
     octets::copying::copy_in(out, text);
     Ok(text.len())
@@ -57,10 +57,10 @@ fn escape_each(text: &[u8], out: &mut [u8]) -> Result<usize, Refusal>
 {
     let n = text.len() + text_marks::counts::marks(text);
     if limit::OCTETS < n {
-        return Err(Refusal(refusal::FORM_TOO_LONG, limit::OCTETS));
+        return Err(Refusal(Reason::FormTooLong, limit::OCTETS));
     }
     if out.len() < n {
-        return Err(Refusal(refusal::ROOM, n));
+        return Err(Refusal(Reason::Room, n));
     }
     let t = text_escaping::letters();
     text_escaping::write(&t, b'\\', text, out);
@@ -87,9 +87,9 @@ fn unescape_each(text: &[u8], out: &mut [u8]) -> Result<usize, Refusal>
     requires { length text.now ≤ limit.octets }
     ensures { filled (written result) out.new ≡ faultless text.now out.old (fill (unescaped text.now) out.old) }
 {
-    let kept = text_unescaping::measure(text).map_err(|place| Refusal(refusal::ESCAPE, place))?;
+    let kept = text_unescaping::measure(text).map_err(|place| Refusal(Reason::Escape, place))?;
     if out.len() < kept {
-        return Err(Refusal(refusal::ROOM, kept));
+        return Err(Refusal(Reason::Room, kept));
     }
     text_unescaping::write(text, out);
     Ok(kept)
