@@ -11,7 +11,7 @@ ghost use Rattle.label.specs.Outcomes.{unwritable, sayable, encode_outcome, deco
 
 use label_carets::Rule;
 use numbers::limit;
-use numbers::refusal::{self, Refusal};
+use numbers::refusal::{Reason, Refusal};
 use utf8_screening::texts;
 
 // The place of the first newline or quote mark of a value.

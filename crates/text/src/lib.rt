@@ -11,7 +11,7 @@ ghost use Rattle.text.specs.Screened.{Screens};
 ghost use Rattle.text.specs.Outcomes.{faultless, escape_outcome, unescape_outcome};
 
 use numbers::limit;
-use numbers::refusal::{self, Refusal};
+use numbers::refusal::{Reason, Refusal};
 use utf8_screening::texts;
 
 // Refuses a text with TOO_LONG or TEXT_OCTET, else answers what `see` sees in it: 1 where an octet may be bad, 2 where one is a mark, 3
