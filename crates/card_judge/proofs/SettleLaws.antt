@@ -13,14 +13,16 @@ use Rattle.octets.specs.Pick.{pick}
 use Rattle.octets.proofs.Bools.{by, and_both}
 use Rattle.property_table.specs.Rows.{rows, newer, all_rows, row_at, single, once_at, is_group}
 use Rattle.card_state.specs.State.{Card, Step, Next, Refused, Flawed, flag_of, once_flag, is_seen, same_tag, tag_of, tagged, second_instance, going, line_card, noted, phase_after, end_card, closed}
+use Rattle.numbers.specs.Refusals.{number}
+use Rattle.numbers.specs.declared.refusal.Reason.{Reason}
 use Rattle.card_state.specs.Kept.{places_of, tag_at, Lies, card_of, step_of, Holds, gone_on, Keeps}
 use Rattle.card_state.specs.declared.Card.{Card as Kept}
-use Rattle.card_state.specs.declared.Step.{Step as KeptStep}
-use Rattle.card_state.specs.declared.Step.TheVariants.{Next as next, Refused as refused, Flawed as flawed}
+use Rattle.card_state.specs.Kept.{KeptStep}
+use Rattle.card_state.specs.Kept.{next, refused, flawed}
 use Rattle.card_state.proofs.KeptLaws.{holds_more, keep_lies, gone_card, keep_card}
 use Rattle.line_parameters.specs.First.{find_first}
-use Rattle.line_parameters.specs.declared.First.{First}
-use Rattle.line_parameters.specs.declared.First.TheVariants.{Between, Nothing}
+use Rattle.line_parameters.specs.First.{First}
+use Rattle.line_parameters.specs.First.{Between, Nothing}
 use Rattle.card_line.specs.Parts.{Accepted, first_value}
 use Rattle.card_line.proofs.PartLaws.{value_missing, value_there}
 use Rattle.card_judge.specs.Judge.{entered, part, read_by, octets_of, added_at, KeepsOn, Keeping, Spans, Instance, instance, Told, Takes}
@@ -91,12 +93,12 @@ stepped c store l j st s e h never q = rw e (
   },
 )
 
-pub stopped : {added : List ℕ} (c : Kept) (store l : List ℕ) (j : Judgement) (n p : ℕ) (s : Step) → j ≡ unkept (refused n p) → Refused n p ≡ s
+pub stopped : {added : List ℕ} (c : Kept) (store l : List ℕ) (j : Judgement) (n : Reason) (p : ℕ) (s : Step) → j ≡ unkept (refused n p) → Refused (number n) p ≡ s
     → (read_by j store l ≡ s) × Keeping c l added j
 unfolding Holds step_of
 stopped c store l j n p s e q = stepped c store l j (refused n p) s e tt (λ d z. let y : ◌≡◌ {A = ℕ} 0 1 = cc in absurd (omega arith)) q
 
-pub flawed_stop : {added : List ℕ} (c : Kept) (store l : List ℕ) (j : Judgement) (n o : ℕ) (s : Step) → j ≡ unkept (flawed n o) → Flawed n o ≡ s
+pub flawed_stop : {added : List ℕ} (c : Kept) (store l : List ℕ) (j : Judgement) (n : Reason) (o : ℕ) (s : Step) → j ≡ unkept (flawed n o) → Flawed (number n) o ≡ s
     → (read_by j store l ≡ s) × Keeping c l added j
 unfolding Holds step_of
 flawed_stop c store l j n o s e q = stepped c store l j (flawed n o) s e tt (λ d z. let y : ◌≡◌ {A = ℕ} 0 1 = cc in absurd (omega arith)) q

@@ -19,13 +19,13 @@ use Rattle.value_kinds.specs.declared.Fault.TheVariants.{Fits, Breaks}
 use Rattle.card_state.specs.State.{Card, Step, Refused, Flawed, before_begin, in_order, flag_of, once_flag, is_seen, same_tag, tag_of, noted, closed}
 use Rattle.card_state.specs.Kept.{places_of, tag_at, Lies, step_of, Holds, Keeps}
 use Rattle.card_state.specs.declared.Card.{Card as Kept}
-use Rattle.card_state.specs.declared.Step.{Step as KeptStep}
-use Rattle.card_state.specs.declared.Step.TheVariants.{Next as next_kept}
+use Rattle.card_state.specs.Kept.{KeptStep}
+use Rattle.card_state.specs.Kept.{next as next_kept}
 use Rattle.card_line.specs.Parts.{row_of_line, kind_of_line, altid_of, line_parts_of}
 use Rattle.card_line.specs.declared.Parts.{Parts}
-use Rattle.card_line.specs.declared.LineParts.TheVariants.{Line as line}
-use Rattle.line_parameters.specs.declared.First.{First}
-use Rattle.line_parameters.specs.declared.First.TheVariants.{Between, Nothing}
+use Rattle.card_line.specs.Parts.{line}
+use Rattle.line_parameters.specs.First.{First}
+use Rattle.line_parameters.specs.First.{Between, Nothing}
 use Rattle.card_judge.specs.declared.judge.Judgement.{Judgement}
 use Rattle.card_judge.specs.declared.judge.Instance.{Instance as Found}
 use Rattle.card_judge.specs.declared.judge.Instance.TheVariants.{Second, Opened, Further}

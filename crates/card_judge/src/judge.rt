@@ -7,15 +7,17 @@ ghost use Rattle.numbers.specs.Kinds as kinds;
 ghost use Rattle.octets.specs.Pick.{pick};
 ghost use Rattle.octets.specs.Classes.{Classes};
 ghost use Rattle.property_table.specs.Rows.{once_at, is_group};
+ghost use Rattle.line_parameters.specs.First.{first};
 ghost use Rattle.card_line.specs.Parts.{altid_name, first_value};
 ghost use Rattle.card_state.specs.State.{Next, Counted, singles, in_order, flag_of, once_flag, is_seen, closed};
 ghost use Rattle.card_state.specs.Kept.{Lies, card_of, step_of, Holds, gone_on};
 ghost use Rattle.card_judge.specs.Judge.{Tables, Parted, laden, entered, judge_parts, judge_line, read_by, Stored, added_at, added_by, KeepsOn, Keeping, Spans, instance, Told, Takes};
 
-use card_line::{LineParts, Parts};
-use card_state::{Card, Step};
-use line_parameters::First;
-use numbers::{property, refusal};
+use card_line::Parts;
+use card_state::{Card, Flaw, Step};
+use line_parameters::Span;
+use numbers::property;
+use numbers::refusal::Reason;
 use octets::classes::ClassTable;
 use property_table::Edition;
 use property_table::rows::PropertyTable;
@@ -50,16 +52,16 @@ fn is_laden(x: Parts) -> bool
 }
 
 // Where the ALTID value of a line stands; of a line whose property may stand any number of times it is not looked for.
-fn altid_at(t: &ClassTable, s: &[u8], x: Parts, once: usize) -> First
+fn altid_at(t: &ClassTable, s: &[u8], x: Parts, once: usize) -> Option<Span>
     requires classes { Classes t.now }
     requires parted { Parted x s.now }
-    ensures { Spans result s.now (pick (eqb once 0) none (first_value altid_name s.now)) }
+    ensures { Spans (first result) s.now (pick (eqb once 0) none (first_value altid_name s.now)) }
 {
     if once == 0 {
-        return First::Nothing;
+        return None;
     }
     if x.param_count == 0 {
-        return First::Nothing;
+        return None;
     }
     let name_end = x.name_end;
     line_parameters::param_first(t, s, name_end, b"ALTID")
@@ -88,7 +90,7 @@ fn enter(c: Card, at: usize, row: usize, once: usize, value: &[u8]) -> Step
         return card_state::close(c, at);
     }
     let group = property_table::is_group(value);
-    Step::Next(card_state::note(c, row, once, group))
+    Ok(card_state::note(c, row, once, group))
 }
 
 // What the ALTID of a line makes of its property's instance.
@@ -103,13 +105,13 @@ enum Instance {
 }
 
 // What a line of the k-th property that a card has at most once, or of any other (0), is by the ALTID that was found in it.
-fn instance_of(s: &[u8], f: First, k: usize, again: bool, store: &[u8], c: Card) -> Instance
-    requires spans { Spans f s.now (pick (eqb k 0) none (first_value altid_name s.now)) }
+fn instance_of(s: &[u8], f: Option<Span>, k: usize, again: bool, store: &[u8], c: Card) -> Instance
+    requires spans { Spans (first f) s.now (pick (eqb k 0) none (first_value altid_name s.now)) }
     requires k_le_singles { (k ≤ singles) × (again ≡ is_seen (flag_of k) c.seen) }
     requires stored { Stored c store.now s.now }
     ensures { Told c store.now s.now k (first_value altid_name s.now) (instance result) }
 {
-    let First::Between { start, end } = f else {
+    let Some(Span { start, end }) = f else {
         return if again {
             Instance::Second
         } else {
@@ -166,7 +168,7 @@ fn settle(
     let f = altid_at(t, s, x, once);
     let i = instance_of(s, f, once, again, store, c);
     if let Instance::Second = i {
-        return unkept(Step::Refused(refusal::SECOND, at));
+        return unkept(Err(Flaw::Placed(Reason::Second, at)));
     }
     let kept = with_value(c, once, i);
     let step = enter(kept, at, row, once, value);
@@ -202,13 +204,13 @@ fn judge_parts(
     let laden = is_laden(x);
     let fault = value_automaton::judge_value(steps, edition, x.row, x.kind, value);
     if misplaced {
-        return unkept(Step::Refused(refusal::ORDER, at));
+        return unkept(Err(Flaw::Placed(Reason::Order, at)));
     }
     if laden {
-        return unkept(Step::Refused(refusal::LADEN, at));
+        return unkept(Err(Flaw::Placed(Reason::Laden, at)));
     }
     if let Fault::Breaks(octet) = fault {
-        return unkept(Step::Flawed(refusal::VALUE, x.value_start + octet));
+        return unkept(Err(Flaw::Octet(Reason::Value, x.value_start + octet)));
     }
     let once = property_table::once_of(rows, x.row);
     let again = card_state::is_again(c.seen, once);
@@ -234,11 +236,11 @@ pub fn judge_line(
 {
     let bad = utf8_screening::units::first_bad(t, s, false);
     if bad < s.len() {
-        return unkept(Step::Flawed(refusal::BAD_OCTET, bad));
+        return unkept(Err(Flaw::Octet(Reason::BadOctet, bad)));
     }
     match card_line::parts_of(t, rows, edition, s) {
-        LineParts::Fault(e) => unkept(Step::Refused(e, at)),
-        LineParts::Line(x) => {
+        Err(reason) => unkept(Err(Flaw::Placed(reason, at))),
+        Ok(x) => {
             let start = x.value_start;
             judge_parts(t, rows, steps, edition, s, &s[start..], x, store, at, c)
         }

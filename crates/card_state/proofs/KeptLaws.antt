@@ -16,8 +16,8 @@ use Rattle.property_table.specs.Rows.{rows, newer, all_rows, row_at, single, mar
 use Rattle.card_state.specs.State.{Next, fresh_card, equal, tagged, going}
 use Rattle.card_state.specs.Kept.{places_of, span, place_of, end_of, tag_at, Inside, Lies, card_of, step_of, Holds, no_tags, fresh_kept, gone_on, Keeps}
 use Rattle.card_state.specs.declared.Card.{Card as Kept}
-use Rattle.card_state.specs.declared.Step.{Step as KeptStep}
-use Rattle.card_state.specs.declared.Step.TheVariants.{Next as next, Refused as refused, Flawed as flawed}
+use Rattle.card_state.specs.Kept.{KeptStep}
+use Rattle.card_state.specs.Kept.{next, refused, flawed}
 
 -- there are ten properties marked *1
 pub once_ten : (row : ℕ) → row < 44 → once_at row ≤ 10

@@ -10,7 +10,8 @@ ghost use Rattle.card_state.specs.Kept.{fresh_kept, card_of, step_of, Holds, gon
 
 pub mod tags;
 
-use numbers::{property, refusal};
+use numbers::property;
+use numbers::refusal::Reason;
 use tags::Tags;
 
 // The phase of a card: BEGIN has not come.
@@ -41,13 +42,15 @@ pub struct Card {
     pub is_group: bool,
 }
 
-// The card after a line, or the refusal's number and its place in the input, or its number and the octet of the unfolded line.
+// Why a line is refused: a reason with its place in the input, or with the octet of the unfolded line.
 #[derive(Clone, Copy, Debug, PartialEq, Eq)]
-pub enum Step {
-    Next(Card),
-    Refused(u32, usize),
-    Flawed(u32, usize),
+pub enum Flaw {
+    Placed(Reason, usize),
+    Octet(Reason, usize),
 }
+
+// The card after a line.
+pub type Step = Result<Card, Flaw>;
 
 // Before the first line.
 pub fn fresh() -> Card
@@ -114,15 +117,15 @@ pub fn close(c: Card, at: usize) -> Step
     ensures holds { Holds 0 result }
 {
     if !c.has_fn {
-        return Step::Refused(refusal::NO_FN, at);
+        return Err(Flaw::Placed(Reason::NoFn, at));
     }
     if c.has_member && !c.is_group {
-        return Step::Refused(refusal::MEMBER, at);
+        return Err(Flaw::Placed(Reason::Member, at));
     }
     let mut next = fresh();
     next.cards = c.cards + 1;
     next.lines = c.lines + 1;
-    Step::Next(next)
+    Ok(next)
 }
 
 // The state after a line of the row, not END, that may stand here. `once` is the row's number among those that a card has at most once, and

@@ -8,7 +8,7 @@ use Rattle.card_line.specs.Parts.{altid_name, first_value}
 use Rattle.card_state.specs.State.{once_flag}
 use Rattle.card_state.specs.Kept.{card_of}
 use Rattle.card_state.specs.declared.Card.{Card as Kept}
-use Rattle.card_state.specs.declared.Step.{Step as KeptStep}
+use Rattle.card_state.specs.Kept.{KeptStep}
 use Rattle.card_state.proofs.KeptLaws.{once_ten}
 use Rattle.card_judge.specs.Judge.{entered, read_by, added_at, Keeping, instance}
 use Rattle.card_judge.specs.declared.judge.Instance.{Instance as Found}
@@ -25,7 +25,7 @@ pub returns-in-Second : goal.returns-in-Second
 returns-in-Second c =
     let a = c.args in
     let second : (instance c.instance_of-i.result).second ≡ true = ap (λ (x : Found). (instance x).second) c.in-Second.is in
-    let w = stopped {added = added_at a.x.row a.c.seen (first_value altid_name a.s.now)} a.c a.store.now a.s.now c.unkept.result 10 a.at _ c.unkept.ensures
+    let w = stopped {added = added_at a.x.row a.c.seen (first_value altid_name a.s.now)} a.c a.store.now a.s.now c.unkept.result _ a.at _ c.unkept.ensures
     (told_second a.c a.store.now a.s.now a.once (first_value altid_name a.s.now) (instance c.instance_of-i.result) c.instance_of-i.ensures a.at a.x.row a.value.now
     c.requires.row_lt_all.1.0 second) in
     record { s_value = w.0; keeping = w.1 }
