@@ -4,8 +4,6 @@ use mathlib.Core.List.{List, [], ◌∷◌}
 use Prim.Native.Nat.{ℕ, ◌+◌, ◌-◌, ◌<◌, ◌≤◌}
 use native.Mathlib.Omega.{arith}
 use lib.ListN.{length, take, drop}
-use denote.Enum.Declared.{tag_of}
-use types.Run.{OneOf, miss}
 use Rattle.line_folds.specs.Folds.{line_length, unfolded}
 use Rattle.line_folds.specs.Logical.{raw_lines}
 use Rattle.line_folds.proofs.SpanLaws.{lines_turn, part_length}
@@ -17,7 +15,6 @@ use Rattle.card_state.specs.Kept.{step_of}
 use Rattle.card_state.specs.declared.Step.{Step as KeptStep}
 use Rattle.card_state.specs.declared.Card.{Card as KeptCard}
 use Rattle.card_state.specs.declared.Step.TheVariants.{Next as next, Refused as refused, Flawed as flawed}
-use Rattle.card_state.specs.contracts.Step.{the_type}
 use Rattle.reader_walk.specs.Walk.{onward, settled, judge_lines}
 
 -- the line from `at` to e is the first of those that are left; it was judged r
