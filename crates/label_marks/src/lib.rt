@@ -38,14 +38,10 @@ pub fn see(s: &[u8], x: u8, y: u8, z: u8) -> u8
     text_marks::see_by(s, |b| see_octet(b, x, y, z))
 }
 
-// How many octets are a caret, x or y: one pass with no early exit, in 16 bits, so that it compiles to vector instructions.
+// How many octets are a caret, x or y.
 pub fn count_marks(s: &[u8], x: u8, y: u8) -> usize
     requires { length s.now ≤ limit.octets }
     ensures { (result ≡ count (mark x y) s.now) × (result ≤ length s.now) }
 {
-    let mut n: u16 = 0;
-    for b in s {
-        n += mark_bit(*b, x, y) as u16;
-    }
-    n as usize
+    text_marks::counts::count_by(s, |b| mark_bit(b, x, y))
 }
