@@ -5,15 +5,15 @@ use Rattle.replay_log.proofs.LogLaws.{told_length, refused_length}
 use Rattle.replay_log.proofs.put_answer.Goals as goal
 
 pub put_one-requires : goal.put_one-requires
-put_one-requires c = let e = rw c.in-Done.is at c.requires in omega (arith, told_length c.in-Done.n)
+put_one-requires c = let e = rw c.in-Ok.is at c.requires in omega (arith, told_length c.in-Ok.n)
 
 pub put_two-requires : goal.put_two-requires
-put_two-requires c = let e = rw c.in-Refused.is at c.requires in omega (arith, refused_length c.in-Refused.n c.in-Refused.p)
+put_two-requires c = let e = rw c.in-Err.is at c.requires in omega (arith, refused_length c.in-Err.field-0.0 c.in-Err.field-0.1)
 
-pub returns-in-Done : goal.returns-in-Done
+pub returns-in-Ok : goal.returns-in-Ok
 unfolding entry
-returns-in-Done c = rw c.in-Done.is c.put_one.ensures
+returns-in-Ok c = rw c.in-Ok.is c.put_one.ensures
 
-pub returns-in-Refused : goal.returns-in-Refused
+pub returns-in-Err : goal.returns-in-Err
 unfolding entry
-returns-in-Refused c = rw c.in-Refused.is c.put_two.ensures
+returns-in-Err c = rw c.in-Err.is c.put_two.ensures
