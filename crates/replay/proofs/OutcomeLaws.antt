@@ -13,6 +13,8 @@ use Rattle.desk_slots.specs.Sound.{bounds}
 use Rattle.desk.specs.Steps.{refuse, fresh_desk, new_step}
 use Rattle.desk.specs.declared.Desk.{Desk}
 use Rattle.std.specs.Prelude.{Result, Ok, Err}
+use Rattle.numbers.specs.Refusals.{number}
+use Rattle.numbers.specs.declared.refusal.Reason.TheVariants.{SlotCount, ReplayCall}
 use Rattle.numbers.specs.declared.refusal.Refusal.{Refusal}
 use Rattle.desk.specs.declared.Turn.{Turn}
 use Rattle.desk_ledger.specs.Ticks.{run_ticked, after_ticked}
@@ -49,12 +51,12 @@ decodes s k e = go (eqb (scan width s 0) (length s)) refl e
 -- ---- each answer
 
 module _ (n : ℕ) (s p l : List ℕ) where
-  pub played_broken : (r : Refusal) → Err r ≡ counted (decode s) → replayed (Refused r.0 r.1) p l ≡ played n p l (decode s)
+  pub played_broken : (r : Refusal) → Err r ≡ counted (decode s) → replayed (Refused (number r.0) r.1) p l ≡ played n p l (decode s)
   played_broken r e = go (decode s) e
     where
-      go : (x : Decoded) → Err r ≡ counted x → replayed (Refused r.0 r.1) p l ≡ played n p l x
+      go : (x : Decoded) → Err r ≡ counted x → replayed (Refused (number r.0) r.1) p l ≡ played n p l x
       go (calls cs) h = let z : ◌≡◌ {A = ℕ} 0 1 = cc in absurd (omega arith)
-      go (broken at) h = let w : r ≡ record { 0 = 90; 1 = at } = cc in rw w
+      go (broken at) h = let w : r ≡ record { 0 = ReplayCall; 1 = at } = cc in rw w
 
   module _ (k m : ℕ) (d : Decodes s k m) where
     pub room_test : leb (9 * k + 16380 * m) (length l) ≡ leb (room_for (calls_in s 0)) (length l)
@@ -82,19 +84,19 @@ pub fresh_bounds : (n k : ℕ) → (new_step n).answer ≡ Ok k → bounds n 1 �
 unfolding new_step
 fresh_bounds n k e = go (bounds n 1) e
   where
-    go : (t : Bool) → (pick {A = Turn} t (record { answer = Ok 0; desk = fresh_desk n }) (refuse (fresh_desk 0) 26 0)).answer ≡ Ok k → t ≡ true
+    go : (t : Bool) → (pick {A = Turn} t (record { answer = Ok 0; desk = fresh_desk n }) (refuse (fresh_desk 0) SlotCount 0)).answer ≡ Ok k → t ≡ true
     go true h = refl
     go false h = let z : ◌≡◌ {A = ℕ} 0 1 = cc in absurd (omega arith)
 
 module _ (n : ℕ) (s p l : List ℕ) where
-  pub outcome_refused : (r : Refusal) → (new_step n).answer ≡ Err r → replayed (Refused r.0 r.1) p l ≡ replay_outcome n s p l
+  pub outcome_refused : (r : Refusal) → (new_step n).answer ≡ Err r → replayed (Refused (number r.0) r.1) p l ≡ replay_outcome n s p l
   unfolding new_step replay_outcome
   outcome_refused r e = go (bounds n 1) e
     where
-      go : (t : Bool) → (pick {A = Turn} t (record { answer = Ok 0; desk = fresh_desk n }) (refuse (fresh_desk 0) 26 0)).answer ≡ Err r
-          → replayed (Refused r.0 r.1) p l ≡ pick t (played n p l (decode s)) (replayed (Refused 26 0) p l)
+      go : (t : Bool) → (pick {A = Turn} t (record { answer = Ok 0; desk = fresh_desk n }) (refuse (fresh_desk 0) SlotCount 0)).answer ≡ Err r
+          → replayed (Refused (number r.0) r.1) p l ≡ pick t (played n p l (decode s)) (replayed (Refused 26 0) p l)
       go true h = let z : ◌≡◌ {A = ℕ} 0 1 = cc in absurd (omega arith)
-      go false h = let w : r ≡ record { 0 = 26; 1 = 0 } = cc in rw w
+      go false h = let w : r ≡ record { 0 = SlotCount; 1 = 0 } = cc in rw w
 
   pub outcome_played : bounds n 1 ≡ true → played n p l (decode s) ≡ replay_outcome n s p l
   unfolding replay_outcome

@@ -9,6 +9,7 @@ use Rattle.desk_ledger.specs.Ticks.{Ticked}
 use Rattle.desk_ledger.specs.Desks.{answers, world}
 use Rattle.replay_script.specs.Scripts.{Decoded, calls, broken, decode}
 use Rattle.replay_log.specs.Logs.{written, room_for}
+use Rattle.numbers.specs.Refusals.{number}
 use Rattle.numbers.specs.declared.refusal.Refusal.{Refusal}
 use Rattle.replay.specs.declared.Run.{Run}
 
@@ -20,7 +21,7 @@ pub data Replayed : Type 0 where
 -- the same of a result
 abbrev pub answered : Result Run Refusal → Replayed
 answered (Ok r) = Ran r.calls r.wrote
-answered (Err r) = Refused r.0 r.1
+answered (Err r) = Refused (number r.0) r.1
 
 -- an answer, and what the pool and the log hold then
 pub record Replay : Type 0 where

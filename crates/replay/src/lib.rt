@@ -13,8 +13,8 @@ ghost use Rattle.replay_call.specs.Stepped.{world_of};
 ghost use Rattle.replay.specs.Outcome.{answered, replayed, played, replay_outcome};
 
 use desk::Desk;
-use numbers::refusal::Refusal;
-use numbers::{limit, refusal};
+use numbers::limit;
+use numbers::refusal::{Reason, Refusal};
 
 // How many calls were run, and how many octets of the log are written.
 #[derive(Clone, Copy, Debug, PartialEq, Eq)]
@@ -52,11 +52,11 @@ fn play(slots: usize, desk: Desk, script: &[u8], pool: &mut [u8], log: &mut [u8]
     let counted = replay_script::count(script)?;
     let size = pool.len();
     if size != slots * limit::OCTETS {
-        return Err(Refusal(refusal::REPLAY_POOL, size));
+        return Err(Refusal(Reason::ReplayPool, size));
     }
     let room = log.len();
     if !replay_log::has_room(counted.calls, counted.shows, room) {
-        return Err(Refusal(refusal::REPLAY_LOG, room));
+        return Err(Refusal(Reason::ReplayLog, room));
     }
     let wrote = run_all(desk, script, pool, log);
     Ok(Run {

@@ -18,6 +18,7 @@ use Rattle.replay_script.specs.Numerals.{two_at, four_at}
 use Rattle.replay_script.specs.Scripts.{needed, width, call_of, calls_in, decode}
 use Rattle.replay_script.specs.Counts.{shows, shown, counted}
 use Rattle.std.specs.Prelude.{Result, Ok, Err}
+use Rattle.numbers.specs.declared.refusal.Reason.TheVariants.{ReplayCall}
 use Rattle.numbers.specs.declared.refusal.Refusal.{Refusal}
 use Rattle.replay_script.specs.declared.Counted.{Counted}
 
@@ -191,7 +192,7 @@ module _ {s : List ℕ} {at n m : ℕ} (h : Counting s at n m) where
         fewer = omega (arith, h.fewer, show_one (call_of (drop at s)));
       }
 
-  pub count_stop : at < length s → width (drop at s) ≡ 0 → ◌≡◌ {A = Result Counted Refusal} (Err (record { 0 = 90; 1 = at })) (counted (decode s))
+  pub count_stop : at < length s → width (drop at s) ≡ 0 → ◌≡◌ {A = Result Counted Refusal} (Err (record { 0 = ReplayCall; 1 = at })) (counted (decode s))
   unfolding decode
   count_stop l z =
       let e : scan width s 0 ≡ at = sym h.goes ∙ scan_stop width s at z in

@@ -1,6 +1,6 @@
 -- How many calls a script has, and how many of them are shows. Assumes nothing.
 use Rattle.std.specs.Prelude.{ℕ, ◌+◌, List, [], ◌∷◌, Result, Ok, Err, length}
-use Rattle.numbers.specs.Refusals as refusal
+use Rattle.numbers.specs.declared.refusal.Reason.TheVariants.{ReplayCall}
 use Rattle.numbers.specs.declared.refusal.Refusal.{Refusal}
 use Rattle.desk_ledger.specs.Ticks.{judging, showing, counting, releasing, Ticked, opens_at, adds_at, asks_of}
 use Rattle.replay_script.specs.Scripts.{Decoded, calls, broken}
@@ -22,4 +22,4 @@ shown (c ∷ cs) = shows c + shown cs
 -- both counts, or 90 at the first broken call
 abbrev pub counted : Decoded → Result Counted Refusal
 counted (calls cs) = Ok (record { calls = length cs; shows = shown cs })
-counted (broken p) = Err (record { 0 = refusal.replay_call; 1 = p })
+counted (broken p) = Err (record { 0 = ReplayCall; 1 = p })

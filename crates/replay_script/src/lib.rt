@@ -8,8 +8,7 @@ ghost use Rattle.std.specs.Prelude.{◌≡◌, ◌≤◌, length};
 ghost use Rattle.replay_script.specs.Scripts.{width, call_of, decode};
 ghost use Rattle.replay_script.specs.Counts.{shows, counted};
 
-use numbers::refusal;
-use numbers::refusal::Refusal;
+use numbers::refusal::{Reason, Refusal};
 
 // How many calls a script has, and how many of them are shows.
 #[derive(Clone, Copy, Debug, PartialEq, Eq)]
@@ -73,7 +72,7 @@ pub fn count(script: &[u8]) -> Result<Counted, Refusal>
     while at < script.len() {
         let w = width(&script[at..]);
         if w == 0 {
-            return Err(Refusal(refusal::REPLAY_CALL, at));
+            return Err(Refusal(Reason::ReplayCall, at));
         }
         shows += count_show(&script[at..]);
         calls += 1;
