@@ -6,7 +6,8 @@ mod json;
 ghost use Rattle.cabbook_output.specs.Ends.{Status};
 
 use cabbook_tables::status;
-use numbers::{limit, refusal};
+use numbers::refusal::Reason;
+use numbers::limit;
 use octets::cases::same_name;
 use octets::slices::{least, part};
 use program_host::{Host, STDOUT};
@@ -41,7 +42,7 @@ fn print_refused(host: &mut Host, path: &[u8], s: &[u8], number: u32, place: usi
     if status == cabbook_output::UNWRITTEN {
         return status;
     }
-    if number == refusal::TOO_LONG {
+    if number == Reason::TooLong {
         return cabbook_output::status_if(cabbook_sizes::print_size(host, path), status);
     }
     if !cabbook_version3::is_version3(s, number, place) {

@@ -12,7 +12,8 @@ use cabbook_messages::sentences;
 use cabbook_tables::status;
 use merge::{Entries, Paired};
 use merge_sources::{Row, Source};
-use numbers::{limit, refusal};
+use numbers::refusal::Reason;
+use numbers::limit;
 use octets::slices::{numbers, part};
 use program_files::Input;
 use program_host::{Host, STDERR};
@@ -235,7 +236,7 @@ fn put_over(
     kb: usize,
     nb: usize,
 ) -> usize {
-    let start = put_start(room, first, second, refusal::MERGE_LIMIT);
+    let start = put_start(room, first, second, Reason::MergeLimit);
     let end = reasons::put_over(room, start, first, ca, ra, ka, na, second, cb, rb, kb, nb);
     put_all(room, end, b"\n")
 }
@@ -260,7 +261,7 @@ fn print_no_plan(
     ensures { Status result }
 {
     let mut room = [0u8; PAGE];
-    if number == refusal::MERGE_LIMIT {
+    if number == Reason::MergeLimit {
         let n = put_over(&mut room, first, ca, ra, ka, na, second, cb, rb, kb, nb);
         cabbook_output::send(host, STDERR, &room, n);
         return status::REFUSED;

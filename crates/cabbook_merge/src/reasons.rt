@@ -3,7 +3,8 @@ use crate::clash::Clash;
 use crate::{clash, sheet, side};
 use cabbook_messages::words;
 use merge_sources::Row;
-use numbers::{limit, property, refusal};
+use numbers::refusal::Reason;
+use numbers::{limit, property};
 use program_output::put_all;
 
 // Adds which limit one of the edits passes, behind its name; nothing where it passes none.
@@ -64,7 +65,7 @@ pub(crate) fn put_over(
     if other > at {
         return other;
     }
-    words::put_words(room, at, refusal::MERGE_LIMIT)
+    words::put_words(room, at, Reason::MergeLimit)
 }
 
 // Adds that a file has no UID.
@@ -109,7 +110,7 @@ fn put_clash(
             sheet::put_row(room, end, b"  ", side::line_of(ca, ra, l), line)
         }
         Clash::Nothing => {
-            let end = words::put_words(room, at, refusal::NO_PLAN);
+            let end = words::put_words(room, at, Reason::NoPlan);
             put_all(room, end, b"\n")
         }
     }

@@ -5,8 +5,8 @@ ghost use Rattle.std.specs.Prelude.{◌≡◌};
 ghost use Rattle.octets.specs.Pick.{pick};
 ghost use Rattle.cabbook_output.specs.Ends.{Status, unwritten};
 
+use numbers::refusal::Reason;
 use cabbook_tables::status;
-use numbers::refusal;
 use program_host::Host;
 
 // The status where standard output can't be written, until that is told.
@@ -51,7 +51,7 @@ fn put_blanks(room: &mut [u8], at: usize, line: &[u8]) -> usize {
 // Adds the row of a file with these octets that is refused, and the logical line in which the place lies, with a caret.
 fn put_refusal(room: &mut [u8], path: &[u8], s: &[u8], number: u32, place: usize) -> usize {
     let row_end = cabbook_rows::rows::put_refused(room, 0, path, s, number, place);
-    if number == refusal::TOO_LONG || number == refusal::EMPTY {
+    if number == Reason::TooLong || number == Reason::Empty {
         return row_end;
     }
     let line = cabbook_rows::under::offending(s, number, place);

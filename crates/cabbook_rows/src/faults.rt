@@ -6,7 +6,8 @@ ghost use Rattle.cabbook_rows.specs.Faults.{about, name_words, param_words, quot
 use crate::{under, values};
 use line_parser::at_fault;
 use line_parser::at_fault::{AtFault, QuoteFault};
-use numbers::{limit, refusal};
+use numbers::refusal::Reason;
+use numbers::limit;
 use octets::slices::part;
 
 // Adds a name between two texts.
@@ -100,13 +101,13 @@ fn put_fault(room: &mut [u8], at: usize, line: &[u8], number: u32) -> usize
     ensures { page result room.new ≡ added (fault_words number line.now) (page at room.old) }
 {
     let w = at_fault::at_fault(line);
-    if number == refusal::NAME {
+    if number == Reason::Name {
         return put_name(room, at, line, w);
     }
-    if number == refusal::PARAMETER {
+    if number == Reason::Parameter {
         return put_param(room, at, line, w);
     }
-    if number == refusal::QUOTE {
+    if number == Reason::Quote {
         return put_quote(room, at, line, w);
     }
     put_colon(room, at, line, w)
@@ -116,10 +117,10 @@ fn put_fault(room: &mut [u8], at: usize, line: &[u8], number: u32) -> usize
 fn is_fault(number: u32) -> bool
     ensures { result ≡ is_fault number }
 {
-    if number < refusal::NAME {
+    if number < Reason::Name {
         return false;
     }
-    number <= refusal::NO_COLON
+    number <= Reason::NoColon
 }
 
 // Adds what is wrong with a raw line that is refused with 40 to 43; the words of the refusal where it is longer than a text that was read.
@@ -141,7 +142,7 @@ pub fn put_why(room: &mut [u8], at: usize, s: &[u8], number: u32, place: usize) 
     if is_fault(number) {
         return put_raw(room, at, under::offending(s, number, place), number);
     }
-    if number == refusal::VALUE {
+    if number == Reason::Value {
         return values::put_wanted(room, at, s, place);
     }
     cabbook_reasons::put_reason(room, at, s, number, place)

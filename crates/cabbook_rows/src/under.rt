@@ -4,7 +4,8 @@ ghost use Rattle.numbers.specs.Limits as limit;
 ghost use Rattle.program_output.specs.Pages.{page, added};
 ghost use Rattle.cabbook_rows.specs.Under.{shown_end, offending, cut, tail_at, last_part, last_blanks, rest_line, marked, under_lines};
 
-use numbers::{limit, refusal};
+use numbers::refusal::Reason;
+use numbers::limit;
 
 // The most octets of a name that are shown.
 pub(crate) const NAME: usize = 120;
@@ -20,7 +21,7 @@ fn shown_end(s: &[u8], number: u32, place: usize, from: usize) -> usize
     requires { from ≤ length s.now }
     ensures { result ≡ shown_end s.now number place from }
 {
-    if number != refusal::LONE_CR_OR_LF {
+    if number != Reason::LoneCrOrLf {
         return line_folds::spans::line_end(s, from);
     }
     if place >= s.len() {

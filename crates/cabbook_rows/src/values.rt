@@ -6,7 +6,8 @@ ghost use Rattle.cabbook_rows.specs.Values.{parts_words, line_words, raw_value_w
 
 use crate::under;
 use card_line::{LineParts, Parts};
-use numbers::{limit, refusal};
+use numbers::refusal::Reason;
+use numbers::limit;
 use octets::slices::part;
 use property_table::Edition;
 
@@ -30,7 +31,7 @@ fn put_line(room: &mut [u8], at: usize, line: &[u8], octet: usize) -> usize
     let parsed = card_line::parts_of(&t, &rows, Edition::Second, line);
     match parsed {
         LineParts::Line(p) => put_parts(room, at, line, p, octet),
-        LineParts::Fault(_) => cabbook_messages::words::put_words(room, at, refusal::VALUE),
+        LineParts::Fault(_) => cabbook_messages::words::put_words(room, at, Reason::Value),
     }
 }
 
@@ -49,7 +50,7 @@ pub(crate) fn put_wanted(room: &mut [u8], at: usize, s: &[u8], place: usize) -> 
     ensures { page result room.new ≡ added (wanted_words s.now place) (page at room.old) }
 {
     if s.len() > limit::OCTETS {
-        return cabbook_messages::words::put_words(room, at, refusal::VALUE);
+        return cabbook_messages::words::put_words(room, at, Reason::Value);
     }
     let from = cabbook_positions::line_start(s, place);
     let end = line_folds::spans::line_end(s, from);

@@ -7,7 +7,8 @@ ghost use Rattle.cabbook_output.specs.Ends.{Status};
 
 use cabbook_messages::sentences;
 use cabbook_tables::status;
-use numbers::{limit, refusal};
+use numbers::refusal::Reason;
+use numbers::limit;
 use octets::cases::same_name;
 use octets::rooms::Written;
 use octets::slices::part;
@@ -28,11 +29,11 @@ fn write(way: Way, s: &[u8], room: &mut [u8]) -> Written {
 
 // Whether a refusal is of a line that the reader would take otherwise: 50 and 51, and what is in order in cards that are taken in.
 fn is_own(way: Way, number: u32, inside: bool) -> bool {
-    if number == refusal::NOT_TAKEN_IN || number == refusal::NOT_GIVEN_OUT {
+    if number == Reason::NotTakenIn || number == Reason::NotGivenOut {
         return true;
     }
     match way {
-        Way::Inward => inside && number == refusal::ORDER,
+        Way::Inward => inside && number == Reason::Order,
         Way::Outward => false,
     }
 }
@@ -66,7 +67,7 @@ fn print_refusal(
 ) -> u8
     ensures { Status result }
 {
-    if number == refusal::FORM_TOO_LONG {
+    if number == Reason::FormTooLong {
         return cabbook_output::print_refused(host, to, path, s, number, place);
     }
     if !is_own(way, number, place < s.len()) {
@@ -119,10 +120,10 @@ fn has_version_line(s: &[u8]) -> bool {
 
 // Whether the reader refuses a text since it is of version 3: at VERSION:3.0, or since VERSION is not the second line.
 pub fn is_version3(s: &[u8], number: u32, place: usize) -> bool {
-    if number == refusal::ORDER {
+    if number == Reason::Order {
         return has_version_line(s);
     }
-    if number != refusal::VALUE {
+    if number != Reason::Value {
         return false;
     }
     is_version_line(s, cabbook_positions::line_start(s, place))

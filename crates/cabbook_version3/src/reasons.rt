@@ -6,7 +6,8 @@ ghost use Rattle.card_line.specs.Parts.{Accepted};
 
 use cabbook_messages::{sentences, wants, words};
 use card_line::{LineParts, Parts};
-use numbers::{kind, limit, property, refusal};
+use numbers::refusal::Reason;
+use numbers::{kind, limit, property};
 use octets::cases::same_name;
 use octets::classes::ClassTable;
 use octets::slices::part;
@@ -276,7 +277,7 @@ fn put_parts(
     requires classes { Classes t.now }
     requires accepted { Accepted line.now x.name_end × (x.kind < kinds.count) }
 {
-    if number == refusal::ORDER {
+    if number == Reason::Order {
         return put_order(room, at, x.row);
     }
     if property_table::is_framing(x.row) {

@@ -1,66 +1,51 @@
 // One search along the entries of a desk: whether the desk is sound, and the slot of a ticket, the lowest free one or the idle one to take.
 #![tactic(auto)]
 
-ghost use Rattle.std.specs.Prelude.{◌≡◌, ◌≤◌};
+ghost use Rattle.std.specs.Prelude.{◌≡◌, ◌≤◌, IfErr};
 ghost use Rattle.numbers.specs.Limits as limit;
+ghost use Rattle.desk_entries.specs.Search.{place};
 ghost use Rattle.desk_slots.specs.Sound.{bounds};
 ghost use Rattle.desk_entries.specs.declared.State.TheVariants.{Open};
-ghost use Rattle.desk_slots.specs.Slots.{position_of, idle_of, slot_of, met, unsound, look_of, Within};
+ghost use Rattle.desk_slots.specs.Slots.{position, position_of, idle_of, found, slot_of, met, look_of, seen_of, Within};
 
-use desk_entries::tickets::{Lowest, Position};
+use desk_entries::tickets::Lowest;
 use desk_entries::{Entry, Session, State, tickets, ticks};
-use numbers::{limit, refusal};
+use numbers::refusal::{Reason, Refusal};
+use numbers::limit;
 
-// The slot of a ticket with its session, or a refusal.
-#[derive(Clone, Copy)]
-pub enum Slot {
-    Held(usize, Session),
-    No(u32),
+// The slot of a ticket, and its session.
+#[derive(Clone, Copy, Debug, PartialEq, Eq)]
+pub struct Found {
+    pub slot: usize,
+    pub session: Session,
 }
 
-// What a look along the entries tells: whether the desk is sound, and then the slot of a ticket and how many open entries come first.
-#[derive(Clone, Copy)]
+// What a look along the entries of a sound desk tells: the slot of a ticket, and how many open entries come first.
+#[derive(Clone, Copy, Debug, PartialEq, Eq)]
 pub struct Look {
-    pub sound: bool,
-    pub slot: Slot,
+    pub found: Option<Found>,
     pub run: usize,
 }
 
 // Tells whether the slot count is in range and the next ticket at least 1.
+#[tactic(auto, unfolding(crate::specs::Sound::bounds))]
 pub fn in_bounds(slots: usize, next: u32) -> bool
     ensures { result ≡ bounds slots next }
 {
-    if slots < 1 {
-        return false;
-    }
-    if slots > limit::SLOTS {
-        return false;
-    }
-    next >= 1
-}
-
-// What a look tells of a desk that is not sound.
-fn unsound() -> Look
-    ensures { result ≡ unsound }
-{
-    Look {
-        sound: false,
-        slot: Slot::No(refusal::NOT_OPEN),
-        run: 0,
-    }
+    1 <= slots && slots <= limit::SLOTS && 1 <= next
 }
 
 // Takes the session of entry i where it has the ticket, and else what was found before.
-fn met(slot: Slot, i: usize, o: Session, t: u32) -> Slot
-    ensures { result ≡ met slot i t (Open o) }
+fn met(found: Option<Found>, i: usize, session: Session, t: u32) -> Option<Found>
+    ensures { result ≡ met found i t (Open session) }
 {
-    if o.ticket == t {
-        return Slot::Held(i, o);
+    if session.ticket == t {
+        return Some(Found { slot: i, session });
     }
-    slot
+    found
 }
 
-// Looks along the entries once: whether the desk is sound, and then the slot of a ticket and how many open entries come first.
+// Looks along the entries once, and tells what it sees of a sound desk.
 fn look_along(
     entries: [Entry; limit::SLOTS],
     slots: usize,
@@ -68,51 +53,59 @@ fn look_along(
     stamps: &[u32; limit::SLOTS],
     tick: u32,
     t: u32,
-) -> Look
+) -> Option<Look>
     ensures { result ≡ look_of entries slots next stamps.now tick t }
 {
     if !in_bounds(slots, next) {
-        return unsound();
+        return None;
     }
     let mut ts = [0u32; limit::SLOTS];
     let mut highest: u32 = 0;
-    let mut slot = Slot::No(refusal::NOT_OPEN);
+    let mut found = None;
     let mut run: usize = 0;
-    let mut i: usize = 0;
-    while i < limit::SLOTS {
-        let e = entries[i];
-        let s = e.state;
-        match s {
-            State::Free => {
-                i += 1;
-                continue;
-            }
-            State::Open(o) => {
-                if !desk_entries::fits(e, i, slots, next) {
-                    return unsound();
-                }
-                if tick < stamps[i] {
-                    return unsound();
-                }
-                if tickets::repeats(&ts, o.ticket, i, highest) {
-                    return unsound();
-                }
-                ts[i] = o.ticket;
-                highest = ticks::higher(highest, o.ticket);
-                slot = met(slot, i, o, t);
-                run = tickets::longer(run, i);
-                i += 1;
-            }
+    for i in 0..limit::SLOTS {
+        let State::Open(session) = entries[i].state else {
+            continue;
+        };
+        if !desk_entries::fits(entries[i], i, slots, next) {
+            return None;
         }
+        if tick < stamps[i] {
+            return None;
+        }
+        if tickets::repeats(&ts, session.ticket, i, highest) {
+            return None;
+        }
+        ts[i] = session.ticket;
+        highest = ticks::higher(highest, session.ticket);
+        found = met(found, i, session, t);
+        run = tickets::longer(run, i);
     }
-    Look {
-        sound: true,
-        slot: slot,
-        run: run,
-    }
+    Some(Look { found, run })
 }
 
-// Finds the lowest free slot, or bars the call with 25 or 24.
+// Looks along the entries of a sound desk whose pool has its size, or refuses with 25 or 24.
+fn checked_look(
+    entries: [Entry; limit::SLOTS],
+    slots: usize,
+    next: u32,
+    stamps: &[u32; limit::SLOTS],
+    tick: u32,
+    size: usize,
+    t: u32,
+) -> Result<Look, Refusal>
+    ensures { result ≡ seen_of entries slots next stamps.now tick size t }
+{
+    let Some(seen) = look_along(entries, slots, next, stamps, tick, t) else {
+        return Err(Refusal(Reason::Unsound, 0));
+    };
+    if size != slots * limit::OCTETS {
+        return Err(Refusal(Reason::PoolLength, 0));
+    }
+    Ok(seen)
+}
+
+// Finds the lowest free slot, or refuses with 25 or 24.
 pub fn find_slot(
     entries: [Entry; limit::SLOTS],
     slots: usize,
@@ -120,20 +113,15 @@ pub fn find_slot(
     stamps: &[u32; limit::SLOTS],
     tick: u32,
     size: usize,
-) -> Position
-    ensures { result ≡ position_of entries slots next stamps.now tick size 0 }
+) -> Result<Option<usize>, Refusal>
+    ensures value { position result ≡ position_of entries slots next stamps.now tick size 0 }
+    ensures start { IfErr result (λ r. r.1 ≡ 0) }
 {
-    let seen = look_along(entries, slots, next, stamps, tick, 0);
-    if !seen.sound {
-        return Position::Barred(refusal::UNSOUND);
-    }
-    if size != slots * limit::OCTETS {
-        return Position::Barred(refusal::POOL_LENGTH);
-    }
+    let seen = checked_look(entries, slots, next, stamps, tick, size, 0)?;
     if seen.run < slots {
-        return Position::At(seen.run);
+        return Ok(Some(seen.run));
     }
-    Position::Nowhere
+    Ok(None)
 }
 
 // Finds the idle slot with the lowest ticket.
@@ -142,21 +130,16 @@ pub fn find_idle(
     slots: usize,
     stamps: &[u32; limit::SLOTS],
     at: u32,
-) -> Position
+) -> Option<usize>
     requires { slots ≤ limit.slots }
-    ensures { result ≡ idle_of entries slots stamps.now at }
+    ensures { place result ≡ idle_of entries slots stamps.now at }
 {
-    let mut lowest = Lowest { ticket: 0, at: 0 };
-    let mut i: usize = 0;
-    while i < slots {
-        let u = desk_entries::idle_ticket(entries[i], stamps[i], at);
-        lowest = tickets::lower(lowest, u, i);
-        i += 1;
+    let mut lowest: Option<Lowest> = None;
+    for i in 0..slots {
+        let ticket = desk_entries::idle_ticket(entries[i], stamps[i], at);
+        lowest = tickets::lower(lowest, ticket, i);
     }
-    if lowest.ticket == 0 {
-        return Position::Nowhere;
-    }
-    Position::At(lowest.at)
+    lowest.map(|found| found.at)
 }
 
 // Finds the slot of a ticket, or refuses with 25, 24 or 22.
@@ -168,17 +151,11 @@ pub fn at_ticket(
     tick: u32,
     size: usize,
     t: u32,
-) -> Slot
-    ensures slot { result ≡ slot_of entries slots next stamps.now tick size t }
-    ensures within { Within size result }
+) -> Result<Found, Refusal>
+    ensures slot { found result ≡ slot_of entries slots next stamps.now tick size t }
+    ensures within { Within size (found result) }
+    ensures start { IfErr result (λ r. r.1 ≡ 0) }
 {
-    let seen = look_along(entries, slots, next, stamps, tick, t);
-    if !seen.sound {
-        return Slot::No(refusal::UNSOUND);
-    }
-    if size != slots * limit::OCTETS {
-        return Slot::No(refusal::POOL_LENGTH);
-    }
-    let slot = seen.slot;
-    slot
+    let seen = checked_look(entries, slots, next, stamps, tick, size, t)?;
+    seen.found.ok_or(Refusal(Reason::NotOpen, 0))
 }

@@ -1,7 +1,7 @@
 // Folding the logical lines of a text: those that stay as they are, are copied in runs, and the others are folded anew.
 ghost use Rattle.std.specs.Prelude.{◌≡◌, true, false, ◌+◌, ◌-◌, ◌*◌, ◌≤◌, length, [], ◌∷◌, ◌++◌, map, take, drop};
 ghost use Rattle.numbers.specs.Limits as limit;
-ghost use Rattle.octets.specs.Room.{filled, fill_bounded, overlay};
+ghost use Rattle.octets.specs.Room.{filled, fill_bounded, overlay, written as answered};
 ghost use Rattle.line_folds.specs.Folds.{unfolded};
 ghost use Rattle.line_folds.specs.Logical.{logical_lines};
 ghost use Rattle.folder_line.specs.Pieces.{folded, folded_lines, Clean, All};
@@ -9,8 +9,8 @@ ghost use Rattle.folder_raising.specs.Walk.{raised, written};
 ghost use Rattle.folder.specs.Fitting.{Fitted, Poured};
 
 use folder_raising::Style;
-use numbers::{limit, refusal};
-use octets::rooms::Written;
+use numbers::refusal::{Reason, Refusal};
+use numbers::limit;
 
 // Raises the names of the line that stands in the first n octets of d.
 fn raise_start(d: &mut [u8], n: usize)
@@ -111,39 +111,28 @@ fn stays(style: Style, s: &[u8], at: usize, end: usize, folds: bool) -> bool
     requires s_value { folds ≡ false → unfolded (take (end - at) (drop at s.now)) ≡ take (end - at) (drop at s.now) }
     ensures { result ≡ true → (end + 2 ≤ length s.now) × (folded (written style (unfolded (take (end - at) (drop at s.now)))) ≡ take (end + 2 - at) (drop at s.now)) }
 {
-    if s.len() - end < 2 {
-        return false;
-    }
-    if s[end] != b'\r' {
-        return false;
-    }
-    if s[end + 1] != b'\n' {
-        return false;
-    }
-    if !stands(&s[at..end], folds) {
-        return false;
-    }
-    keeps_names(style, &s[at..end])
+    let line = &s[at..end];
+    s[end..].starts_with(b"\r\n") && stands(line, folds) && keeps_names(style, line)
 }
 
 // Copies the last run of lines to d from w on, where there is room for it: the octets then written in all, or 16.
-fn put_run(run: &[u8], d: &mut [u8], w: usize) -> Written
+fn put_run(run: &[u8], d: &mut [u8], w: usize) -> Result<usize, Refusal>
     requires { w ≤ length d.old }
-    ensures { Poured (take w d.old ++ run.now) d.old d.new result }
+    ensures { Poured (take w d.old ++ run.now) d.old d.new (answered result) }
 {
     let n = run.len();
     if d.len() - w < n {
-        return Written::Refused(refusal::FORM_TOO_LONG, limit::OCTETS);
+        return Err(Refusal(Reason::FormTooLong, limit::OCTETS));
     }
     octets::copying::copy_in(&mut d[w..], run);
-    Written::Wrote(w + n)
+    Ok(w + n)
 }
 
 // Writes the logical lines of a text in a style, each folded, to the start of d where it has room for them: the octets written, or 16. Lines that stay as
 // they are, are copied together, from `from` on.
-fn pour(style: Style, s: &[u8], d: &mut [u8]) -> Written
+fn pour(style: Style, s: &[u8], d: &mut [u8]) -> Result<usize, Refusal>
     requires { All Clean (logical_lines s.now) × (length s.now ≤ limit.octets) }
-    ensures { Poured (folded_lines (map (written style) (logical_lines s.now))) d.old d.new result }
+    ensures { Poured (folded_lines (map (written style) (logical_lines s.now))) d.old d.new (answered result) }
 {
     let mut from: usize = 0;
     let mut at: usize = 0;
@@ -158,7 +147,7 @@ fn pour(style: Style, s: &[u8], d: &mut [u8]) -> Written
         } else {
             let n = put_behind(style, &s[from..at], &s[at..end], folds, &mut d[w..]);
             if d.len() - w < n {
-                return Written::Refused(refusal::FORM_TOO_LONG, limit::OCTETS);
+                return Err(Refusal(Reason::FormTooLong, limit::OCTETS));
             }
             w += n;
             at = end + 2;
@@ -169,20 +158,17 @@ fn pour(style: Style, s: &[u8], d: &mut [u8]) -> Written
 }
 
 // Folds a text in a style by a buffer of its own, which holds all that may be written: 16, 15, else the octets written.
-fn fold_buffered(style: Style, s: &[u8], out: &mut [u8]) -> Written
+fn fold_buffered(style: Style, s: &[u8], out: &mut [u8]) -> Result<usize, Refusal>
     requires { All Clean (logical_lines s.now) × (length s.now ≤ limit.octets) }
-    ensures { filled result out.new ≡ fill_bounded (folded_lines (map (written style) (logical_lines s.now))) out.old }
+    ensures { filled (answered result) out.new ≡ fill_bounded (folded_lines (map (written style) (logical_lines s.now))) out.old }
 {
     let mut buffer = [0u8; limit::OCTETS];
-    let v = pour(style, s, &mut buffer);
-    let Written::Wrote(n) = v else {
-        return v;
-    };
+    let n = pour(style, s, &mut buffer)?;
     if out.len() < n {
-        return Written::Refused(refusal::ROOM, n);
+        return Err(Refusal(Reason::Room, n));
     }
     octets::copying::copy_in(out, &buffer[..n]);
-    Written::Wrote(n)
+    Ok(n)
 }
 
 // True only where the folded form of n octets surely has room: a line folded has at most four octets for each of its own, and two.
@@ -191,17 +177,14 @@ fn is_roomy(n: usize, room: usize) -> bool
     ensures { result ≡ true → (4 * n + 2 ≤ room) × (4 * n + 2 ≤ limit.octets) }
 {
     let most = 4 * n + 2;
-    if limit::OCTETS < most {
-        return false;
-    }
-    most <= room
+    most <= limit::OCTETS && most <= room
 }
 
 // Folds a text in a style: 16 where the folded form is over 16,384 octets, 15 where out is too small for it, else the octets written. It is written at
 // once where it surely has room.
-pub fn fold_text(style: Style, s: &[u8], out: &mut [u8]) -> Written
+pub fn fold_text(style: Style, s: &[u8], out: &mut [u8]) -> Result<usize, Refusal>
     requires { All Clean (logical_lines s.now) × (length s.now ≤ limit.octets) }
-    ensures { filled result out.new ≡ fill_bounded (folded_lines (map (written style) (logical_lines s.now))) out.old }
+    ensures { filled (answered result) out.new ≡ fill_bounded (folded_lines (map (written style) (logical_lines s.now))) out.old }
 {
     if is_roomy(s.len(), out.len()) {
         return pour(style, s, out);

@@ -10,7 +10,7 @@ ghost use Rattle.label_carets.specs.declared.Rule.TheVariants.{Rfc6868};
 use text_escaping::LetterTable;
 
 // How a caret in a label is read.
-#[derive(Clone, Copy)]
+#[derive(Clone, Copy, Debug, PartialEq, Eq)]
 pub enum Rule {
     // It stands for itself.
     Rfc6350,
@@ -33,13 +33,7 @@ pub fn letters() -> LetterTable
 fn is_code(b: u8) -> bool
     ensures { result ≡ code b }
 {
-    if b == b'n' {
-        return true;
-    }
-    if b == b'^' {
-        return true;
-    }
-    b == b'\''
+    matches!(b, b'n' | b'^' | b'\'')
 }
 
 // Whether a pair starts at i.
@@ -47,26 +41,18 @@ fn pair_at(s: &[u8], i: usize) -> bool
     requires { i < length s.now }
     ensures { result ≡ pair_at Rfc6868 (drop i s.now) }
 {
-    if s[i] != b'^' {
-        return false;
-    }
-    if s.len() - i < 2 {
-        return false;
-    }
-    is_code(s[i + 1])
+    s[i] == b'^' && 2 <= s.len() - i && is_code(s[i + 1])
 }
 
 // The octet that a pair stands for, by what follows its caret.
 fn meant_by(b: u8) -> u8
     ensures { result ≡ meant b }
 {
-    if b == b'n' {
-        return b'\n';
+    match b {
+        b'n' => b'\n',
+        b'\'' => b'"',
+        _ => b,
     }
-    if b == b'\'' {
-        return b'"';
-    }
-    b
 }
 
 // How many octets a label stands for.

@@ -36,10 +36,8 @@ fn see_each(s: &[u8], x: u8, y: u8, z: u8) -> u8
     ensures { result ≡ seen x y z s.now }
 {
     let mut bits: u8 = 0;
-    let mut i: usize = 0;
-    while i < s.len() {
-        bits = bits | see_octet(s[i], x, y, z);
-        i += 1;
+    for b in s {
+        bits |= see_octet(*b, x, y, z);
     }
     bits
 }
@@ -50,7 +48,7 @@ fn see_parts(s: &[u8], end: usize, from: usize, x: u8, y: u8, z: u8) -> u8
     requires end_in_bounds { end ≤ length s.now }
     ensures { result ≡ seen x y z s.now }
 {
-    see_each(&s[0..end], x, y, z) | see_each(&s[from..], x, y, z)
+    see_each(&s[..end], x, y, z) | see_each(&s[from..], x, y, z)
 }
 
 // What is seen: 1 where an octet is neither plain nor x, or is z; 2 where one is a caret, x or y; 3 where both; else 0. The two parts
@@ -59,16 +57,12 @@ pub fn see(s: &[u8], x: u8, y: u8, z: u8) -> u8
     ensures { result ≡ seen x y z s.now }
 {
     let n = s.len();
-    if n < 8 {
-        return see_each(s, x, y, z);
+    match n {
+        0..=7 => see_each(s, x, y, z),
+        8..=15 => see_parts(s, 8, n - 8, x, y, z),
+        16..=31 => see_parts(s, 16, n - 16, x, y, z),
+        _ => see_parts(s, n / 32 * 32, n - 32, x, y, z),
     }
-    if n < 16 {
-        return see_parts(s, 8, n - 8, x, y, z);
-    }
-    if n < 32 {
-        return see_parts(s, 16, n - 16, x, y, z);
-    }
-    see_parts(s, n / 32 * 32, n - 32, x, y, z)
 }
 
 // How many octets are a caret, x or y: one pass with no early exit, in 16 bits, so that it compiles to vector instructions.
@@ -77,10 +71,8 @@ pub fn count_marks(s: &[u8], x: u8, y: u8) -> usize
     ensures { (result ≡ count (mark x y) s.now) × (result ≤ length s.now) }
 {
     let mut n: u16 = 0;
-    let mut i: usize = 0;
-    while i < s.len() {
-        n += mark_bit(s[i], x, y) as u16;
-        i += 1;
+    for b in s {
+        n += mark_bit(*b, x, y) as u16;
     }
     n as usize
 }

@@ -17,7 +17,7 @@ use property_table::Edition;
 use property_table::rows::PropertyTable;
 
 // One record: eight numbers.
-#[derive(Clone, Copy)]
+#[derive(Clone, Copy, Debug, PartialEq, Eq)]
 pub struct Record {
     pub property: u32,
     pub start: u32,
@@ -77,11 +77,7 @@ fn put_record(out: &mut [u32], at: usize, r: Record)
         r.value_start,
         r.kind,
     ];
-    let mut i: usize = 0;
-    while i < limit::RECORD_LENGTH {
-        out[at + i] = row[i];
-        i += 1;
-    }
+    out[at..at + limit::RECORD_LENGTH].copy_from_slice(&row);
 }
 
 // Writes the records of the lines of s, which has no folds, to the start of out.

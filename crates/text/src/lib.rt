@@ -1,133 +1,111 @@
 // Text: escaping, and unescaping, which gives back what was escaped.
 #![tactic(auto)]
 
-ghost use Rattle.std.specs.Prelude.{◌≡◌, false, ◌≤◌, length};
+ghost use Rattle.std.specs.Prelude.{◌≡◌, ◌≤◌, length};
+ghost use Rattle.std.specs.Fn.{FnOnceReturnsAt};
 ghost use Rattle.numbers.specs.Limits as limit;
-ghost use Rattle.utf8.specs.Characters.{allowed, first_bad};
-ghost use Rattle.utf8_screening.specs.Plain.{odd};
-ghost use Rattle.octets.specs.Room.{filled, fill, fill_bounded};
+ghost use Rattle.octets.specs.Room.{filled, written, fill, fill_bounded};
 ghost use Rattle.text_escaping.specs.Escaped.{escaped};
 ghost use Rattle.text_unescaping.specs.Unescaped.{unescaped};
-ghost use Rattle.octets.specs.Counts.{any};
-ghost use Rattle.text.specs.Screened.{screened};
+ghost use Rattle.text.specs.Screened.{Screens};
 ghost use Rattle.text.specs.Outcomes.{faultless, escape_outcome, unescape_outcome};
 
-use numbers::{limit, refusal};
-use octets::rooms::Written;
-use text_unescaping::Measured;
+use numbers::limit;
+use numbers::refusal::{Reason, Refusal};
+use utf8_screening::texts;
 
-// The first bad octet, or the length; where only plain octets were seen there is none.
-fn bad_octet(text: &[u8], seen: u8, lf: bool) -> usize
-    requires { (seen ≡ 0 → any odd text.now ≡ false) × (seen ≡ 2 → any odd text.now ≡ false) }
-    ensures { result ≡ first_bad (allowed lf) text.now }
-{
-    if seen == 0 {
-        return text.len();
-    }
-    if seen == 2 {
-        return text.len();
-    }
-    utf8_screening::texts::first_bad(text, lf)
-}
-
-// What screening a text answers.
-#[derive(Clone, Copy)]
-pub enum Screened {
-    // What is seen in the text (`text_marks::see`).
-    Saw(u8),
-    // The refusal's number and place.
-    Refused(u32, usize),
-}
-
-// Refuses a text with TOO_LONG or TEXT_OCTET, else answers what is seen in it: octets that are not plain, and a backslash, a comma, x or y.
-fn screen(text: &[u8], x: u8, y: u8, lf: bool) -> Screened
-    ensures { result ≡ screened lf x y text.now }
+// Refuses a text with TOO_LONG or TEXT_OCTET, else answers what `see` sees in it: 1 where an octet may be bad, 2 where one is a mark, 3
+// where both, else 0. `first_bad` finds the first bad octet, and is asked only where one may be bad.
+pub fn screen<S: FnOnce(&[u8]) -> u8, B: FnOnce(&[u8]) -> usize>(
+    text: &[u8],
+    see: S,
+    first_bad: B,
+) -> Result<u8, Refusal>
+    requires see { S.IsAlwaysCallable see }
+    requires first_bad { B.IsAlwaysCallable first_bad }
+    ensures { Screens (FnOnceReturnsAt S.FnOnce see text.now) (FnOnceReturnsAt B.FnOnce first_bad text.now) text.now result }
 {
     if limit::OCTETS < text.len() {
-        return Screened::Refused(refusal::TOO_LONG, limit::OCTETS);
+        return Err(Refusal(Reason::TooLong, limit::OCTETS));
     }
-    let seen = text_marks::see(text, x, y);
-    let bad = bad_octet(text, seen, lf);
+    let seen = see(text);
+    if seen == 0 || seen == 2 {
+        return Ok(seen);
+    }
+    let bad = first_bad(text);
     if bad < text.len() {
-        return Screened::Refused(refusal::TEXT_OCTET, bad);
+        return Err(Refusal(Reason::TextOctet, bad));
     }
-    Screened::Saw(seen)
+    Ok(seen)
 }
 
 // Writes the text as it is, or refuses with ROOM.
-pub fn put(text: &[u8], out: &mut [u8]) -> Written
-    ensures { filled result out.new ≡ fill text.now out.old }
+pub fn put(text: &[u8], out: &mut [u8]) -> Result<usize, Refusal>
+    ensures { filled (written result) out.new ≡ fill text.now out.old }
 {
     if out.len() < text.len() {
-        return Written::Refused(refusal::ROOM, text.len());
+        return Err(Refusal(Reason::Room, text.len()));
     }
     octets::copying::copy_in(out, text);
-    Written::Wrote(text.len())
+    Ok(text.len())
 }
 
 // Escapes octet by octet, or refuses with FORM_TOO_LONG or ROOM.
-fn escape_each(text: &[u8], out: &mut [u8]) -> Written
+fn escape_each(text: &[u8], out: &mut [u8]) -> Result<usize, Refusal>
     requires { length text.now ≤ limit.octets }
-    ensures { filled result out.new ≡ fill_bounded (escaped text.now) out.old }
+    ensures { filled (written result) out.new ≡ fill_bounded (escaped text.now) out.old }
 {
     let n = text.len() + text_marks::counts::marks(text);
     if limit::OCTETS < n {
-        return Written::Refused(refusal::FORM_TOO_LONG, limit::OCTETS);
+        return Err(Refusal(Reason::FormTooLong, limit::OCTETS));
     }
     if out.len() < n {
-        return Written::Refused(refusal::ROOM, n);
+        return Err(Refusal(Reason::Room, n));
     }
     let t = text_escaping::letters();
     text_escaping::write(&t, b'\\', text, out);
-    Written::Wrote(n)
+    Ok(n)
 }
 
 // Writes the text with its escapes, or refuses with TOO_LONG, TEXT_OCTET, FORM_TOO_LONG or ROOM.
-pub fn escape(text: &[u8], out: &mut [u8]) -> Written
-    ensures { filled result out.new ≡ escape_outcome text.now out.old }
+pub fn escape(text: &[u8], out: &mut [u8]) -> Result<usize, Refusal>
+    ensures { filled (written result) out.new ≡ escape_outcome text.now out.old }
 {
-    let s = screen(text, b';', b'\n', true);
-    match s {
-        Screened::Refused(n, p) => Written::Refused(n, p),
-        Screened::Saw(seen) => {
-            if seen < 2 {
-                return put(text, out);
-            }
-            escape_each(text, out)
-        }
+    let seen = screen(
+        text,
+        |s| text_marks::see(s, b';', b'\n'),
+        |s| texts::first_bad(s, true),
+    )?;
+    if seen < 2 {
+        return put(text, out);
     }
+    escape_each(text, out)
 }
 
 // Unescapes octet by octet, or refuses with ESCAPE or ROOM.
-fn unescape_each(text: &[u8], out: &mut [u8]) -> Written
+fn unescape_each(text: &[u8], out: &mut [u8]) -> Result<usize, Refusal>
     requires { length text.now ≤ limit.octets }
-    ensures { filled result out.new ≡ faultless text.now out.old (fill (unescaped text.now) out.old) }
+    ensures { filled (written result) out.new ≡ faultless text.now out.old (fill (unescaped text.now) out.old) }
 {
-    let m = text_unescaping::measure(text);
-    match m {
-        Measured::Fault(place) => Written::Refused(refusal::ESCAPE, place),
-        Measured::Octets(kept) => {
-            if out.len() < kept {
-                return Written::Refused(refusal::ROOM, kept);
-            }
-            text_unescaping::write(text, out);
-            Written::Wrote(kept)
-        }
+    let kept = text_unescaping::measure(text).map_err(|place| Refusal(Reason::Escape, place))?;
+    if out.len() < kept {
+        return Err(Refusal(Reason::Room, kept));
     }
+    text_unescaping::write(text, out);
+    Ok(kept)
 }
 
 // Writes the text that a text with escapes stands for, or refuses with TOO_LONG, TEXT_OCTET, ESCAPE or ROOM.
-pub fn unescape(text: &[u8], out: &mut [u8]) -> Written
-    ensures { filled result out.new ≡ unescape_outcome text.now out.old }
+pub fn unescape(text: &[u8], out: &mut [u8]) -> Result<usize, Refusal>
+    ensures { filled (written result) out.new ≡ unescape_outcome text.now out.old }
 {
-    let s = screen(text, b',', b',', false);
-    match s {
-        Screened::Refused(n, p) => Written::Refused(n, p),
-        Screened::Saw(seen) => {
-            if seen < 2 {
-                return put(text, out);
-            }
-            unescape_each(text, out)
-        }
+    let seen = screen(
+        text,
+        |s| text_marks::see(s, b',', b','),
+        |s| texts::first_bad(s, false),
+    )?;
+    if seen < 2 {
+        return put(text, out);
     }
+    unescape_each(text, out)
 }

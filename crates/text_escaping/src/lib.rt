@@ -26,20 +26,16 @@ pub fn write(t: &LetterTable, lead: u8, text: &[u8], out: &mut [u8])
     requires { length (coded lead t.now text.now) ≤ length out.old }
     ensures { out.new ≡ overlay (coded lead t.now text.now) out.old }
 {
-    let mut i: usize = 0;
     let mut j: usize = 0;
-    while i < text.len() {
-        let b = text[i];
-        let x = t[b as usize];
+    for b in text {
+        let x = t[*b as usize];
         if x == 0 {
-            out[j] = b;
+            out[j] = *b;
             j += 1;
-            i += 1;
         } else {
             out[j] = lead;
             out[j + 1] = x;
             j += 2;
-            i += 1;
         }
     }
 }

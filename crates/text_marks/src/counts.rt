@@ -10,10 +10,8 @@ pub fn marks(s: &[u8]) -> usize
     ensures { (result ≡ count marked s.now) × (result ≤ length s.now) }
 {
     let mut n: u16 = 0;
-    let mut i: usize = 0;
-    while i < s.len() {
-        n += crate::held_bit(s[i], b';', b'\n') as u16;
-        i += 1;
+    for b in s {
+        n += crate::held_bit(*b, b';', b'\n') as u16;
     }
     n as usize
 }
@@ -24,10 +22,8 @@ pub fn backslashes(s: &[u8]) -> usize
     ensures { (result ≡ count backslash s.now) × (result ≤ length s.now) }
 {
     let mut n: u16 = 0;
-    let mut i: usize = 0;
-    while i < s.len() {
-        n += (s[i] == b'\\') as u16;
-        i += 1;
+    for b in s {
+        n += (*b == b'\\') as u16;
     }
     n as usize
 }

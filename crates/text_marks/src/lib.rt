@@ -27,10 +27,8 @@ fn see_each(s: &[u8], x: u8, y: u8) -> u8
     ensures { result ≡ seen x y s.now }
 {
     let mut bits: u8 = 0;
-    let mut i: usize = 0;
-    while i < s.len() {
-        bits = bits | see_octet(s[i], x, y);
-        i += 1;
+    for b in s {
+        bits |= see_octet(*b, x, y);
     }
     bits
 }
@@ -41,7 +39,7 @@ fn see_parts(s: &[u8], end: usize, from: usize, x: u8, y: u8) -> u8
     requires end_in_bounds { end ≤ length s.now }
     ensures { result ≡ seen x y s.now }
 {
-    see_each(&s[0..end], x, y) | see_each(&s[from..], x, y)
+    see_each(&s[..end], x, y) | see_each(&s[from..], x, y)
 }
 
 // What is seen: 1 where an octet is not plain, 2 where one is a backslash, a comma, x or y, 3 where both, else 0. The two parts
@@ -50,17 +48,11 @@ pub fn see(s: &[u8], x: u8, y: u8) -> u8
     ensures { result ≡ seen x y s.now }
 {
     let n = s.len();
-    if n < 4 {
-        return see_each(s, x, y);
+    match n {
+        0..=3 => see_each(s, x, y),
+        4..=7 => see_parts(s, 4, n - 4, x, y),
+        8..=15 => see_parts(s, 8, n - 8, x, y),
+        16..=31 => see_parts(s, 16, n - 16, x, y),
+        _ => see_parts(s, n / 32 * 32, n - 32, x, y),
     }
-    if n < 8 {
-        return see_parts(s, 4, n - 4, x, y);
-    }
-    if n < 16 {
-        return see_parts(s, 8, n - 8, x, y);
-    }
-    if n < 32 {
-        return see_parts(s, 16, n - 16, x, y);
-    }
-    see_parts(s, n / 32 * 32, n - 32, x, y)
 }

@@ -18,14 +18,9 @@ pub fn all_settled(s: &[u8], listed: bool) -> bool
 {
     let mut bad: u8 = 0;
     let mut before: u8 = 0;
-    let mut i: usize = 0;
-    while i < s.len() {
-        bad = bad | pair_bit(before, s[i], listed);
-        before = s[i];
-        i += 1;
+    for b in s {
+        bad |= pair_bit(before, *b, listed);
+        before = *b;
     }
-    if bad != 0 {
-        return false;
-    }
-    before != b'\\'
+    bad == 0 && before != b'\\'
 }

@@ -10,32 +10,11 @@ ghost use Rattle.text_unescaping.specs.Measured.{measured};
 // The length below which a text is measured escape by escape.
 const SHORT: usize = 32;
 
-// What measuring a text answers.
-#[derive(Clone, Copy)]
-pub enum Measured {
-    // The text has no fault, and stands for so many octets.
-    Octets(usize),
-    // The place of its first fault.
-    Fault(usize),
-}
-
 // Whether an octet makes an escape of the backslash before it.
 fn is_code(b: u8) -> bool
     ensures { result ≡ code b }
 {
-    if b == b'\\' {
-        return true;
-    }
-    if b == b',' {
-        return true;
-    }
-    if b == b';' {
-        return true;
-    }
-    if b == b'n' {
-        return true;
-    }
-    b == b'N'
+    matches!(b, b'\\' | b',' | b';' | b'n' | b'N')
 }
 
 // Whether an escape starts at i.
@@ -43,64 +22,50 @@ fn escape_at(s: &[u8], i: usize) -> bool
     requires { i < length s.now }
     ensures { result ≡ escape_at (drop i s.now) }
 {
-    if s[i] != b'\\' {
-        return false;
-    }
-    if s.len() - i < 2 {
-        return false;
-    }
-    is_code(s[i + 1])
+    s[i] == b'\\' && 2 <= s.len() - i && is_code(s[i + 1])
 }
 
 // The octet that an escape stands for, by what follows its backslash.
 fn meant_by(b: u8) -> u8
     ensures { result ≡ meant b }
 {
-    if b == b'n' {
-        return b'\n';
+    match b {
+        b'n' | b'N' => b'\n',
+        _ => b,
     }
-    if b == b'N' {
-        return b'\n';
-    }
-    b
 }
 
 // Measures a text, escape by escape.
-fn measure_each(text: &[u8]) -> Measured
+fn measure_each(text: &[u8]) -> Result<usize, usize>
     ensures { result ≡ measured text.now }
 {
     let mut i: usize = 0;
     let mut kept: usize = 0;
     while i < text.len() {
         if text[i] == b'\\' {
-            let whole = escape_at(text, i);
-            if !whole {
-                return Measured::Fault(i);
+            if !escape_at(text, i) {
+                return Err(i);
             }
             kept += 1;
             i += 2;
         } else {
             if text[i] == b',' {
-                return Measured::Fault(i);
+                return Err(i);
             }
             kept += 1;
             i += 1;
         }
     }
-    Measured::Octets(kept)
+    Ok(kept)
 }
 
-// Measures a text.
-pub fn measure(text: &[u8]) -> Measured
+// How many octets a text stands for, or the place of its first fault.
+pub fn measure(text: &[u8]) -> Result<usize, usize>
     requires { length text.now ≤ limit.octets }
     ensures { result ≡ measured text.now }
 {
-    if text.len() < SHORT {
-        return measure_each(text);
-    }
-    if text_marks::pairs::all_settled(text, false) {
-        let kept = text.len() - text_marks::counts::backslashes(text);
-        return Measured::Octets(kept);
+    if SHORT <= text.len() && text_marks::pairs::all_settled(text, false) {
+        return Ok(text.len() - text_marks::counts::backslashes(text));
     }
     measure_each(text)
 }

@@ -9,51 +9,33 @@ ghost use Rattle.utf8.specs.Characters.{length_by, second, tail, char_length};
 pub fn length_by(b: u8) -> usize
     ensures { result ≡ length_by b }
 {
-    if b < 0x80 {
-        return 1;
+    match b {
+        0x00..=0x7f => 1,
+        0xc2..=0xdf => 2,
+        0xe0..=0xef => 3,
+        0xf0..=0xf4 => 4,
+        _ => 0,
     }
-    if b < 0xc2 {
-        return 0;
-    }
-    if b < 0xe0 {
-        return 2;
-    }
-    if b < 0xf0 {
-        return 3;
-    }
-    if b < 0xf5 {
-        return 4;
-    }
-    0
 }
 
 // Whether an octet is from low to high.
 pub fn in_range(low: u8, high: u8, c: u8) -> bool
     ensures { result ≡ within low high c }
 {
-    if c < low {
-        return false;
-    }
-    c <= high
+    (low..=high).contains(&c)
 }
 
 // Whether c may stand second after b, which starts a character of two or more octets.
 pub fn is_second(b: u8, c: u8) -> bool
     ensures { result ≡ second b c }
 {
-    if b == 0xe0 {
-        return in_range(0xa0, 0xbf, c);
+    match b {
+        0xe0 => in_range(0xa0, 0xbf, c),
+        0xed => in_range(0x80, 0x9f, c),
+        0xf0 => in_range(0x90, 0xbf, c),
+        0xf4 => in_range(0x80, 0x8f, c),
+        _ => in_range(0x80, 0xbf, c),
     }
-    if b == 0xed {
-        return in_range(0x80, 0x9f, c);
-    }
-    if b == 0xf0 {
-        return in_range(0x90, 0xbf, c);
-    }
-    if b == 0xf4 {
-        return in_range(0x80, 0x8f, c);
-    }
-    in_range(0x80, 0xbf, c)
 }
 
 // Whether c may stand third or fourth in a character.
@@ -70,29 +52,9 @@ pub fn char_length(s: &[u8], i: usize) -> usize
 {
     let b = s[i];
     let n = length_by(b);
-    if s.len() - i < n {
-        return 0;
-    }
-    if n < 2 {
-        return n;
-    }
-    let two = is_second(b, s[i + 1]);
-    if !two {
-        return 0;
-    }
-    if n < 3 {
-        return n;
-    }
-    let three = is_tail(s[i + 2]);
-    if !three {
-        return 0;
-    }
-    if n < 4 {
-        return n;
-    }
-    let four = is_tail(s[i + 3]);
-    if !four {
-        return 0;
-    }
-    n
+    let whole = n <= s.len() - i
+        && (n < 2 || is_second(b, s[i + 1]))
+        && (n < 3 || is_tail(s[i + 2]))
+        && (n < 4 || is_tail(s[i + 3]));
+    if whole { n } else { 0 }
 }

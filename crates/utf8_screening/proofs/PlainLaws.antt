@@ -6,9 +6,10 @@ use Prim.Native.Nat.{ℕ, suc, ◌+◌, ◌-◌, ◌<◌, ◌≤◌, zero}
 use native.Mathlib.Numerals.{add-one}
 use native.Mathlib.Omega.{arith}
 use lib.Dec.{eqb, ltb}
-use lib.Bits.{bit_or, or_zero_l}
-use lib.ListN.{length, get_or, take, drop, drop_of_length-le, length-take, length-drop, take-append-drop}
-use lib.Seq.{drop-cons, drop-drop, length-take-le, get_or-take, get_or-drop, take_all}
+use lib.Bits.{bit_or}
+use lib.ListN.{length, get_or, take, drop, drop_of_length-le, length-drop, take-append-drop}
+use Rattle.std.specs.List.{list_all}
+use lib.Seq.{drop-cons, drop-drop, length-take-le, take_all}
 use native.Mathlib.Nat.{zero-add, add-zero, suc-add}
 use borrow.Author.Tests.{ne_eqb, eqb-true, ltb-false, lt-ltb, le-ltb, le-leb}
 use Rattle.octets.specs.Classes.{bit, has, valued, value_mask}
@@ -30,20 +31,9 @@ module _ (s : List ℕ) (i : ℕ) where
   plain_step h a x e =
       ap (λ (t : Bool). eqb a 0 && t) (plain_at h) ∙ mark_step a x (odd (get_or s i 0)) (all_plain (drop (i + 1) s)) e
 
-  -- one octet at a time: r is its mark
-  module _ (h : i < length s) (r : ℕ) (e : r ≡ bit (odd (get_or s i 0)) 1) where
-    pub plain_one : r ≡ 0 → all_plain (drop i s) ≡ all_plain (drop (i + 1) s)
-    plain_one z = plain_step h 0 r e ∙ ap (λ (n : ℕ). eqb (bit_or 0 n) 0 && all_plain (drop (i + 1) s)) z
-
-    pub plain_odd : (r ≡ 0 → ⊥) → all_plain (drop i s) ≡ false
-    plain_odd z = plain_step h 0 r e ∙ ap (λ (t : Bool). t && all_plain (drop (i + 1) s)) (ap (λ (n : ℕ). eqb n 0) (or_zero_l r) ∙ ne_eqb r 0 z)
-
   pub plain_end : length s ≤ i → (a : ℕ) → (eqb a 0 && all_plain (drop i s)) ≡ eqb a 0
   unfolding all_plain
   plain_end h a = rw (drop_of_length-le s h, and-true)
-
-  pub plain_none : length s ≤ i → all_plain (drop i s) ≡ true
-  plain_none h = plain_end h 0
 
 -- a text is plain where its first n octets and the others are
 plain_append : (a b : List ℕ) → all_plain (a ++ b) ≡ (all_plain a && all_plain b)
@@ -83,22 +73,19 @@ plain_last s j n i l h e =
     let d : length (drop j s) ≤ n = rw (length-drop j s) (omega arith) in
     ap all_plain (take_all n (drop j s) d) ∙ sym (plain_back s j i h e)
 
--- a look at n octets from i on, whose marks are gathered in a
-module _ (s : List ℕ) (i n : ℕ) (h : i + n ≤ length s) where
-  look_length : length (take n (drop i s)) ≡ n
-  look_length = simp (length-take, length-drop) (omega arith)
+-- that each octet passes the test, as the library says it
+pub plain_is : (s : List ℕ) → list_all (λ b. not (odd b)) s ≡ all_plain s
+unfolding all_plain
+plain_is [] = refl
+plain_is (x ∷ xs) = ap (λ (t : Bool). not (odd x) && t) (plain_is xs)
 
-  pub look_step : (k a x : ℕ) → k < n → x ≡ bit (odd (get_or s (i + k) 0)) 1
-      → all_plain (take n (drop i s)) ≡ (eqb a 0 && all_plain (drop k (take n (drop i s))))
-      → all_plain (take n (drop i s)) ≡ (eqb (bit_or a x) 0 && all_plain (drop (k + 1) (take n (drop i s))))
-  look_step k a x l e q = q ∙ plain_step (take n (drop i s)) k (rw look_length l) a x (e ∙ at)
-    where
-      at : bit (odd (get_or s (i + k) 0)) 1 ≡ bit (odd (get_or (take n (drop i s)) k 0)) 1
-      at = rw (get_or-take, get_or-drop)
-
-  pub look_end : (k a : ℕ) → n ≤ k → all_plain (take n (drop i s)) ≡ (eqb a 0 && all_plain (drop k (take n (drop i s))))
-      → eqb a 0 ≡ all_plain (take n (drop i s))
-  look_end k a l q = sym (q ∙ plain_end (take n (drop i s)) k (rw look_length l) a)
+-- the mark of an octet is 0 where the octet is plain
+pub mark_none : (r x : ℕ) → r ≡ bit (odd x) 1 → eqb r 0 ≡ not (odd x)
+mark_none r x e = ap (λ (n : ℕ). eqb n 0) e ∙ by (odd x)
+  where
+    by : (t : Bool) → eqb (bit t 1) 0 ≡ not t
+    by true = refl
+    by false = refl
 
 -- plain text has no octet that is not allowed
 plain_octet : (x : ℕ) → odd x ≡ false → (x < 127) × (valued x ≡ true)

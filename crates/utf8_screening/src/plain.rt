@@ -1,7 +1,7 @@
 // Plain text: looks of sixteen and of eight octets with no way out, so that they compile to vector instructions.
 ghost use Rattle.std.specs.Prelude.{◌≡◌, ◌+◌, ◌<◌, ◌≤◌, length, take, drop};
 ghost use Rattle.octets.specs.Classes.{bit};
-ghost use Rattle.utf8_screening.specs.Plain.{odd, all_plain, block, half};
+ghost use Rattle.utf8_screening.specs.Plain.{odd, all_plain, block};
 
 // How many octets are looked at together.
 pub const BLOCK: usize = 16;
@@ -16,46 +16,31 @@ pub fn odd_bit(b: u8) -> u8
     (b'~' < b) as u8 | ((b < b' ') as u8 & (b != b'\t') as u8)
 }
 
+// Whether the N octets from i on are plain.
+fn is_plain_part<const N: usize>(s: &[u8], i: usize) -> bool
+    requires { i + N ≤ length s.now }
+    ensures { result ≡ all_plain (take N (drop i s.now)) }
+{
+    let mut bad: u8 = 0;
+    for b in &s[i..i + N] {
+        bad |= odd_bit(*b);
+    }
+    bad == 0
+}
+
 // Whether the block from i on is plain.
 pub fn is_plain_block(s: &[u8], i: usize) -> bool
     requires { i + block ≤ length s.now }
     ensures { result ≡ all_plain (take block (drop i s.now)) }
 {
-    let mut bad: u8 = 0;
-    let mut k: usize = 0;
-    while k < BLOCK {
-        bad = bad | odd_bit(s[i + k]);
-        k += 1;
-    }
-    bad == 0
-}
-
-// Whether the half block from i on is plain.
-fn is_plain_half(s: &[u8], i: usize) -> bool
-    requires { i + half ≤ length s.now }
-    ensures { result ≡ all_plain (take half (drop i s.now)) }
-{
-    let mut bad: u8 = 0;
-    let mut k: usize = 0;
-    while k < HALF {
-        bad = bad | odd_bit(s[i + k]);
-        k += 1;
-    }
-    bad == 0
+    is_plain_part::<BLOCK>(s, i)
 }
 
 // Whether every octet is plain, one at a time.
 fn each_plain(s: &[u8]) -> bool
     ensures { result ≡ all_plain s.now }
 {
-    let mut i: usize = 0;
-    while i < s.len() {
-        if odd_bit(s[i]) != 0 {
-            return false;
-        }
-        i += 1;
-    }
-    true
+    s.iter().all(|b| odd_bit(*b) == 0)
 }
 
 // Whether every octet of a text shorter than a block is plain.
@@ -66,10 +51,7 @@ fn short_plain(s: &[u8]) -> bool
     if s.len() < HALF {
         return each_plain(s);
     }
-    if !is_plain_half(s, 0) {
-        return false;
-    }
-    is_plain_half(s, s.len() - HALF)
+    is_plain_part::<HALF>(s, 0) && is_plain_part::<HALF>(s, s.len() - HALF)
 }
 
 // Whether every octet is a tab or one of 20-7E, by blocks, the last of which ends where the text ends.

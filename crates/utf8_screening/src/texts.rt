@@ -15,20 +15,10 @@ fn easy_at(s: &[u8], i: usize) -> usize
     if crate::plain::odd_bit(b) == 0 {
         return 1;
     }
-    if b < 0xc2 {
-        return 0;
+    if (0xc2..=0xdf).contains(&b) && 2 <= s.len() - i && utf8::is_tail(s[i + 1]) {
+        return 2;
     }
-    if 0xdf < b {
-        return 0;
-    }
-    if s.len() - i < 2 {
-        return 0;
-    }
-    let two = utf8::is_tail(s[i + 1]);
-    if !two {
-        return 0;
-    }
-    2
+    0
 }
 
 // How far plain octets and characters of two octets reach.
@@ -50,11 +40,8 @@ fn reach(s: &[u8]) -> usize
 pub fn first_bad(s: &[u8], lf: bool) -> usize
     ensures { result ≡ first_bad (allowed lf) s.now }
 {
-    if s.len() < SHORT {
-        let n = reach(s);
-        if n == s.len() {
-            return n;
-        }
+    if s.len() < SHORT && reach(s) == s.len() {
+        return s.len();
     }
     let t = octets::classes::table();
     crate::units::first_unfit(&t, s, lf)

@@ -15,13 +15,7 @@ pub fn unit_length(t: &ClassTable, s: &[u8], i: usize, lf: bool) -> usize
 {
     let b = s[i];
     if t[b as usize] & octets::classes::VALUE == 0 {
-        if !lf {
-            return 0;
-        }
-        if b != b'\n' {
-            return 0;
-        }
-        return 1;
+        return if lf && b == b'\n' { 1 } else { 0 };
     }
     if b < 0x80 {
         return 1;
@@ -35,10 +29,8 @@ fn stride(t: &ClassTable, s: &[u8], i: usize, lf: bool) -> usize
     requires i_in_bounds { i < length s.now }
     ensures { Strides (allowed lf) s.now i result }
 {
-    if BLOCK <= s.len() - i {
-        if crate::plain::is_plain_block(s, i) {
-            return BLOCK;
-        }
+    if BLOCK <= s.len() - i && crate::plain::is_plain_block(s, i) {
+        return BLOCK;
     }
     unit_length(t, s, i, lf)
 }

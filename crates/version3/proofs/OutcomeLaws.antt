@@ -10,8 +10,7 @@ use Rattle.line_breaks.specs.Lone.{first_lone, ends_cr_lf}
 use Rattle.line_folds.specs.Logical.{raw_lines}
 use Rattle.version3_parameters.specs.declared.Way.{Way}
 use Rattle.version3_judge.specs.declared.Set.{Set}
-use Rattle.version3_judge.specs.declared.Step.TheVariants.{Next}
-use Rattle.version3_judge.specs.Judge.{fresh_set, judge_lines}
+use Rattle.version3_judge.specs.Judge.{Next, ended, fresh_set, judge_lines}
 use Rattle.version3.specs.Card.{card_text}
 use Rattle.version3.specs.Outcome.{concluded, convert_outcome}
 
@@ -45,8 +44,8 @@ module _ (w : Way) (i room : List ℕ) where
 
 -- after the last line
 module _ (w : Way) (c : Set) (i room : List ℕ) where
-  pub conclude_open : (c.phase ≡ 2 → ⊥) → refuse 9 (length i) room ≡ concluded w (Next c) i room
-  conclude_open n = sym (rw (ne_eqb c.phase 2 n))
+  pub conclude_open : ended c.phase ≡ false → refuse 9 (length i) room ≡ concluded w (Next c) i room
+  conclude_open e = sym (rw e)
 
-  pub conclude_done : c.phase ≡ 2 → fill_bounded (card_text w i) room ≡ concluded w (Next c) i room
-  conclude_done e = sym (rw (eq-eqb c.phase 2 e))
+  pub conclude_done : ended c.phase ≡ true → fill_bounded (card_text w i) room ≡ concluded w (Next c) i room
+  conclude_done e = sym (rw e)

@@ -13,6 +13,13 @@ use Rattle.folder_line.specs.Pieces.{folded_lines}
 use Rattle.version3_parameters.specs.declared.Way.{Way}
 use Rattle.version3_line.specs.Lines.{written_by}
 use Rattle.version3.specs.declared.sheet.Form.{Form}
+use Rattle.version3.specs.declared.sheet.Turn.{Turn}
+use Rattle.version3.specs.declared.sheet.Turn.TheVariants.{First as first, Second as second, Others as others}
+
+abbrev pub turn_number : Turn → ℕ
+turn_number first = 0
+turn_number second = 1
+turn_number others = 2
 
 -- where a line of the row stands: first, second, or behind these
 unfoldable pub turn_of_row : ℕ → ℕ
@@ -47,6 +54,6 @@ card_text w i = folded_lines (arranged w (logical_lines i))
 
 -- the form of the line l stands at the start of a room
 pub record Formed (w : Way) (l : List ℕ) (r : Form) (room : List ℕ) : Type 0 where
-  pub turn : r.turn ≡ turn_of l
+  pub turn : turn_number r.turn ≡ turn_of l
   pub count : r.length ≡ length (form_of w l)
   pub text : take r.length room ≡ form_of w l

@@ -11,14 +11,12 @@ use Rattle.reader.specs.Outcome.{Verdict}
 use Rattle.reader.specs.Outcome.{Accepted, Refused as Rejected}
 use Rattle.version3_parameters.specs.declared.Way.{Way}
 use Rattle.version3_parameters.specs.declared.Way.TheVariants.{Inward, Outward}
-use Rattle.version3_judge.specs.declared.Step.{Step}
-use Rattle.version3_judge.specs.declared.Step.TheVariants.{Next, Refused, Flawed}
-use Rattle.version3_judge.specs.Judge.{ended, fresh_set, judge_lines}
+use Rattle.version3_judge.specs.Judge.{Step, Next, Refused, Flawed, ended, fresh_set, judge_lines}
 use Rattle.version3.specs.Card.{card_text}
 
 -- after the last line: 9 inside the card, else the card, after 16 and 15
 abbrev pub concluded : Way → Step → List ℕ → List ℕ → Filled
-concluded w (Next c) i room = pick (eqb c.phase ended) (fill_bounded (card_text w i) room) (refuse refusal.order (length i) room)
+concluded w (Next c) i room = pick (ended c.phase) (fill_bounded (card_text w i) room) (refuse refusal.order (length i) room)
 concluded w (Refused n p) i room = refuse n p room
 concluded w (Flawed n o) i room = refuse n o room
 

@@ -1,21 +1,16 @@
 -- The places of a card's lines, BEGIN first, VERSION second and then the others, each in a room of its own, and what is written there.
 -- Assumes nothing.
-use Rattle.std.specs.Prelude.{ℕ, ◌+◌, ◌<◌, ◌≤◌, ◌≡◌, List, [], ◌++◌, eqb, length, take, drop}
+use Rattle.std.specs.Prelude.{ℕ, ◌+◌, ◌<◌, ◌≤◌, ◌≡◌, List, [], ◌++◌, Option, Some, None, Result, eqb, length, take, drop}
 use Rattle.numbers.specs.Limits as limit
 use Rattle.octets.specs.Pick.{pick}
-use Rattle.octets.specs.Room.{filled, fill_bounded}
+use Rattle.numbers.specs.declared.refusal.Refusal.{Refusal}
+use Rattle.octets.specs.Room.{filled, fill_bounded, written}
 use Rattle.line_folds.specs.Logical.{logical_lines}
 use Rattle.folder_line.specs.Pieces.{folded_lines}
 use Rattle.version3_parameters.specs.declared.Way.{Way}
-use Rattle.version3.specs.declared.sheet.Added.{Added}
-use Rattle.version3.specs.declared.sheet.Added.TheVariants.{Upto, Over}
 use Rattle.version3.specs.declared.sheet.Ends.{Ends}
-use Rattle.version3.specs.declared.sheet.Sheet.{Sheet}
-use Rattle.version3.specs.declared.sheet.Sheet.TheVariants.{Placed, Cramped}
 use Rattle.version3.specs.declared.sheet.Reached.{Reached}
-use Rattle.version3.specs.declared.sheet.Reached.TheVariants.{End, Long, Cramped as Stuck}
-use Rattle.version3.specs.declared.sheet.Tried.{Tried}
-use Rattle.version3.specs.declared.sheet.Tried.TheVariants.{Done, Cramped as Untried}
+use Rattle.version3.specs.declared.sheet.Reached.TheVariants.{End, Long}
 use Rattle.version3.specs.Card.{forms, card_text}
 
 -- the lines that stand in a place, folded
@@ -49,9 +44,9 @@ pub record Grown (x before after : List ℕ) (w n : ℕ) : Type 0 where
   pub inside : n ≤ length after
   pub text : take n after ≡ take w before ++ x
 
-abbrev pub AddedBy : List ℕ → ℕ → List ℕ → List ℕ → Added → Type 0
-AddedBy x w before after (Upto n) = Grown x before after w n
-AddedBy x w before after Over = length before < w + length x
+abbrev pub AddedBy : List ℕ → ℕ → List ℕ → List ℕ → Option ℕ → Type 0
+AddedBy x w before after (Some n) = Grown x before after w n
+AddedBy x w before after None = length before < w + length x
 
 -- each place has its share of the line x, or some room is too small for it
 pub record Shared (turn : ℕ) (x : List ℕ) (e n : Ends) (a b c a' b' c' : List ℕ) : Type 0 where
@@ -64,9 +59,9 @@ pub data Overfull (turn : ℕ) (x : List ℕ) (e : Ends) (a b c : List ℕ) : Ty
   second_over : length b < e.second + length (share 1 turn x) → Overfull turn x e a b c
   others_over : length c < e.others + length (share 2 turn x) → Overfull turn x e a b c
 
-abbrev pub PlacedBy : ℕ → List ℕ → Ends → List ℕ → List ℕ → List ℕ → List ℕ → List ℕ → List ℕ → Sheet → Type 0
-PlacedBy turn x e a b c a' b' c' (Placed n) = Shared turn x e n a b c a' b' c'
-PlacedBy turn x e a b c a' b' c' Cramped = Overfull turn x e a b c
+abbrev pub PlacedBy : ℕ → List ℕ → Ends → List ℕ → List ℕ → List ℕ → List ℕ → List ℕ → List ℕ → Option Ends → Type 0
+PlacedBy turn x e a b c a' b' c' (Some n) = Shared turn x e n a b c a' b' c'
+PlacedBy turn x e a b c a' b' c' None = Overfull turn x e a b c
 
 -- all lines of the input stand in the rooms of their places
 pub record Sorted (w : Way) (i : List ℕ) (e : Ends) (a b c : List ℕ) : Type 0 where
@@ -90,21 +85,24 @@ pub data Narrow (w : Way) (i : List ℕ) (a b c : ℕ) : Type 0 where
   second_narrow : b < length (card_text w i) → Narrow w i a b c
   others_narrow : c < length (card_text w i) → Narrow w i a b c
 
-abbrev pub SheetBy : Way → List ℕ → List ℕ → List ℕ → List ℕ → Sheet → Type 0
-SheetBy w i a b c (Placed e) = Sorted w i e a b c
-SheetBy w i a b c Cramped = Narrow w i (length a) (length b) (length c)
+abbrev pub SheetBy : Way → List ℕ → List ℕ → List ℕ → List ℕ → Option Ends → Type 0
+SheetBy w i a b c (Some e) = Sorted w i e a b c
+SheetBy w i a b c None = Narrow w i (length a) (length b) (length c)
 
 -- all lines stand there, or those before a line of n octets, more than so many, do
-abbrev pub ReachedBy : Way → List ℕ → ℕ → List ℕ → List ℕ → List ℕ → Reached → Type 0
-ReachedBy w i most a b c (End e) = Sorted w i e a b c
-ReachedBy w i most a b c (Long at n e) = (most < n) × (n ≤ length i) × Halfway w i a b c at e
-ReachedBy w i most a b c Stuck = Narrow w i (length a) (length b) (length c)
+abbrev pub WentBy : Way → List ℕ → ℕ → List ℕ → List ℕ → List ℕ → Reached → Type 0
+WentBy w i most a b c (End e) = Sorted w i e a b c
+WentBy w i most a b c (Long at n e) = (most < n) × (n ≤ length i) × Halfway w i a b c at e
+
+abbrev pub ReachedBy : Way → List ℕ → ℕ → List ℕ → List ℕ → List ℕ → Option Reached → Type 0
+ReachedBy w i most a b c (Some r) = WentBy w i most a b c r
+ReachedBy w i most a b c None = Narrow w i (length a) (length b) (length c)
 
 -- the card was written, or nothing, since some room is too small
-abbrev pub TriedBy : Way → List ℕ → ℕ → ℕ → ℕ → List ℕ → List ℕ → Tried → Type 0
-TriedBy w i a b c before after (Done r) = filled r after ≡ fill_bounded (card_text w i) before
-TriedBy w i a b c before after Untried = (after ≡ before) × Narrow w i a b c
+abbrev pub TriedBy : Way → List ℕ → ℕ → ℕ → ℕ → List ℕ → List ℕ → Option (Result ℕ Refusal) → Type 0
+TriedBy w i a b c before after (Some r) = filled (written r) after ≡ fill_bounded (card_text w i) before
+TriedBy w i a b c before after None = (after ≡ before) × Narrow w i a b c
 
-abbrev pub Attempt : Way → List ℕ → List ℕ → List ℕ → Tried → Type 0
-Attempt w i before after (Done r) = filled r after ≡ fill_bounded (card_text w i) before
-Attempt w i before after Untried = after ≡ before
+abbrev pub Attempt : Way → List ℕ → List ℕ → List ℕ → Option (Result ℕ Refusal) → Type 0
+Attempt w i before after (Some r) = filled (written r) after ≡ fill_bounded (card_text w i) before
+Attempt w i before after None = after ≡ before

@@ -1,18 +1,18 @@
 // The lines of a card, each as the other version has it and folded: written to rooms of their places, BEGIN and VERSION first, and then joined.
 ghost use Rattle.std.specs.Prelude.{◌≡◌, false, ◌+◌, ◌*◌, ◌≤◌, length};
 ghost use Rattle.numbers.specs.Limits as limit;
-ghost use Rattle.octets.specs.Room.{filled, fill_bounded};
+ghost use Rattle.octets.specs.Room.{filled, fill_bounded, written};
 ghost use Rattle.octets.specs.Classes.{Classes};
 ghost use Rattle.line_folds.specs.Folds.{unfolded};
 ghost use Rattle.property_table.specs.Rows.{Lists};
 ghost use Rattle.folder_line.specs.Pieces.{folded, Clean};
-ghost use Rattle.version3.specs.Card.{turn_of_row, clear, card_text, Formed};
+ghost use Rattle.version3.specs.Card.{turn_number, turn_of_row, clear, card_text, Formed};
 ghost use Rattle.version3.specs.Places.{Within, Lent, joined_by, AddedBy, PlacedBy, Halfway, SheetBy, ReachedBy, TriedBy, Attempt};
 
 use card_line::LineParts;
-use numbers::{limit, property, refusal};
+use numbers::refusal::{Reason, Refusal};
+use numbers::{limit, property};
 use octets::classes::ClassTable;
-use octets::rooms::Written;
 use property_table::Edition;
 use property_table::rows::PropertyTable;
 use version3_parameters::Way;
@@ -27,6 +27,8 @@ const LINE: usize = 2048;
 
 const LONG_LINE: usize = 6144;
 
+const ANY_LINE: usize = limit::OCTETS;
+
 // Room for such a line as the other version has it, and for any line.
 const SMALL_FORM: usize = 3 * SMALL + 20;
 
@@ -36,7 +38,7 @@ const FORM: usize = 3 * LINE + 20;
 
 const LONG_FORM: usize = 3 * LONG_LINE + 20;
 
-const ANY_FORM: usize = 3 * limit::OCTETS + 20;
+const ANY_FORM: usize = 3 * ANY_LINE + 20;
 
 // Room for the lines of the first place, and for those of the second.
 const HEAD: usize = 64;
@@ -47,31 +49,33 @@ const SMALL_CARD: usize = 1536;
 
 const SHORT_CARD: usize = 2304;
 
+// Room for the lines of any card, in any place.
+const CARD: usize = limit::OCTETS;
+
 // The places of lines in a card: BEGIN first, VERSION second, then all others.
-const FIRST: usize = 0;
-
-const SECOND: usize = 1;
-
-const OTHERS: usize = 2;
+#[derive(Clone, Copy, Debug, PartialEq, Eq)]
+pub enum Turn {
+    First,
+    Second,
+    Others,
+}
 
 // A line as the other version has it: its place in the card, and how long it is.
-#[derive(Clone, Copy)]
+#[derive(Clone, Copy, Debug, PartialEq, Eq)]
 pub struct Form {
-    pub turn: usize,
+    pub turn: Turn,
     pub length: usize,
 }
 
 // The place of a line of the row.
-fn turn_of(row: usize) -> usize
-    ensures { result ≡ turn_of_row row }
+fn turn_of(row: usize) -> Turn
+    ensures { turn_number result ≡ turn_of_row row }
 {
-    if row == property::BEGIN {
-        return FIRST;
+    match row {
+        property::BEGIN => Turn::First,
+        property::VERSION => Turn::Second,
+        _ => Turn::Others,
     }
-    if row == property::VERSION {
-        return SECOND;
-    }
-    OTHERS
 }
 
 // How many octets of the first n are written: none where they are not whole characters without controls.
@@ -94,7 +98,7 @@ fn form_line(way: Way, t: &ClassTable, rows: &PropertyTable, s: &[u8], d: &mut [
 {
     match card_line::parts_of(t, rows, Edition::First, s) {
         LineParts::Fault(e) => Form {
-            turn: OTHERS,
+            turn: Turn::Others,
             length: 0,
         },
         LineParts::Line(x) => {
@@ -130,103 +134,67 @@ fn form_span(
     form_line(way, t, rows, &scratch[..n], d)
 }
 
-// Where a line that was written to a room ends there, or that it does not fit.
-#[derive(Clone, Copy)]
-pub enum Added {
-    Upto(usize),
-    Over,
-}
-
 // How many octets were written to the rooms of the three places.
-#[derive(Clone, Copy)]
+#[derive(Clone, Copy, Debug, PartialEq, Eq)]
 pub struct Ends {
     pub first: usize,
     pub second: usize,
     pub others: usize,
 }
 
-// How many octets were written to the rooms of the three places, or that some room is too small.
-#[derive(Clone, Copy)]
-pub enum Sheet {
-    Placed(Ends),
-    Cramped,
-}
-
-// What was written when the lines came to their end, or to a line that is too long for the rooms of a line: where it starts, and how long it
-// is; or that the room of some place is too small.
-#[derive(Clone, Copy)]
+// What was written when the lines came to their end, or to a line that is too long for the rooms of a line: where it starts, and how long it is.
+#[derive(Clone, Copy, Debug, PartialEq, Eq)]
 pub enum Reached {
     End(Ends),
     Long(usize, usize, Ends),
-    Cramped,
 }
 
-// What was answered and written, or that some room is too small for trying.
-#[derive(Clone, Copy)]
-pub enum Tried {
-    Done(Written),
-    Cramped,
-}
-
-// Writes the line l folded to the room, behind its first w octets.
-fn add_line(l: &[u8], w: usize, room: &mut [u8]) -> Added
+// Writes the line l folded to the room, behind its first w octets, and answers where it ends there; nothing where it does not fit.
+fn add_line(l: &[u8], w: usize, room: &mut [u8]) -> Option<usize>
     requires { Clean l.now × (w ≤ length room.old) × (length room.old ≤ limit.octets) }
     ensures { AddedBy (folded l.now) w room.old room.new result }
 {
     if limit::OCTETS < l.len() {
-        return Added::Over;
+        return None;
     }
     let n = folder_line::cutting::measure(l);
     if room.len() - w < n {
-        return Added::Over;
+        return None;
     }
     let m = folder_line::folding::fold_line(l, &mut room[w..]);
-    Added::Upto(w + m)
+    Some(w + m)
 }
 
-// Writes the line l folded to the room of its place.
+// Writes the line l folded to the room of its place, and answers how many octets stand in the rooms then; nothing where it does not fit.
 fn place_line(
-    turn: usize,
+    turn: Turn,
     l: &[u8],
     e: Ends,
     first: &mut [u8],
     second: &mut [u8],
     others: &mut [u8],
-) -> Sheet
-    requires { Clean l.now × (turn ≤ 2) × Within e first.old second.old others.old }
-    ensures { PlacedBy turn (folded l.now) e first.old second.old others.old first.new second.new others.new result }
+) -> Option<Ends>
+    requires { Clean l.now × Within e first.old second.old others.old }
+    ensures { PlacedBy (turn_number turn) (folded l.now) e first.old second.old others.old first.new second.new others.new result }
 {
-    if turn == FIRST {
-        return match add_line(l, e.first, first) {
-            Added::Upto(n) => Sheet::Placed(Ends {
-                first: n,
-                second: e.second,
-                others: e.others,
-            }),
-            Added::Over => Sheet::Cramped,
-        };
-    }
-    if turn == SECOND {
-        return match add_line(l, e.second, second) {
-            Added::Upto(n) => Sheet::Placed(Ends {
-                first: e.first,
-                second: n,
-                others: e.others,
-            }),
-            Added::Over => Sheet::Cramped,
-        };
-    }
-    match add_line(l, e.others, others) {
-        Added::Upto(n) => Sheet::Placed(Ends {
-            first: e.first,
-            second: e.second,
-            others: n,
-        }),
-        Added::Over => Sheet::Cramped,
+    match turn {
+        Turn::First => {
+            let n = add_line(l, e.first, first)?;
+            Some(Ends { first: n, ..e })
+        }
+        Turn::Second => {
+            let n = add_line(l, e.second, second)?;
+            Some(Ends { second: n, ..e })
+        }
+        Turn::Others => {
+            let n = add_line(l, e.others, others)?;
+            Some(Ends { others: n, ..e })
+        }
     }
 }
 
-// Writes the lines from `from` on to the rooms of their places, up to the first that has more than so many octets.
+// Writes the lines from `from` on to the rooms of their places, up to the first that has more than so many octets; nothing is answered where some room
+// is too small.
 fn place_lines(
     way: Way,
     t: &ClassTable,
@@ -240,7 +208,7 @@ fn place_lines(
     first: &mut [u8],
     second: &mut [u8],
     others: &mut [u8],
-) -> Reached
+) -> Option<Reached>
     requires classes { Classes t.now × Lists rows.now }
     requires s_len_bound { (length s.now ≤ limit.octets) × (most ≤ length scratch.old) × (3 * most + 20 ≤ length form.old) }
     requires lent { Lent first.old second.old others.old }
@@ -254,26 +222,18 @@ fn place_lines(
         let end = span.end;
         let folds = span.cr != end;
         if most < end - at {
-            return Reached::Long(at, end - at, e);
+            return Some(Reached::Long(at, end - at, e));
         }
         let f = form_span(way, t, rows, &s[at..end], folds, scratch, form);
         let length = f.length;
-        let placed = place_line(f.turn, &form[..length], e, first, second, others);
-        match placed {
-            Sheet::Placed(next) => {
-                e = next;
-                at = end + 2;
-            }
-            Sheet::Cramped => {
-                return Reached::Cramped;
-            }
-        }
+        e = place_line(f.turn, &form[..length], e, first, second, others)?;
+        at = end + 2;
     }
-    Reached::End(e)
+    Some(Reached::End(e))
 }
 
-// The same with room for long lines.
-fn place_long(
+// The same with room for lines of at most LINE octets, which is made here.
+fn place_with<const LINE: usize, const FORM: usize>(
     way: Way,
     t: &ClassTable,
     rows: &PropertyTable,
@@ -283,15 +243,15 @@ fn place_long(
     first: &mut [u8],
     second: &mut [u8],
     others: &mut [u8],
-) -> Reached
+) -> Option<Reached>
     requires classes { Classes t.now × Lists rows.now }
-    requires s_len_bound { length s.now ≤ limit.octets }
+    requires s_len_bound { (length s.now ≤ limit.octets) × (3 * LINE + 20 ≤ FORM) }
     requires lent { Lent first.old second.old others.old }
     requires halfway { Halfway way s.now first.old second.old others.old from ends }
-    ensures { ReachedBy way s.now 6144 first.new second.new others.new result }
+    ensures { ReachedBy way s.now LINE first.new second.new others.new result }
 {
-    let mut scratch = [0u8; LONG_LINE];
-    let mut form = [0u8; LONG_FORM];
+    let mut scratch = [0u8; LINE];
+    let mut form = [0u8; FORM];
     place_lines(
         way,
         t,
@@ -299,7 +259,7 @@ fn place_long(
         s,
         from,
         ends,
-        LONG_LINE,
+        LINE,
         &mut scratch,
         &mut form,
         first,
@@ -319,32 +279,16 @@ fn place_any(
     first: &mut [u8],
     second: &mut [u8],
     others: &mut [u8],
-) -> Sheet
+) -> Option<Ends>
     requires classes { Classes t.now × Lists rows.now }
     requires s_len_bound { length s.now ≤ limit.octets }
     requires lent { Lent first.old second.old others.old }
     requires halfway { Halfway way s.now first.old second.old others.old from ends }
     ensures { SheetBy way s.now first.new second.new others.new result }
 {
-    let mut scratch = [0u8; limit::OCTETS];
-    let mut form = [0u8; ANY_FORM];
-    match place_lines(
-        way,
-        t,
-        rows,
-        s,
-        from,
-        ends,
-        limit::OCTETS,
-        &mut scratch,
-        &mut form,
-        first,
-        second,
-        others,
-    ) {
-        Reached::End(e) => Sheet::Placed(e),
-        Reached::Long(at, n, e) => Sheet::Cramped,
-        Reached::Cramped => Sheet::Cramped,
+    match place_with::<ANY_LINE, ANY_FORM>(way, t, rows, s, from, ends, first, second, others)? {
+        Reached::End(e) => Some(e),
+        Reached::Long(..) => None,
     }
 }
 
@@ -360,7 +304,7 @@ fn place_rest(
     first: &mut [u8],
     second: &mut [u8],
     others: &mut [u8],
-) -> Sheet
+) -> Option<Ends>
     requires classes { Classes t.now × Lists rows.now }
     requires s_len_bound { length s.now ≤ limit.octets }
     requires lent { Lent first.old second.old others.old }
@@ -370,10 +314,9 @@ fn place_rest(
     if LONG_LINE < n {
         return place_any(way, t, rows, s, from, ends, first, second, others);
     }
-    match place_long(way, t, rows, s, from, ends, first, second, others) {
-        Reached::End(e) => Sheet::Placed(e),
-        Reached::Long(at, more, e) => place_any(way, t, rows, s, at, e, first, second, others),
-        Reached::Cramped => Sheet::Cramped,
+    match place_with::<LONG_LINE, LONG_FORM>(way, t, rows, s, from, ends, first, second, others)? {
+        Reached::End(e) => Some(e),
+        Reached::Long(at, _, e) => place_any(way, t, rows, s, at, e, first, second, others),
     }
 }
 
@@ -388,7 +331,7 @@ fn place_card(
     first: &mut [u8],
     second: &mut [u8],
     others: &mut [u8],
-) -> Sheet
+) -> Option<Ends>
     requires s_len_bound { (length s.now ≤ limit.octets) × (most ≤ length scratch.old) × (3 * most + 20 ≤ length form.old) }
     requires lent { Lent first.old second.old others.old }
     ensures { SheetBy way s.now first.new second.new others.new result }
@@ -402,18 +345,23 @@ fn place_card(
     };
     match place_lines(
         way, &t, &rows, s, 0, none, most, scratch, form, first, second, others,
-    ) {
-        Reached::End(e) => Sheet::Placed(e),
+    )? {
+        Reached::End(e) => Some(e),
         Reached::Long(at, n, e) => place_rest(way, &t, &rows, s, at, n, e, first, second, others),
-        Reached::Cramped => Sheet::Cramped,
     }
 }
 
 // Writes what stands in the three places one after the other: 16 where that is over 16,384 octets, 15 where out is too small for it, else the
 // octets written.
-fn join(e: Ends, first: &[u8], second: &[u8], others: &[u8], out: &mut [u8]) -> Written
+fn join(
+    e: Ends,
+    first: &[u8],
+    second: &[u8],
+    others: &[u8],
+    out: &mut [u8],
+) -> Result<usize, Refusal>
     requires { Within e first.now second.now others.now }
-    ensures { filled result out.new ≡ fill_bounded (joined_by e first.now second.now others.now) out.old }
+    ensures { filled (written result) out.new ≡ fill_bounded (joined_by e first.now second.now others.now) out.old }
 {
     let a = e.first;
     let b = e.second;
@@ -421,15 +369,15 @@ fn join(e: Ends, first: &[u8], second: &[u8], others: &[u8], out: &mut [u8]) -> 
     let start = a + b;
     let n = start + c;
     if limit::OCTETS < n {
-        return Written::Refused(refusal::FORM_TOO_LONG, limit::OCTETS);
+        return Err(Refusal(Reason::FormTooLong, limit::OCTETS));
     }
     if out.len() < n {
-        return Written::Refused(refusal::ROOM, n);
+        return Err(Refusal(Reason::Room, n));
     }
     octets::copying::copy_in(out, &first[..a]);
     octets::copying::copy_in(&mut out[a..], &second[..b]);
     octets::copying::copy_in(&mut out[start..], &others[..c]);
-    Written::Wrote(n)
+    Ok(n)
 }
 
 // Writes the card with rooms for its places, and at first for a line of at most so many octets.
@@ -443,73 +391,31 @@ fn write_in(
     second: &mut [u8],
     others: &mut [u8],
     out: &mut [u8],
-) -> Tried
+) -> Option<Result<usize, Refusal>>
     requires s_len_bound { (length s.now ≤ limit.octets) × (most ≤ length scratch.old) × (3 * most + 20 ≤ length form.old) }
     requires lent { Lent first.old second.old others.old }
     ensures { TriedBy way s.now (length first.old) (length second.old) (length others.old) out.old out.new result }
 {
-    match place_card(way, s, most, scratch, form, first, second, others) {
-        Sheet::Placed(e) => Tried::Done(join(e, first, second, others, out)),
-        Sheet::Cramped => Tried::Cramped,
-    }
+    let e = place_card(way, s, most, scratch, form, first, second, others)?;
+    Some(join(e, first, second, others, out))
 }
 
-// The same with little room, for a small input.
-fn write_small(way: Way, s: &[u8], out: &mut [u8]) -> Tried
-    requires { length s.now ≤ limit.octets }
-    ensures { Attempt way s.now out.old out.new result }
-{
-    let mut scratch = [0u8; SMALL];
-    let mut form = [0u8; SMALL_FORM];
-    let mut first = [0u8; HEAD];
-    let mut second = [0u8; HEAD];
-    let mut others = [0u8; SMALL_CARD];
-    write_in(
-        way,
-        s,
-        SMALL,
-        &mut scratch,
-        &mut form,
-        &mut first,
-        &mut second,
-        &mut others,
-        out,
-    )
-}
-
-// The same for a short input.
-fn write_short(way: Way, s: &[u8], out: &mut [u8]) -> Tried
-    requires { length s.now ≤ limit.octets }
-    ensures { Attempt way s.now out.old out.new result }
-{
-    let mut scratch = [0u8; SHORT];
-    let mut form = [0u8; SHORT_FORM];
-    let mut first = [0u8; HEAD];
-    let mut second = [0u8; HEAD];
-    let mut others = [0u8; SHORT_CARD];
-    write_in(
-        way,
-        s,
-        SHORT,
-        &mut scratch,
-        &mut form,
-        &mut first,
-        &mut second,
-        &mut others,
-        out,
-    )
-}
-
-// The same for any input: BEGIN and VERSION of a card that was judged good have room.
-fn write_usual(way: Way, s: &[u8], out: &mut [u8]) -> Tried
-    requires { length s.now ≤ limit.octets }
-    ensures { Attempt way s.now out.old out.new result }
+// The same with rooms that are made here: for a line of at most LINE octets at first and its form, and for the lines of the first place, the
+// second and the others.
+fn write_with<const LINE: usize, const FORM: usize, const HEAD: usize, const CARD: usize>(
+    way: Way,
+    s: &[u8],
+    out: &mut [u8],
+) -> Option<Result<usize, Refusal>>
+    requires s_len_bound { (length s.now ≤ limit.octets) × (3 * LINE + 20 ≤ FORM) }
+    requires lent { (HEAD ≤ limit.octets) × (CARD ≤ limit.octets) }
+    ensures { TriedBy way s.now HEAD HEAD CARD out.old out.new result }
 {
     let mut scratch = [0u8; LINE];
     let mut form = [0u8; FORM];
     let mut first = [0u8; HEAD];
     let mut second = [0u8; HEAD];
-    let mut others = [0u8; limit::OCTETS];
+    let mut others = [0u8; CARD];
     write_in(
         way,
         s,
@@ -523,53 +429,38 @@ fn write_usual(way: Way, s: &[u8], out: &mut [u8]) -> Tried
     )
 }
 
-// The same with room for any BEGIN and VERSION.
-fn write_all(way: Way, s: &[u8], out: &mut [u8]) -> Written
-    requires { length s.now ≤ limit.octets }
-    ensures { filled result out.new ≡ fill_bounded (card_text way s.now) out.old }
-{
-    let mut scratch = [0u8; LINE];
-    let mut form = [0u8; FORM];
-    let mut first = [0u8; limit::OCTETS];
-    let mut second = [0u8; limit::OCTETS];
-    let mut others = [0u8; limit::OCTETS];
-    match write_in(
-        way,
-        s,
-        LINE,
-        &mut scratch,
-        &mut form,
-        &mut first,
-        &mut second,
-        &mut others,
-        out,
-    ) {
-        Tried::Done(w) => w,
-        Tried::Cramped => Written::Refused(refusal::FORM_TOO_LONG, limit::OCTETS),
-    }
-}
-
-// Writes the card with room by the length of the input.
-fn write_by_length(way: Way, s: &[u8], out: &mut [u8]) -> Tried
+// Writes the card with room by the length of the input: BEGIN and VERSION of a card that was judged good have it.
+fn write_by_length(way: Way, s: &[u8], out: &mut [u8]) -> Option<Result<usize, Refusal>>
     requires { length s.now ≤ limit.octets }
     ensures { Attempt way s.now out.old out.new result }
 {
     if s.len() <= SMALL {
-        return write_small(way, s, out);
+        return write_with::<SMALL, SMALL_FORM, HEAD, SMALL_CARD>(way, s, out);
     }
     if s.len() <= SHORT {
-        return write_short(way, s, out);
+        return write_with::<SHORT, SHORT_FORM, HEAD, SHORT_CARD>(way, s, out);
     }
-    write_usual(way, s, out)
+    write_with::<LINE, FORM, HEAD, CARD>(way, s, out)
+}
+
+// Writes the card with room for any BEGIN and VERSION.
+fn write_all(way: Way, s: &[u8], out: &mut [u8]) -> Result<usize, Refusal>
+    requires { length s.now ≤ limit.octets }
+    ensures { filled (written result) out.new ≡ fill_bounded (card_text way s.now) out.old }
+{
+    match write_with::<LINE, FORM, CARD, CARD>(way, s, out) {
+        Some(answer) => answer,
+        None => Err(Refusal(Reason::FormTooLong, limit::OCTETS)),
+    }
 }
 
 // Writes the card: 16 where it has over 16,384 octets, 15 where out is too small for it, else the octets written.
-pub fn write_card(way: Way, s: &[u8], out: &mut [u8]) -> Written
+pub fn write_card(way: Way, s: &[u8], out: &mut [u8]) -> Result<usize, Refusal>
     requires { length s.now ≤ limit.octets }
-    ensures { filled result out.new ≡ fill_bounded (card_text way s.now) out.old }
+    ensures { filled (written result) out.new ≡ fill_bounded (card_text way s.now) out.old }
 {
     match write_by_length(way, s, out) {
-        Tried::Done(w) => w,
-        Tried::Cramped => write_all(way, s, out),
+        Some(answer) => answer,
+        None => write_all(way, s, out),
     }
 }

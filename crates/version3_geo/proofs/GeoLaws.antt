@@ -1,27 +1,28 @@
 -- What the tests of digits, floats and marks say of a list, case by case. Assumes nothing.
 use mathlib.Core.Path.{◌≡◌, refl, sym, ap, ◌∙◌}
-use mathlib.Core.Bool.{Bool, true, false, ◌&&◌}
+use mathlib.Core.Bool.{Bool, true, false, not, ◌&&◌}
 use mathlib.Core.List.{List, [], ◌∷◌}
 use Prim.Native.Nat.{ℕ, ◌+◌, ◌-◌, ◌<◌, ◌≤◌}
 use native.Mathlib.Numerals.{add-one}
 use native.Mathlib.Omega.{arith}
-use lib.Dec.{eqb, leb}
+use lib.Dec.{eqb}
 use lib.ListN.{length, get_or, take, drop, set, length-set, length-append, length-drop}
 use lib.Seq.{set-append_left, set_out}
-use borrow.Author.Tests.{lt-ltb, le-ltb, lt-leb, le-leb, eq-eqb, ne_eqb}
+use borrow.Author.Tests.{lt-ltb, le-ltb, eq-eqb, ne_eqb, eqb-true, eqb-false}
+use Rattle.std.specs.List.{starts_with}
 use Rattle.octets.specs.Ascii.{octets}
 use Rattle.octets.specs.Pick.{pick}
 use Rattle.octets.specs.Room.{overlay}
 use Rattle.octets.specs.Classes.{run, digit}
 use Rattle.version3_geo.specs.Floats.{digits, fraction, unsigned, sign, float, up_to, floats, swapped, schemed, new_geo, geo_text, made_new, made_old}
 
-pub digit_low : (b : ℕ) → b < 48 → false ≡ digit b
-unfolding digit
-digit_low b h = sym (rw (lt-leb 48 b h))
-
-pub digit_by : (b : ℕ) → 48 ≤ b → leb b 57 ≡ digit b
-unfolding digit
-digit_by b h = sym (rw (le-leb 48 b h))
+-- a digit is what no search for another octet finds
+pub digit_not : (b : ℕ) → digit b ≡ not (not (digit b))
+digit_not b = go (digit b)
+  where
+    go : (t : Bool) → t ≡ not (not t)
+    go true = refl
+    go false = refl
 
 module _ (l : List ℕ) where
   pub digits_none : length l ≡ 0 → false ≡ digits l
@@ -86,50 +87,28 @@ module _ (m : ℕ) (l : List ℕ) (p : ℕ) (e : p ≡ up_to m l) where
   unfolding floats
   floats_by b h f g = sym (rw (← e, lt-ltb p (length l) h, ← f, ← add-one p, ← g))
 
-module _ (l : List ℕ) where
-  pub scheme_short : length l < 4 → false ≡ schemed l
-  unfolding schemed
-  scheme_short h = go l h
-    where
-      go : (l : List ℕ) → length l < 4 → false ≡ (eqb (get_or l 0 0) 103 && (eqb (get_or l 1 0) 101 && (eqb (get_or l 2 0) 111 && eqb (get_or l 3 0) 58)))
-      go [] h = refl
-      go (a ∷ []) h = by (eqb a 103)
-        where
-          by : (t : Bool) → false ≡ (t && false)
-          by true = refl
-          by false = refl
-      go (a ∷ b ∷ []) h = by (eqb a 103) (eqb b 101)
-        where
-          by : (t u : Bool) → false ≡ (t && (u && false))
-          by true true = refl
-          by true false = refl
-          by false u = refl
-      go (a ∷ b ∷ d ∷ []) h = by (eqb a 103) (eqb b 101) (eqb d 111)
-        where
-          by : (t u v : Bool) → false ≡ (t && (u && (v && false)))
-          by true true true = refl
-          by true true false = refl
-          by true false v = refl
-          by false u v = refl
-      go (a ∷ b ∷ d ∷ f ∷ xs) h = absurd (omega arith)
+eqb_sym : (m n : ℕ) → eqb m n ≡ eqb n m
+eqb_sym m n = go (eqb m n) refl
+  where
+    go : (t : Bool) → eqb m n ≡ t → eqb m n ≡ eqb n m
+    go true e = e ∙ sym (eq-eqb n m (sym (eqb-true m n e)))
+    go false e = e ∙ sym (ne_eqb n m (λ q. eqb-false m n e (sym q)))
 
-  pub scheme_0 : (get_or l 0 0 ≡ 103 → ⊥) → false ≡ schemed l
-  unfolding schemed
-  scheme_0 n = sym (rw (ne_eqb (get_or l 0 0) 103 n))
-
-  module _ (a : get_or l 0 0 ≡ 103) where
-    pub scheme_1 : (get_or l 1 0 ≡ 101 → ⊥) → false ≡ schemed l
-    unfolding schemed
-    scheme_1 n = sym (rw (eq-eqb (get_or l 0 0) 103 a, ne_eqb (get_or l 1 0) 101 n))
-
-    module _ (b : get_or l 1 0 ≡ 101) where
-      pub scheme_2 : (get_or l 2 0 ≡ 111 → ⊥) → false ≡ schemed l
-      unfolding schemed
-      scheme_2 n = sym (rw (eq-eqb (get_or l 0 0) 103 a, eq-eqb (get_or l 1 0) 101 b, ne_eqb (get_or l 2 0) 111 n))
-
-      pub scheme_3 : get_or l 2 0 ≡ 111 → eqb (get_or l 3 0) 58 ≡ schemed l
-      unfolding schemed
-      scheme_3 q = sym (rw (eq-eqb (get_or l 0 0) 103 a, eq-eqb (get_or l 1 0) 101 b, eq-eqb (get_or l 2 0) 111 q))
+-- the library's test of a list's start
+pub scheme_is : (l : List ℕ) → starts_with eqb l (103 ∷ 101 ∷ 111 ∷ 58 ∷ []) ≡ schemed l
+unfolding schemed
+scheme_is [] = refl
+scheme_is (a ∷ []) = ap (λ (t : Bool). t && false) (eqb_sym 103 a)
+scheme_is (a ∷ b ∷ []) = rw (eqb_sym 103 a, eqb_sym 101 b) refl
+scheme_is (a ∷ b ∷ d ∷ []) = rw (eqb_sym 103 a, eqb_sym 101 b, eqb_sym 111 d) refl
+scheme_is (a ∷ b ∷ d ∷ f ∷ xs) = rw (eqb_sym 103 a, eqb_sym 101 b, eqb_sym 111 d, eqb_sym 58 f) (ended (eqb a 103) (eqb b 101) (eqb d 111) (eqb f 58))
+  where
+    ended : (t u v w : Bool) → (t && (u && (v && (w && true)))) ≡ (t && (u && (v && w)))
+    ended true true true true = refl
+    ended true true true false = refl
+    ended true true false w = refl
+    ended true false v w = refl
+    ended false u v w = refl
 
 pub nope : {A : Type 0} → false ≡ true → A
 nope e = absurd (go e)

@@ -6,38 +6,20 @@ ghost use Rattle.octets.specs.Room.{overlay};
 ghost use Rattle.octets.specs.Classes.{digit, run};
 ghost use Rattle.version3_geo.specs.Floats.{digits, fraction, unsigned, sign, float, up_to, floats, swapped, schemed, old_geo, new_geo, made_new, made_old};
 
-// Whether an octet is a digit.
-fn is_digit(b: u8) -> bool
-    ensures { result ≡ digit b }
-{
-    if b < b'0' {
-        return false;
-    }
-    b <= b'9'
-}
-
 // How many digits stand first.
 fn digits_end(s: &[u8]) -> usize
     ensures { (result ≡ run digit s.now) × (result ≤ length s.now) }
 {
-    let mut i: usize = 0;
-    while i < s.len() {
-        if !is_digit(s[i]) {
-            return i;
-        }
-        i += 1;
-    }
-    i
+    s.iter()
+        .position(|&b| !b.is_ascii_digit())
+        .unwrap_or(s.len())
 }
 
 // Whether s is one digit or more.
 fn are_digits(s: &[u8]) -> bool
     ensures { result ≡ digits s.now }
 {
-    if s.len() == 0 {
-        return false;
-    }
-    digits_end(s) == s.len()
+    !s.is_empty() && digits_end(s) == s.len()
 }
 
 // Whether s is empty, or a dot and digits.
@@ -68,10 +50,7 @@ fn is_unsigned(s: &[u8]) -> bool
 fn is_sign(b: u8) -> bool
     ensures { result ≡ sign b }
 {
-    if b == b'+' {
-        return true;
-    }
-    b == b'-'
+    b == b'+' || b == b'-'
 }
 
 // Whether s is a float.
@@ -91,14 +70,7 @@ fn is_float(s: &[u8]) -> bool
 fn mark_at(s: &[u8], mark: u8) -> usize
     ensures { (result ≡ up_to mark s.now) × (result ≤ length s.now) }
 {
-    let mut i: usize = 0;
-    while i < s.len() {
-        if s[i] == mark {
-            return i;
-        }
-        i += 1;
-    }
-    i
+    s.iter().position(|&b| b == mark).unwrap_or(s.len())
 }
 
 // Whether s is two floats with a mark between them.
@@ -121,19 +93,7 @@ fn has_scheme(s: &[u8]) -> bool
     ensures value { result ≡ schemed s.now }
     ensures in_bounds { result ≡ true → 4 ≤ length s.now }
 {
-    if s.len() < 4 {
-        return false;
-    }
-    if s[0] != b'g' {
-        return false;
-    }
-    if s[1] != b'e' {
-        return false;
-    }
-    if s[2] != b'o' {
-        return false;
-    }
-    s[3] == b':'
+    s.starts_with(b"geo:")
 }
 
 // Whether s is a GEO value of version 3.

@@ -1,5 +1,6 @@
 -- The judgement of a line, test by test. Assumes nothing.
 use mathlib.Core.Path.{◌≡◌, refl, sym, ap, ◌∙◌}
+use mathlib.Core.Logic.{◌⊎◌, inl, inr}
 use mathlib.Core.Bool.{Bool, true, false, not, ◌&&◌}
 use mathlib.Core.List.{List}
 use Prim.Native.Nat.{ℕ, ◌-◌, ◌<◌, ◌≤◌}
@@ -17,7 +18,7 @@ use Rattle.property_table.specs.declared.Edition.TheVariants.{First}
 use Rattle.property_table.specs.Rows.{framing}
 use Rattle.card_line.specs.Parts.{line_parts_by, line_parts_of}
 use Rattle.card_line.specs.declared.Parts.{Parts}
-use Rattle.card_line.specs.declared.LineParts.TheVariants.{Fault as fault}
+use Rattle.card_line.specs.Parts.{fault}
 use Rattle.card_line.proofs.PartLaws.{Read}
 use Rattle.card_judge.specs.Judge.{laden}
 use Rattle.version3_text.specs.Renewed.{semicolons}
@@ -27,9 +28,11 @@ use Rattle.version3_parameters.specs.declared.Way.{Way}
 use Rattle.version3_parameters.specs.declared.Way.TheVariants.{Inward, Outward}
 use Rattle.version3_parameters.specs.Params.{prefs_fit}
 use Rattle.version3_parameters.specs.Places.{params_by, params_of}
+use Rattle.version3_judge.specs.declared.Phase.{Phase}
+use Rattle.version3_judge.specs.declared.Phase.TheVariants.{BeforeBegin, Inside, Ended}
 use Rattle.version3_judge.specs.declared.Set.{Set}
-use Rattle.version3_judge.specs.declared.Step.TheVariants.{Next, Refused, Flawed}
-use Rattle.version3_judge.specs.Judge.{number_of, in_place, common, of_kind, short, fills, goes_over, version_read, whole, frames, goes, good, noted, judge_parts, judge_parsed, judge_line}
+use Rattle.version3_judge.specs.Judge.{Next, Refused, Flawed}
+use Rattle.version3_judge.specs.Judge.{before_begin, number_of, in_place, common, of_kind, short, fills, goes_over, version_read, whole, frames, goes, good, noted, judge_parts, judge_parsed, judge_line}
 
 -- a test of two parts, the first of which fails or holds
 pub and_no : (a b : Bool) → a ≡ false → false ≡ (a && b)
@@ -38,13 +41,19 @@ and_no a b e = sym (rw e)
 pub and_on : (a b : Bool) → a ≡ true → b ≡ (a && b)
 and_on a b e = sym (rw e)
 
-pub place_inside : (phase row : ℕ) → phase ≡ 1 → not (eqb row 1) ≡ in_place phase row
+pub place_inside : (p : Phase) (row : ℕ) → p ≡ Inside → not (eqb row 1) ≡ in_place p row
 unfolding in_place
-place_inside phase row e = sym (rw (eq-eqb phase 1 e))
+place_inside p row e = sym (rw e)
 
-pub place_outside : (phase row : ℕ) → (phase ≡ 1 → ⊥) → eqb row 1 ≡ in_place phase row
+pub place_outside : (p : Phase) (row : ℕ) → (p ≡ BeforeBegin) ⊎ (p ≡ Ended) → eqb row 1 ≡ in_place p row
 unfolding in_place
-place_outside phase row n = sym (rw (ne_eqb phase 1 n))
+place_outside p row (inl e) = sym (rw e)
+place_outside p row (inr e) = sym (rw e)
+
+pub not_before : (p : Phase) → (p ≡ BeforeBegin → ⊥) → false ≡ before_begin p
+not_before BeforeBegin n = absurd (n refl)
+not_before Inside n = refl
+not_before Ended n = refl
 
 module _ (k : ℕ) (v : List ℕ) where
   pub short_no : (n : ℕ) → of_kind 2 v ≡ false → false ≡ short n v
@@ -102,7 +111,7 @@ module _ (w : Way) (c : Set) (row : ℕ) (v : List ℕ) where
     unfolding frames
     frames_other e = sym (rw (ne_eqb row 34 n, e))
 
-    pub frames_begin : same v (octets "VCARD") ≡ true → row ≡ 1 → eqb c.phase 0 ≡ frames w c row v
+    pub frames_begin : same v (octets "VCARD") ≡ true → row ≡ 1 → before_begin c.phase ≡ frames w c row v
     unfolding frames
     frames_begin e b = sym (rw (ne_eqb row 34 n, e, eq-eqb row 1 b))
 

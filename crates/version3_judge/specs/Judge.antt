@@ -1,8 +1,10 @@
 -- The judgement of a card that is taken in from version 3 or given out to it, line by line: 5, 40 to 43, 9, 8, and 50 or 51. Assumes nothing.
-use Rattle.std.specs.Prelude.{ℕ, ◌+◌, Bool, true, false, not, ◌&&◌, ◌||◌, List, [], ◌∷◌, eqb, ltb, length}
+use Rattle.std.specs.Prelude.{ℕ, ◌+◌, Bool, true, false, not, ◌&&◌, ◌||◌, List, [], ◌∷◌, Result, Ok, Err, eqb, ltb, length}
 use Rattle.numbers.specs.Kinds as kinds
 use Rattle.numbers.specs.Properties as property
 use Rattle.numbers.specs.Refusals as refusal
+use Rattle.numbers.specs.Refusals.{number}
+use Rattle.numbers.specs.declared.refusal.Refusal.{Refusal}
 use Rattle.octets.specs.Ascii.{octets}
 use Rattle.octets.specs.Pick.{pick}
 use Rattle.octets.specs.Cases.{same}
@@ -25,21 +27,46 @@ use Rattle.version3_parameters.specs.declared.Way.{Way}
 use Rattle.version3_parameters.specs.declared.Way.TheVariants.{Inward, Outward}
 use Rattle.version3_parameters.specs.Params.{prefs_fit}
 use Rattle.version3_judge.specs.declared.Set.{Set}
-use Rattle.version3_judge.specs.declared.Step.{Step}
-use Rattle.version3_judge.specs.declared.Step.TheVariants.{Next, Refused, Flawed}
+use Rattle.version3_judge.specs.declared.Phase.{Phase}
+use Rattle.version3_judge.specs.declared.Phase.TheVariants.{BeforeBegin, Inside, Ended}
+use Rattle.version3_judge.specs.declared.Flaw.{Flaw}
+use Rattle.version3_judge.specs.declared.Flaw.TheVariants.{Placed, Octet}
 
--- the phases of a card: BEGIN has not come, it has, and END has
-abbrev pub before_begin : ℕ
-before_begin = 0
+-- the card after a line, or the refusal's number and its place in the input, or its number and the octet of the unfolded line
+pub data Step : Type 0 where
+  Next : Set → Step
+  Refused : ℕ → ℕ → Step
+  Flawed : ℕ → ℕ → Step
 
-abbrev pub inside : ℕ
-inside = 1
+-- the same of a refused line
+abbrev pub stopped : Flaw → Step
+stopped (Placed r) = Refused (number r.0) r.1
+stopped (Octet n o) = Flawed n o
 
-abbrev pub ended : ℕ
-ended = 2
+-- and of a line's result
+abbrev pub step : Result Set Flaw → Step
+step (Ok c) = Next c
+step (Err f) = stopped f
+
+-- and of the result of all lines
+abbrev pub walked : Result Set Refusal → Step
+walked (Ok c) = Next c
+walked (Err r) = Refused (number r.0) r.1
+
+-- BEGIN has not come
+abbrev pub before_begin : Phase → Bool
+before_begin BeforeBegin = true
+before_begin Inside = false
+before_begin Ended = false
+
+-- END has come
+abbrev pub ended : Phase → Bool
+ended BeforeBegin = false
+ended Inside = false
+ended Ended = true
 
 abbrev pub fresh_set : Set
-fresh_set = record { phase = before_begin; has_fn = false; has_n = false; has_version = false }
+fresh_set = record { phase = BeforeBegin; has_fn = false; has_n = false; has_version = false }
 
 -- 50 in, 51 out
 abbrev pub number_of : Way → ℕ
@@ -47,8 +74,10 @@ number_of Inward = refusal.not_taken_in
 number_of Outward = refusal.not_given_out
 
 -- BEGIN stands first, no other BEGIN inside, and nothing but BEGIN after END
-unfoldable pub in_place : ℕ → ℕ → Bool
-in_place phase row = pick (eqb phase inside) (not (eqb row property.begin)) (eqb row property.begin)
+unfoldable pub in_place : Phase → ℕ → Bool
+in_place Inside row = not (eqb row property.begin)
+in_place BeforeBegin row = eqb row property.begin
+in_place Ended row = eqb row property.begin
 
 -- the eleven properties that both versions have
 unfoldable pub common : ℕ → Bool
@@ -90,7 +119,7 @@ whole c = c.has_fn && (c.has_n && c.has_version)
 unfoldable pub frames : Way → Set → ℕ → List ℕ → Bool
 frames w c row v =
     pick (eqb row property.version) (not c.has_version && same v (version_read w))
-    (same v (octets "VCARD") && pick (eqb row property.begin) (eqb c.phase before_begin) (whole c))
+    (same v (octets "VCARD") && pick (eqb row property.begin) (before_begin c.phase) (whole c))
 
 -- a line of the eleven, N not a second time, with lawful PREFs and a value that goes over
 unfoldable pub goes : Way → Set → ℕ → ℕ → List Param → List ℕ → Bool
@@ -103,7 +132,7 @@ good w c row k ps v = pick (framing row) (frames w c row v) (goes w c row k ps v
 unfoldable pub noted : Set → ℕ → Set
 noted c row =
     record {
-      phase = pick (eqb row property.end) ended inside;
+      phase = pick (eqb row property.end) Ended Inside;
       has_fn = c.has_fn || eqb row property.fn;
       has_n = c.has_n || eqb row property.n;
       has_version = c.has_version || eqb row property.version;

@@ -13,14 +13,16 @@ ghost use Rattle.line_folds.specs.Logical.{raw_lines};
 ghost use Rattle.property_table.specs.declared.Edition.TheVariants.{First};
 ghost use Rattle.value_automaton.specs.States.{Scanner};
 ghost use Rattle.card_line.specs.Parts.{Accepted, line_parts_of};
-ghost use Rattle.card_line.specs.declared.LineParts.TheVariants.{Line as line};
+ghost use Rattle.card_line.specs.Parts.{line};
 ghost use Rattle.card_judge.specs.Judge.{Tables, laden};
 ghost use Rattle.version3_geo.specs.Floats.{old_geo};
 ghost use Rattle.version3_parameters.specs.Places.{params_of};
-ghost use Rattle.version3_judge.specs.Judge.{inside, ended, fresh_set, number_of, in_place, common, of_kind, short, fills, goes_over, version_read, whole, frames, goes, good, noted, judge_parts, judge_line, settled, judge_lines};
+ghost use Rattle.version3_judge.specs.declared.Phase.TheVariants.{Inside, Ended};
+ghost use Rattle.version3_judge.specs.Judge.{fresh_set, number_of, in_place, common, of_kind, short, fills, goes_over, version_read, whole, frames, goes, good, noted, judge_parts, judge_line, settled, judge_lines, Refused, step, stopped, walked};
 
 use card_line::{LineParts, Parts};
-use numbers::{kind, limit, property, refusal};
+use numbers::refusal::{Reason, Refusal};
+use numbers::{kind, limit, property};
 use octets::cases::same_name;
 use octets::classes::ClassTable;
 use property_table::Edition;
@@ -29,32 +31,29 @@ use value_automaton::states::Transitions;
 use value_kinds::Fault;
 use version3_parameters::Way;
 
-// The phase of the card: BEGIN has not come.
-pub const BEFORE_BEGIN: u32 = 0;
-
-// The phase of the card: BEGIN has come.
-pub const INSIDE: u32 = 1;
-
-// The phase of the card: END has come.
-pub const ENDED: u32 = 2;
+// How far the card has come: BEGIN has not come, it has, or END has.
+#[derive(Clone, Copy, Debug, PartialEq, Eq)]
+pub enum Phase {
+    BeforeBegin,
+    Inside,
+    Ended,
+}
 
 // What is known of the card.
-#[derive(Clone, Copy)]
+#[derive(Clone, Copy, Debug, PartialEq, Eq)]
 pub struct Set {
-    // How far it has come: BEFORE_BEGIN, INSIDE or ENDED.
-    pub phase: u32,
+    pub phase: Phase,
     // An FN line, an N line, the VERSION line.
     pub has_fn: bool,
     pub has_n: bool,
     pub has_version: bool,
 }
 
-// The card after a line, or the refusal's number and its place in the input, or its number and the octet of the unfolded line.
-#[derive(Clone, Copy)]
-pub enum Step {
-    Next(Set),
-    Refused(u32, usize),
-    Flawed(u32, usize),
+// Why a line is refused: the refusal, with its place in the input, or its number and the octet of the unfolded line.
+#[derive(Clone, Copy, Debug, PartialEq, Eq)]
+enum Flaw {
+    Placed(Refusal),
+    Octet(u32, usize),
 }
 
 // Before the first line.
@@ -62,7 +61,7 @@ fn fresh() -> Set
     ensures { result ≡ fresh_set }
 {
     Set {
-        phase: BEFORE_BEGIN,
+        phase: Phase::BeforeBegin,
         has_fn: false,
         has_n: false,
         has_version: false,
@@ -74,19 +73,19 @@ fn number_of(way: Way) -> u32
     ensures { result ≡ number_of way }
 {
     match way {
-        Way::Inward => refusal::NOT_TAKEN_IN,
-        Way::Outward => refusal::NOT_GIVEN_OUT,
+        Way::Inward => Reason::NotTakenIn,
+        Way::Outward => Reason::NotGivenOut,
     }
 }
 
 // Whether a line of the row may stand here: BEGIN first, no other BEGIN inside, and nothing but BEGIN after END.
-fn in_order(phase: u32, row: usize) -> bool
+fn in_order(phase: Phase, row: usize) -> bool
     ensures { result ≡ in_place phase row }
 {
-    if phase == INSIDE {
-        return row != property::BEGIN;
+    match phase {
+        Phase::Inside => row != property::BEGIN,
+        Phase::BeforeBegin | Phase::Ended => row == property::BEGIN,
     }
-    row == property::BEGIN
 }
 
 // Whether a framing line has a group or a parameter.
@@ -247,7 +246,7 @@ fn does_frame(way: Way, c: Set, row: usize, value: &[u8]) -> bool
         return false;
     }
     if row == property::BEGIN {
-        return c.phase == BEFORE_BEGIN;
+        return matches!(c.phase, Phase::BeforeBegin);
     }
     is_whole(c)
 }
@@ -320,13 +319,13 @@ fn either(a: bool, b: bool) -> bool
 }
 
 // The phase after a line of the row that may stand here.
-fn phase_after(row: usize) -> u32
-    ensures { result ≡ pick (eqb row property.end) ended inside }
+fn phase_after(row: usize) -> Phase
+    ensures { result ≡ pick (eqb row property.end) Ended Inside }
 {
     if row == property::END {
-        return ENDED;
+        return Phase::Ended;
     }
-    INSIDE
+    Phase::Inside
 }
 
 // The card after a line of the row that may stand here.
@@ -351,21 +350,21 @@ fn judge_parts(
     x: Parts,
     at: usize,
     c: Set,
-) -> Step
+) -> Result<Set, Flaw>
     requires classes { Classes t.now × Scanner steps.now }
     requires accepted { Accepted s.now x.name_end × (x.kind < kinds.count) }
-    ensures { result ≡ judge_parts way c at x.row x.group_length x.param_count x.kind (params_of s.now) value.now }
+    ensures { step result ≡ judge_parts way c at x.row x.group_length x.param_count x.kind (params_of s.now) value.now }
 {
     if !in_order(c.phase, x.row) {
-        return Step::Refused(refusal::ORDER, at);
+        return Err(Flaw::Placed(Refusal(Reason::Order, at)));
     }
     if is_laden(x) {
-        return Step::Refused(refusal::LADEN, at);
+        return Err(Flaw::Placed(Refusal(Reason::Laden, at)));
     }
     if !is_good(way, t, steps, c, s, x, value) {
-        return Step::Refused(number_of(way), at);
+        return Err(Flaw::Placed(Refusal(number_of(way), at)));
     }
-    Step::Next(note(c, x.row))
+    Ok(note(c, x.row))
 }
 
 // Judges the line s, which starts at `at` in the input.
@@ -377,17 +376,17 @@ fn judge_line(
     s: &[u8],
     at: usize,
     c: Set,
-) -> Step
+) -> Result<Set, Flaw>
     requires tables { Tables t.now rows.now steps.now }
     requires s_len_bound { length s.now ≤ limit.octets }
-    ensures { result ≡ judge_line way c at s.now }
+    ensures { step result ≡ judge_line way c at s.now }
 {
     let bad = utf8_screening::units::first_bad(t, s, false);
     if bad < s.len() {
-        return Step::Flawed(refusal::BAD_OCTET, bad);
+        return Err(Flaw::Octet(Reason::BadOctet, bad));
     }
     match card_line::parts_of(t, rows, Edition::First, s) {
-        LineParts::Fault(e) => Step::Refused(e, at),
+        LineParts::Fault(e) => Err(Flaw::Placed(Refusal(e, at))),
         LineParts::Line(x) => {
             let start = x.value_start;
             judge_parts(way, t, steps, s, &s[start..], x, at, c)
@@ -406,11 +405,11 @@ fn judge_span(
     scratch: &mut [u8],
     at: usize,
     c: Set,
-) -> Step
+) -> Result<Set, Flaw>
     requires tables { Tables t.now rows.now steps.now }
     requires s_in_bounds { (length s.now ≤ length scratch.old) × (length scratch.old ≤ limit.octets) }
     requires s_value { folds ≡ false → unfolded s.now ≡ s.now }
-    ensures { result ≡ judge_line way c at (unfolded s.now) }
+    ensures { step result ≡ judge_line way c at (unfolded s.now) }
 {
     if !folds {
         return judge_line(way, t, rows, steps, s, at, c);
@@ -419,16 +418,18 @@ fn judge_span(
     judge_line(way, t, rows, steps, &scratch[..n], at, c)
 }
 
-// The judgement of the line s, which starts at `at` in the input, with the place in the input of an octet that it names.
-fn settle(step: Step, s: &[u8], at: usize) -> Step
+// The refusal of the line s, which starts at `at` in the input, with the place in the input of an octet that it names.
+fn settle(flaw: Flaw, s: &[u8], at: usize) -> Refusal
     requires { at + length s.now ≤ limit.octets }
-    ensures { result ≡ settled at s.now step }
+    ensures { Refused result.0 result.1 ≡ settled at s.now (stopped flaw) }
 {
-    let Step::Flawed(number, octet) = step else {
-        return step;
-    };
-    let place = line_folds::places::place_of(s, octet);
-    Step::Refused(number, at + place)
+    match flaw {
+        Flaw::Placed(refusal) => refusal,
+        Flaw::Octet(number, octet) => {
+            let place = line_folds::places::place_of(s, octet);
+            Refusal(number, at + place)
+        }
+    }
 }
 
 // Judges the lines one after the other, up to the first refusal, with a scratch that holds each.
@@ -439,10 +440,10 @@ fn walk_in(
     steps: &Transitions,
     s: &[u8],
     scratch: &mut [u8],
-) -> Step
+) -> Result<Set, Refusal>
     requires tables { Tables t.now rows.now steps.now }
     requires s_in_bounds { (length s.now ≤ length scratch.old) × (length scratch.old ≤ limit.octets) }
-    ensures { result ≡ judge_lines way (raw_lines s.now) 0 fresh_set }
+    ensures { walked result ≡ judge_lines way (raw_lines s.now) 0 fresh_set }
 {
     let mut c = fresh();
     let mut at: usize = 0;
@@ -450,24 +451,31 @@ fn walk_in(
         let span = line_folds::spans::line_at(s, at);
         let end = span.end;
         let folds = span.cr != end;
-        let j = judge_span(way, t, rows, steps, &s[at..end], folds, scratch, at, c);
-        let Step::Next(next) = j else {
-            return settle(j, &s[at..end], at);
-        };
-        c = next;
-        at = end + 2;
+        match judge_span(way, t, rows, steps, &s[at..end], folds, scratch, at, c) {
+            Ok(next) => {
+                c = next;
+                at = end + 2;
+            }
+            Err(flaw) => return Err(settle(flaw, &s[at..end], at)),
+        }
     }
-    Step::Next(c)
+    Ok(c)
 }
 
 // An input of at most so many octets is judged with a scratch of as many, since the scratch is made at each call.
 const SHORT: usize = 1024;
 
 // Judges the lines one after the other, up to the first refusal.
-pub fn walk(way: Way, t: &ClassTable, rows: &PropertyTable, steps: &Transitions, s: &[u8]) -> Step
+pub fn walk(
+    way: Way,
+    t: &ClassTable,
+    rows: &PropertyTable,
+    steps: &Transitions,
+    s: &[u8],
+) -> Result<Set, Refusal>
     requires tables { Tables t.now rows.now steps.now }
     requires s_len_bound { length s.now ≤ limit.octets }
-    ensures { result ≡ judge_lines way (raw_lines s.now) 0 fresh_set }
+    ensures { walked result ≡ judge_lines way (raw_lines s.now) 0 fresh_set }
 {
     if s.len() <= SHORT {
         let mut scratch = [0u8; SHORT];

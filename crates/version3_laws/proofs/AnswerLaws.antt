@@ -24,10 +24,9 @@ use Rattle.reader_grammar.specs.Refusals.{Framed}
 use Rattle.reader_grammar.proofs.FoldLaws.{written_lines, written_paired, written_ends, lines_written}
 use Rattle.reader_grammar.proofs.PairedLaws.{paired_law}
 use Rattle.version3_parameters.specs.declared.Way.{Way}
+use Rattle.version3_judge.specs.declared.Phase.TheVariants.{Inside, Ended}
 use Rattle.version3_judge.specs.declared.Set.{Set}
-use Rattle.version3_judge.specs.declared.Step.{Step}
-use Rattle.version3_judge.specs.declared.Step.TheVariants.{Next, Refused}
-use Rattle.version3_judge.specs.Judge.{fresh_set, settled, judge_lines, onward}
+use Rattle.version3_judge.specs.Judge.{Step, Next, Refused, fresh_set, settled, judge_lines, onward}
 use Rattle.version3.specs.Outcome.{concluded, convert_outcome}
 use Rattle.version3_laws.specs.Cards.{CardBy, card, Converts, card_octets}
 use Rattle.version3_laws.specs.Refusals.{Before, begun, whole, SoFar, no_line, in_card, after_card, NoRoom}
@@ -132,10 +131,10 @@ card_framed w i h c =
       ends = e;
     }
 
-whole_phase : {c : Set} → Tells c whole → c.phase ≡ 2
+whole_phase : {c : Set} → Tells c whole → c.phase ≡ Ended
 whole_phase (at_whole e) = e
 
-begun_phase : {c : Set} {ys : List Line} → Tells c (begun ys) → c.phase ≡ 1
+begun_phase : {c : Set} {ys : List Line} → Tells c (begun ys) → c.phase ≡ Inside
 begun_phase (at_begun e f g h) = e
 
 -- a card is written
@@ -147,7 +146,7 @@ card_answer w i room h c =
     let s = steps_run w l.steps (raw_lines i) 0 (e ∙ l.text) in
     convert_framed w i room (card_framed w i h c)
     ∙ ap (λ (t : Step). concluded w t i room) s
-    ∙ rw (eq-eqb l.state.phase 2 (whole_phase l.known)) (ap (λ (t : List ℕ). fill_bounded t room) (card_law w i c.card c.readable e))
+    ∙ rw (whole_phase l.known) (ap (λ (t : List ℕ). fill_bounded t room) (card_law w i c.card c.readable e))
 
 -- an input that ends inside the card
 pub open_answer : (w : Way) (i room : List ℕ) (ys : List Line) → Framed i → SoFar w (map unfolded (raw_lines i)) (begun ys) → convert_outcome w i room ≡ refuse 9 (length i) room
@@ -155,7 +154,7 @@ open_answer w i room ys f h =
     let l = lead w h in
     convert_framed w i room f
     ∙ ap (λ (t : Step). concluded w t i room) (steps_run w l.steps (raw_lines i) 0 l.text)
-    ∙ rw (ne_eqb l.state.phase 2 (λ e. omega (arith, begun_phase l.known, e)))
+    ∙ rw (begun_phase l.known)
 
 -- the first line that stops the walk
 pub stop_answer : (w : Way) (i room : List ℕ) (ds : List (List ℕ)) (l : List ℕ) (es : List (List ℕ)) {b : Before} (n p : ℕ) → Framed i → raw_lines i ≡ ds ++ (l ∷ es)
@@ -197,10 +196,10 @@ module _ (w : Way) (i room : List ℕ) (f : Framed i) where
   unfolding logical_lines
   ended_by q no_line t = absurd (some_line i f.some (map_none unfolded (raw_lines i) q))
   ended_by {c = c} q (in_card {ys = ys} h r k) (at_begun p a b d) =
-      rw (ne_eqb c.phase 2 (λ e. omega arith)) (inside ys (subst (λ (ls : List (List ℕ)). SoFar w ls (begun ys)) (sym q) (in_card h r k)))
+      rw p (inside ys (subst (λ (ls : List (List ℕ)). SoFar w ls (begun ys)) (sym q) (in_card h r k)))
   ended_by {c = c} q (after_card {xs = xs} {ys = ys} r k) (at_whole p) =
       let g : Card w i ys = record { lines = xs; written = lines_written xs i ((paired_law i).1 f.paired) f.ends q; readable = r; card = k } in
-      rw (eq-eqb c.phase 2 p, card_law w i k r q) (over ys g)
+      rw (p, card_law w i k r q) (over ys g)
 
   walked_by : {s : Step} → Walked w (raw_lines i) s → Answered w i room (concluded w s i room)
   walked_by (finished r) = ended_by refl r.lines r.known

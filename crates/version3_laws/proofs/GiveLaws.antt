@@ -43,9 +43,7 @@ use Rattle.reader_grammar.proofs.Known.{none_any, some_any}
 use Rattle.version3_parameters.specs.declared.Way.TheVariants.{Outward}
 use Rattle.version3_parameters.specs.Params.{prefs_fit}
 use Rattle.version3_judge.specs.declared.Set.{Set}
-use Rattle.version3_judge.specs.declared.Step.{Step}
-use Rattle.version3_judge.specs.declared.Step.TheVariants.{Refused}
-use Rattle.version3_judge.specs.Judge.{fresh_set, common, goes_over, settled}
+use Rattle.version3_judge.specs.Judge.{Step, Refused, before_begin, fresh_set, common, goes_over, settled}
 use Rattle.version3.specs.Outcome.{convert_outcome, give_by, give_outcome}
 use Rattle.version3_laws.specs.Cards.{CardBy, Converts, card_octets, Gives}
 use Rattle.version3_laws.specs.Refusals.{Before, begun, InPlace, SoFar, in_card, NotGiven, NoRoom, RefusedOut}
@@ -79,7 +77,7 @@ module _ (x : Line) where
   not_given_from : (c : Set) {b : Before} → Tells c b → Sourced b x → NotGiven b x → is_good Outward c x ≡ false
   not_given_from c t s h = by (is_good Outward c x) (λ g. absurd (stops h (good_to Outward c x s.unladen t s.place g).1)) (λ g. g)
 
-  phase_fresh : (c : Set) → c ≡ fresh_set → eqb c.phase 0 ≡ true
+  phase_fresh : (c : Set) → c ≡ fresh_set → before_begin c.phase ≡ true
   phase_fresh c e = rw e
 
   not_given_to : (c : Set) {b : Before} → Tells c b → Sourced b x → Counted b x → is_good Outward c x ≡ false → NotGiven b x

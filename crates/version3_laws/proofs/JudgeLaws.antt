@@ -34,10 +34,9 @@ use Rattle.reader_grammar.proofs.Known.{any_some, any_none, some_any, none_any, 
 use Rattle.version3_parameters.specs.declared.Way.{Way}
 use Rattle.version3_parameters.specs.declared.Way.TheVariants.{Inward, Outward}
 use Rattle.version3_parameters.specs.Params.{prefs_fit}
+use Rattle.version3_judge.specs.declared.Phase.TheVariants.{Inside, Ended}
 use Rattle.version3_judge.specs.declared.Set.{Set}
-use Rattle.version3_judge.specs.declared.Step.{Step}
-use Rattle.version3_judge.specs.declared.Step.TheVariants.{Next, Refused, Flawed}
-use Rattle.version3_judge.specs.Judge.{fresh_set, number_of, in_place, common, goes_over, version_read, frames, goes, good, noted, judge_parts, judge_parsed, judge_line}
+use Rattle.version3_judge.specs.Judge.{Step, Next, Refused, Flawed, before_begin, fresh_set, number_of, in_place, common, goes_over, version_read, frames, goes, good, noted, judge_parts, judge_parsed, judge_line}
 use Rattle.version3_judge.specs.Judge as judging
 use Rattle.version3_laws.specs.Lines.{VersionRead}
 use Rattle.version3_laws.specs.Refusals.{Before, nothing, begun, whole, InPlace}
@@ -136,8 +135,8 @@ version_number Outward x h = h.value
 
 pub data Tells (c : Set) : Before → Type 0 where
   at_nothing : c ≡ fresh_set → Tells c nothing
-  at_begun : {ys : List Line} → c.phase ≡ 1 → c.has_fn ≡ any (of_row First 6) ys → c.has_n ≡ any (of_row First 7) ys → c.has_version ≡ any (of_row First 34) ys → Tells c (begun ys)
-  at_whole : c.phase ≡ 2 → Tells c whole
+  at_begun : {ys : List Line} → c.phase ≡ Inside → c.has_fn ≡ any (of_row First 6) ys → c.has_n ≡ any (of_row First 7) ys → c.has_version ≡ any (of_row First 34) ys → Tells c (begun ys)
+  at_whole : c.phase ≡ Ended → Tells c whole
 
 -- the line x takes the card from one place to the next
 pub data Advances (w : Way) : Before → Line → Before → Type 0 where
@@ -158,7 +157,7 @@ module _ (w : Way) (c : Set) (x : Line) where
   unfolding good
   good_inside f = rw f
 
-  pub good_begin : row_of_line First x ≡ 1 → is_good w c x ≡ (same x.value (octets "VCARD") && eqb c.phase 0)
+  pub good_begin : row_of_line First x ≡ 1 → is_good w c x ≡ (same x.value (octets "VCARD") && before_begin c.phase)
   unfolding frames
   good_begin e = good_frame (inl e) ∙ rw e
 
@@ -175,7 +174,7 @@ module _ (w : Way) (c : Set) (x : Line) where
   unfolding goes
   good_goes f = good_inside f
 
-phase_fresh : (c : Set) → c ≡ fresh_set → eqb c.phase 0 ≡ true
+phase_fresh : (c : Set) → c ≡ fresh_set → before_begin c.phase ≡ true
 phase_fresh c e = rw e
 
 -- a bool that is another's
@@ -192,11 +191,11 @@ not-true false e = refl
 module _ (w : Way) (c : Set) (x : Line) (u : Unladen First x) where
   pub good_to : {b : Before} → Tells c b → InPlace b x → is_good w c x ≡ true → (d : Before) × Advances w b x d
   good_to (at_nothing e) p g =
-      let a = and_both (same x.value (octets "VCARD")) (eqb c.phase 0) (sym (good_begin w c x p) ∙ g) in
+      let a = and_both (same x.value (octets "VCARD")) (before_begin c.phase) (sym (good_begin w c x p) ∙ g) in
       (begun [], begins (record { row = p; bare = u (inl p); value = a.0 }))
   good_to (at_whole e) p g =
-      let a = and_both (same x.value (octets "VCARD")) (eqb c.phase 0) (sym (good_begin w c x p) ∙ g) in
-      absurd (omega (arith, eqb-true c.phase 0 a.1))
+      let a = and_both (same x.value (octets "VCARD")) (before_begin c.phase) (sym (good_begin w c x p) ∙ g) in
+      absurd (false≢true (ap before_begin (sym e) ∙ a.1))
   good_to (at_begun {ys = ys} e hf hn hv) p g =
       by (framing (row_of_line First x)) (λ f. framed (framing_from (row_of_line First x) f)) (λ f. inside f)
     where

@@ -22,7 +22,7 @@ use Rattle.version3_parameters.specs.declared.Way.{Way}
 use Rattle.version3_parameters.specs.declared.Way.TheVariants.{Inward}
 use Rattle.version3_parameters.specs.Params.{prefs_fit}
 use Rattle.version3_judge.specs.declared.Set.{Set}
-use Rattle.version3_judge.specs.Judge.{fresh_set, common}
+use Rattle.version3_judge.specs.Judge.{before_begin, fresh_set, common}
 use Rattle.version3_laws.specs.Floats.{OldGeo}
 use Rattle.version3_laws.specs.Lines.{ValueIn, VersionRead}
 use Rattle.version3_laws.specs.Lines as lines
@@ -110,7 +110,7 @@ module _ (x : Line) (u : Unbroken x.value) where
   not_taken_to c (at_nothing e) p g =
       reasons.NotTaken.begin {x = x} (λ h. clash (rw (h, phase c e)) (sym (good_begin Inward c x p) ∙ g))
     where
-      phase : (c : Set) → c ≡ fresh_set → eqb c.phase 0 ≡ true
+      phase : (c : Set) → c ≡ fresh_set → before_begin c.phase ≡ true
       phase c e = rw e
   not_taken_to c (at_whole e) p g = reasons.NotTaken.second_card
   not_taken_to c (at_begun {ys = ys} e hf hn hv) p g =

@@ -17,9 +17,7 @@ use Rattle.reader_grammar.proofs.Known.{count_append}
 use Rattle.reader_grammar.proofs.BegunLaws.{each_join, each_split}
 use Rattle.version3_parameters.specs.declared.Way.{Way}
 use Rattle.version3_judge.specs.declared.Set.{Set}
-use Rattle.version3_judge.specs.declared.Step.{Step}
-use Rattle.version3_judge.specs.declared.Step.TheVariants.{Next, Refused, Flawed}
-use Rattle.version3_judge.specs.Judge.{fresh_set, noted, judge_line, onward, settled, judge_lines}
+use Rattle.version3_judge.specs.Judge.{Step, Next, Refused, Flawed, fresh_set, noted, judge_line, onward, settled, judge_lines}
 use Rattle.version3_laws.specs.Lines.{GoesOver}
 use Rattle.version3_laws.specs.Cards.{Pairs, card}
 use Rattle.version3_laws.specs.Cards as cards

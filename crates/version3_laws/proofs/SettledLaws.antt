@@ -14,9 +14,7 @@ use Rattle.reader.specs.Outcome.{Verdict}
 use Rattle.reader.specs.Outcome.{Accepted, Refused as Rejected}
 use Rattle.version3_parameters.specs.declared.Way.{Way}
 use Rattle.version3_parameters.specs.declared.Way.TheVariants.{Outward}
-use Rattle.version3_judge.specs.declared.Step.{Step}
-use Rattle.version3_judge.specs.declared.Step.TheVariants.{Next, Refused, Flawed}
-use Rattle.version3_judge.specs.Judge.{fresh_set, judge_lines}
+use Rattle.version3_judge.specs.Judge.{Step, Next, Refused, Flawed, ended, fresh_set, judge_lines}
 use Rattle.version3.specs.Card.{card_text}
 use Rattle.version3.specs.Outcome.{concluded, convert_outcome, give_by, give_outcome}
 
@@ -37,7 +35,7 @@ module _ (room : List ℕ) where
       (either (ltb (length room) (length t)) _ _ (refused 15 (length t)) (wrote (length t) (overlay t room)))
 
   concluded_settled : (w : Way) (s : Step) (i : List ℕ) → Settled room (concluded w s i room)
-  concluded_settled w (Next c) i = either (eqb c.phase 2) _ _ (filled_settled (card_text w i)) (refused 9 (length i))
+  concluded_settled w (Next c) i = either (ended c.phase) _ _ (filled_settled (card_text w i)) (refused 9 (length i))
   concluded_settled w (Refused n p) i = refused n p
   concluded_settled w (Flawed n o) i = refused n o
 

@@ -5,7 +5,7 @@ use mathlib.Core.List.{List, ◌∷◌}
 use Prim.Native.Nat.{ℕ}
 use native.Mathlib.Omega.{arith}
 use Rattle.version3_judge.specs.declared.Set.{Set}
-use Rattle.version3_judge.specs.declared.Step.TheVariants.{Next, Refused}
+use Rattle.version3_judge.specs.Judge.{Next, Refused}
 use Rattle.version3_laws.specs.Says.{worded}
 
 -- a test does not both hold and fail

@@ -29,9 +29,7 @@ use Rattle.reader_grammar.proofs.PairedLaws.{lone_within, paired_law, lone_first
 use Rattle.reader_grammar.proofs.Walks.{place_in}
 use Rattle.version3_parameters.specs.declared.Way.TheVariants.{Inward}
 use Rattle.version3_judge.specs.declared.Set.{Set}
-use Rattle.version3_judge.specs.declared.Step.{Step}
-use Rattle.version3_judge.specs.declared.Step.TheVariants.{Refused, Flawed}
-use Rattle.version3_judge.specs.Judge.{fresh_set, settled, judge_lines}
+use Rattle.version3_judge.specs.Judge.{Step, Refused, Flawed, fresh_set, settled, judge_lines}
 use Rattle.version3.specs.Outcome.{concluded, convert_outcome, take_outcome}
 use Rattle.version3_laws.specs.Cards.{Converts, card_octets, Takes}
 use Rattle.version3_laws.specs.Refusals.{Before, begun, SoFar, LineRefused, octet, rule, order, laden, not_taken, NoRoom, RefusedIn}

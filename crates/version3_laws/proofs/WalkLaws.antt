@@ -20,9 +20,7 @@ use Rattle.reader_grammar.proofs.Known.{count_append, each_last}
 use Rattle.reader_grammar.proofs.Walks.{start_next}
 use Rattle.version3_parameters.specs.declared.Way.{Way}
 use Rattle.version3_judge.specs.declared.Set.{Set}
-use Rattle.version3_judge.specs.declared.Step.{Step}
-use Rattle.version3_judge.specs.declared.Step.TheVariants.{Next, Refused}
-use Rattle.version3_judge.specs.Judge.{fresh_set, noted, onward, settled, judge_lines}
+use Rattle.version3_judge.specs.Judge.{Step, Next, Refused, fresh_set, noted, onward, settled, judge_lines}
 use Rattle.version3_laws.specs.Lines.{GoesOver, VersionRead, versioned}
 use Rattle.version3_laws.specs.Cards.{Pairs, none, more, CardBy, card}
 use Rattle.version3_laws.specs.Refusals.{Before, nothing, begun, whole, Within, SoFar, no_line, in_card, after_card}

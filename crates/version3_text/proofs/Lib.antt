@@ -2,3 +2,4 @@
 pub mod RenewLaws
 pub mod MarkLaws
 pub mod PutLaws
+pub mod SoughtLaws

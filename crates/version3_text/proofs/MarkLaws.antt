@@ -1,6 +1,6 @@
 -- Octets that are neither a backslash nor a semicolon: a run of them is written as it is and has no bare semicolon. Assumes nothing.
 use mathlib.Core.Path.{◌≡◌, refl, sym, ap, ◌∙◌}
-use mathlib.Core.Bool.{Bool, true, false, not, ◌&&◌}
+use mathlib.Core.Bool.{Bool, true, false, not, ◌&&◌, ◌||◌}
 use mathlib.Core.List.{List, [], ◌∷◌, ◌++◌}
 use Prim.Native.Nat.{ℕ, suc, ◌+◌, ◌-◌, ◌<◌}
 use native.Mathlib.Numerals.{add-one}
@@ -17,6 +17,18 @@ use Rattle.octets.proofs.BitLaws.{byte_no, or_zero_left, or_zero_right}
 use Rattle.octets.proofs.Bools.{and_both}
 use Rattle.version3_text.specs.Renewed.{pair_at, passed, bare_at, anew, renewed, semicolon_at, semicolons, unmarked}
 use Rattle.version3_text.proofs.RenewLaws.{renewed_octet, semicolons_none}
+
+-- a backslash or a semicolon
+abbrev pub marked : ℕ → Bool
+marked b = eqb b 92 || eqb b 59
+
+pub unmarked_not : (b : ℕ) → unmarked b ≡ not (marked b)
+unfolding unmarked
+unmarked_not b = go (eqb b 92) (eqb b 59)
+  where
+    go : (t u : Bool) → (not t && not u) ≡ not (t || u)
+    go true u = refl
+    go false u = refl
 
 module _ (b : ℕ) where
   pub no_mark : (b ≡ 92 → ⊥) → (b ≡ 59 → ⊥) → unmarked b ≡ true

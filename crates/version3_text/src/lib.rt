@@ -13,30 +13,21 @@ fn is_pair(s: &[u8], i: usize) -> bool
     requires { i < length s.now }
     ensures { result ≡ pair_at (drop i s.now) }
 {
-    if s[i] != b'\\' {
-        return false;
-    }
-    1 < s.len() - i
+    s[i] == b'\\' && 1 < s.len() - i
 }
 
 // What follows the backslash of an escape that is written anew.
 fn make_small(b: u8) -> u8
     ensures { result ≡ small b }
 {
-    if b == b'N' {
-        return b'n';
-    }
-    b
+    if b == b'N' { b'n' } else { b }
 }
 
 // Whether an octet is a semicolon that gets a backslash: one in a text that semicolons part nothing of.
 fn is_marked(b: u8, whole: bool) -> bool
     ensures { result ≡ (whole && eqb b ascii.semicolon) }
 {
-    if !whole {
-        return false;
-    }
-    b == b';'
+    whole && b == b';'
 }
 
 // Writes a text anew to the start of `out`, and answers how many octets that are: `\N` as `\n`, and a bare semicolon as `\;` in a text that is
@@ -92,9 +83,5 @@ pub fn put_semicolons(n: usize, out: &mut [u8])
     requires { n ≤ length out.old }
     ensures { out.new ≡ overlay (replicate n ascii.semicolon) out.old }
 {
-    let mut i: usize = 0;
-    while i < n {
-        out[i] = b';';
-        i += 1;
-    }
+    out[..n].fill(b';');
 }

@@ -12,10 +12,8 @@ fn has_mark(s: &[u8], i: usize) -> bool
     ensures { result ≡ false → (k : ℕ) → k < 16 → unmarked (get_or s.now (i + k) 0) ≡ true }
 {
     let mut hit: u8 = 0;
-    let mut k: usize = 0;
-    while k < BLOCK {
-        hit = hit | (s[i + k] == b'\\') as u8 | (s[i + k] == b';') as u8;
-        k += 1;
+    for &b in &s[i..i + BLOCK] {
+        hit = hit | (b == b'\\') as u8 | (b == b';') as u8;
     }
     hit != 0
 }
@@ -40,15 +38,9 @@ pub fn next_mark(s: &[u8], from: usize) -> usize
     requires { from ≤ length s.now }
     ensures { (result ≤ length s.now) × (result ≡ from + run unmarked (drop from s.now)) }
 {
-    let mut i = skip_to_mark(s, from);
-    while i < s.len() {
-        if s[i] == b'\\' {
-            return i;
-        }
-        if s[i] == b';' {
-            return i;
-        }
-        i += 1;
+    let near = skip_to_mark(s, from);
+    match s[near..].iter().position(|&b| b == b'\\' || b == b';') {
+        Some(n) => near + n,
+        None => s.len(),
     }
-    i
 }

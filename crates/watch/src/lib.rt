@@ -8,7 +8,7 @@ ghost use Rattle.card_state.specs.Kept.{places_of, end_of, Inside, step_of};
 ghost use Rattle.desk_pool.specs.Pools.{patch};
 ghost use Rattle.value_automaton.specs.States.{Scanner};
 ghost use Rattle.reader_walk.specs.Walk.{settled};
-ghost use Rattle.reader.specs.Outcome.{judge_of};
+ghost use Rattle.reader.specs.Outcome.{judge_of, verdict};
 ghost use Rattle.watch_arrivals.specs.Arrivals.{after_other, tail_from, lone_from, next_from};
 ghost use Rattle.watch_lines.specs.Taking.{Within, judgement};
 ghost use Rattle.watch.specs.Octets.{buffer_after};
@@ -17,7 +17,8 @@ ghost use Rattle.watch.specs.Outcome.{Comes, lines_came, octets_came, chunk_came
 
 use card_state::tags::Tags;
 use card_state::{Card, Step};
-use numbers::{limit, refusal};
+use numbers::refusal::{Reason, Refusal};
+use numbers::limit;
 use reader::Verdict;
 use watch_arrivals::{AFTER_CR, AFTER_CR_LF, AFTER_OTHER};
 
@@ -75,7 +76,7 @@ fn too_long() -> Watch
 {
     faulty(
         TOO_LONG,
-        refusal::TOO_LONG,
+        Reason::TooLong,
         limit::OCTETS,
         limit::OCTETS,
         AFTER_OTHER,
@@ -306,14 +307,14 @@ fn arrive(w: Watch, buffer: &mut [u8], chunk: &[u8]) -> Watch
     }
     let n = before + chunk.len();
     if w.known == LONE_BREAK {
-        return faulty(LONE_BREAK, refusal::LONE_CR_OR_LF, w.place, n, AFTER_OTHER);
+        return faulty(LONE_BREAK, Reason::LoneCrOrLf, w.place, n, AFTER_OTHER);
     }
     let lone = watch_arrivals::first_break(w.tail, chunk);
     if lone <= chunk.len() {
         watch_buffer::clear(buffer, 0, claimed);
         return faulty(
             LONE_BREAK,
-            refusal::LONE_CR_OR_LF,
+            Reason::LoneCrOrLf,
             before + lone - 1,
             n,
             AFTER_OTHER,
@@ -344,27 +345,27 @@ fn last_line(w: Watch, buffer: &[u8]) -> Step
 // The verdict on the octets so far, of a state that can be worked with.
 fn conclude(w: Watch, buffer: &[u8]) -> Verdict
     requires { Sound w × (length buffer.now ≡ limit.octets) }
-    ensures by_index { (i : List ℕ) → Reached w buffer.now i → result ≡ judge_of i }
-    ensures value { result ≡ end_came w buffer.now }
+    ensures by_index { (i : List ℕ) → Reached w buffer.now i → verdict result ≡ judge_of i }
+    ensures value { verdict result ≡ end_came w buffer.now }
 {
     let n = w.start + w.open;
     if w.known == TOO_LONG {
-        return Verdict::Refused(refusal::TOO_LONG, limit::OCTETS);
+        return Err(Refusal(Reason::TooLong, limit::OCTETS));
     }
     if n == 0 {
-        return Verdict::Refused(refusal::EMPTY, 0);
+        return Err(Refusal(Reason::Empty, 0));
     }
     if w.known == LONE_BREAK {
-        return Verdict::Refused(refusal::LONE_CR_OR_LF, w.place);
+        return Err(Refusal(Reason::LoneCrOrLf, w.place));
     }
     if w.tail == AFTER_CR {
-        return Verdict::Refused(refusal::LONE_CR_OR_LF, n - 1);
+        return Err(Refusal(Reason::LoneCrOrLf, n - 1));
     }
     if w.tail != AFTER_CR_LF {
-        return Verdict::Refused(refusal::NO_END, n);
+        return Err(Refusal(Reason::NoEnd, n));
     }
     if w.known == LINE_FAULT {
-        return Verdict::Refused(w.fault, w.place);
+        return Err(Refusal(w.fault, w.place));
     }
     let last = last_line(w, buffer);
     reader::conclude(n, last)
@@ -383,11 +384,11 @@ impl Watch {
         ensures { ChunkOf self buffer.old chunk.now result buffer.new }
     {
         if buffer.len() != limit::OCTETS {
-            return Arrived::Refused(refusal::BUFFER_LENGTH, 0);
+            return Arrived::Refused(Reason::BufferLength, 0);
         }
         let over = is_over(self);
         if over {
-            return Arrived::Refused(refusal::CLAIM, 0);
+            return Arrived::Refused(Reason::Claim, 0);
         }
         let sound = is_sound(self);
         if !sound {
@@ -402,18 +403,18 @@ impl Watch {
 
     // The verdict on the octets so far, as `judge` has it for them; 45, then 46, before all else. The buffer is only read.
     pub fn end(self, buffer: &[u8]) -> Verdict
-        ensures { EndOf self buffer.now result }
+        ensures { EndOf self buffer.now (verdict result) }
     {
         if buffer.len() != limit::OCTETS {
-            return Verdict::Refused(refusal::BUFFER_LENGTH, 0);
+            return Err(Refusal(Reason::BufferLength, 0));
         }
         let over = is_over(self);
         if over {
-            return Verdict::Refused(refusal::CLAIM, 0);
+            return Err(Refusal(Reason::Claim, 0));
         }
         let sound = is_sound(self);
         if !sound {
-            return Verdict::Refused(refusal::ORDER, 0);
+            return Err(Refusal(Reason::Order, 0));
         }
         conclude(self, buffer)
     }

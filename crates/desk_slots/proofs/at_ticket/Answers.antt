@@ -1,30 +1,30 @@
 -- `desk_slots::at_ticket` meets its contract. Assumes nothing.
-use mathlib.Core.Path.{◌∙◌}
-use native.Mathlib.Omega.{arith}
-use borrow.Author.Tests.{not-true, not-false}
+use mathlib.Core.Path.{sym, ap, ◌∙◌}
+use Rattle.desk_slots.specs.Slots.{found}
+use Rattle.std.proofs.lemmas.Result.{err_from_is_err_and}
 use Rattle.desk_slots.proofs.SlotLaws.{within}
-use Rattle.desk_slots.proofs.LookLaws.{seen_unsound, seen_sound, seen_slot, few_slots, slot_unsound, slot_unsized, slot_latest}
+use Rattle.desk_slots.proofs.LookLaws.{barred_start, slot_barred, slot_seen, or_22}
 use Rattle.desk_slots.proofs.at_ticket.Goals as goal
 
-pub returns-then-not-seen : goal.returns-then-not-seen
-returns-then-not-seen c =
+pub returns-in_err-seen-clause-slot : goal.returns-in_err-seen-clause-slot
+returns-in_err-seen-clause-slot c =
     let a = c.args in
-    record { slot = slot_unsound a.entries a.slots a.next a.stamps.now a.tick a.size a.t (seen_unsound a.entries a.slots a.next a.stamps.now a.tick a.t _ c.look_along-seen.ensures (not-true _ c.if-not-seen.true)); within = tt }
+    let p = err_from_is_err_and c.from_residual.result c.from_residual.ensures.1 in
+    rw (p.1, p.2) (slot_barred a.entries a.slots a.next a.stamps.now a.tick a.size a.t _ c.checked_look.ensures _ c.in_err-seen.was)
 
-pub overflow_mul-slots : goal.overflow_mul-slots
-overflow_mul-slots c =
+pub returns-in_err-seen-clause-start : goal.returns-in_err-seen-clause-start
+returns-in_err-seen-clause-start c =
     let a = c.args in
-    let clear = seen_sound a.entries a.slots a.next a.stamps.now a.tick a.t _ c.look_along-seen.ensures (not-false _ c.if-not-seen.false) in
-    let h = few_slots a.entries a.slots a.next a.stamps.now a.tick a.size clear in omega arith
+    let p = err_from_is_err_and c.from_residual.result c.from_residual.ensures.1 in
+    rw (p.1, p.2) (barred_start a.entries a.slots a.next a.stamps.now a.tick a.size a.t _ c.checked_look.ensures _ c.in_err-seen.was)
 
-pub returns-then-size-slots : goal.returns-then-size-slots
-returns-then-size-slots c = let a = c.args in
-    let clear = seen_sound a.entries a.slots a.next a.stamps.now a.tick a.t _ c.look_along-seen.ensures (not-false _ c.if-not-seen.false) in record { slot = slot_unsized a.entries a.slots a.next a.stamps.now a.tick a.size a.t clear c.if-size-slots.true; within = tt }
-
-pub returns : goal.returns
-returns c =
+pub returns-clause-slot : goal.returns-clause-slot
+returns-clause-slot c =
     let a = c.args in
-    let clear = seen_sound a.entries a.slots a.next a.stamps.now a.tick a.t _ c.look_along-seen.ensures (not-false _ c.if-not-seen.false) in
-    let e = clear in
-    let h = seen_slot a.entries a.slots a.next a.stamps.now a.tick a.t _ c.look_along-seen.ensures e ∙ slot_latest a.entries a.slots a.next a.stamps.now a.tick a.size a.t e c.if-size-slots.false in
-    record { slot = h; within = within a.entries a.slots a.next a.stamps.now a.tick a.size a.t _ h }
+    ap found c.ok_or.ensures.value ∙ sym (or_22 c.in_ok-seen.seen.found) ∙ slot_seen a.entries a.slots a.next a.stamps.now a.tick a.size a.t _ c.checked_look.ensures _ c.in_ok-seen.was
+
+pub returns-clause-within : goal.returns-clause-within
+returns-clause-within c =
+    let a = c.args in
+    let e = ap found c.ok_or.ensures.value ∙ sym (or_22 c.in_ok-seen.seen.found) ∙ slot_seen a.entries a.slots a.next a.stamps.now a.tick a.size a.t _ c.checked_look.ensures _ c.in_ok-seen.was in
+    within a.entries a.slots a.next a.stamps.now a.tick a.size a.t _ e

@@ -1,36 +1,26 @@
 -- `desk_slots::find_slot` meets its contract. Assumes nothing.
-use mathlib.Core.Path.{ap, ◌∙◌}
-use native.Mathlib.Omega.{arith}
-use borrow.Author.Tests.{not-true, not-false}
-use Rattle.desk_entries.specs.declared.tickets.Position.TheVariants.{At}
-use Rattle.desk_slots.proofs.LookLaws.{seen_unsound, seen_sound, seen_run, few_slots, position_unsound, position_unsized, position_free, position_full}
+use Rattle.std.proofs.lemmas.Result.{err_from_is_err_and}
+use Rattle.desk_slots.proofs.LookLaws.{barred_start, position_barred, position_free, position_full}
 use Rattle.desk_slots.proofs.find_slot.Goals as goal
 
-pub returns-then-not-seen : goal.returns-then-not-seen
-returns-then-not-seen c =
+pub returns-in_err-seen-clause-value : goal.returns-in_err-seen-clause-value
+returns-in_err-seen-clause-value c =
     let a = c.args in
-    position_unsound a.entries a.slots a.next a.stamps.now a.tick a.size (seen_unsound a.entries a.slots a.next a.stamps.now a.tick 0 _ c.look_along-seen.ensures (not-true _ c.if-not-seen.true))
+    let p = err_from_is_err_and c.from_residual.result c.from_residual.ensures.1 in
+    rw (p.1, p.2) (position_barred a.entries a.slots a.next a.stamps.now a.tick a.size _ c.checked_look.ensures _ c.in_err-seen.was)
 
-pub overflow_mul-slots : goal.overflow_mul-slots
-overflow_mul-slots c =
+pub returns-in_err-seen-clause-start : goal.returns-in_err-seen-clause-start
+returns-in_err-seen-clause-start c =
     let a = c.args in
-    let clear = seen_sound a.entries a.slots a.next a.stamps.now a.tick 0 _ c.look_along-seen.ensures (not-false _ c.if-not-seen.false) in
-    let h = few_slots a.entries a.slots a.next a.stamps.now a.tick a.size clear in omega arith
+    let p = err_from_is_err_and c.from_residual.result c.from_residual.ensures.1 in
+    rw (p.1, p.2) (barred_start a.entries a.slots a.next a.stamps.now a.tick a.size 0 _ c.checked_look.ensures _ c.in_err-seen.was)
 
-pub returns-then-size-slots : goal.returns-then-size-slots
-returns-then-size-slots c = let a = c.args in
-    let clear = seen_sound a.entries a.slots a.next a.stamps.now a.tick 0 _ c.look_along-seen.ensures (not-false _ c.if-not-seen.false) in position_unsized a.entries a.slots a.next a.stamps.now a.tick a.size clear c.if-size-slots.true
-
-pub returns-then-seen-slots : goal.returns-then-seen-slots
-returns-then-seen-slots c =
+pub returns-then-seen-slots-clause-value : goal.returns-then-seen-slots-clause-value
+returns-then-seen-slots-clause-value c =
     let a = c.args in
-    let clear = seen_sound a.entries a.slots a.next a.stamps.now a.tick 0 _ c.look_along-seen.ensures (not-false _ c.if-not-seen.false) in
-    let r = seen_run a.entries a.slots a.next a.stamps.now a.tick 0 _ c.look_along-seen.ensures clear in
-    ap At r ∙ position_free a.entries a.slots a.next a.stamps.now a.tick a.size clear c.if-size-slots.false (omega arith)
+    position_free a.entries a.slots a.next a.stamps.now a.tick a.size _ c.checked_look.ensures _ c.in_ok-seen.was c.if-seen-slots.true
 
-pub returns : goal.returns
-returns c =
+pub returns-clause-value : goal.returns-clause-value
+returns-clause-value c =
     let a = c.args in
-    let clear = seen_sound a.entries a.slots a.next a.stamps.now a.tick 0 _ c.look_along-seen.ensures (not-false _ c.if-not-seen.false) in
-    let r = seen_run a.entries a.slots a.next a.stamps.now a.tick 0 _ c.look_along-seen.ensures clear in
-    position_full a.entries a.slots a.next a.stamps.now a.tick a.size clear c.if-size-slots.false (omega arith)
+    position_full a.entries a.slots a.next a.stamps.now a.tick a.size _ c.checked_look.ensures _ c.in_ok-seen.was c.if-seen-slots.false

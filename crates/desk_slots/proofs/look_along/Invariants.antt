@@ -1,10 +1,6 @@
 -- `desk_slots::look_along` meets its contract. Assumes nothing.
-use Prim.Native.Nat.{◌-◌}
 use Rattle.desk_slots.proofs.LookLaws.{Looked}
 use Rattle.desk_slots.proofs.look_along.Given as goal
 
 abbrev pub invariant-loop-i : goal.invariant-loop-i
-invariant-loop-i l = Looked l.entries l.slots l.next l.stamps l.tick l.t l.ts l.highest l.slot l.run l.i
-
-abbrev pub decreases-loop-i : goal.decreases-loop-i
-decreases-loop-i l = 40 - l.i
+invariant-loop-i l = Looked l.entries l.slots l.next l.stamps l.tick l.t l.ts l.highest l.found l.run l.i

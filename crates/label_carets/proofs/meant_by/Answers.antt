@@ -1,20 +1,17 @@
 -- `label_carets::meant_by` meets its contract. Assumes nothing.
-use borrow.Author.Tests.{eq-eqb, ne_eqb}
+use native.Mathlib.Omega.{arith}
+use Rattle.std.proofs.lemmas.Bool.Decides.{nat_tests}
 use Rattle.label_carets.specs.Decoded.{meant}
 use Rattle.label_carets.proofs.meant_by.Goals as goal
 
-pub returns-then-b-eq110 : goal.returns-then-b-eq110
+pub returns-in-110 : goal.returns-in-110
 unfolding meant
-returns-then-b-eq110 c = simp (eq-eqb c.args.b 110 c.if-b-eq110.true)
+returns-in-110 c = grind (arith, nat_tests)
 
-pub returns-then-b-eq39 : goal.returns-then-b-eq39
+pub returns-in-39 : goal.returns-in-39
 unfolding meant
-returns-then-b-eq39 c =
-    let b = c.args.b in
-    simp (ne_eqb b 110 c.if-b-eq110.false, eq-eqb b 39 c.if-b-eq39.true)
+returns-in-39 c = grind (arith, nat_tests)
 
-pub returns : goal.returns
+pub returns-in_default : goal.returns-in_default
 unfolding meant
-returns c =
-    let b = c.args.b in
-    simp (ne_eqb b 110 c.if-b-eq110.false, ne_eqb b 39 c.if-b-eq39.false)
+returns-in_default c = grind (arith, nat_tests)

@@ -7,17 +7,8 @@ use Rattle.text_unescaping.proofs.MeasureLaws.{at_end}
 use Rattle.text_unescaping.proofs.PairLaws.{settled_sound}
 use Rattle.text_unescaping.proofs.measure.Goals as goal
 
-pub returns-then-text-lt-SHORT : goal.returns-then-text-lt-SHORT
-returns-then-text-lt-SHORT c = c.measure_each.ensures
-
-pub overflow_sub-kept : goal.overflow_sub-kept
-overflow_sub-kept c = omega (arith, c.backslashes.ensures.1)
-
 pub returns-then-all_settled : goal.returns-then-all_settled
 returns-then-all_settled c =
     let s = c.args.text.now in
     let w = settled_sound s (sym c.all_settled.ensures ∙ c.if-all_settled.true) in
     at_end s (length s - c.backslashes.result) w.0 (omega (arith, w.1, c.backslashes.ensures.0))
-
-pub returns : goal.returns
-returns c = c.measure_each-2.ensures

@@ -11,28 +11,28 @@ use Rattle.text_unescaping.proofs.measure_each.Goals as goal
 pub loop-i-init : goal.loop-i-init
 loop-i-init c = (search rules, search rules, sym (zero-add _), sym (zero-add _))
 
-pub returns-then-not-whole : goal.returns-then-not-whole
-returns-then-not-whole c =
+pub returns-then-not-escape_at : goal.returns-then-not-escape_at
+returns-then-not-escape_at c =
     let s = c.args.text.now in
     let l = c.loop-i in
-    let e = sym c.escape_at-whole.ensures ∙ c.if-not-whole.true in
+    let e = sym c.escape_at.ensures ∙ c.if-not-escape_at.true in
     at_fault s l.i (sym (l.invariant.2 ∙ fault_stop s l.i (step_backslash s l.i e c.if-text-i-eq92.true))) c.loop-i-test.true
 
 pub overflow_add-i : goal.overflow_add-i
 overflow_add-i c =
-    let e = sym c.escape_at-whole.ensures ∙ c.if-not-whole.false in
+    let e = sym c.escape_at.ensures ∙ c.if-not-escape_at.false in
     omega (arith, escape_inside c.args.text.now c.loop-i.i e)
 
 pub loop-i-smaller-then-text-i-eq92 : goal.loop-i-smaller-then-text-i-eq92
 loop-i-smaller-then-text-i-eq92 c =
-    let e = sym c.escape_at-whole.ensures ∙ c.if-not-whole.false in
+    let e = sym c.escape_at.ensures ∙ c.if-not-escape_at.false in
     omega (arith, escape_inside c.args.text.now c.loop-i.i e)
 
 pub loop-i-preserved-then-text-i-eq92 : goal.loop-i-preserved-then-text-i-eq92
 loop-i-preserved-then-text-i-eq92 c =
     let s = c.args.text.now in
     let l = c.loop-i in
-    let e = sym c.escape_at-whole.ensures ∙ c.if-not-whole.false in
+    let e = sym c.escape_at.ensures ∙ c.if-not-escape_at.false in
     let h = c.loop-i-test.true in
     (escape_inside s l.i e, omega arith, l.invariant.2 ∙ fault_escape s l.i h e, omega (arith, l.invariant.3, ap length (unescaped_escape s l.i h e)))
 

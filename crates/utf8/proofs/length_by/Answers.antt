@@ -1,37 +1,29 @@
 -- `utf8::length_by` meets its contract. Assumes nothing.
-use mathlib.Core.Path.{◌≡◌, sym, ◌∙◌}
-use lib.Dec.{ltb}
-use Rattle.octets.specs.Pick.{pick}
-use borrow.Author.Tests.{lt-ltb, le-ltb}
+use native.Mathlib.Omega.{arith}
+use Rattle.std.proofs.lemmas.Bool.Decides.{nat_tests}
 use Rattle.utf8.specs.Characters.{length_by}
 use Rattle.utf8.proofs.length_by.Goals as goal
 
-pub returns-then-b-lt128 : goal.returns-then-b-lt128
+pub returns-in-0-to-127 : goal.returns-in-0-to-127
 unfolding length_by
-returns-then-b-lt128 c = simp (lt-ltb _ _ c.if-b-lt128.true)
+returns-in-0-to-127 c = grind (arith, nat_tests)
 
-pub returns-then-b-lt194 : goal.returns-then-b-lt194
+pub returns-in-194-to-223 : goal.returns-in-194-to-223
 unfolding length_by
-returns-then-b-lt194 c = simp (le-ltb _ _ c.if-b-lt128.false, lt-ltb _ _ c.if-b-lt194.true)
+returns-in-194-to-223 c = grind (arith, nat_tests)
 
-pub returns-then-b-lt224 : goal.returns-then-b-lt224
+pub returns-in-224-to-239 : goal.returns-in-224-to-239
 unfolding length_by
-returns-then-b-lt224 c = simp (le-ltb _ _ c.if-b-lt128.false, le-ltb _ _ c.if-b-lt194.false, lt-ltb _ _ c.if-b-lt224.true)
+returns-in-224-to-239 c = grind (arith, nat_tests)
 
-pub returns-then-b-lt240 : goal.returns-then-b-lt240
+pub returns-in-240-to-244 : goal.returns-in-240-to-244
 unfolding length_by
-returns-then-b-lt240 c =
-    let long : let b = c.args.b in length_by b ≡ pick (ltb b 0xf0) 3 (pick (ltb b 0xf5) 4 0) = simp (le-ltb _ _ c.if-b-lt128.false, le-ltb _ _ c.if-b-lt194.false, le-ltb _ _ c.if-b-lt224.false) in
-    sym (long ∙ simp (lt-ltb _ _ c.if-b-lt240.true))
+returns-in-240-to-244 c = grind (arith, nat_tests)
 
-pub returns-then-b-lt245 : goal.returns-then-b-lt245
+pub returns-in_default : goal.returns-in_default
 unfolding length_by
-returns-then-b-lt245 c =
-    let long : let b = c.args.b in length_by b ≡ pick (ltb b 0xf0) 3 (pick (ltb b 0xf5) 4 0) = simp (le-ltb _ _ c.if-b-lt128.false, le-ltb _ _ c.if-b-lt194.false, le-ltb _ _ c.if-b-lt224.false) in
-    sym (long ∙ simp (le-ltb _ _ c.if-b-lt240.false, lt-ltb _ _ c.if-b-lt245.true))
+returns-in_default c = grind (arith, nat_tests)
 
-pub returns : goal.returns
+pub returns-in_default-2 : goal.returns-in_default-2
 unfolding length_by
-returns c =
-    let long : let b = c.args.b in length_by b ≡ pick (ltb b 0xf0) 3 (pick (ltb b 0xf5) 4 0) = simp (le-ltb _ _ c.if-b-lt128.false, le-ltb _ _ c.if-b-lt194.false, le-ltb _ _ c.if-b-lt224.false) in
-    sym (long ∙ simp (le-ltb _ _ c.if-b-lt240.false, le-ltb _ _ c.if-b-lt245.false))
+returns-in_default-2 c = grind (arith, nat_tests)

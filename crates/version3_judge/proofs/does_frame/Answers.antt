@@ -1,8 +1,9 @@
 -- src/lib.rt:245:13
-use mathlib.Core.Path.{sym, ◌∙◌}
+use mathlib.Core.Path.{sym, ap, ◌∙◌}
 use borrow.Author.Tests.{not-true, not-false}
 use Rattle.octets.specs.Ascii.{octets}
-use Rattle.version3_judge.proofs.JudgeLaws.{frames_again, frames_version, frames_other, frames_begin, frames_end}
+use Rattle.version3_judge.proofs.JudgeLaws.{frames_again, frames_version, frames_other, frames_begin, frames_end, not_before}
+use Rattle.version3_judge.specs.Judge.{before_begin}
 use Rattle.version3_judge.proofs.does_frame.Goals as goal
 
 pub returns-then-c : goal.returns-then-c
@@ -18,9 +19,17 @@ unfolding octets
 returns-then-not-same_name c = frames_other c.args.way c.args.c c.args.row c.args.value.now c.if-row-eq-VERSION.false (sym c.same_name.ensures ∙ not-true _ c.if-not-same_name.true-raw)
 
 -- src/lib.rt:253:9
-pub returns-then-row-eq-BEGIN : goal.returns-then-row-eq-BEGIN
+pub returns-in-BeforeBegin : goal.returns-in-BeforeBegin
 unfolding octets
-returns-then-row-eq-BEGIN c = frames_begin c.args.way c.args.c c.args.row c.args.value.now c.if-row-eq-VERSION.false (sym c.same_name.ensures ∙ not-false _ c.if-not-same_name.false-raw) c.if-row-eq-BEGIN.true
+returns-in-BeforeBegin c =
+    let k = frames_begin c.args.way c.args.c c.args.row c.args.value.now c.if-row-eq-VERSION.false (sym c.same_name.ensures ∙ not-false _ c.if-not-same_name.false-raw) c.if-row-eq-BEGIN.true in
+    sym (ap before_begin c.in-BeforeBegin.is) ∙ k
+
+pub returns-in_default : goal.returns-in_default
+unfolding octets
+returns-in_default c =
+    let k = frames_begin c.args.way c.args.c c.args.row c.args.value.now c.if-row-eq-VERSION.false (sym c.same_name.ensures ∙ not-false _ c.if-not-same_name.false-raw) c.if-row-eq-BEGIN.true in
+    not_before c.args.c.phase c.in_default.not-BeforeBegin ∙ k
 
 -- src/lib.rt:240:1
 pub returns : goal.returns

@@ -3,7 +3,7 @@ use mathlib.Core.Path.{sym, ap, ◌∙◌}
 use Prim.Native.Nat.{ℕ}
 use borrow.Author.Tests.{not-true, not-false}
 use Rattle.version3_parameters.specs.Places.{params_of}
-use Rattle.version3_judge.specs.declared.Step.TheVariants.{Next, Refused}
+use Rattle.version3_judge.specs.Judge.{Next, Refused}
 use Rattle.version3_judge.proofs.JudgeLaws.{parts_order, parts_laden, parts_not, parts_next}
 use Rattle.version3_judge.proofs.judge_parts.Goals as goal
 

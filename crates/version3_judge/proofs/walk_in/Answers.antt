@@ -1,22 +1,21 @@
 -- `version3_judge::walk_in` meets its contract. Assumes nothing.
 use mathlib.Core.Path.{refl, sym, ap, ◌∙◌}
 use mathlib.Core.List.{List}
-use Prim.Native.Nat.{ℕ, ◌+◌, ◌-◌}
+use Prim.Native.Nat.{ℕ, ◌-◌}
 use native.Mathlib.Omega.{arith}
 use lib.ListN.{take, drop}
 use Rattle.line_folds.specs.Logical.{raw_lines}
 use Rattle.line_folds.proofs.LineLaws.{lines_end}
 use Rattle.line_folds.proofs.SpanLaws.{whole, part_length}
-use Rattle.version3_judge.specs.declared.Step.{Step}
-use Rattle.version3_judge.specs.Judge.{onward, settled, judge_lines}
+use Rattle.version3_judge.specs.Judge.{Next, step, stopped, judge_lines}
 use Rattle.version3_judge.proofs.WalkLaws.{judged, stopped_step}
 use Rattle.version3_judge.proofs.walk_in.Goals as goal
 
 pub loop-at-init : goal.loop-at-init
 loop-at-init c = (refl, ap (judge_lines c.args.way (raw_lines c.args.s.now) 0) (sym c.fresh-c.ensures))
 
-pub judge_span-j-requires : goal.judge_span-j-requires
-judge_span-j-requires c =
+pub judge_span-requires : goal.judge_span-requires
+judge_span-requires c =
     let a = c.args in
     let l = c.loop-at in
     let v = c.line_at-span in
@@ -31,8 +30,12 @@ settle-requires c =
     let n = part_length a.s.now l.at v.result.end c.loop-at-test.true v.ensures.1 v.ensures.2 in
     omega (arith, n, c.loop-at-test.true, v.ensures.1, v.ensures.2, c.requires.s_in_bounds)
 
-pub returns-in_default : goal.returns-in_default
-returns-in_default c = c.settle.ensures ∙ sym (c.loop-at.invariant.1 ∙ judged c.args.way c.args.s.now c.loop-at.at c.line_at-span.result.end c.loop-at-test.true c.line_at-span.ensures.1 c.line_at-span.ensures.2 c.loop-at.c c.judge_span-j.result c.judge_span-j.ensures ∙ stopped_step _ (take (c.line_at-span.result.end - c.loop-at.at) (drop c.loop-at.at c.args.s.now)) _ c.judge_span-j.result c.in_default.not-Next)
+pub returns-in-Err : goal.returns-in-Err
+returns-in-Err c =
+    let v = c.line_at-span in
+    let l = c.loop-at in
+    let here = take (v.result.end - l.at) (drop l.at c.args.s.now) in
+    c.settle.ensures ∙ sym (l.invariant.1 ∙ judged c.args.way c.args.s.now l.at v.result.end c.loop-at-test.true v.ensures.1 v.ensures.2 l.c (stopped c.in-Err.flaw) (sym (ap step c.in-Err.is) ∙ c.judge_span.ensures) ∙ stopped_step l.at here _ c.in-Err.flaw)
 
 pub overflow_add-at : goal.overflow_add-at
 overflow_add-at c = omega (arith, c.line_at-span.ensures.2, c.requires.s_in_bounds)
@@ -40,9 +43,8 @@ overflow_add-at c = omega (arith, c.line_at-span.ensures.2, c.requires.s_in_boun
 pub loop-at-preserved : goal.loop-at-preserved
 loop-at-preserved c =
     let v = c.line_at-span in
-    let a = c.args in
     let l = c.loop-at in
-    (omega (arith, c.judge_span-j, l.invariant.0), c.loop-at.invariant.1 ∙ judged c.args.way c.args.s.now c.loop-at.at c.line_at-span.result.end c.loop-at-test.true c.line_at-span.ensures.1 c.line_at-span.ensures.2 c.loop-at.c c.judge_span-j.result c.judge_span-j.ensures ∙ ap (λ (r : Step). onward (settled l.at (take (c.line_at-span.result.end - c.loop-at.at) (drop c.loop-at.at c.args.s.now)) r) (judge_lines a.way (raw_lines (drop (v.result.end + 2) a.s.now)) (v.result.end + 2))) c.in-Next.is)
+    (omega (arith, c.judge_span, l.invariant.0), l.invariant.1 ∙ judged c.args.way c.args.s.now l.at v.result.end c.loop-at-test.true v.ensures.1 v.ensures.2 l.c (Next c.in-Ok.next) (sym (ap step c.in-Ok.is) ∙ c.judge_span.ensures))
 
 pub returns : goal.returns
 unfolding judge_lines

@@ -1,11 +1,11 @@
--- src/lib.rt:16:8
+-- `version3_text::is_pair` meets its contract. Assumes nothing.
+use mathlib.Core.Path.{◌∙◌}
+use borrow.Author.Tests.{ne_eqb}
 use Rattle.version3_text.proofs.RenewLaws.{pair_not, pair_by}
 use Rattle.version3_text.proofs.is_pair.Goals as goal
 
--- src/lib.rt:17:9
-pub returns-then-s-i-ne92 : goal.returns-then-s-i-ne92
-returns-then-s-i-ne92 c = pair_not c.args.s.now c.args.i c.if-s-i-ne92.true
+pub returns-then-s-i-eq92 : goal.returns-then-s-i-eq92
+returns-then-s-i-eq92 c = pair_by c.args.s.now c.args.i c.if-s-i-eq92.true
 
--- src/lib.rt:12:1
-pub returns : goal.returns
-returns c = pair_by c.args.s.now c.args.i c.if-s-i-ne92.false
+pub returns-else-s-i-eq92 : goal.returns-else-s-i-eq92
+returns-else-s-i-eq92 c = ne_eqb _ 92 c.if-s-i-eq92.false ∙ pair_not c.args.s.now c.args.i c.if-s-i-eq92.false

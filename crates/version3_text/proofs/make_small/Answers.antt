@@ -8,6 +8,6 @@ unfolding small
 returns-then-b-eq78 c = simp (eq-eqb c.args.b 78 c.if-b-eq78.true)
 
 -- src/lib.rt:23:1
-pub returns : goal.returns
+pub returns-else-b-eq78 : goal.returns-else-b-eq78
 unfolding small
-returns c = simp (ne_eqb c.args.b 78 c.if-b-eq78.false)
+returns-else-b-eq78 c = simp (ne_eqb c.args.b 78 c.if-b-eq78.false)

@@ -1,19 +1,14 @@
 -- `utf8_screening::plain::each_plain` meets its contract. Assumes nothing.
+use mathlib.Core.Path.{◌∙◌}
 use borrow.Author.Rules.{rules}
-use mathlib.Core.Path.{refl, sym, ◌∙◌}
-use Prim.Native.Nat.{◌-◌}
-use native.Mathlib.Omega.{arith}
-use Rattle.utf8_screening.proofs.PlainLaws.{plain_one, plain_odd, plain_none}
+use mathlib.Core.Bool.{not}
+use Rattle.std.proofs.lemmas.Iterator.{YieldsList-from_slice}
+use Rattle.std.proofs.lemmas.Iterator.Search.{all_from_yields_List}
+use Rattle.utf8_screening.specs.Plain.{odd}
+use Rattle.utf8_screening.proofs.PlainLaws.{plain_is, mark_none}
 use Rattle.utf8_screening.proofs.plain.each_plain.Goals as goal
 
-pub loop-i-init : goal.loop-i-init
-loop-i-init c = (search rules, refl)
-
-pub returns-then-odd_bit-ne0 : goal.returns-then-odd_bit-ne0
-returns-then-odd_bit-ne0 c = sym (c.loop-i.invariant.1 ∙ plain_odd c.args.s.now c.loop-i.i (omega arith) c.odd_bit.result c.odd_bit.ensures c.if-odd_bit-ne0.true)
-
-pub loop-i-preserved : goal.loop-i-preserved
-loop-i-preserved c = (omega arith, c.loop-i.invariant.1 ∙ plain_one c.args.s.now c.loop-i.i (omega arith) c.odd_bit.result c.odd_bit.ensures c.if-odd_bit-ne0.false)
-
 pub returns : goal.returns
-returns c = sym (c.loop-i.invariant.1 ∙ plain_none c.args.s.now c.loop-i.i (omega arith))
+returns c =
+    let s = c.args.s.now in
+    all_from_yields_List (λ b. not (odd b)) _ _ c.all.result c.all.ensures.ran (YieldsList-from_slice s cc) (λ x b q k. search (rules, mark_none)) ∙ plain_is s

@@ -1,34 +1,22 @@
 -- `utf8_screening::texts::easy_at` meets its contract. Assumes nothing.
-use mathlib.Core.Path.{refl, sym}
-use mathlib.Core.List.{List}
-use Prim.Native.Nat.{ℕ}
+use mathlib.Core.Path.{sym, ◌∙◌}
+use Prim.Native.Nat.{◌≤◌}
+use lib.ListN.{get_or}
+use borrow.Author.Rules.{rules}
+use borrow.Author.Tests.{tests}
 use native.Mathlib.Omega.{arith}
-use Rattle.utf8_screening.specs.Plain.{Easy}
-use Rattle.utf8.proofs.Chars.{is_so}
 use Rattle.utf8_screening.proofs.PlainLaws.{unit_plain, unit_two}
 use Rattle.utf8_screening.proofs.texts.easy_at.Goals as goal
-
-nothing : (s : List ℕ) (i : ℕ) → Easy s i 0
-nothing s i = record { whole = λ lf z. absurd (z refl) }
 
 pub returns-then-odd_bit-eq0 : goal.returns-then-odd_bit-eq0
 returns-then-odd_bit-eq0 c =
     let a = c.args in
     record { whole = λ lf z. sym (unit_plain a.s.now a.i c.odd_bit.result c.odd_bit.ensures c.requires c.if-odd_bit-eq0.true lf) }
 
-pub returns-then-b-lt194 : goal.returns-then-b-lt194
-returns-then-b-lt194 c = nothing _ _
-
-pub returns-then-b-gt223 : goal.returns-then-b-gt223
-returns-then-b-gt223 c = nothing _ _
-
-pub returns-then-s-i-lt2 : goal.returns-then-s-i-lt2
-returns-then-s-i-lt2 c = nothing _ _
-
-pub returns-then-not-two : goal.returns-then-not-two
-returns-then-not-two c = nothing _ _
-
-pub returns : goal.returns
-returns c =
+pub returns-then-is_tail : goal.returns-then-is_tail
+returns-then-is_tail c =
     let a = c.args in
-    record { whole = λ lf z. sym (unit_two a.s.now a.i (omega arith) (omega arith) (omega arith) (is_so c.is_tail-two.result _ c.is_tail-two.ensures c.if-not-two.false-raw) lf) }
+    let h = c.if-contains.ensures.cases in
+    let low : 194 ≤ get_or a.s.now a.i 0 = search (rules, tests) in
+    let high : get_or a.s.now a.i 0 ≤ 223 = search (rules, tests) in
+    record { whole = λ lf z. sym (unit_two a.s.now a.i low high (omega arith) (sym c.is_tail.ensures ∙ c.if-is_tail.true) lf) }

@@ -1,6 +1,5 @@
 -- `utf8_screening::texts::reach` meets its contract. Assumes nothing.
 use mathlib.Core.Path.{sym}
-use Prim.Native.Nat.{◌-◌}
 use native.Mathlib.Nat.{zero-add}
 use native.Mathlib.Omega.{arith}
 use Rattle.utf8_screening.proofs.PlainLaws.{reach_step}

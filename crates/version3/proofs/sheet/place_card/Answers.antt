@@ -12,11 +12,8 @@ place_lines-requires c =
 pub place_rest-requires : goal.place_rest-requires
 place_rest-requires c =
     let p = c.requires in
-    let r = rw c.in-Long.is at c.place_lines.ensures in
+    let r = rw (c.in_ok-e.was, c.in-Long.is) at c.place_lines.ensures in
     record { classes = search rules; s_len_bound = c.requires.s_len_bound.0; lent = (omega (arith, c.place_lines, c.requires.lent.0), omega (arith, c.place_lines, c.requires.lent.1), omega (arith, c.place_lines, c.requires.lent.2)); halfway = r.2 }
 
 pub returns-in-End : goal.returns-in-End
-returns-in-End c = rw c.in-End.is at c.place_lines.ensures
-
-pub returns-in-Cramped : goal.returns-in-Cramped
-returns-in-Cramped c = rw c.in-Cramped.is at c.place_lines.ensures
+returns-in-End c = rw (c.in_ok-e.was, c.in-End.is) at c.place_lines.ensures

@@ -1,48 +1,50 @@
 -- `version3::sheet::place_line` meets its contract. Assumes nothing.
+use mathlib.Core.Path.{◌≡◌, ap}
 use native.Mathlib.Omega.{arith}
 use Rattle.folder_line.specs.Pieces.{folded}
+use Rattle.version3.specs.Card.{turn_number}
 use Rattle.version3.specs.Places.{first_over, second_over, others_over}
 use Rattle.version3.proofs.PlaceLaws.{own, own_over, other}
 use Rattle.version3.proofs.sheet.place_line.Goals as goal
 
-pub add_line-requires : goal.add_line-requires
-add_line-requires c = (c.requires.0, c.requires.2.first_in, c.requires.2.first_most)
+pub returns-in_err-n-in-First : goal.returns-in_err-n-in-First
+returns-in_err-n-in-First c =
+    let a = c.args in
+    let h = rw c.in_err-n-in-First.was at c.add_line.ensures in
+    rw c.from_residual.ensures (first_over (own_over 0 (turn_number a.turn) (folded a.l.now) a.first.now a.e.first (ap turn_number c.in-First.is) h))
 
-pub returns-in-Upto : goal.returns-in-Upto
-returns-in-Upto c =
+pub returns-in_ok-n-in-First : goal.returns-in_ok-n-in-First
+returns-in_ok-n-in-First c =
     let a = c.args in
     let x = folded a.l.now in
-    record { first_share = own 0 a.turn x c.if-turn-eq-FIRST.true (rw c.in-Upto.is at c.add_line.ensures); second_share = other 1 a.turn x a.second.now a.e.second (λ q. omega (arith, q, c.if-turn-eq-FIRST.true)) c.requires.2.second_in; others_share = other 2 a.turn x a.others.now a.e.others (λ q. omega (arith, q, c.if-turn-eq-FIRST.true)) c.requires.2.others_in }
+    let t = turn_number a.turn in
+    let e : t ≡ 0 = ap turn_number c.in-First.is in
+    record { first_share = own 0 t x e (rw c.in_ok-n-in-First.was at c.add_line.ensures); second_share = other 1 t x a.second.now a.e.second (λ q. omega (arith, q, e)) c.requires.1.second_in; others_share = other 2 t x a.others.now a.e.others (λ q. omega (arith, q, e)) c.requires.1.others_in }
 
-pub returns-in-Over : goal.returns-in-Over
-returns-in-Over c =
+pub returns-in_err-n-in-Second : goal.returns-in_err-n-in-Second
+returns-in_err-n-in-Second c =
     let a = c.args in
-    first_over (own_over 0 a.turn (folded a.l.now) a.first.now a.e.first c.if-turn-eq-FIRST.true (rw c.in-Over.is at c.add_line.ensures))
+    let h = rw c.in_err-n-in-Second.was at c.add_line-in-Second.ensures in
+    rw c.from_residual-in_err-n-in-Second.ensures (second_over (own_over 1 (turn_number a.turn) (folded a.l.now) a.second.now a.e.second (ap turn_number c.in-Second.is) h))
 
-pub add_line-requires-then-turn-eq-SECOND : goal.add_line-requires-then-turn-eq-SECOND
-add_line-requires-then-turn-eq-SECOND c = (c.requires.0, c.requires.2.second_in, c.requires.2.second_most)
-
-pub returns-in-Upto-add_line : goal.returns-in-Upto-add_line
-returns-in-Upto-add_line c =
-    let a = c.args in
-    let x = folded a.l.now in
-    record { first_share = other 0 a.turn x a.first.now a.e.first (λ q. omega (arith, q, c.if-turn-eq-SECOND.true)) c.requires.2.first_in; second_share = own 1 a.turn x c.if-turn-eq-SECOND.true (rw c.in-Upto-add_line.is at c.add_line-then-turn-eq-SECOND.ensures); others_share = other 2 a.turn x a.others.now a.e.others (λ q. omega (arith, q, c.if-turn-eq-SECOND.true)) c.requires.2.others_in }
-
-pub returns-in-Over-add_line : goal.returns-in-Over-add_line
-returns-in-Over-add_line c =
-    let a = c.args in
-    second_over (own_over 1 a.turn (folded a.l.now) a.second.now a.e.second c.if-turn-eq-SECOND.true (rw c.in-Over-add_line.is at c.add_line-then-turn-eq-SECOND.ensures))
-
-pub add_line-requires-2 : goal.add_line-requires-2
-add_line-requires-2 c = (c.requires.0, c.requires.2.others_in, c.requires.2.others_most)
-
-pub returns-in-Upto-add_line-2 : goal.returns-in-Upto-add_line-2
-returns-in-Upto-add_line-2 c =
+pub returns-in_ok-n-in-Second : goal.returns-in_ok-n-in-Second
+returns-in_ok-n-in-Second c =
     let a = c.args in
     let x = folded a.l.now in
-    record { first_share = other 0 a.turn x a.first.now a.e.first c.if-turn-eq-FIRST.false c.requires.2.first_in; second_share = other 1 a.turn x a.second.now a.e.second c.if-turn-eq-SECOND.false c.requires.2.second_in; others_share = own 2 a.turn x (omega (arith, c.requires.1, c.if-turn-eq-FIRST.false, c.if-turn-eq-SECOND.false)) (rw c.in-Upto-add_line-2.is at c.add_line-2.ensures) }
+    let t = turn_number a.turn in
+    let e : t ≡ 1 = ap turn_number c.in-Second.is in
+    record { first_share = other 0 t x a.first.now a.e.first (λ q. omega (arith, q, e)) c.requires.1.first_in; second_share = own 1 t x e (rw c.in_ok-n-in-Second.was at c.add_line-in-Second.ensures); others_share = other 2 t x a.others.now a.e.others (λ q. omega (arith, q, e)) c.requires.1.others_in }
 
-pub returns-in-Over-add_line-2 : goal.returns-in-Over-add_line-2
-returns-in-Over-add_line-2 c =
+pub returns-in_err-n-in-Others : goal.returns-in_err-n-in-Others
+returns-in_err-n-in-Others c =
     let a = c.args in
-    others_over (own_over 2 a.turn (folded a.l.now) a.others.now a.e.others (omega (arith, c.requires.1, c.if-turn-eq-FIRST.false, c.if-turn-eq-SECOND.false)) (rw c.in-Over-add_line-2.is at c.add_line-2.ensures))
+    let h = rw c.in_err-n-in-Others.was at c.add_line-in-Others.ensures in
+    rw c.from_residual-in_err-n-in-Others.ensures (others_over (own_over 2 (turn_number a.turn) (folded a.l.now) a.others.now a.e.others (ap turn_number c.in-Others.is) h))
+
+pub returns-in_ok-n-in-Others : goal.returns-in_ok-n-in-Others
+returns-in_ok-n-in-Others c =
+    let a = c.args in
+    let x = folded a.l.now in
+    let t = turn_number a.turn in
+    let e : t ≡ 2 = ap turn_number c.in-Others.is in
+    record { first_share = other 0 t x a.first.now a.e.first (λ q. omega (arith, q, e)) c.requires.1.first_in; second_share = other 1 t x a.second.now a.e.second (λ q. omega (arith, q, e)) c.requires.1.second_in; others_share = own 2 t x e (rw c.in_ok-n-in-Others.was at c.add_line-in-Others.ensures) }

@@ -10,7 +10,7 @@ use Rattle.line_folds.proofs.SpanLaws.{whole, part_length}
 use Rattle.folder_line.specs.Pieces.{Clean}
 use Rattle.version3_parameters.specs.declared.Way.{Way}
 use Rattle.version3.specs.Card.{form_of}
-use Rattle.version3.proofs.CardLaws.{form_clean, form_most, turn_place}
+use Rattle.version3.proofs.CardLaws.{form_clean, form_most}
 use Rattle.version3.proofs.PlaceLaws.{within, ended, onward, cramped}
 use Rattle.version3.proofs.sheet.place_lines.Goals as goal
 
@@ -63,11 +63,11 @@ slice_bounds-place_line-end c =
 pub slice_bounds-place_line-end-in-loop-at : goal.slice_bounds-place_line-end-in-loop-at
 slice_bounds-place_line-end-in-loop-at c = sym (ap length c.form_span-f.ensures.text ∙ sym c.form_span-f.ensures.count)
 
-pub place_line-placed-requires : goal.place_line-placed-requires
-place_line-placed-requires c =
+pub place_line-requires : goal.place_line-requires
+place_line-requires c =
     let h = c.loop-at.invariant.5 in
     let s = unfolded (line c.args.s.now c.loop-at.at c.line_at-span.result.end) in
-    (subst Clean (sym c.form_span-f.ensures.text) (form_clean c.args.way s), omega (arith, c.form_span-f.ensures.turn, turn_place s), within h (omega (arith, c.loop-at.invariant.2, c.requires.lent.0), omega (arith, c.loop-at.invariant.3, c.requires.lent.1), omega (arith, c.loop-at.invariant.4, c.requires.lent.2)))
+    (subst Clean (sym c.form_span-f.ensures.text) (form_clean c.args.way s), within h (omega (arith, c.loop-at.invariant.2, c.requires.lent.0), omega (arith, c.loop-at.invariant.3, c.requires.lent.1), omega (arith, c.loop-at.invariant.4, c.requires.lent.2)))
 
 pub overflow_add-at : goal.overflow_add-at
 overflow_add-at c = omega (arith, c.line_at-span.ensures.2, c.requires.s_len_bound.0)
@@ -78,27 +78,28 @@ loop-at-smaller c = omega (arith, c.line_at-span.ensures.1, c.loop-at-test.true)
 pub loop-at-preserved : goal.loop-at-preserved
 loop-at-preserved c =
     let v = c.line_at-span in
-    (omega (arith, c.form_span-f, c.loop-at.invariant.0), omega (arith, c.form_span-f, c.loop-at.invariant.1), omega (arith, c.place_line-placed, c.loop-at.invariant.2), omega (arith, c.place_line-placed, c.loop-at.invariant.3), omega (arith, c.place_line-placed, c.loop-at.invariant.4), onward c.loop-at.invariant.5 v.result.end c.loop-at-test.true v.ensures.1 v.ensures.2 _ _ _ (omega (arith, c.place_line-placed)) (omega (arith, c.place_line-placed)) (omega (arith, c.place_line-placed)) c.in-Placed.next (rw (c.in-Placed.is, c.form_span-f.ensures.turn, c.form_span-f.ensures.text) at c.place_line-placed.ensures))
+    (omega (arith, c.form_span-f, c.loop-at.invariant.0), omega (arith, c.form_span-f, c.loop-at.invariant.1), omega (arith, c.place_line, c.loop-at.invariant.2), omega (arith, c.place_line, c.loop-at.invariant.3), omega (arith, c.place_line, c.loop-at.invariant.4), onward c.loop-at.invariant.5 v.result.end c.loop-at-test.true v.ensures.1 v.ensures.2 _ _ _ (omega (arith, c.place_line)) (omega (arith, c.place_line)) (omega (arith, c.place_line)) _ (rw (c.in_ok-e.was, c.form_span-f.ensures.turn, c.form_span-f.ensures.text) at c.place_line.ensures))
 
-pub shape_of-scratch-in-Cramped : goal.shape_of-scratch-in-Cramped
-shape_of-scratch-in-Cramped c = omega (arith, c.form_span-f, c.loop-at.invariant.0)
+pub shape_of-scratch-in_err-e : goal.shape_of-scratch-in_err-e
+shape_of-scratch-in_err-e c = omega (arith, c.form_span-f, c.loop-at.invariant.0)
 
-pub shape_of-form-in-Cramped : goal.shape_of-form-in-Cramped
-shape_of-form-in-Cramped c = omega (arith, c.form_span-f, c.loop-at.invariant.1)
+pub shape_of-form-in_err-e : goal.shape_of-form-in_err-e
+shape_of-form-in_err-e c = omega (arith, c.form_span-f, c.loop-at.invariant.1)
 
-pub shape_of-first-in-Cramped : goal.shape_of-first-in-Cramped
-shape_of-first-in-Cramped c = omega (arith, c.place_line-placed, c.loop-at.invariant.2)
+pub shape_of-first-in_err-e : goal.shape_of-first-in_err-e
+shape_of-first-in_err-e c = omega (arith, c.place_line, c.loop-at.invariant.2)
 
-pub shape_of-second-in-Cramped : goal.shape_of-second-in-Cramped
-shape_of-second-in-Cramped c = omega (arith, c.place_line-placed, c.loop-at.invariant.3)
+pub shape_of-second-in_err-e : goal.shape_of-second-in_err-e
+shape_of-second-in_err-e c = omega (arith, c.place_line, c.loop-at.invariant.3)
 
-pub shape_of-others-in-Cramped : goal.shape_of-others-in-Cramped
-shape_of-others-in-Cramped c = omega (arith, c.place_line-placed, c.loop-at.invariant.4)
+pub shape_of-others-in_err-e : goal.shape_of-others-in_err-e
+shape_of-others-in_err-e c = omega (arith, c.place_line, c.loop-at.invariant.4)
 
-pub returns-in-Cramped : goal.returns-in-Cramped
-returns-in-Cramped c =
+pub returns-in_err-e : goal.returns-in_err-e
+returns-in_err-e c =
     let v = c.line_at-span in
-    cramped c.loop-at.invariant.5 v.result.end c.loop-at-test.true v.ensures.1 v.ensures.2 c.place_line-placed.new.first c.place_line-placed.new.second c.place_line-placed.new.others (omega (arith, c.place_line-placed)) (omega (arith, c.place_line-placed)) (omega (arith, c.place_line-placed)) (rw (c.in-Cramped.is, c.form_span-f.ensures.turn, c.form_span-f.ensures.text) at c.place_line-placed.ensures)
+    let k = cramped c.loop-at.invariant.5 v.result.end c.loop-at-test.true v.ensures.1 v.ensures.2 c.place_line.new.first c.place_line.new.second c.place_line.new.others (omega (arith, c.place_line)) (omega (arith, c.place_line)) (omega (arith, c.place_line)) (rw (c.in_err-e.was, c.form_span-f.ensures.turn, c.form_span-f.ensures.text) at c.place_line.ensures) in
+    rw c.from_residual.ensures k
 
 pub shape_of-scratch : goal.shape_of-scratch
 shape_of-scratch c = c.loop-at.invariant.0

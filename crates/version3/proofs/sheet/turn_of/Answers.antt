@@ -1,14 +1,13 @@
--- src/sheet.rt:47:9
+-- `version3::sheet::turn_of` meets its contract. Assumes nothing.
+use native.Mathlib.Omega.{arith}
 use Rattle.version3.proofs.CardLaws.{turn_first, turn_second, turn_other}
 use Rattle.version3.proofs.sheet.turn_of.Goals as goal
 
-pub returns-then-row-eq-BEGIN : goal.returns-then-row-eq-BEGIN
-returns-then-row-eq-BEGIN c = turn_first c.args.row c.if-row-eq-BEGIN.true
+pub returns-in-1 : goal.returns-in-1
+returns-in-1 c = turn_first c.args.row c.in-1.is
 
--- src/sheet.rt:50:9
-pub returns-then-row-eq-VERSION : goal.returns-then-row-eq-VERSION
-returns-then-row-eq-VERSION c = turn_second c.args.row c.if-row-eq-BEGIN.false c.if-row-eq-VERSION.true
+pub returns-in-34 : goal.returns-in-34
+returns-in-34 c = turn_second c.args.row (λ e. omega (arith, c.in-34.is, e)) c.in-34.is
 
--- src/sheet.rt:43:1
-pub returns : goal.returns
-returns c = turn_other c.args.row c.if-row-eq-BEGIN.false c.if-row-eq-VERSION.false
+pub returns-in_default : goal.returns-in_default
+returns-in_default c = turn_other c.args.row (λ e. omega arith) (λ e. omega arith)

@@ -9,11 +9,11 @@ use Rattle.version3.proofs.OutcomeLaws.{bound_over}
 use Rattle.version3.proofs.PlaceLaws.{narrowed, narrow_over}
 use Rattle.version3.proofs.sheet.write_all.Goals as goal
 
-pub returns-in-Done : goal.returns-in-Done
-returns-in-Done c = rw c.in-Done.is at c.write_in.ensures
+pub returns-in-Some : goal.returns-in-Some
+returns-in-Some c = rw c.in-Some.is at c.write_with.ensures
 
-pub returns-in-Cramped : goal.returns-in-Cramped
-returns-in-Cramped c =
+pub returns-in-None : goal.returns-in-None
+returns-in-None c =
     let a = c.args in
-    let r = rw c.in-Cramped.is at c.write_in.ensures in
+    let r = rw c.in-None.is at c.write_with.ensures in
     ap (λ (o : List ℕ). refuse 16 16384 o) r.0 ∙ bound_over (card_text a.way a.s.now) a.out.now (narrow_over a.way a.s.now (narrowed r.1 (simp length-replicate) (simp length-replicate) (simp length-replicate)))

@@ -9,11 +9,13 @@ use Rattle.version3.proofs.sheet.write_in.Goals as goal
 
 pub join-requires : goal.join-requires
 join-requires c =
-    let r = rw c.in-Placed.is at c.place_card.ensures in
+    let r = rw c.in_ok-e.was at c.place_card.ensures in
     r.within
 
-pub returns-in-Placed : goal.returns-in-Placed
-returns-in-Placed c = c.join.ensures ∙ ap (λ (x : List ℕ). fill_bounded x c.args.out.now) (joined_card c.args.way c.args.s.now _ _ _ _ (rw c.in-Placed.is at c.place_card.ensures))
+pub returns : goal.returns
+returns c = c.join.ensures ∙ ap (λ (x : List ℕ). fill_bounded x c.args.out.now) (joined_card c.args.way c.args.s.now _ _ _ _ (rw c.in_ok-e.was at c.place_card.ensures))
 
-pub returns-in-Cramped : goal.returns-in-Cramped
-returns-in-Cramped c = (refl, narrowed (rw c.in-Cramped.is at c.place_card.ensures) (omega (arith, c.place_card)) (omega (arith, c.place_card)) (omega (arith, c.place_card)))
+pub returns-in_err-e : goal.returns-in_err-e
+returns-in_err-e c =
+    let k = narrowed (rw c.in_err-e.was at c.place_card.ensures) (omega (arith, c.place_card)) (omega (arith, c.place_card)) (omega (arith, c.place_card)) in
+    rw c.from_residual.ensures (refl, k)

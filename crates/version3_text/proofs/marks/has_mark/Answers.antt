@@ -1,24 +1,34 @@
 -- `version3_text::marks::has_mark` meets its contract. Assumes nothing.
-use borrow.Author.Rules.{rules}
-use mathlib.Core.Path.{◌≡◌}
-use Prim.Native.Nat.{ℕ, ◌+◌}
+use mathlib.Core.Path.{◌≡◌, sym, ap, ◌∙◌}
+use mathlib.Core.List.{List}
+use Prim.Native.Nat.{ℕ, ◌+◌, ◌-◌, ◌<◌, ◌≤◌}
 use native.Mathlib.Omega.{arith}
 use mathlib.Core.Bool.{true}
-use lib.ListN.{get_or}
+use lib.ListN.{length, get_or, take, drop, length-take, length-drop}
+use Rattle.std.proofs.lemmas.List.{get_or-take, get_or-drop}
 use Rattle.version3_text.specs.Renewed.{unmarked}
 use borrow.Author.Count.{below_none, below_more}
 use borrow.Author.Tests.{not-false, eqb-true}
 use Rattle.version3_text.proofs.MarkLaws.{looked}
 use Rattle.version3_text.proofs.marks.has_mark.Goals as goal
 
-pub loop-k-init : goal.loop-k-init
-loop-k-init c = (search rules, λ z. below_none _)
+pub loop-b-init : goal.loop-b-init
+loop-b-init c = λ z. below_none _
 
-pub loop-k-preserved : goal.loop-k-preserved
-loop-k-preserved c =
+-- an octet of the sixteen, in the text
+octet : (s : List ℕ) (i k : ℕ) → k < length (take (i + 16 - i) (drop i s)) → get_or (take (i + 16 - i) (drop i s)) k 0 ≡ get_or s (i + k) 0
+octet s i k h = get_or-take (i + 16 - i) (drop i s) k 0 (omega (arith, length-take (i + 16 - i) (drop i s))) ∙ get_or-drop i s k 0
+
+sixteen : (s : List ℕ) (i : ℕ) → i + 16 ≤ length s → length (take (i + 16 - i) (drop i s)) ≡ 16
+sixteen s i h = simp (length-take, length-drop) (omega arith)
+
+pub loop-b-preserved : goal.loop-b-preserved
+loop-b-preserved c =
     let a = c.args in
-    let look = looked (get_or a.s.now (a.i + c.loop-k.k) 0) c.loop-k.hit in
-    (omega arith, λ z. below_more (λ (m : ℕ). unmarked (get_or a.s.now (a.i + m) 0) ≡ true) c.loop-k.k (c.loop-k.invariant.1 (look z).0) (look z).1)
+    let l = c.loop-b in
+    let e = octet a.s.now a.i l.b-index c.loop-b-test.true in
+    let look = looked _ l.hit in
+    λ z. below_more (λ (m : ℕ). unmarked (get_or a.s.now (a.i + m) 0) ≡ true) l.b-index (l.invariant (look z).0) (ap unmarked (sym e) ∙ (look z).1)
 
 pub returns : goal.returns
-returns c = λ e m h. c.loop-k.invariant.1 (eqb-true c.loop-k.hit 0 (not-false _ e)) m (omega arith)
+returns c = λ e m h. c.loop-b.invariant (eqb-true c.loop-b.hit 0 (not-false _ e)) m (omega (arith, sixteen c.args.s.now c.args.i c.requires, c.loop-b-test.false))

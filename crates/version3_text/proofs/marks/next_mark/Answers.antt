@@ -1,30 +1,25 @@
 -- `version3_text::marks::next_mark` meets its contract. Assumes nothing.
-use mathlib.Core.Path.{sym, ◌∙◌}
-use native.Mathlib.Omega.{arith}
+use Rattle.std.proofs.Common.{rules, tests, ◌≡◌, sym, ◌∙◌, drop, arith, length-drop}
+use Rattle.std.proofs.lemmas.List.{take_rest}
+use Rattle.std.proofs.lemmas.Iterator.{YieldsList-from_slice}
+use Rattle.std.proofs.lemmas.Iterator.Search.{position_from_yields_List}
 use Rattle.version3_text.specs.Renewed.{unmarked}
-use Rattle.octets.proofs.Runs.{run_stop, run_step, run_end}
-use Rattle.version3_text.proofs.MarkLaws.{no_mark, a_backslash, a_semicolon}
+use Rattle.version3_text.proofs.MarkLaws.{marked, unmarked_not}
+use Rattle.version3_text.proofs.SoughtLaws.{sought, found, missed}
 use Rattle.version3_text.proofs.marks.next_mark.Goals as goal
 
-pub loop-i-init : goal.loop-i-init
-loop-i-init c = c.skip_to_mark-i.ensures
+pub returns-in-Some : goal.returns-in-Some
+returns-in-Some c =
+    let l = drop c.skip_to_mark-near.result c.args.s.now in
+    let e : c.position.result ≡ sought unmarked marked unmarked_not l = position_from_yields_List marked _ _ c.position.result c.position.ensures.ran (YieldsList-from_slice l (c.iter.ensures.rest ∙ take_rest c.args.s.now c.skip_to_mark-near.result)) (λ x b q k. search (rules, tests)) in
+    let f = found unmarked marked unmarked_not l c.in-Some.n (sym c.in-Some.is ∙ e) in
+    let n = length-drop c.skip_to_mark-near.result c.args.s.now in
+    (omega arith, omega arith)
 
-pub returns-then-s-i-eq92 : goal.returns-then-s-i-eq92
-returns-then-s-i-eq92 c =
-    let s = c.args.s.now in
-    (c.loop-i.invariant.0, sym (c.loop-i.invariant.1 ∙ run_stop unmarked s c.loop-i.i c.loop-i-test.true (a_backslash _ c.if-s-i-eq92.true)))
-
-pub returns-then-s-i-eq59 : goal.returns-then-s-i-eq59
-returns-then-s-i-eq59 c =
-    let s = c.args.s.now in
-    (c.loop-i.invariant.0, sym (c.loop-i.invariant.1 ∙ run_stop unmarked s c.loop-i.i c.loop-i-test.true (a_semicolon _ c.if-s-i-eq92.false c.if-s-i-eq59.true)))
-
-pub loop-i-preserved : goal.loop-i-preserved
-loop-i-preserved c =
-    let s = c.args.s.now in
-    (omega arith, c.loop-i.invariant.1 ∙ run_step unmarked s c.loop-i.i c.loop-i-test.true (no_mark _ c.if-s-i-eq92.false c.if-s-i-eq59.false))
-
-pub returns : goal.returns
-returns c =
-    let s = c.args.s.now in
-    (c.loop-i.invariant.0, sym (c.loop-i.invariant.1 ∙ run_end unmarked s c.loop-i.i c.loop-i-test.false))
+pub returns-in-None : goal.returns-in-None
+returns-in-None c =
+    let l = drop c.skip_to_mark-near.result c.args.s.now in
+    let e : c.position.result ≡ sought unmarked marked unmarked_not l = position_from_yields_List marked _ _ c.position.result c.position.ensures.ran (YieldsList-from_slice l (c.iter.ensures.rest ∙ take_rest c.args.s.now c.skip_to_mark-near.result)) (λ x b q k. search (rules, tests)) in
+    let f = missed unmarked marked unmarked_not l (sym c.in-None.is ∙ e) in
+    let n = length-drop c.skip_to_mark-near.result c.args.s.now in
+    (omega arith, omega arith)

@@ -1,9 +1,0 @@
--- `utf8::in_range` meets its contract. Assumes nothing.
-use borrow.Author.Tests.{le-leb, lt-leb}
-use Rattle.utf8.proofs.in_range.Goals as goal
-
-pub returns-then-c-low : goal.returns-then-c-low
-returns-then-c-low c = simp (lt-leb _ _ c.if-c-low.true)
-
-pub returns : goal.returns
-returns c = simp (le-leb _ _ c.if-c-low.false)
