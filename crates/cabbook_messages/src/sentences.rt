@@ -3,6 +3,8 @@ ghost use Rattle.std.specs.Prelude.{◌≡◌};
 ghost use Rattle.program_output.specs.Pages.{page, added};
 ghost use Rattle.cabbook_messages.specs.Sentences.{amount, counted, refusal};
 
+use numbers::refusal::Refusal;
+
 // Adds a number and the text that follows it.
 pub fn put_amount(room: &mut [u8], at: usize, n: usize, text: &[u8]) -> usize
     ensures { page result room.new ≡ added (amount n text.now) (page at room.old) }
@@ -20,9 +22,10 @@ pub fn put_count(room: &mut [u8], at: usize, n: usize, thing: &[u8]) -> usize
 }
 
 // Adds `refused NUMBER at octet PLACE`.
-pub fn put_refusal(room: &mut [u8], at: usize, number: u32, place: usize) -> usize
-    ensures { page result room.new ≡ added (refusal number place) (page at room.old) }
+pub fn put_refusal(room: &mut [u8], at: usize, r: Refusal) -> usize
+    ensures { page result room.new ≡ added (refusal r.0 r.1) (page at room.old) }
 {
+    let Refusal(number, place) = r;
     let start = program_output::put_all(room, at, b"refused ");
     let number_end = put_amount(room, start, number as usize, b" at octet ");
     program_output::digits::put_number(room, number_end, place)

@@ -6,6 +6,7 @@ ghost use Rattle.program_output.specs.Pages.{page, added};
 ghost use Rattle.cabbook_reasons.specs.Reasons.{opening, closing, utf16, marking, mark_from, line_end_words, inner_words, found_words, version_words, between_words, order_words, reason};
 
 use numbers::refusal;
+use numbers::refusal::Refusal;
 use octets::cases::same_name;
 use octets::slices::part;
 use program_output::put_all;
@@ -181,9 +182,10 @@ fn put_order(room: &mut [u8], at: usize, s: &[u8], place: usize) -> usize
 }
 
 // Adds why octets are refused at a place, by what stands there, or in the words of the refusal.
-pub fn put_reason(room: &mut [u8], at: usize, s: &[u8], number: u32, place: usize) -> usize
-    ensures { page result room.new ≡ added (reason s.now number place) (page at room.old) }
+pub fn put_reason(room: &mut [u8], at: usize, s: &[u8], r: Refusal) -> usize
+    ensures { page result room.new ≡ added (reason s.now r.0 r.1) (page at room.old) }
 {
+    let Refusal(number, place) = r;
     if number == refusal::ORDER {
         return put_order(room, at, s, place);
     }

@@ -6,6 +6,7 @@ ghost use Rattle.cabbook_rows.specs.Faults.{about, name_words, param_words, quot
 use crate::{under, values};
 use line_parser::at_fault;
 use line_parser::at_fault::{AtFault, QuoteFault};
+use numbers::refusal::Refusal;
 use numbers::{limit, refusal};
 use octets::slices::part;
 
@@ -135,14 +136,15 @@ fn put_raw(room: &mut [u8], at: usize, line: &[u8], number: u32) -> usize
 }
 
 // Adds why octets are refused: what is wrong with the line in which the place lies, what its value should be, or by what stands there.
-pub fn put_why(room: &mut [u8], at: usize, s: &[u8], number: u32, place: usize) -> usize
-    ensures { page result room.new ≡ added (why s.now number place) (page at room.old) }
+pub fn put_why(room: &mut [u8], at: usize, s: &[u8], r: Refusal) -> usize
+    ensures { page result room.new ≡ added (why s.now r.0 r.1) (page at room.old) }
 {
+    let Refusal(number, place) = r;
     if is_fault(number) {
-        return put_raw(room, at, under::offending(s, number, place), number);
+        return put_raw(room, at, under::offending(s, r), number);
     }
     if number == refusal::VALUE {
         return values::put_wanted(room, at, s, place);
     }
-    cabbook_reasons::put_reason(room, at, s, number, place)
+    cabbook_reasons::put_reason(room, at, s, r)
 }

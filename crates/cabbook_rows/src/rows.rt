@@ -5,6 +5,7 @@ ghost use Rattle.cabbook_rows.specs.Rows.{named, accepted_row, line_of, column_o
 
 use crate::faults;
 use cabbook_messages::sentences;
+use numbers::refusal::Refusal;
 
 // Adds the start of a file's row, its name.
 fn put_name(room: &mut [u8], at: usize, path: &[u8]) -> usize
@@ -58,14 +59,14 @@ pub fn put_refused(
     at: usize,
     path: &[u8],
     s: &[u8],
-    number: u32,
-    place: usize,
+    r: Refusal,
 ) -> usize
-    ensures { page result room.new ≡ added (refused_row path.now s.now number place) (page at room.old) }
+    ensures { page result room.new ≡ added (refused_row path.now s.now r.0 r.1) (page at room.old) }
 {
+    let Refusal(number, place) = r;
     let where_end = put_where(room, at, path, s, place);
     let start = program_output::put_all(room, where_end, b"refused ");
     let number_end = sentences::put_amount(room, start, number as usize, b": ");
-    let why_end = faults::put_why(room, number_end, s, number, place);
+    let why_end = faults::put_why(room, number_end, s, r);
     program_output::put_all(room, why_end, b"\n")
 }

@@ -6,6 +6,7 @@ ghost use Rattle.card_line.specs.Parts.{Accepted};
 
 use cabbook_messages::{sentences, wants, words};
 use card_line::{LineParts, Parts};
+use numbers::refusal::Refusal;
 use numbers::{kind, limit, property, refusal};
 use octets::cases::same_name;
 use octets::classes::ClassTable;
@@ -13,7 +14,7 @@ use octets::slices::part;
 use program_output::put_all;
 use property_table::Edition;
 use value_kinds::Fault;
-use version3_judge::{Set, Step};
+use version3_judge::{Phase, Set};
 use version3_parameters::Way;
 
 // The most parts of N and of ADR.
@@ -32,7 +33,7 @@ fn put_by(room: &mut [u8], at: usize, way: Way, inward: &[u8], outward: &[u8]) -
 // Before the first line.
 fn nothing() -> Set {
     Set {
-        phase: version3_judge::BEFORE_BEGIN,
+        phase: Phase::BeforeBegin,
         has_fn: false,
         has_n: false,
         has_version: false,
@@ -47,11 +48,10 @@ fn known_after(way: Way, lines: &[u8]) -> Set {
     let t = octets::classes::table();
     let rows = property_table::table();
     let steps = value_automaton::scanner::table();
-    let last = version3_judge::walk(way, &t, &rows, &steps, lines);
-    let Step::Next(c) = last else {
-        return nothing();
-    };
-    c
+    match version3_judge::walk(way, &t, &rows, &steps, lines) {
+        Ok(c) => c,
+        Err(_) => nothing(),
+    }
 }
 
 // Adds why a line is out of order.
@@ -85,7 +85,7 @@ fn put_missing(room: &mut [u8], at: usize, way: Way, c: Set) -> usize {
 
 // Adds what is wrong with BEGIN, which stands first and once.
 fn put_begin(room: &mut [u8], at: usize, way: Way, c: Set) -> usize {
-    if c.phase == version3_judge::BEFORE_BEGIN {
+    if c.phase == Phase::BeforeBegin {
         return put_all(room, at, b"BEGIN wants VCARD");
     }
     put_by(
@@ -317,9 +317,9 @@ pub(crate) fn put_why(
     at: usize,
     way: Way,
     s: &[u8],
-    number: u32,
-    place: usize,
+    r: Refusal,
 ) -> usize {
+    let Refusal(number, place) = r;
     let start = cabbook_positions::line_start(s, place);
     let end = line_folds::spans::line_end(s, start);
     let c = known_after(way, part(s, 0, start));
