@@ -70,11 +70,11 @@ fn put_place(room: &mut [u8], at: usize, s: &[u8], place: usize) -> usize {
 
 // Adds a refusal of octets, as an object.
 fn put_refusal(room: &mut [u8], at: usize, s: &[u8], r: Refusal) -> usize {
-    let Refusal(number, place) = r;
+    let Refusal(reason, place) = r;
     let mut words = program_host::buffer();
     let k = cabbook_rows::faults::put_why(&mut words, 0, s, r);
     let start = put_all(room, at, b"{\"refusal\":");
-    let refusal = put_amount(room, start, number as usize, b",\"octet\":");
+    let refusal = put_amount(room, start, reason.number() as usize, b",\"octet\":");
     let octet = put_place(room, refusal, s, place);
     let why = put_quoted(room, octet, part(&words, 0, k));
     put_all(room, why, b"}")

@@ -8,8 +8,8 @@ ghost use Rattle.cabbook_output.specs.Ends.{Status};
 
 use cabbook_output::{Ended, File, Unwritten};
 use cabbook_tables::status;
-use numbers::refusal::Refusal;
-use numbers::{limit, refusal};
+use numbers::refusal::{Reason, Refusal};
+use numbers::limit;
 use octets::cases::same_name;
 use octets::slices::part;
 use program_host::{Host, STDOUT};
@@ -39,7 +39,7 @@ fn print_refused(host: &mut Host, file: File, r: Refusal) -> Ended
     ensures { IfOk result Status }
 {
     let status = cabbook_output::print_refusal(host, STDOUT, file, r)?;
-    if r.0 == refusal::TOO_LONG {
+    if r.0 == Reason::TooLong {
         cabbook_sizes::print_size(host, file.path)?;
         return Ok(status);
     }

@@ -14,8 +14,8 @@ use cabbook_output::{Ended, File, Unwritten};
 use cabbook_tables::status;
 use merge::Entries;
 use merge_sources::{Row, Source};
-use numbers::refusal::Refusal;
-use numbers::{limit, refusal};
+use numbers::refusal::{Reason, Refusal};
+use numbers::limit;
 use octets::slices::{numbers, part};
 use program_host::{Host, STDERR};
 use program_output::put_all;
@@ -131,18 +131,18 @@ fn show(host: &mut Host, a: &Edit, b: &Edit, plan: &[u32]) -> Ended
 }
 
 // Adds the start of what is said of two edits that are refused.
-fn put_start(room: &mut [u8], a: &Edit, b: &Edit, number: u32) -> usize {
+fn put_start(room: &mut [u8], a: &Edit, b: &Edit, reason: Reason) -> usize {
     let first_end = program_visible::put_visible(room, 0, a.file.path);
     let comma_end = put_all(room, first_end, b", ");
     let second_end = program_visible::put_visible(room, comma_end, b.file.path);
     let start = put_all(room, second_end, b": refused ");
-    sentences::put_amount(room, start, number as usize, b": ")
+    sentences::put_amount(room, start, reason.number() as usize, b": ")
 }
 
 // Adds why there is no plan for two edits.
-fn put_no_plan(room: &mut [u8], a: &Edit, b: &Edit, number: u32) -> usize {
-    let start = put_start(room, a, b, number);
-    if number == refusal::MERGE_LIMIT {
+fn put_no_plan(room: &mut [u8], a: &Edit, b: &Edit, reason: Reason) -> usize {
+    let start = put_start(room, a, b, reason);
+    if reason == Reason::MergeLimit {
         let end = reasons::put_over(room, start, a, b);
         return put_all(room, end, b"\n");
     }
@@ -150,11 +150,11 @@ fn put_no_plan(room: &mut [u8], a: &Edit, b: &Edit, number: u32) -> usize {
 }
 
 // Prints why there is no plan for two edits, and answers the exit status.
-fn print_no_plan(host: &mut Host, a: &Edit, b: &Edit, number: u32) -> u8
+fn print_no_plan(host: &mut Host, a: &Edit, b: &Edit, reason: Reason) -> u8
     ensures { Status result }
 {
     let mut room = [0u8; PAGE];
-    let n = put_no_plan(&mut room, a, b, number);
+    let n = put_no_plan(&mut room, a, b, reason);
     let _ = cabbook_output::send(host, STDERR, &room, n);
     status::REFUSED
 }
@@ -175,7 +175,7 @@ fn merge_read(host: &mut Host, a: &Edit, b: &Edit) -> Ended
     );
     match planned {
         Ok(n) => show(host, a, b, numbers(&plan, n.min(limit::LINES) * 2)),
-        Err(Refusal(number, _)) => Ok(print_no_plan(host, a, b, number)),
+        Err(Refusal(reason, _)) => Ok(print_no_plan(host, a, b, reason)),
     }
 }
 

@@ -3,7 +3,8 @@ use crate::clash::Clash;
 use crate::side::{Edit, Side};
 use crate::{clash, sheet, side};
 use cabbook_messages::words;
-use numbers::{limit, property, refusal};
+use numbers::refusal::Reason;
+use numbers::{limit, property};
 use program_output::put_all;
 
 // Which limit an edit passes, if it passes one.
@@ -38,7 +39,7 @@ pub(crate) fn put_over(room: &mut [u8], at: usize, a: &Edit, b: &Edit) -> usize 
     if let Some(words) = limit_passed(b) {
         return put_said(room, at, b, words);
     }
-    words::put_words(room, at, refusal::MERGE_LIMIT)
+    words::put_words(room, at, Reason::MergeLimit)
 }
 
 // Adds that a file has no UID.
@@ -98,7 +99,7 @@ pub(crate) fn put_no_plan(room: &mut [u8], at: usize, a: &Edit, b: &Edit) -> usi
         );
     }
     let Some(k) = clash::find(a, b) else {
-        let end = words::put_words(room, at, refusal::NO_PLAN);
+        let end = words::put_words(room, at, Reason::NoPlan);
         return put_all(room, end, b"\n");
     };
     put_clash(room, at, k, a, b)

@@ -5,7 +5,8 @@ ghost use Rattle.numbers.specs.Limits as limit;
 ghost use Rattle.cabbook_morning.specs.Depot.{one_more, as_ticket, no_upload, begun, next_round, reclaimed_at, released_at, differed, counted, unread_counted};
 
 use desk::Desk;
-use numbers::{limit, refusal};
+use numbers::refusal::Reason;
+use numbers::limit;
 use program_host::Host;
 use reader::Verdict;
 
@@ -149,7 +150,7 @@ fn count_difference(mut m: Morning, same: bool) -> Morning
 fn count_reclaimed(n: usize, number: u32) -> usize
     ensures { result ≡ reclaimed_at number n }
 {
-    if number == refusal::NOT_OPEN {
+    if number == Reason::NotOpen {
         return more(n);
     }
     n

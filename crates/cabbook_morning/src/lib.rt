@@ -13,7 +13,8 @@ ghost use Rattle.cabbook_morning.specs.Turns.{Begun, Finished, AddedTo, Taken, F
 use cabbook_options::arguments;
 use depot::{Morning, Upload};
 use desk::{Answer, Desk};
-use numbers::{limit, refusal};
+use numbers::refusal::Reason;
+use numbers::limit;
 use program_files::Input;
 use program_host::Host;
 use reader::Verdict;
@@ -96,7 +97,7 @@ fn take_file(host: &mut Host, mut m: Morning, k: usize, pool: &mut [u8]) -> Morn
         }
         Answer::Refused(number, place) => {
             host.close(fd);
-            if number == refusal::NO_FREE_SLOT {
+            if number == Reason::NoFreeSlot {
                 m.next = i;
                 return m;
             }

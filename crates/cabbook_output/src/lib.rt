@@ -4,9 +4,8 @@
 ghost use Rattle.std.specs.Prelude.{◌≡◌, IfOk, is_ok};
 ghost use Rattle.cabbook_output.specs.Ends.{Status};
 
+use numbers::refusal::{Reason, Refusal};
 use cabbook_tables::status;
-use numbers::refusal;
-use numbers::refusal::Refusal;
 use program_host::Host;
 
 // Standard output can't be written, which is told at the end.
@@ -58,9 +57,9 @@ fn put_blanks(room: &mut [u8], at: usize, line: &[u8]) -> usize {
 
 // Adds the row of a file that is refused, and the logical line in which the place lies, with a caret.
 fn put_refusal(room: &mut [u8], file: File, r: Refusal) -> usize {
-    let Refusal(number, place) = r;
+    let Refusal(reason, place) = r;
     let row_end = cabbook_rows::rows::put_refused(room, 0, file.path, file.octets, r);
-    if number == refusal::TOO_LONG || number == refusal::EMPTY {
+    if matches!(reason, Reason::TooLong | Reason::Empty) {
         return row_end;
     }
     let line = cabbook_rows::under::offending(file.octets, r);

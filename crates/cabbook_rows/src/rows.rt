@@ -1,5 +1,6 @@
 // The row of a file: what it holds, or where and why it is refused.
 ghost use Rattle.std.specs.Prelude.{◌≡◌};
+ghost use Rattle.numbers.specs.Refusals.{number};
 ghost use Rattle.program_output.specs.Pages.{page, added};
 ghost use Rattle.cabbook_rows.specs.Rows.{named, accepted_row, line_of, column_of, location, refused_row};
 
@@ -61,12 +62,12 @@ pub fn put_refused(
     s: &[u8],
     r: Refusal,
 ) -> usize
-    ensures { page result room.new ≡ added (refused_row path.now s.now r.0 r.1) (page at room.old) }
+    ensures { page result room.new ≡ added (refused_row path.now s.now (number r.0) r.1) (page at room.old) }
 {
-    let Refusal(number, place) = r;
+    let Refusal(reason, place) = r;
     let where_end = put_where(room, at, path, s, place);
     let start = program_output::put_all(room, where_end, b"refused ");
-    let number_end = sentences::put_amount(room, start, number as usize, b": ");
+    let number_end = sentences::put_amount(room, start, reason.number() as usize, b": ");
     let why_end = faults::put_why(room, number_end, s, r);
     program_output::put_all(room, why_end, b"\n")
 }

@@ -4,7 +4,6 @@ ghost use Rattle.std.specs.Prelude.{length, ◌≤◌};
 use crate::dates;
 use cabbook_tables::fields;
 use label_carets::Rule;
-use line_parameters::First;
 use numbers::{kind, limit};
 use numbers::refusal::Refusal;
 use program_visible::put_visible;
@@ -162,10 +161,9 @@ fn put_decoded(room: &mut [u8], at: usize, s: &[u8]) -> usize {
 // Adds the LABEL of a line whose name ends there, if it has one, each of its lines in the value's column.
 pub(crate) fn put_label(room: &mut [u8], at: usize, line: &[u8], name_end: usize) -> usize {
     let t = octets::classes::table();
-    let first = line_parameters::param_first(&t, line, name_end, b"LABEL");
-    let First::Between { start, end } = first else {
+    let Some(span) = line_parameters::param_first(&t, line, name_end, b"LABEL") else {
         return at;
     };
     let indent = put_indent(room, at, false);
-    put_decoded(room, indent, octets::slices::part(line, start, end))
+    put_decoded(room, indent, octets::slices::part(line, span.start, span.end))
 }

@@ -9,8 +9,8 @@ ghost use Rattle.cabbook_output.specs.Ends.{Status};
 use cabbook_messages::sentences;
 use cabbook_tables::status;
 use cabbook_output::{Ended, File, Unwritten};
-use numbers::refusal::Refusal;
-use numbers::{limit, refusal};
+use numbers::refusal::{Reason, Refusal};
+use numbers::limit;
 use octets::cases::same_name;
 use octets::slices::part;
 use program_host::{Host, STDERR, STDOUT};
@@ -30,13 +30,10 @@ fn write(way: Way, s: &[u8], room: &mut [u8]) -> Result<usize, Refusal> {
 
 // Whether a refusal is of a line that the reader would take otherwise: 50 and 51, and what is in order in cards that are taken in.
 fn is_own(way: Way, s: &[u8], r: Refusal) -> bool {
-    let Refusal(number, place) = r;
-    if number == refusal::NOT_TAKEN_IN || number == refusal::NOT_GIVEN_OUT {
-        return true;
-    }
-    match way {
-        Way::Inward => place < s.len() && number == refusal::ORDER,
-        Way::Outward => false,
+    match r {
+        Refusal(Reason::NotTakenIn | Reason::NotGivenOut, _) => true,
+        Refusal(Reason::Order, place) => way == Way::Inward && place < s.len(),
+        _ => false,
     }
 }
 
@@ -44,7 +41,7 @@ fn is_own(way: Way, s: &[u8], r: Refusal) -> bool {
 fn put_refusal(room: &mut [u8], way: Way, file: File, r: Refusal) -> usize {
     let where_end = cabbook_rows::rows::put_where(room, 0, file.path, file.octets, r.1);
     let start = put_all(room, where_end, b"refused ");
-    let number_end = sentences::put_amount(room, start, r.0 as usize, b": ");
+    let number_end = sentences::put_amount(room, start, r.0.number() as usize, b": ");
     let why_end = reasons::put_why(room, number_end, way, file.octets, r);
     let row_end = put_all(room, why_end, b"\n");
     cabbook_rows::under::put_under(room, row_end, file.octets, r)
@@ -54,7 +51,7 @@ fn put_refusal(room: &mut [u8], way: Way, file: File, r: Refusal) -> usize {
 fn print_refusal(host: &mut Host, to: i32, way: Way, file: File, r: Refusal) -> Ended
     ensures { IfOk result Status }
 {
-    if r.0 == refusal::FORM_TOO_LONG {
+    if r.0 == Reason::FormTooLong {
         return cabbook_output::print_refused(host, to, file, r);
     }
     if !is_own(way, file.octets, r) {
@@ -101,8 +98,8 @@ fn has_version_line(s: &[u8]) -> bool {
 // Whether the reader refuses a text since it is of version 3: at VERSION:3.0, or since VERSION is not the second line.
 pub fn is_version3(s: &[u8], r: Refusal) -> bool {
     match r.0 {
-        refusal::ORDER => has_version_line(s),
-        refusal::VALUE => is_version_line(s, cabbook_positions::line_start(s, r.1)),
+        Reason::Order => has_version_line(s),
+        Reason::Value => is_version_line(s, cabbook_positions::line_start(s, r.1)),
         _ => false,
     }
 }

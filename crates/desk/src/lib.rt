@@ -11,8 +11,8 @@ ghost use Rattle.desk.specs.Steps.{refuse, grant, stamped, slot_of, idle_slot, t
 
 use desk_entries::{Entry, Session, State, ticks};
 use desk_slots::Found;
-use numbers::refusal::Refusal;
-use numbers::{limit, refusal};
+use numbers::refusal::{Reason, Refusal};
+use numbers::limit;
 use reader::Verdict;
 
 // A desk: the entries of its slots, its slot count and its next ticket; the highest tick seen, and beside each entry the tick of its opening or last accepted add.
@@ -42,7 +42,7 @@ impl Desk {
         let stamps = [0u32; limit::SLOTS];
         if !desk_slots::in_bounds(slots, 1) {
             return Turn {
-                answer: Err(Refusal(refusal::SLOT_COUNT, 0)),
+                answer: Err(Refusal(Reason::SlotCount, 0)),
                 desk: Desk {
                     entries: es,
                     slots: 0,
@@ -130,7 +130,7 @@ impl Desk {
         let es = self.entries;
         let stamps = self.stamps;
         let Some(slot) = desk_slots::find_idle(es, self.slots, &stamps, tick) else {
-            return self.refuse(Refusal(refusal::NO_FREE_SLOT, 0));
+            return self.refuse(Refusal(Reason::NoFreeSlot, 0));
         };
         desk_pool::clear(pool, slot);
         self.begin(slot, tram, tick)
@@ -146,7 +146,7 @@ impl Desk {
             Err(r) => self.refuse(r),
             Ok(free) => {
                 if self.next == limit::TICKETS {
-                    return self.refuse(Refusal(refusal::TICKETS_USED_UP, 0));
+                    return self.refuse(Refusal(Reason::TicketsUsedUp, 0));
                 }
                 let now = ticks::higher(self.tick, tick);
                 match free {
@@ -172,7 +172,7 @@ impl Desk {
             ) => {
                 let h = o.held as usize;
                 if chunk.len() > limit::OCTETS - h {
-                    return self.refuse(Refusal(refusal::SLOT_FULL, h));
+                    return self.refuse(Refusal(Reason::SlotFull, h));
                 }
                 desk_pool::put(pool, i, h, chunk);
                 let m = h + chunk.len();

@@ -10,8 +10,8 @@ ghost use Rattle.desk_slots.specs.Slots.{position, position_of, idle_of, found, 
 
 use desk_entries::tickets::Lowest;
 use desk_entries::{Entry, Session, State, tickets, ticks};
-use numbers::refusal::Refusal;
-use numbers::{limit, refusal};
+use numbers::refusal::{Reason, Refusal};
+use numbers::limit;
 
 // The slot of a ticket, and its session.
 #[derive(Clone, Copy, Debug, PartialEq, Eq)]
@@ -97,10 +97,10 @@ fn checked_look(
     ensures { result ≡ seen_of entries slots next stamps.now tick size t }
 {
     let Some(seen) = look_along(entries, slots, next, stamps, tick, t) else {
-        return Err(Refusal(refusal::UNSOUND, 0));
+        return Err(Refusal(Reason::Unsound, 0));
     };
     if size != slots * limit::OCTETS {
-        return Err(Refusal(refusal::POOL_LENGTH, 0));
+        return Err(Refusal(Reason::PoolLength, 0));
     }
     Ok(seen)
 }
@@ -157,5 +157,5 @@ pub fn at_ticket(
     ensures start { IfErr result (λ r. r.1 ≡ 0) }
 {
     let seen = checked_look(entries, slots, next, stamps, tick, size, t)?;
-    seen.found.ok_or(Refusal(refusal::NOT_OPEN, 0))
+    seen.found.ok_or(Refusal(Reason::NotOpen, 0))
 }

@@ -9,8 +9,8 @@ ghost use Rattle.folder_raising.specs.Walk.{raised, written};
 ghost use Rattle.folder.specs.Fitting.{Fitted, Poured};
 
 use folder_raising::Style;
-use numbers::refusal::Refusal;
-use numbers::{limit, refusal};
+use numbers::refusal::{Reason, Refusal};
+use numbers::limit;
 
 // Raises the names of the line that stands in the first n octets of d.
 fn raise_start(d: &mut [u8], n: usize)
@@ -122,7 +122,7 @@ fn put_run(run: &[u8], d: &mut [u8], w: usize) -> Result<usize, Refusal>
 {
     let n = run.len();
     if d.len() - w < n {
-        return Err(Refusal(refusal::FORM_TOO_LONG, limit::OCTETS));
+        return Err(Refusal(Reason::FormTooLong, limit::OCTETS));
     }
     octets::copying::copy_in(&mut d[w..], run);
     Ok(w + n)
@@ -147,7 +147,7 @@ fn pour(style: Style, s: &[u8], d: &mut [u8]) -> Result<usize, Refusal>
         } else {
             let n = put_behind(style, &s[from..at], &s[at..end], folds, &mut d[w..]);
             if d.len() - w < n {
-                return Err(Refusal(refusal::FORM_TOO_LONG, limit::OCTETS));
+                return Err(Refusal(Reason::FormTooLong, limit::OCTETS));
             }
             w += n;
             at = end + 2;
@@ -165,7 +165,7 @@ fn fold_buffered(style: Style, s: &[u8], out: &mut [u8]) -> Result<usize, Refusa
     let mut buffer = [0u8; limit::OCTETS];
     let n = pour(style, s, &mut buffer)?;
     if out.len() < n {
-        return Err(Refusal(refusal::ROOM, n));
+        return Err(Refusal(Reason::Room, n));
     }
     octets::copying::copy_in(out, &buffer[..n]);
     Ok(n)

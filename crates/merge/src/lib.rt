@@ -13,7 +13,8 @@ ghost use Rattle.merge.specs.Outcome.{planned, plan_rows, check_rows, plan_outco
 
 use merge_partners::Partners;
 use merge_sources::{Row, Source};
-use numbers::{limit, refusal};
+use numbers::refusal::Reason;
+use numbers::limit;
 use octets::indices::wide_number;
 use property_table::Edition;
 use reader::Verdict;
@@ -39,7 +40,7 @@ fn refusal_of(v: Verdict) -> Paired
     ensures { result ≡ refusal_of v }
 {
     match v {
-        Verdict::Accepted(cards, lines) => Paired::Refused(refusal::MERGE_LIMIT, 0),
+        Verdict::Accepted(cards, lines) => Paired::Refused(Reason::MergeLimit, 0),
         Verdict::Refused(n, p) => Paired::Refused(n, p),
     }
 }
@@ -87,19 +88,19 @@ fn settle(
     let own_a = merge_sides::own_row(ca, ra, na);
     let own_b = merge_sides::own_row(cb, rb, nb);
     if is_over(ka, a.count, own_a, &firsts, ea) {
-        return Paired::Refused(refusal::MERGE_LIMIT, 0);
+        return Paired::Refused(Reason::MergeLimit, 0);
     }
     if is_over(kb, b.count, own_b, &seconds, eb) {
-        return Paired::Refused(refusal::MERGE_LIMIT, 0);
+        return Paired::Refused(Reason::MergeLimit, 0);
     }
     if !merge_sources::same_row(own_a, a) {
-        return Paired::Refused(refusal::SOURCE_ROW, 0);
+        return Paired::Refused(Reason::SourceRow, 0);
     }
     if !merge_sources::same_row(own_b, b) {
-        return Paired::Refused(refusal::SOURCE_ROW, 0);
+        return Paired::Refused(Reason::SourceRow, 0);
     }
     if !merge_partners::same_uids(ca, ra, na, cb, rb, nb) {
-        return Paired::Refused(refusal::NO_PLAN, 0);
+        return Paired::Refused(Reason::NoPlan, 0);
     }
     if !merge_partners::join_all(
         ca,
@@ -116,7 +117,7 @@ fn settle(
         b,
         p,
     ) {
-        return Paired::Refused(refusal::NO_PLAN, 0);
+        return Paired::Refused(Reason::NoPlan, 0);
     }
     Paired::Pairs(merge_partners::count_pairs(p))
 }
@@ -175,7 +176,7 @@ pub fn plan_rows(first: &[u8], second: &[u8], a: Row, b: Row, out: &mut [u32]) -
         return s;
     };
     if out.len() < n * PAIR {
-        return Paired::Refused(refusal::RECORD_ROOM, n * PAIR);
+        return Paired::Refused(Reason::RecordRoom, n * PAIR);
     }
     put_pairs(&p, out);
     Paired::Pairs(n)
@@ -305,10 +306,10 @@ pub fn check_rows(first: &[u8], second: &[u8], a: Row, b: Row, plan: &[u32]) -> 
     };
     let mut q = [0u32; limit::LINES];
     if !enter_plan(&ca, &ra, na, &cb, &rb, nb, plan, &mut q) {
-        return Paired::Refused(refusal::PLAN, 0);
+        return Paired::Refused(Reason::Plan, 0);
     }
     if !covers(&p, &q) {
-        return Paired::Refused(refusal::PLAN, 0);
+        return Paired::Refused(Reason::Plan, 0);
     }
     Paired::Pairs(plan.len() / PAIR)
 }

@@ -11,8 +11,8 @@ ghost use Rattle.reader_walk.specs.Walk.{judge_lines};
 ghost use Rattle.reader.specs.Outcome.{verdict, verdict_of, judge_in, judge_of, took, read_in};
 
 use card_state::Step;
-use numbers::refusal::Refusal;
-use numbers::{limit, refusal};
+use numbers::refusal::{Reason, Refusal};
+use numbers::limit;
 use property_table::Edition;
 
 // How many cards and lines an accepted input has.
@@ -37,7 +37,7 @@ pub fn conclude(n: usize, last: Step) -> Verdict
                     lines: c.lines,
                 });
             }
-            Err(Refusal(refusal::ORDER, n))
+            Err(Refusal(Reason::Order, n))
         }
         Step::Refused(k, p) => Err(Refusal(k, p)),
         Step::Flawed(k, o) => Err(Refusal(k, o)),
@@ -66,17 +66,17 @@ pub fn judge_as(edition: Edition, input: &[u8]) -> Verdict
     ensures { verdict result ≡ judge_in edition input.now }
 {
     if limit::OCTETS < input.len() {
-        return Err(Refusal(refusal::TOO_LONG, limit::OCTETS));
+        return Err(Refusal(Reason::TooLong, limit::OCTETS));
     }
     if input.is_empty() {
-        return Err(Refusal(refusal::EMPTY, 0));
+        return Err(Refusal(Reason::Empty, 0));
     }
     let lone = line_breaks::first_lone(input);
     if lone < input.len() {
-        return Err(Refusal(refusal::LONE_CR_OR_LF, lone));
+        return Err(Refusal(Reason::LoneCrOrLf, lone));
     }
     if !line_breaks::ends_cr_lf(input) {
-        return Err(Refusal(refusal::NO_END, input.len()));
+        return Err(Refusal(Reason::NoEnd, input.len()));
     }
     let last = walk(edition, input);
     conclude(input.len(), last)
@@ -108,11 +108,11 @@ pub fn read(edition: Edition, input: &[u8], copy: &mut [u8], records: &mut [u32]
 {
     let counts = judge_as(edition, input)?;
     if let Some(octets) = copy_over(copy.len(), input) {
-        return Err(Refusal(refusal::COPY_ROOM, octets));
+        return Err(Refusal(Reason::CopyRoom, octets));
     }
     let numbers = counts.lines * limit::RECORD_LENGTH;
     if records.len() < numbers {
-        return Err(Refusal(refusal::RECORD_ROOM, numbers));
+        return Err(Refusal(Reason::RecordRoom, numbers));
     }
     let t = octets::classes::table();
     let rows = property_table::table();

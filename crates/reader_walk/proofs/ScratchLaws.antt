@@ -24,7 +24,7 @@ use Rattle.card_judge.specs.declared.judge.Judgement.{Judgement}
 use Rattle.card_judge.proofs.SettleLaws.{part_size}
 use Rattle.line_folds.specs.Folds.{unfolded}
 use Rattle.line_folds.proofs.FoldLaws.{unfold_shorter}
-use Rattle.card_state.specs.declared.Step.TheVariants.{Next as next_kept}
+use Rattle.card_state.specs.Kept.{next as next_kept}
 use Rattle.reader_walk.specs.Walk.{behind, added_of, Left}
 
 -- a part that was lent from a place on is back

@@ -14,9 +14,9 @@ use Rattle.card_judge.specs.Judge.{judge_line}
 use Rattle.card_judge.proofs.CardLaws.{one_more}
 use Rattle.card_state.specs.State.{Card, Step, Next, Refused, Flawed}
 use Rattle.card_state.specs.Kept.{step_of}
-use Rattle.card_state.specs.declared.Step.{Step as KeptStep}
+use Rattle.card_state.specs.Kept.{KeptStep}
 use Rattle.card_state.specs.declared.Card.{Card as KeptCard}
-use Rattle.card_state.specs.declared.Step.TheVariants.{Next as next, Refused as refused, Flawed as flawed}
+use Rattle.card_state.specs.Kept.{next, refused, flawed}
 use Rattle.card_state.specs.contracts.Step.{the_type}
 use Rattle.reader_walk.specs.Walk.{onward, settled, judge_lines}
 

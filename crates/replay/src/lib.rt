@@ -13,7 +13,8 @@ ghost use Rattle.replay_call.specs.Stepped.{world_of};
 ghost use Rattle.replay.specs.Outcome.{replayed, played, replay_outcome};
 
 use desk::{Answer, Desk};
-use numbers::{limit, refusal};
+use numbers::refusal::Reason;
+use numbers::limit;
 use replay_script::Counted;
 
 // How many calls were run and how many octets of the log are written, or a refusal's number and place.
@@ -51,15 +52,15 @@ fn play(slots: usize, desk: Desk, script: &[u8], pool: &mut [u8], log: &mut [u8]
 {
     let counted = replay_script::count(script);
     match counted {
-        Counted::Broken(at) => Replayed::Refused(refusal::REPLAY_CALL, at),
+        Counted::Broken(at) => Replayed::Refused(Reason::ReplayCall, at),
         Counted::Calls(calls, shows) => {
             let size = pool.len();
             if size != slots * limit::OCTETS {
-                return Replayed::Refused(refusal::REPLAY_POOL, size);
+                return Replayed::Refused(Reason::ReplayPool, size);
             }
             let room = log.len();
             if !replay_log::has_room(calls, shows, room) {
-                return Replayed::Refused(refusal::REPLAY_LOG, room);
+                return Replayed::Refused(Reason::ReplayLog, room);
             }
             let wrote = run_all(desk, script, pool, log);
             Replayed::Ran(calls, wrote)

@@ -1,5 +1,6 @@
 -- What taking a judgement answers, and the next report. Assumes nothing.
 use Rattle.std.specs.Prelude.{ℕ, Result, Ok, Err}
+use Rattle.numbers.specs.Refusals.{number}
 use Rattle.numbers.specs.declared.refusal.Refusal.{Refusal}
 use Rattle.report.specs.declared.Report.{Report}
 use Rattle.report.specs.declared.Taken.{Taken as TakenIn}
@@ -12,7 +13,7 @@ pub data Answer : Type 0 where
 -- the same of a result
 abbrev pub answer : Result (Unit {0}) Refusal → Answer
 answer (Ok _) = Counted
-answer (Err r) = Refused r.0 r.1
+answer (Err r) = Refused (number r.0) r.1
 
 -- an answer and the next report
 pub record Taken : Type 0 where

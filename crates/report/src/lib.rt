@@ -10,8 +10,8 @@ ghost use Rattle.report.specs.Answer.{taken};
 ghost use Rattle.report.specs.Steps.{over, sums, fresh_report, take_step};
 ghost use Rattle.report.specs.Text.{report_text};
 
-use numbers::refusal::Refusal;
-use numbers::{count, limit, refusal};
+use numbers::refusal::{Reason, Refusal};
+use numbers::{count, limit};
 use octets::indices::wide_number;
 use report_weights::Weights;
 
@@ -73,7 +73,7 @@ impl Report {
         let w = report_weights::weigh(input);
         if is_over(&counts, &w) {
             return Taken {
-                answer: Err(Refusal(refusal::REPORT_FULL, 0)),
+                answer: Err(Refusal(Reason::ReportFull, 0)),
                 report: self,
             };
         }
@@ -92,7 +92,7 @@ impl Report {
         let mut page = [0u8; rows::PAGE];
         let n = rows::put_rows(&mut page, &counts);
         if out.len() < n {
-            return Err(Refusal(refusal::ROOM, n));
+            return Err(Refusal(Reason::Room, n));
         }
         octets::copying::copy_in(out, &page[..n]);
         Ok(n)

@@ -6,8 +6,8 @@ ghost use Rattle.numbers.specs.Counts as places;
 ghost use Rattle.report_weights.specs.Counts.{refusal_at, count_at, counts as all_counts};
 ghost use Rattle.report_weights.specs.Parts.{refused_part, accepted_part, weights};
 
-use numbers::refusal::Refusal;
-use numbers::{count, refusal};
+use numbers::refusal::{Reason, Refusal};
+use numbers::count;
 use reader::Counts;
 use report_lines::LineCounts;
 use std::array::from_fn;
@@ -20,21 +20,21 @@ const REFUSALS: usize = count::PROPERTIES - count::REFUSALS;
 
 // The refusals of a judgement, by number.
 const NUMBERS: [u32; REFUSALS] = [
-    refusal::TOO_LONG,
-    refusal::EMPTY,
-    refusal::LONE_CR_OR_LF,
-    refusal::NO_END,
-    refusal::BAD_OCTET,
-    refusal::VALUE,
-    refusal::LADEN,
-    refusal::ORDER,
-    refusal::SECOND,
-    refusal::NO_FN,
-    refusal::MEMBER,
-    refusal::NAME,
-    refusal::PARAMETER,
-    refusal::QUOTE,
-    refusal::NO_COLON,
+    Reason::TooLong,
+    Reason::Empty,
+    Reason::LoneCrOrLf,
+    Reason::NoEnd,
+    Reason::BadOctet,
+    Reason::Value,
+    Reason::Laden,
+    Reason::Order,
+    Reason::Second,
+    Reason::NoFn,
+    Reason::Member,
+    Reason::Name,
+    Reason::Parameter,
+    Reason::Quote,
+    Reason::NoColon,
 ];
 
 // The refusal that is counted at a place.

@@ -10,8 +10,8 @@ ghost use Rattle.version3.specs.Card.{turn_number, turn_of_row, clear, card_text
 ghost use Rattle.version3.specs.Places.{Within, Lent, joined_by, AddedBy, PlacedBy, Halfway, SheetBy, ReachedBy, TriedBy, Attempt};
 
 use card_line::LineParts;
-use numbers::refusal::Refusal;
-use numbers::{limit, property, refusal};
+use numbers::refusal::{Reason, Refusal};
+use numbers::{limit, property};
 use octets::classes::ClassTable;
 use property_table::Edition;
 use property_table::rows::PropertyTable;
@@ -27,6 +27,8 @@ const LINE: usize = 2048;
 
 const LONG_LINE: usize = 6144;
 
+const ANY_LINE: usize = limit::OCTETS;
+
 // Room for such a line as the other version has it, and for any line.
 const SMALL_FORM: usize = 3 * SMALL + 20;
 
@@ -36,7 +38,7 @@ const FORM: usize = 3 * LINE + 20;
 
 const LONG_FORM: usize = 3 * LONG_LINE + 20;
 
-const ANY_FORM: usize = 3 * limit::OCTETS + 20;
+const ANY_FORM: usize = 3 * ANY_LINE + 20;
 
 // Room for the lines of the first place, and for those of the second.
 const HEAD: usize = 64;
@@ -46,6 +48,9 @@ const HEAD: usize = 64;
 const SMALL_CARD: usize = 1536;
 
 const SHORT_CARD: usize = 2304;
+
+// Room for the lines of any card, in any place.
+const CARD: usize = limit::OCTETS;
 
 // The places of lines in a card: BEGIN first, VERSION second, then all others.
 #[derive(Clone, Copy, Debug, PartialEq, Eq)]
@@ -227,8 +232,8 @@ fn place_lines(
     Some(Reached::End(e))
 }
 
-// The same with room for long lines.
-fn place_long(
+// The same with room for lines of at most LINE octets, which is made here.
+fn place_with<const LINE: usize, const FORM: usize>(
     way: Way,
     t: &ClassTable,
     rows: &PropertyTable,
@@ -240,13 +245,13 @@ fn place_long(
     others: &mut [u8],
 ) -> Option<Reached>
     requires classes { Classes t.now × Lists rows.now }
-    requires s_len_bound { length s.now ≤ limit.octets }
+    requires s_len_bound { (length s.now ≤ limit.octets) × (3 * LINE + 20 ≤ FORM) }
     requires lent { Lent first.old second.old others.old }
     requires halfway { Halfway way s.now first.old second.old others.old from ends }
-    ensures { ReachedBy way s.now 6144 first.new second.new others.new result }
+    ensures { ReachedBy way s.now LINE first.new second.new others.new result }
 {
-    let mut scratch = [0u8; LONG_LINE];
-    let mut form = [0u8; LONG_FORM];
+    let mut scratch = [0u8; LINE];
+    let mut form = [0u8; FORM];
     place_lines(
         way,
         t,
@@ -254,7 +259,7 @@ fn place_long(
         s,
         from,
         ends,
-        LONG_LINE,
+        LINE,
         &mut scratch,
         &mut form,
         first,
@@ -281,22 +286,7 @@ fn place_any(
     requires halfway { Halfway way s.now first.old second.old others.old from ends }
     ensures { SheetBy way s.now first.new second.new others.new result }
 {
-    let mut scratch = [0u8; limit::OCTETS];
-    let mut form = [0u8; ANY_FORM];
-    match place_lines(
-        way,
-        t,
-        rows,
-        s,
-        from,
-        ends,
-        limit::OCTETS,
-        &mut scratch,
-        &mut form,
-        first,
-        second,
-        others,
-    )? {
+    match place_with::<ANY_LINE, ANY_FORM>(way, t, rows, s, from, ends, first, second, others)? {
         Reached::End(e) => Some(e),
         Reached::Long(..) => None,
     }
@@ -324,7 +314,7 @@ fn place_rest(
     if LONG_LINE < n {
         return place_any(way, t, rows, s, from, ends, first, second, others);
     }
-    match place_long(way, t, rows, s, from, ends, first, second, others)? {
+    match place_with::<LONG_LINE, LONG_FORM>(way, t, rows, s, from, ends, first, second, others)? {
         Reached::End(e) => Some(e),
         Reached::Long(at, _, e) => place_any(way, t, rows, s, at, e, first, second, others),
     }
@@ -379,10 +369,10 @@ fn join(
     let start = a + b;
     let n = start + c;
     if limit::OCTETS < n {
-        return Err(Refusal(refusal::FORM_TOO_LONG, limit::OCTETS));
+        return Err(Refusal(Reason::FormTooLong, limit::OCTETS));
     }
     if out.len() < n {
-        return Err(Refusal(refusal::ROOM, n));
+        return Err(Refusal(Reason::Room, n));
     }
     octets::copying::copy_in(out, &first[..a]);
     octets::copying::copy_in(&mut out[a..], &second[..b]);
@@ -410,62 +400,22 @@ fn write_in(
     Some(join(e, first, second, others, out))
 }
 
-// The same with little room, for a small input.
-fn write_small(way: Way, s: &[u8], out: &mut [u8]) -> Option<Result<usize, Refusal>>
-    requires { length s.now ≤ limit.octets }
-    ensures { Attempt way s.now out.old out.new result }
-{
-    let mut scratch = [0u8; SMALL];
-    let mut form = [0u8; SMALL_FORM];
-    let mut first = [0u8; HEAD];
-    let mut second = [0u8; HEAD];
-    let mut others = [0u8; SMALL_CARD];
-    write_in(
-        way,
-        s,
-        SMALL,
-        &mut scratch,
-        &mut form,
-        &mut first,
-        &mut second,
-        &mut others,
-        out,
-    )
-}
-
-// The same for a short input.
-fn write_short(way: Way, s: &[u8], out: &mut [u8]) -> Option<Result<usize, Refusal>>
-    requires { length s.now ≤ limit.octets }
-    ensures { Attempt way s.now out.old out.new result }
-{
-    let mut scratch = [0u8; SHORT];
-    let mut form = [0u8; SHORT_FORM];
-    let mut first = [0u8; HEAD];
-    let mut second = [0u8; HEAD];
-    let mut others = [0u8; SHORT_CARD];
-    write_in(
-        way,
-        s,
-        SHORT,
-        &mut scratch,
-        &mut form,
-        &mut first,
-        &mut second,
-        &mut others,
-        out,
-    )
-}
-
-// The same for any input: BEGIN and VERSION of a card that was judged good have room.
-fn write_usual(way: Way, s: &[u8], out: &mut [u8]) -> Option<Result<usize, Refusal>>
-    requires { length s.now ≤ limit.octets }
-    ensures { Attempt way s.now out.old out.new result }
+// The same with rooms that are made here: for a line of at most LINE octets at first and its form, and for the lines of the first place, the
+// second and the others.
+fn write_with<const LINE: usize, const FORM: usize, const HEAD: usize, const CARD: usize>(
+    way: Way,
+    s: &[u8],
+    out: &mut [u8],
+) -> Option<Result<usize, Refusal>>
+    requires s_len_bound { (length s.now ≤ limit.octets) × (3 * LINE + 20 ≤ FORM) }
+    requires lent { (HEAD ≤ limit.octets) × (CARD ≤ limit.octets) }
+    ensures { TriedBy way s.now HEAD HEAD CARD out.old out.new result }
 {
     let mut scratch = [0u8; LINE];
     let mut form = [0u8; FORM];
     let mut first = [0u8; HEAD];
     let mut second = [0u8; HEAD];
-    let mut others = [0u8; limit::OCTETS];
+    let mut others = [0u8; CARD];
     write_in(
         way,
         s,
@@ -479,44 +429,29 @@ fn write_usual(way: Way, s: &[u8], out: &mut [u8]) -> Option<Result<usize, Refus
     )
 }
 
-// The same with room for any BEGIN and VERSION.
-fn write_all(way: Way, s: &[u8], out: &mut [u8]) -> Result<usize, Refusal>
-    requires { length s.now ≤ limit.octets }
-    ensures { filled (written result) out.new ≡ fill_bounded (card_text way s.now) out.old }
-{
-    let mut scratch = [0u8; LINE];
-    let mut form = [0u8; FORM];
-    let mut first = [0u8; limit::OCTETS];
-    let mut second = [0u8; limit::OCTETS];
-    let mut others = [0u8; limit::OCTETS];
-    match write_in(
-        way,
-        s,
-        LINE,
-        &mut scratch,
-        &mut form,
-        &mut first,
-        &mut second,
-        &mut others,
-        out,
-    ) {
-        Some(answer) => answer,
-        None => Err(Refusal(refusal::FORM_TOO_LONG, limit::OCTETS)),
-    }
-}
-
-// Writes the card with room by the length of the input.
+// Writes the card with room by the length of the input: BEGIN and VERSION of a card that was judged good have it.
 fn write_by_length(way: Way, s: &[u8], out: &mut [u8]) -> Option<Result<usize, Refusal>>
     requires { length s.now ≤ limit.octets }
     ensures { Attempt way s.now out.old out.new result }
 {
     if s.len() <= SMALL {
-        return write_small(way, s, out);
+        return write_with::<SMALL, SMALL_FORM, HEAD, SMALL_CARD>(way, s, out);
     }
     if s.len() <= SHORT {
-        return write_short(way, s, out);
+        return write_with::<SHORT, SHORT_FORM, HEAD, SHORT_CARD>(way, s, out);
     }
-    write_usual(way, s, out)
+    write_with::<LINE, FORM, HEAD, CARD>(way, s, out)
+}
+
+// Writes the card with room for any BEGIN and VERSION.
+fn write_all(way: Way, s: &[u8], out: &mut [u8]) -> Result<usize, Refusal>
+    requires { length s.now ≤ limit.octets }
+    ensures { filled (written result) out.new ≡ fill_bounded (card_text way s.now) out.old }
+{
+    match write_with::<LINE, FORM, CARD, CARD>(way, s, out) {
+        Some(answer) => answer,
+        None => Err(Refusal(Reason::FormTooLong, limit::OCTETS)),
+    }
 }
 
 // Writes the card: 16 where it has over 16,384 octets, 15 where out is too small for it, else the octets written.

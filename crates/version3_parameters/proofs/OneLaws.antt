@@ -1,42 +1,20 @@
 -- The values of a parameter, as they are written, are 1 alone exactly where it has one value, and that is 1, quotes off. Assumes nothing.
-use mathlib.Core.Path.{◌≡◌, refl, sym, ◌∙◌}
+use mathlib.Core.Path.{◌≡◌, refl, sym, ap, ◌∙◌}
 use mathlib.Core.Bool.{Bool, and-true, true, false, not, ◌&&◌, ◌||◌}
 use mathlib.Core.List.{List, [], ◌∷◌, ◌++◌}
 use Prim.Native.Nat.{ℕ, suc, ◌≤◌}
 use native.Mathlib.Omega.{arith}
 use lib.Dec.{eqb}
 use lib.ListN.{length, get_or, length-append}
-use borrow.Author.Tests.{eq-eqb, ne_eqb}
+use borrow.Author.Tests.{ne_eqb, eqb-true}
+use Rattle.std.specs.Prelude.{nat_eq}
+use Rattle.std.specs.Cmp.Lexicographic.{pointwise, same_text, other_text}
 use Rattle.octets.specs.Pick.{pick}
 use Rattle.octets.specs.Classes.{quoted, bare, valued}
 use Rattle.line_parser.specs.Grammar.{Value, plain, in_quotes, GoodValue, Each, led, value_text}
 use Rattle.line_parameters.specs.First.{value_octets}
 use Rattle.version3_parameters.specs.Params.{one_text, one_value}
 use Rattle.version3_parameters.specs.Places.{one_written}
-
--- the tests of the code
-module _ (l : List ℕ) where
-  pub one_alone : length l ≡ 1 → eqb (get_or l 0 0) 49 ≡ one_written l
-  unfolding one_written
-  one_alone e = sym (rw (eq-eqb (length l) 1 e))
-
-  module _ (n : length l ≡ 1 → ⊥) where
-    pub one_long : (length l ≡ 3 → ⊥) → false ≡ one_written l
-    unfolding one_written
-    one_long m = sym (rw (ne_eqb (length l) 1 n, ne_eqb (length l) 3 m))
-
-    module _ (m : length l ≡ 3) where
-      pub one_unquoted : (get_or l 0 0 ≡ 34 → ⊥) → false ≡ one_written l
-      unfolding one_written
-      one_unquoted a = sym (rw (ne_eqb (length l) 1 n, eq-eqb (length l) 3 m, ne_eqb (get_or l 0 0) 34 a))
-
-      pub one_other : get_or l 0 0 ≡ 34 → (get_or l 1 0 ≡ 49 → ⊥) → false ≡ one_written l
-      unfolding one_written
-      one_other a b = sym (rw (ne_eqb (length l) 1 n, eq-eqb (length l) 3 m, eq-eqb (get_or l 0 0) 34 a, ne_eqb (get_or l 1 0) 49 b))
-
-      pub one_quoted : get_or l 0 0 ≡ 34 → get_or l 1 0 ≡ 49 → eqb (get_or l 2 0) 34 ≡ one_written l
-      unfolding one_written
-      one_quoted a b = sym (rw (ne_eqb (length l) 1 n, eq-eqb (length l) 3 m, eq-eqb (get_or l 0 0) 34 a, eq-eqb (get_or l 1 0) 49 b))
 
 -- a list that starts with neither 1 nor a quote mark, or with an octet that is no quote mark and has another behind it
 other_start : (x : ℕ) (r : List ℕ) → eqb x 49 ≡ false → eqb x 34 ≡ false → false ≡ one_written (x ∷ r)
@@ -67,6 +45,29 @@ empty_quotes r = by (eqb (suc (suc (length r))) 3) ∙ sym (rw (ne_eqb (suc (suc
 long : (l : List ℕ) → 4 ≤ length l → false ≡ one_written l
 unfolding one_written
 long l h = sym (rw (ne_eqb (length l) 1 (λ e. omega arith), ne_eqb (length l) 3 (λ e. omega arith)))
+
+-- the test of the code, of a list that is not 1 alone
+one_neither : (l : List ℕ) → (l ≡ 49 ∷ [] → ⊥) → (l ≡ 34 ∷ 49 ∷ 34 ∷ [] → ⊥) → false ≡ one_written l
+unfolding one_written
+one_neither [] n m = refl
+one_neither (x ∷ []) n m = sym (ne_eqb x 49 (λ e. n (ap (λ (a : ℕ). a ∷ []) e)))
+one_neither (x ∷ y ∷ []) n m = refl
+one_neither (x ∷ y ∷ z ∷ []) n m = go (eqb x 34) (eqb y 49) (eqb z 34) refl refl refl
+  where
+    go : (t u v : Bool) → eqb x 34 ≡ t → eqb y 49 ≡ u → eqb z 34 ≡ v → false ≡ (t && (u && v))
+    go true true true e f g = absurd (m (rw (eqb-true x 34 e, eqb-true y 49 f, eqb-true z 34 g) refl))
+    go true true false e f g = refl
+    go true false v e f g = refl
+    go false u v e f g = refl
+one_neither (x ∷ y ∷ z ∷ w ∷ r) n m = long (x ∷ y ∷ z ∷ w ∷ r) (omega arith)
+
+pub one_quoted : (l : List ℕ) → (l ≡ 49 ∷ [] → ⊥) → pointwise nat_eq l (34 ∷ 49 ∷ 34 ∷ []) ≡ one_written l
+unfolding one_written
+one_quoted l n = go (pointwise nat_eq l (34 ∷ 49 ∷ 34 ∷ [])) refl
+  where
+    go : (t : Bool) → t ≡ pointwise nat_eq l (34 ∷ 49 ∷ 34 ∷ []) → pointwise nat_eq l (34 ∷ 49 ∷ 34 ∷ []) ≡ one_written l
+    go true e = sym e ∙ sym (ap one_written (same_text l _ e))
+    go false e = sym e ∙ one_neither l n (other_text l _ e)
 
 long_text : (x y : ℕ) (xs : List ℕ) → false ≡ one_text (x ∷ y ∷ xs)
 unfolding one_text

@@ -18,21 +18,21 @@ use octets::classes;
 use octets::classes::ClassTable;
 
 // Cards of version 3 are taken in as version 4, or cards of version 4 given out as version 3.
-#[derive(Clone, Copy)]
+#[derive(Clone, Copy, Debug, PartialEq, Eq)]
 pub enum Way {
     Inward,
     Outward,
 }
 
-// How many octets were written, and whether it was said that the line is preferred.
-#[derive(Clone, Copy)]
+// How many octets were written, and whether it was said that the line is preferred: each stands without the other.
+#[derive(Clone, Copy, Debug, PartialEq, Eq)]
 pub struct Put {
     pub length: usize,
     pub gone: bool,
 }
 
 // Where the octets of a value stand, quotes off, and where it ends with its quote marks.
-#[derive(Clone, Copy)]
+#[derive(Clone, Copy, Debug, PartialEq, Eq)]
 pub struct ValueSpan {
     pub start: usize,
     pub end: usize,
@@ -167,16 +167,6 @@ fn put_param(way: Way, t: &ClassTable, s: &[u8], start: usize, end: usize, d: &m
     }
 }
 
-// Whether one of two holds.
-fn either(a: bool, b: bool) -> bool
-    ensures { result ≡ (a || b) }
-{
-    if a {
-        return true;
-    }
-    b
-}
-
 // Writes what becomes of the parameters from `from`, the end of the line's name, to the start of d.
 fn put_each(way: Way, t: &ClassTable, s: &[u8], from: usize, d: &mut [u8]) -> Put
     requires classes { Classes t.now }
@@ -198,7 +188,7 @@ fn put_each(way: Way, t: &ClassTable, s: &[u8], from: usize, d: &mut [u8]) -> Pu
         };
         let put = put_param(way, t, s, start, end, &mut d[w..]);
         w += put.length;
-        gone = either(gone, put.gone);
+        gone |= put.gone;
         at = end;
     }
     Put { length: w, gone }
@@ -237,23 +227,16 @@ pub fn put_params(way: Way, t: &ClassTable, s: &[u8], name_end: usize, d: &mut [
     w + put_mark(way, &mut d[w..])
 }
 
+// The value 1 alone, and between quote marks.
+const ONE: &[u8] = b"1";
+
+const QUOTED_ONE: &[u8] = b"\"1\"";
+
 // Whether the values of a PREF, as they are written, are 1 alone, quotes off.
 fn is_one(values: &[u8]) -> bool
     ensures { result ≡ one_written values.now }
 {
-    if values.len() == 1 {
-        return values[0] == b'1';
-    }
-    if values.len() != 3 {
-        return false;
-    }
-    if values[0] != b'"' {
-        return false;
-    }
-    if values[1] != b'1' {
-        return false;
-    }
-    values[2] == b'"'
+    values == ONE || values == QUOTED_ONE
 }
 
 // Whether a PREF from `start` up to `end` may stand in a line: in none, out one with the single value 1, quotes off.

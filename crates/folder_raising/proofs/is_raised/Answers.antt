@@ -10,9 +10,6 @@ pub loop-i-init : goal.loop-i-init
 unfolding raised
 loop-i-init c = (omega arith, λ q. q)
 
-pub returns-then-b-gt90 : goal.returns-then-b-gt90
-returns-then-b-gt90 c = λ e. absurd (nope (sym e))
-
 pub returns-then-b-eq58 : goal.returns-then-b-eq58
 returns-then-b-eq58 c =
     let l = c.loop-i in

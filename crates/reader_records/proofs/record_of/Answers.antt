@@ -27,12 +27,6 @@ overflow_cast-result c =
     let within = parts_fit c.args.edition c.args.l.now x (sym c.parts_of-parsed.ensures ∙ c.in-Line.is) in
     omega (arith, within)
 
-pub overflow_cast-result-2 : goal.overflow_cast-result-2
-overflow_cast-result-2 c = omega (arith, c.requires.l_bound)
-
-pub overflow_cast-result-3 : goal.overflow_cast-result-3
-overflow_cast-result-3 c = omega (arith, c.requires.l_bound)
-
 pub overflow_cast-result-4 : goal.overflow_cast-result-4
 overflow_cast-result-4 c =
     let x = c.in-Line.x in

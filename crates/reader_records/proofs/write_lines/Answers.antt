@@ -12,11 +12,6 @@ use Rattle.line_folds.proofs.FoldLaws.{unfold_shorter}
 use Rattle.reader_records.specs.Records.{records_from}
 use Rattle.reader_records.proofs.write_lines.Goals as goal
 
-pub slice_bounds-write_records-end-2 : goal.slice_bounds-write_records-end-2
-slice_bounds-write_records-end-2 c =
-    let u = c.unfold_text-n in
-    simp length-take (omega (arith, u.ensures.0, u.auto.d, c.requires.s_in_bounds.0))
-
 pub write_records-requires : goal.write_records-requires
 write_records-requires c =
     let p = c.requires in

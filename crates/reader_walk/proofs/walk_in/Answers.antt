@@ -43,13 +43,6 @@ judge_span-j-requires c =
       s_value = whole a.s.now l.at v.result.cr v.result.end v.ensures.0;
     }
 
-pub settle-requires : goal.settle-requires
-settle-requires c =
-    let l = c.loop-at in
-    let v = c.line_at-span in
-    let n = part_length c.args.s.now l.at v.result.end c.loop-at-test.true v.ensures.1 v.ensures.2 in
-    omega (arith, n, c.loop-at-test.true, v.ensures.1, v.ensures.2, c.requires.s_len_bound)
-
 pub returns-in_default : goal.returns-in_default
 returns-in_default c =
     let j = c.judge_span-j in
@@ -62,11 +55,6 @@ returns-in_default c =
     l.invariant.5 ∙ judged a.edition a.s.now l.at v.result.end c.loop-at-test.true v.ensures.1 v.ensures.2 (card_of l.c l.scratch) (step_of j.new.scratch j.result) j.ensures.result_after in
     let store = j.new.scratch in
     (store, c.settle.ensures store ∙ sym (turn ∙ stopped_step store _ line _ j.result c.in_default.not-Next))
-
-pub overflow_add-at : goal.overflow_add-at
-overflow_add-at c =
-    let v = c.line_at-span in
-    omega (arith, v.ensures.2, c.requires.s_len_bound)
 
 pub loop-at-preserved : goal.loop-at-preserved
 unfolding step_of card_of Holds

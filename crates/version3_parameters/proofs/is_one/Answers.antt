@@ -1,23 +1,13 @@
--- src/lib.rt:243:16
-use Rattle.version3_parameters.proofs.OneLaws.{one_alone, one_long, one_unquoted, one_other, one_quoted}
+-- `version3_parameters::is_one` meets its contract. Assumes nothing.
+use mathlib.Core.Path.{sym, ap, ◌∙◌}
+use Rattle.std.specs.Cmp.Lexicographic.{same_text, other_text}
+use Rattle.version3_parameters.specs.Places.{one_written}
+use Rattle.version3_parameters.proofs.OneLaws.{one_quoted}
 use Rattle.version3_parameters.proofs.is_one.Goals as goal
 
--- src/lib.rt:243:9
-pub returns-then-values-eq1 : goal.returns-then-values-eq1
-returns-then-values-eq1 c = one_alone c.args.values.now c.if-values-eq1.true
+pub returns-then-eq : goal.returns-then-eq
+unfolding one_written
+returns-then-eq c = c.if-eq.true ∙ sym (ap one_written (same_text c.args.values.now _ c.if-eq.ensures))
 
--- src/lib.rt:246:9
-pub returns-then-values-ne3 : goal.returns-then-values-ne3
-returns-then-values-ne3 c = one_long c.args.values.now c.if-values-eq1.false c.if-values-ne3.true
-
--- src/lib.rt:249:9
-pub returns-then-values-ne34 : goal.returns-then-values-ne34
-returns-then-values-ne34 c = one_unquoted c.args.values.now c.if-values-eq1.false c.if-values-ne3.false c.if-values-ne34.true
-
--- src/lib.rt:252:9
-pub returns-then-values-ne49 : goal.returns-then-values-ne49
-returns-then-values-ne49 c = one_other c.args.values.now c.if-values-eq1.false c.if-values-ne3.false c.if-values-ne34.false c.if-values-ne49.true
-
--- src/lib.rt:239:1
-pub returns : goal.returns
-returns c = one_quoted c.args.values.now c.if-values-eq1.false c.if-values-ne3.false c.if-values-ne34.false c.if-values-ne49.false
+pub returns-else-eq : goal.returns-else-eq
+returns-else-eq c = c.eq-else-eq.ensures ∙ one_quoted c.args.values.now (other_text c.args.values.now _ c.if-eq.ensures)

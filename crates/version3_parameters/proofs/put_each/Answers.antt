@@ -84,7 +84,7 @@ loop-at-preserved c =
     let n = rest_next c.loop-at.invariant.0 c.loop-at.invariant.1 c.if-s-at-ne59.false in
     let u = rw n.read at c.put_param-put.ensures in
     let e = ap (λ (ps : List Param). params_text (changed_all c.args.way ps)) n.all ∙ each_next c.args.way n.first n.others in
-    (n.others, subst (λ (j : ℕ). Rest c.args.s.now j n.others) (sym (next_upto (rest_next c.loop-at.invariant.0 c.loop-at.invariant.1 c.if-s-at-ne59.false) c.read_param-p.ensures c.in-Upto.is)) n.left, rw u.count (put_part l.invariant.2 (params_text (changed c.args.way n.first)) (params_text (changed_all c.args.way n.others)) _ e (fits c.args.way c.loop-at.invariant.0 (rest_next c.loop-at.invariant.0 c.loop-at.invariant.1 c.if-s-at-ne59.false) c.loop-at.invariant.2 c.requires.s_in_bounds) u.room), ap (λ (b : Bool). b || any_prefers c.args.way n.others) (c.either-gone.ensures ∙ ap (λ (b : Bool). l.gone || b) u.said) ∙ said_next c.args.way n.first n.others l.gone _ (rw n.all at l.invariant.3))
+    (n.others, subst (λ (j : ℕ). Rest c.args.s.now j n.others) (sym (next_upto (rest_next c.loop-at.invariant.0 c.loop-at.invariant.1 c.if-s-at-ne59.false) c.read_param-p.ensures c.in-Upto.is)) n.left, rw u.count (put_part l.invariant.2 (params_text (changed c.args.way n.first)) (params_text (changed_all c.args.way n.others)) _ e (fits c.args.way c.loop-at.invariant.0 (rest_next c.loop-at.invariant.0 c.loop-at.invariant.1 c.if-s-at-ne59.false) c.loop-at.invariant.2 c.requires.s_in_bounds) u.room), ap (λ (b : Bool). b || any_prefers c.args.way n.others) (ap (λ (b : Bool). l.gone || b) u.said) ∙ said_next c.args.way n.first n.others l.gone _ (rw n.all at l.invariant.3))
 
 -- src/lib.rt:179:1
 pub shape_of-d : goal.shape_of-d

@@ -20,21 +20,6 @@ returns-then-out-n c =
     let w = poured_wrote c.in_ok-n.ensures in
     fill_short _ _ _ w.0 c.if-out-n.true ∙ within_bound _ _ _ w.0 (omega (arith, w.0, w.2))
 
-pub slice_bounds-buffer-end : goal.slice_bounds-buffer-end
-slice_bounds-buffer-end c =
-    let w = poured_wrote c.in_ok-n.ensures in
-    omega (arith, w.0, w.2, c.pour.auto)
-
-pub slice_bounds-copy_in-end : goal.slice_bounds-copy_in-end
-slice_bounds-copy_in-end c =
-    let w = poured_wrote c.in_ok-n.ensures in
-    simp length-take (omega (arith, w.0, w.2, c.pour.auto))
-
-pub copy_in-requires : goal.copy_in-requires
-copy_in-requires c =
-    let w = poured_wrote c.in_ok-n.ensures in
-    simp length-take (omega (arith, c.if-out-n.false))
-
 pub returns : goal.returns
 returns c =
     let p = c.in_ok-n.ensures in

@@ -4,9 +4,6 @@ use lib.ListN.{length-append}
 use Rattle.folder.proofs.FitLaws.{too_long, behind_run}
 use Rattle.folder.proofs.text.put_behind.Goals as goal
 
-pub returns-then-d-k : goal.returns-then-d-k
-returns-then-d-k c = too_long _ _ _ _ c.if-d-k.true (simp length-append (omega arith))
-
 pub returns : goal.returns
 returns c =
     let a = c.args in

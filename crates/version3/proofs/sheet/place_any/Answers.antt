@@ -3,15 +3,10 @@ use borrow.Author.Rules.{rules}
 use native.Mathlib.Omega.{arith}
 use Rattle.version3.proofs.sheet.place_any.Goals as goal
 
-pub place_lines-requires : goal.place_lines-requires
-place_lines-requires c =
-    let p = c.requires in
-    record { classes = c.requires.classes; s_len_bound = (c.requires.s_len_bound, search rules, search rules); lent = c.requires.lent; halfway = c.requires.halfway }
-
 pub returns-in-End : goal.returns-in-End
-returns-in-End c = rw (c.in_ok-e.was, c.in-End.is) at c.place_lines.ensures
+returns-in-End c = rw (c.in_ok-e.was, c.in-End.is) at c.place_with.ensures
 
 pub returns-in-Long : goal.returns-in-Long
 returns-in-Long c =
-    let r = rw (c.in_ok-e.was, c.in-Long.is) at c.place_lines.ensures in
+    let r = rw (c.in_ok-e.was, c.in-Long.is) at c.place_with.ensures in
     absurd (omega (arith, r.0, r.1, c.requires.s_len_bound))
