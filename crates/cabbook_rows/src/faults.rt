@@ -7,8 +7,8 @@ ghost use Rattle.cabbook_rows.specs.Faults.{about, name_words, param_words, quot
 use crate::{under, values};
 use line_parser::at_fault;
 use line_parser::at_fault::{AtFault, QuoteFault};
-use numbers::refusal::{Reason, Refusal};
 use numbers::limit;
+use numbers::refusal::{Reason, Refusal};
 use octets::slices::part;
 
 // Adds a name between two texts.
@@ -98,6 +98,7 @@ fn put_colon(room: &mut [u8], at: usize, line: &[u8], w: AtFault) -> usize
 }
 
 // Adds what is wrong with a logical line that is refused with 40 to 43.
+#[tactic(auto, using(cabbook_messages::proofs::ReasonLaws::other_reason), unfolding(crate::specs::Faults::fault_words))]
 fn put_fault(room: &mut [u8], at: usize, line: &[u8], reason: Reason) -> usize
     ensures { page result room.new ≡ added (fault_words (number reason) line.now) (page at room.old) }
 {
@@ -111,6 +112,7 @@ fn put_fault(room: &mut [u8], at: usize, line: &[u8], reason: Reason) -> usize
 }
 
 // Whether a refusal is of the line rule.
+#[tactic(auto, using(crate::proofs::FaultLaws::no_fault), unfolding(crate::specs::Faults::is_fault))]
 fn is_fault(reason: Reason) -> bool
     ensures { result ≡ is_fault (number reason) }
 {
@@ -133,6 +135,7 @@ fn put_raw(room: &mut [u8], at: usize, line: &[u8], reason: Reason) -> usize
 }
 
 // Adds why octets are refused: what is wrong with the line in which the place lies, what its value should be, or by what stands there.
+#[tactic(auto, using(cabbook_messages::proofs::ReasonLaws::other_reason), unfolding(crate::specs::Faults::why))]
 pub fn put_why(room: &mut [u8], at: usize, s: &[u8], r: Refusal) -> usize
     ensures { page result room.new ≡ added (why s.now (number r.0) r.1) (page at room.old) }
 {

@@ -55,13 +55,7 @@ pub fn put_where(room: &mut [u8], at: usize, path: &[u8], s: &[u8], place: usize
 }
 
 // Adds the row of a file with these octets that is refused.
-pub fn put_refused(
-    room: &mut [u8],
-    at: usize,
-    path: &[u8],
-    s: &[u8],
-    r: Refusal,
-) -> usize
+pub fn put_refused(room: &mut [u8], at: usize, path: &[u8], s: &[u8], r: Refusal) -> usize
     ensures { page result room.new ≡ added (refused_row path.now s.now (number r.0) r.1) (page at room.old) }
 {
     let Refusal(reason, place) = r;

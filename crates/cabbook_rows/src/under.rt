@@ -5,8 +5,8 @@ ghost use Rattle.numbers.specs.Refusals.{number};
 ghost use Rattle.program_output.specs.Pages.{page, added};
 ghost use Rattle.cabbook_rows.specs.Under.{shown_end, offending, cut, tail_at, last_part, last_blanks, rest_line, marked, under_lines};
 
-use numbers::refusal::{Reason, Refusal};
 use numbers::limit;
+use numbers::refusal::{Reason, Refusal};
 
 // The most octets of a name that are shown.
 pub(crate) const NAME: usize = 120;
@@ -18,6 +18,7 @@ const BEFORE: usize = 72;
 const AFTER: usize = 48;
 
 // Where the part of a line that is shown ends: past a lone CR or LF where that is refused, else at the line's end.
+#[tactic(auto, using(cabbook_messages::proofs::ReasonLaws::other_reason), unfolding(crate::specs::Under::shown_end))]
 fn shown_end(s: &[u8], r: Refusal, from: usize) -> usize
     requires { from ≤ length s.now }
     ensures { result ≡ shown_end s.now (number r.0) r.1 from }

@@ -6,8 +6,8 @@ ghost use Rattle.cabbook_rows.specs.Values.{parts_words, line_words, raw_value_w
 
 use crate::under;
 use card_line::Parts;
-use numbers::refusal::Reason;
 use numbers::limit;
+use numbers::refusal::Reason;
 use octets::slices::part;
 use property_table::Edition;
 
@@ -22,6 +22,7 @@ fn put_parts(room: &mut [u8], at: usize, line: &[u8], p: Parts, octet: usize) ->
 }
 
 // Adds what the value of a logical line should be at an octet of the line: edition two has the rows of both; the words of the refusal where it breaks the line rule.
+#[tactic(auto, unfolding(crate::specs::Values::line_words))]
 fn put_line(room: &mut [u8], at: usize, line: &[u8], octet: usize) -> usize
     requires { length line.now ≤ limit.octets }
     ensures { page result room.new ≡ added (line_words line.now octet) (page at room.old) }
