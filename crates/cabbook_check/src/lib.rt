@@ -8,8 +8,8 @@ ghost use Rattle.cabbook_output.specs.Ends.{Status};
 
 use cabbook_output::{Ended, File, Unwritten};
 use cabbook_tables::status;
-use numbers::refusal::{Reason, Refusal};
 use numbers::limit;
+use numbers::refusal::{Reason, Refusal};
 use octets::cases::same_name;
 use octets::slices::part;
 use program_host::{Host, STDOUT};
@@ -91,12 +91,7 @@ fn tell(host: &mut Host, manner: Manner, file: File, v: Verdict) -> Ended
 }
 
 // Tells the first refusal of several cards.
-fn tell_first(
-    host: &mut Host,
-    manner: Manner,
-    file: File,
-    r: Refusal,
-) -> Result<(), Unwritten> {
+fn tell_first(host: &mut Host, manner: Manner, file: File, r: Refusal) -> Result<(), Unwritten> {
     match manner {
         Manner::Rows => print_row(host, file, r),
         Manner::Json => json::print_first(host, file, r),
@@ -119,12 +114,7 @@ fn tell_end(host: &mut Host, manner: Manner) -> Result<(), Unwritten> {
 }
 
 // Tells one refusal more of several cards.
-fn tell_refused(
-    host: &mut Host,
-    manner: Manner,
-    file: File,
-    r: Refusal,
-) -> Result<(), Unwritten> {
+fn tell_refused(host: &mut Host, manner: Manner, file: File, r: Refusal) -> Result<(), Unwritten> {
     match manner {
         Manner::Rows => print_row(host, file, r),
         Manner::Json => json::print_next(host, file.octets, r),

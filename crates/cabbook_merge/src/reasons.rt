@@ -90,13 +90,7 @@ pub(crate) fn put_no_plan(room: &mut [u8], at: usize, a: &Edit, b: &Edit) -> usi
     }
     if !merge_sides::same_octets(side::value_of(a, i), side::value_of(b, j)) {
         let start = put_all(room, at, b"the UIDs differ, so these are two cards\n");
-        return sheet::put_row(
-            room,
-            start,
-            b"  ",
-            side::line_of(a, i),
-            side::line_of(b, j),
-        );
+        return sheet::put_row(room, start, b"  ", side::line_of(a, i), side::line_of(b, j));
     }
     let Some(k) = clash::find(a, b) else {
         let end = words::put_words(room, at, Reason::NoPlan);

@@ -4,8 +4,8 @@
 ghost use Rattle.std.specs.Prelude.{◌≡◌, IfOk, is_ok};
 ghost use Rattle.cabbook_output.specs.Ends.{Status};
 
-use numbers::refusal::{Reason, Refusal};
 use cabbook_tables::status;
+use numbers::refusal::{Reason, Refusal};
 use program_host::Host;
 
 // Standard output can't be written, which is told at the end.

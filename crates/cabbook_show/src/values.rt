@@ -4,8 +4,8 @@ ghost use Rattle.std.specs.Prelude.{length, ◌≤◌};
 use crate::dates;
 use cabbook_tables::fields;
 use label_carets::Rule;
-use numbers::{kind, limit};
 use numbers::refusal::Refusal;
+use numbers::{kind, limit};
 use program_visible::put_visible;
 
 // Where the value's column starts: past three columns, each with a space after it.
@@ -165,5 +165,9 @@ pub(crate) fn put_label(room: &mut [u8], at: usize, line: &[u8], name_end: usize
         return at;
     };
     let indent = put_indent(room, at, false);
-    put_decoded(room, indent, octets::slices::part(line, span.start, span.end))
+    put_decoded(
+        room,
+        indent,
+        octets::slices::part(line, span.start, span.end),
+    )
 }

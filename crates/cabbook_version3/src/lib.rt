@@ -7,10 +7,10 @@ ghost use Rattle.std.specs.Prelude.{IfOk};
 ghost use Rattle.cabbook_output.specs.Ends.{Status};
 
 use cabbook_messages::sentences;
-use cabbook_tables::status;
 use cabbook_output::{Ended, File, Unwritten};
-use numbers::refusal::{Reason, Refusal};
+use cabbook_tables::status;
 use numbers::limit;
+use numbers::refusal::{Reason, Refusal};
 use octets::cases::same_name;
 use octets::slices::part;
 use program_host::{Host, STDERR, STDOUT};

@@ -311,13 +311,7 @@ fn put_raw(room: &mut [u8], at: usize, way: Way, c: Set, raw: &[u8], reason: Rea
 }
 
 // Adds why a card is not taken in or given out, at the start of one of its lines.
-pub(crate) fn put_why(
-    room: &mut [u8],
-    at: usize,
-    way: Way,
-    s: &[u8],
-    r: Refusal,
-) -> usize {
+pub(crate) fn put_why(room: &mut [u8], at: usize, way: Way, s: &[u8], r: Refusal) -> usize {
     let Refusal(reason, place) = r;
     let start = cabbook_positions::line_start(s, place);
     let end = line_folds::spans::line_end(s, start);
