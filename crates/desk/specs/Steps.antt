@@ -15,12 +15,17 @@ use Rattle.desk_slots.specs.Slots.{Slot, Held, No, guarded as guarded_entries, f
 use Rattle.desk_entries.specs.declared.Session.{Session}
 use Rattle.desk_entries.specs.declared.State.{State}
 use Rattle.desk_entries.specs.declared.State.TheVariants.{Free, Open}
+use Rattle.desk_slots.specs.declared.Table.{Table}
 use Rattle.desk_pool.specs.Pools.{patch, zeros, Part, part_of}
 use Rattle.desk.specs.declared.Desk.{Desk}
 use Rattle.desk.specs.Answer.{Answer, Done, Refused, answer}
 use Rattle.desk.specs.declared.Turn.{Turn}
 
 -- ---- a sound desk, and the slot of a ticket
+
+-- what is known of its slots
+abbrev pub table : Desk → Table
+table d = record { entries = d.entries; stamps = d.stamps; slots = d.slots; next = d.next; tick = d.tick }
 
 abbrev pub Sound : Desk → Type 0
 Sound d = SoundAt d.entries d.slots d.next d.stamps d.tick
