@@ -164,12 +164,9 @@ impl Desk {
     {
         match self.at_ticket(pool.len(), t) {
             Err(r) => self.refuse(r),
-            Ok(
-                Found {
-                    slot: i,
-                    session: o,
-                },
-            ) => {
+            Ok(at) => {
+                let i = at.slot;
+                let o = at.session;
                 let h = o.held as usize;
                 if chunk.len() > limit::OCTETS - h {
                     return self.refuse(Refusal(Reason::SlotFull, h));
