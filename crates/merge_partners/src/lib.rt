@@ -50,9 +50,6 @@ struct Headed {
     head: usize,
 }
 
-// The line before any was looked at.
-const NO_LINE: usize = 4294967296;
-
 // The factor of a digest, and what it stays below: primes, so that names seldom have one digest.
 const FACTOR: usize = 32749;
 
@@ -249,15 +246,16 @@ fn head_of(x: &Side, digests: &[usize], y: &Side, j: usize) -> usize
 }
 
 // Looks at line j of a card, unless it is the one that was looked at last.
-fn look<'a>(x: &Side<'a>, digests: &[usize], y: &Side<'a>, j: usize, last: Headed) -> Headed
-    requires j_lt_word { j < limit.word }
+fn look<'a>(x: &Side<'a>, digests: &[usize], y: &Side<'a>, j: usize, last: Option<Headed>) -> Headed
     requires digests { Digests x.now.copy.now x.now.records.now digests.now }
     requires known { Known x.now.copy.now x.now.records.now (length digests.now) y.now.copy.now y.now.records.now last }
     ensures line_value { result.line ≡ j }
     ensures head_value { result.head ≡ head_from x.now.copy.now x.now.records.now y.now.copy.now y.now.records.now j 0 (length digests.now) }
 {
-    if j == last.line {
-        return last;
+    if let Some(known) = last
+        && known.line == j
+    {
+        return known;
     }
     Headed {
         line: j,
@@ -291,14 +289,12 @@ fn put_tags<'a>(
     requires keys_len_bound { length keys.now ≤ limit.lines }
     ensures { tags.new ≡ sets_from (tag_at x.now.copy.now x.now.records.now (length digests.now) y.now.copy.now y.now.records.now marks.now keys.now) tags.old 0 (length keys.now) }
 {
-    let mut last = Headed {
-        line: NO_LINE,
-        head: 0,
-    };
+    let mut last = None;
     for (k, key) in keys.iter().enumerate() {
         let j = wide_number(number_of(marks, k, LINE));
-        last = look(x, digests, y, j, last);
-        put_number(tags, k, tag_of(last.head, *key));
+        let headed = look(x, digests, y, j, last);
+        put_number(tags, k, tag_of(headed.head, *key));
+        last = Some(headed);
     }
 }
 
@@ -321,18 +317,11 @@ fn put_seats(marks: &[u32], n: usize, seats: &mut [u32])
     }
 }
 
-// 1 for a mark of this tag whose line is not the partner already, else 0.
-fn is_new(tag: u32, seat: u32, own: u32, partner: u32) -> u32
-    ensures value { result ≡ one (is_new tag seat own partner) }
-    ensures upper_bound { result ≤ 1 }
+// Whether a mark has this tag and a line that is not the partner already.
+fn is_new(tag: u32, seat: u32, own: u32, partner: u32) -> bool
+    ensures { result ≡ is_new tag seat own partner }
 {
-    if tag != own {
-        return 0;
-    }
-    if seat == partner {
-        return 0;
-    }
-    1
+    tag == own && seat != partner
 }
 
 // How many marks have this tag and a line that is not the partner already.
@@ -342,7 +331,7 @@ fn count_new(tags: &[u32], seats: &[u32], own: u32, partner: u32) -> u32
 {
     let mut hits: u32 = 0;
     for (k, tag) in tags.iter().enumerate() {
-        hits += is_new(*tag, seats[k], own, partner);
+        hits += u32::from(is_new(*tag, seats[k], own, partner));
     }
     hits
 }
@@ -401,7 +390,7 @@ fn join_at(
     ensures { joined result p.new t.new ≡ join_all (joined true p.old t.old) (key_pair x.now.copy.now x.now.records.now i key y.now.copy.now y.now.records.now m.now.numbers.now m.now.keys.now k) }
 {
     let partner = partner_of(p, i);
-    if is_new(m.tags[k], m.seats[k], tag, partner) == 0 {
+    if !is_new(m.tags[k], m.seats[k], tag, partner) {
         return true;
     }
     if m.keys[k] != key {
@@ -477,15 +466,13 @@ fn join_marks(
     requires tagged { Tagged x.now.copy.now x.now.records.now (length digests.now) y.now.copy.now y.now.records.now m.now.numbers.now m.now.keys.now m.now.tags.now m.now.seats.now }
     ensures { joined result p.new t.new ≡ join_all (joined true p.old t.old) (shared_pairs x.now.copy.now x.now.records.now firsts.now own classes.now y.now.copy.now y.now.records.now m.now.numbers.now m.now.keys.now 0 n) }
 {
-    let mut last = Headed {
-        line: NO_LINE,
-        head: 0,
-    };
+    let mut last = None;
     for k in 0..n {
         let i = wide_number(number_of(firsts, k, LINE));
         let key = key_at(firsts, k, own, classes);
-        last = look(x, digests, x, i, last);
-        let tag = tag_of(last.head, key);
+        let headed = look(x, digests, x, i, last);
+        let tag = tag_of(headed.head, key);
+        last = Some(headed);
         if !join_mark(x, i, key, tag, y, m, p, t) {
             return false;
         }

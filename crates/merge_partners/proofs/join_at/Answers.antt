@@ -6,13 +6,13 @@ use lib.ListN.{get_or}
 use Rattle.merge_sides.specs.Lines.{same_property}
 use Rattle.merge_partners.specs.Keys.{number_at}
 use Rattle.merge_partners.specs.Pairs.{join_to, join_all, hit_pair, key_pair}
-use Rattle.merge_partners.proofs.NewLaws.{counted_none, none_new}
+use Rattle.merge_partners.proofs.NewLaws.{passed_over, none_new}
 use Rattle.merge_partners.proofs.join_at.Goals as goal
 
-pub returns-then-is_new-eq0 : goal.returns-then-is_new-eq0
-returns-then-is_new-eq0 c =
+pub returns-then-not-is_new : goal.returns-then-not-is_new
+returns-then-not-is_new c =
     let a = c.args in
-    sym (none_new a.x.now.copy.now a.x.now.records.now a.i a.key a.tag a.y.now.copy.now a.y.now.records.now a.m.now.numbers.now a.m.now.keys.now a.m.now.tags.now a.m.now.seats.now c.requires.sifts a.p.now a.t.now a.k c.requires.k_in_bounds (counted_none (get_or a.m.now.tags.now a.k 0) (get_or a.m.now.seats.now a.k 0) a.tag _ _ _ c.is_new.ensures.value c.partner_of-partner.ensures c.if-is_new-eq0.true))
+    sym (none_new a.x.now.copy.now a.x.now.records.now a.i a.key a.tag a.y.now.copy.now a.y.now.records.now a.m.now.numbers.now a.m.now.keys.now a.m.now.tags.now a.m.now.seats.now c.requires.sifts a.p.now a.t.now a.k c.requires.k_in_bounds (passed_over (get_or a.m.now.tags.now a.k 0) (get_or a.m.now.seats.now a.k 0) a.tag _ _ _ c.is_new.ensures c.partner_of-partner.ensures c.if-not-is_new.true))
 
 pub returns-then-m-k : goal.returns-then-m-k
 unfolding join_all key_pair
