@@ -14,8 +14,8 @@ ghost use Rattle.merge.specs.Outcome.{planned, plan_rows, check_rows, plan_outco
 
 use merge_partners::{Partners, Side};
 use merge_sources::{Row, Source};
-use numbers::refusal::Refusal;
-use numbers::{limit, refusal};
+use numbers::refusal::{Reason, Refusal};
+use numbers::limit;
 use octets::indices::wide_number;
 use property_table::Edition;
 
@@ -67,19 +67,19 @@ fn settle<'a>(
     let own_a = merge_sides::own_row(x.copy, x.records, x.lines);
     let own_b = merge_sides::own_row(y.copy, y.records, y.lines);
     if is_over(x_cards, a.count, own_a, &firsts, ea) {
-        return Err(Refusal(refusal::MERGE_LIMIT, 0));
+        return Err(Refusal(Reason::MergeLimit, 0));
     }
     if is_over(y_cards, b.count, own_b, &seconds, eb) {
-        return Err(Refusal(refusal::MERGE_LIMIT, 0));
+        return Err(Refusal(Reason::MergeLimit, 0));
     }
     if !merge_sources::same_row(own_a, a) {
-        return Err(Refusal(refusal::SOURCE_ROW, 0));
+        return Err(Refusal(Reason::SourceRow, 0));
     }
     if !merge_sources::same_row(own_b, b) {
-        return Err(Refusal(refusal::SOURCE_ROW, 0));
+        return Err(Refusal(Reason::SourceRow, 0));
     }
     if !merge_partners::same_uids(x, y) {
-        return Err(Refusal(refusal::NO_PLAN, 0));
+        return Err(Refusal(Reason::NoPlan, 0));
     }
     if !merge_partners::join_all(
         x,
@@ -92,7 +92,7 @@ fn settle<'a>(
         b,
         p,
     ) {
-        return Err(Refusal(refusal::NO_PLAN, 0));
+        return Err(Refusal(Reason::NoPlan, 0));
     }
     Ok(merge_partners::count_pairs(p))
 }
@@ -156,7 +156,7 @@ pub fn plan_rows(
     let mut p = [0u32; limit::LINES];
     let n = settle(&x, x_counts.cards, a, &y, y_counts.cards, b, &mut p)?;
     if out.len() < n * PAIR {
-        return Err(Refusal(refusal::RECORD_ROOM, n * PAIR));
+        return Err(Refusal(Reason::RecordRoom, n * PAIR));
     }
     put_pairs(&p, out);
     Ok(n)
@@ -271,10 +271,10 @@ pub fn check_rows(
     settle(&x, x_counts.cards, a, &y, y_counts.cards, b, &mut p)?;
     let mut q = [0u32; limit::LINES];
     if !enter_plan(&x, &y, plan, &mut q) {
-        return Err(Refusal(refusal::PLAN, 0));
+        return Err(Refusal(Reason::Plan, 0));
     }
     if !covers(&p, &q) {
-        return Err(Refusal(refusal::PLAN, 0));
+        return Err(Refusal(Reason::Plan, 0));
     }
     Ok(plan.len() / PAIR)
 }
