@@ -66,10 +66,7 @@ fn put_blank(room: &mut [u8], at: usize, text: &[u8], i: usize, n: usize) -> usi
 fn step_of(n: usize) -> usize
     ensures { result ≡ pick (eqb n 0) 1 n }
 {
-    if n == 0 {
-        return 1;
-    }
-    n
+    n.max(1)
 }
 
 // Adds blanks as wide as what is shown of a text.
@@ -102,16 +99,6 @@ fn cells_at(text: &[u8], i: usize, n: usize) -> usize
     ranges::cells_in(&t, code_at(text, i, n))
 }
 
-// A number less another, or 0.
-fn less(a: usize, b: usize) -> usize
-    ensures { result ≡ a - b }
-{
-    if a < b {
-        return 0;
-    }
-    a - b
-}
-
 // How many cells a column of so many has to spare beside a text.
 pub fn spare(text: &[u8], width: usize) -> usize
     ensures { result ≡ width - length (blanks text.now) }
@@ -121,7 +108,7 @@ pub fn spare(text: &[u8], width: usize) -> usize
     let mut i: usize = 0;
     while i < text.len() {
         let n = program_visible::shown_length(&t, text, i);
-        left = less(left, cells_at(text, i, n));
+        left = left.saturating_sub(cells_at(text, i, n));
         i += step_of(n);
     }
     left

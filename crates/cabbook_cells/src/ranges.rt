@@ -5,9 +5,6 @@ ghost use Rattle.cabbook_cells.specs.Ranges.{ranges, cells_in};
 
 use crate::unicode;
 
-// The numbers of a range: its first and last code point, and its cells.
-const RANGE: usize = 3;
-
 // The table as a value.
 pub(crate) fn table() -> [usize; unicode::SIZE]
     ensures { result ≡ ranges }
@@ -19,22 +16,19 @@ pub(crate) fn table() -> [usize; unicode::SIZE]
 fn is_within(first: usize, last: usize, code: usize) -> bool
     ensures { result ≡ within first last code }
 {
-    if code < first {
-        return false;
-    }
-    code <= last
+    first <= code && code <= last
 }
 
 // The cells of a code point in the table; one where no range has it.
 pub(crate) fn cells_in(t: &[usize], code: usize) -> usize
     ensures { result ≡ cells_in t.now code }
 {
-    let mut i: usize = 0;
-    while RANGE <= t.len() - i {
-        if is_within(t[i], t[i + 1], code) {
-            return t[i + 2];
+    let mut left = t;
+    while let [first, last, cells, rest @ ..] = left {
+        if is_within(*first, *last, code) {
+            return *cells;
         }
-        i += RANGE;
+        left = rest;
     }
     1
 }

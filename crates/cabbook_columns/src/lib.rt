@@ -11,10 +11,7 @@ use program_output::digits::DIGITS;
 pub fn put_gap(room: &mut [u8], at: usize, used: usize, width: usize) -> usize
     ensures { page result room.new ≡ added (replicate (width - used) 32) (page at room.old) }
 {
-    if used >= width {
-        return at;
-    }
-    program_output::put_spaces(room, at, width - used)
+    program_output::put_spaces(room, at, width.saturating_sub(used))
 }
 
 // Adds a text in a column of so many cells, and a space.

@@ -1,10 +1,17 @@
 -- The names of options and commands, and the numbers that options take. Assumes nothing.
-use Rattle.std.specs.Prelude.{ℕ, List, [], ◌∷◌, ◌++◌, eqb, length}
+use Rattle.std.specs.Prelude.{ℕ, ◌-◌, List, [], ◌∷◌, ◌++◌, Option, Some, None, get_or, length}
 use Prim.Native.String.{String}
 use Rattle.numbers.specs.Limits as limit
 use Rattle.octets.specs.Pick.{pick}
 use Rattle.octets.specs.Ascii.{octets}
 use Rattle.octets.specs.Cases.{same}
+use Rattle.octets.specs.Classes.{within}
+use Rattle.cabbook_options.specs.declared.names.Switch.{Switch}
+use Rattle.cabbook_options.specs.declared.names.Switch.TheVariants as switch
+use Rattle.cabbook_options.specs.declared.command.Command.{Command}
+use Rattle.cabbook_options.specs.declared.command.Command.TheVariants as command
+use Rattle.cabbook_options.specs.declared.names.Named.{Named}
+use Rattle.cabbook_options.specs.declared.names.Named.TheVariants.{AnOption, ACommand}
 
 -- a number and its name
 pub record Name : Type 0 where
@@ -13,19 +20,6 @@ pub record Name : Type 0 where
 
 abbrev pub name : ℕ → String → Name
 name n s = record { number = n; text = s }
-
--- the options that take a number
-abbrev pub edition : ℕ
-edition = 1
-
-abbrev pub chunk : ℕ
-chunk = 2
-
-abbrev pub tick : ℕ
-tick = 3
-
-abbrev pub slots : ℕ
-slots = 4
 
 -- the options, from 1 to 12, and the commands, from 21 on
 unfoldable pub names : List Name
@@ -59,10 +53,6 @@ names =
     name 34 "help" ∷
     []
 
--- more than the number of any option
-abbrev pub options_end : ℕ
-options_end = 13
-
 -- the number of a name among names, in either case; 0 where none has it
 unfoldable pub number_in : List Name → List ℕ → ℕ
 number_in [] w = 0
@@ -76,6 +66,81 @@ unfoldable pub table_of : List Name → List ℕ
 table_of [] = []
 table_of (m ∷ ms) = m.number ∷ length (octets m.text) ∷ (octets m.text ++ table_of ms)
 
--- the largest number that an option takes, 0 for one that takes none
-unfoldable pub most_of : ℕ → ℕ
-most_of k = pick (eqb k edition) 2 (pick (eqb k chunk) limit.octets (pick (eqb k tick) limit.octets (pick (eqb k slots) limit.slots 0)))
+-- the options and the commands in the order of their numbers
+abbrev pub switches : List Switch
+switches =
+    switch.Edition ∷
+    switch.Chunk ∷
+    switch.Tick ∷
+    switch.Slots ∷
+    switch.AsRead ∷
+    switch.Rfc6350 ∷
+    switch.Bars ∷
+    switch.All ∷
+    switch.Quiet ∷
+    switch.Json ∷
+    switch.Help ∷
+    switch.Version ∷
+    []
+
+abbrev pub commands : List Command
+commands =
+    command.Check ∷
+    command.Show ∷
+    command.Fold ∷
+    command.Escape ∷
+    command.Unescape ∷
+    command.Encode ∷
+    command.Decode ∷
+    command.Morning ∷
+    command.Report ∷
+    command.V3in ∷
+    command.V3out ∷
+    command.Watch ∷
+    command.Merge ∷
+    command.Help ∷
+    []
+
+-- how many options there are
+abbrev pub options : ℕ
+options = 12
+
+-- an option's place among them
+abbrev pub place_of : Switch → ℕ
+place_of switch.Edition = 0
+place_of switch.Chunk = 1
+place_of switch.Tick = 2
+place_of switch.Slots = 3
+place_of switch.AsRead = 4
+place_of switch.Rfc6350 = 5
+place_of switch.Bars = 6
+place_of switch.All = 7
+place_of switch.Quiet = 8
+place_of switch.Json = 9
+place_of switch.Help = 10
+place_of switch.Version = 11
+
+-- what a number stands for
+unfoldable pub meaning : ℕ → Option Named
+meaning n =
+    pick (within 1 12 n) (Some (AnOption (get_or switches (n - 1) switch.Edition)))
+    (pick (within 21 34 n) (Some (ACommand (get_or commands (n - 21) command.Check))) None)
+
+-- what a name stands for
+unfoldable pub named : List ℕ → Option Named
+named w = meaning (number_of w)
+
+-- the largest number that an option takes, where it takes one
+abbrev pub most_of : Switch → Option ℕ
+most_of switch.Edition = Some 2
+most_of switch.Chunk = Some limit.octets
+most_of switch.Tick = Some limit.octets
+most_of switch.Slots = Some limit.slots
+most_of switch.AsRead = None
+most_of switch.Rfc6350 = None
+most_of switch.Bars = None
+most_of switch.All = None
+most_of switch.Quiet = None
+most_of switch.Json = None
+most_of switch.Help = None
+most_of switch.Version = None

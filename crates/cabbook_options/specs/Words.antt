@@ -1,42 +1,37 @@
 -- What the words of a command line say. Assumes nothing.
-use Rattle.std.specs.Prelude.{ℕ, ◌+◌, Bool, false, List, eqb, ltb, length, get_or, set, replicate}
+use Rattle.std.specs.Prelude.{ℕ, ◌+◌, Bool, false, ◌||◌, List, Option, Some, None, eqb, ltb, length, get_or, set, replicate}
 use Rattle.octets.specs.Pick.{pick}
 use Rattle.octets.specs.Scan.{scan}
 use Rattle.octets.specs.Ascii.{octets}
 use Rattle.octets.specs.Cases.{same}
 use Rattle.octets.specs.Slices.{part}
 use Rattle.program_numbers.specs.Decimal.{number_of as decimal_of}
-use Rattle.program_numbers.specs.declared.decimal.Number.{Number}
-use Rattle.program_numbers.specs.declared.decimal.Number.TheVariants.{Is, Bad}
-use Rattle.cabbook_options.specs.Names.{options_end, number_of, most_of}
+use Rattle.cabbook_options.specs.Names.{options, place_of, named, most_of}
+use Rattle.cabbook_options.specs.declared.names.Switch.{Switch}
+use Rattle.cabbook_options.specs.declared.names.Named.{Named}
+use Rattle.cabbook_options.specs.declared.names.Named.TheVariants.{AnOption, ACommand}
+use Rattle.cabbook_options.specs.declared.command.Command.{Command}
+use Rattle.cabbook_options.specs.declared.words.Fault.{Fault}
+use Rattle.cabbook_options.specs.declared.words.Fault.TheVariants.{NoCommand, NoOption, NoValue, NoNumber}
+use Rattle.cabbook_options.specs.declared.words.Wrong.{Wrong}
 use Rattle.cabbook_options.specs.declared.words.Words.{Words}
-
--- what may be wrong: no such command, no such option, a value where none is taken, no number that is taken
-abbrev pub no_command : ℕ
-no_command = 1
-
-abbrev pub no_option : ℕ
-no_option = 2
-
-abbrev pub no_value : ℕ
-no_value = 3
-
-abbrev pub no_number : ℕ
-no_number = 4
 
 -- before the first word nothing is said
 abbrev pub begun : Words
 begun =
     record {
-      command = 0;
+      command = None;
       named_by = 0;
       files = 0;
-      dashes = 0;
-      waits = 0;
-      fault = 0;
-      wrong = 0;
-      values = replicate options_end 0;
+      dashes = None;
+      waits = None;
+      wrong = None;
+      values = replicate options None;
     }
+
+-- the number that an option is set to
+abbrev pub value_of : Words → Switch → Option ℕ
+value_of w k = get_or w.values (place_of k) None
 
 -- a dash, and more behind it
 unfoldable pub looks_like : List ℕ → Bool
@@ -49,16 +44,18 @@ name_step l = pick (eqb (get_or l 0 0) 61) 0 1
 unfoldable pub name_length : List ℕ → ℕ
 name_length w = scan name_step w 0
 
--- a number in decimal digits, 0 for any other word
-abbrev pub number_or0 : Number → ℕ
-number_or0 (Is n) = n
-number_or0 Bad = 0
+-- a number from 1 to the most, where both are there
+abbrev pub allowed : Option ℕ → Option ℕ → Option ℕ
+allowed (Some most) (Some n) = pick (eqb n 0 || ltb most n) None (Some n)
+allowed (Some most) None = None
+allowed None n = None
 
-unfoldable pub size_of : List ℕ → ℕ
-size_of word = number_or0 (decimal_of word)
+-- the number that a word has, where it is from 1 to the most that the option takes
+unfoldable pub number_for : Switch → List ℕ → Option ℕ
+number_for k word = allowed (most_of k) (decimal_of word)
 
 -- something is wrong at argument i
-abbrev pub wronged : ℕ → ℕ → Words → Words
+abbrev pub wronged : Fault → ℕ → Words → Words
 wronged fault i w =
     record {
       command = w.command;
@@ -66,45 +63,43 @@ wronged fault i w =
       files = w.files;
       dashes = w.dashes;
       waits = w.waits;
-      fault = fault;
-      wrong = i;
+      wrong = Some (record { fault = fault; argument = i });
       values = w.values;
     }
 
 -- an option waits for its number
-abbrev pub awaiting : ℕ → Words → Words
+abbrev pub awaiting : Switch → Words → Words
 awaiting k w =
     record {
       command = w.command;
       named_by = w.named_by;
       files = w.files;
       dashes = w.dashes;
-      waits = k;
-      fault = w.fault;
+      waits = Some k;
       wrong = w.wrong;
       values = w.values;
     }
 
 -- an option is set
-abbrev pub set_to : ℕ → ℕ → Words → Words
+abbrev pub set_to : Switch → ℕ → Words → Words
 set_to k n w =
     record {
       command = w.command;
       named_by = w.named_by;
       files = w.files;
       dashes = w.dashes;
-      waits = 0;
-      fault = w.fault;
+      waits = None;
       wrong = w.wrong;
-      values = set w.values k n;
+      values = set w.values (place_of k) (Some n);
     }
 
--- a word is an option's number, where it is from 1 to the most that the option takes
-unfoldable pub numbered : ℕ → ℕ → List ℕ → Words → Words
-numbered k i word w =
-    pick (ltb k options_end)
-    (pick (eqb (size_of word) 0) (wronged no_number i (awaiting k w)) (pick (ltb (most_of k) (size_of word)) (wronged no_number i (awaiting k w)) (set_to k (size_of word) w)))
-    (awaiting k w)
+-- a word is an option's number, or none that it takes
+abbrev pub numbered_by : Option ℕ → Switch → ℕ → Words → Words
+numbered_by (Some n) k i w = set_to k n w
+numbered_by None k i w = wronged NoNumber i (awaiting k w)
+
+unfoldable pub numbered : Switch → ℕ → List ℕ → Words → Words
+numbered k i word w = numbered_by (number_for k word) k i w
 
 -- one file more, as far as they are counted
 abbrev pub filed : Words → Words
@@ -115,32 +110,39 @@ filed w =
       files = pick (ltb w.files 3) (w.files + 1) w.files;
       dashes = w.dashes;
       waits = w.waits;
-      fault = w.fault;
       wrong = w.wrong;
       values = w.values;
     }
 
 -- the command is named
-abbrev pub commanded : ℕ → ℕ → Words → Words
-commanded n i w =
+abbrev pub commanded : Command → ℕ → Words → Words
+commanded k i w =
     record {
-      command = n;
+      command = Some k;
       named_by = i;
       files = w.files;
       dashes = w.dashes;
       waits = w.waits;
-      fault = w.fault;
       wrong = w.wrong;
       values = w.values;
     }
 
+-- a name in the place of the command's
+abbrev pub commanded_by : Option Named → ℕ → Words → Words
+commanded_by (Some (ACommand k)) i w = commanded k i w
+commanded_by (Some (AnOption k)) i w = wronged NoCommand i w
+commanded_by None i w = wronged NoCommand i w
+
 -- a word that is no option: the command's name, or after that a file's
+abbrev pub plainly_by : Option Command → ℕ → List ℕ → Words → Words
+plainly_by (Some k) i word w = filed w
+plainly_by None i word w = commanded_by (named word) i w
+
 unfoldable pub plainly : ℕ → List ℕ → Words → Words
-plainly i word w =
-    pick (eqb w.command 0) (pick (ltb (number_of word) options_end) (wronged no_command i w) (commanded (number_of word) i w)) (filed w)
+plainly i word w = plainly_by w.command i word w
 
 -- an option that takes no number is set
-abbrev pub marked : ℕ → Words → Words
+abbrev pub marked : Switch → Words → Words
 marked k w =
     record {
       command = w.command;
@@ -148,24 +150,33 @@ marked k w =
       files = w.files;
       dashes = w.dashes;
       waits = w.waits;
-      fault = w.fault;
       wrong = w.wrong;
-      values = set w.values k 1;
+      values = set w.values (place_of k) (Some 1);
     }
 
 -- an option without a value: it waits for its number, or is set
-unfoldable pub flagged : ℕ → Words → Words
-flagged k w = pick (ltb 0 (most_of k)) (awaiting k w) (pick (ltb k options_end) (marked k w) w)
+abbrev pub flagged_by : Option ℕ → Switch → Words → Words
+flagged_by (Some most) k w = awaiting k w
+flagged_by None k w = marked k w
 
--- an option with this number, whose name has n octets of the word
-unfoldable pub optioned_by : ℕ → ℕ → ℕ → List ℕ → Words → Words
-optioned_by k n i word w =
-    pick (eqb k 0) (wronged no_option i w)
-    (pick (eqb n (length word)) (flagged k w) (pick (eqb (most_of k) 0) (wronged no_value i w) (numbered k i (part word (n + 1) (length word)) w)))
+unfoldable pub flagged : Switch → Words → Words
+flagged k w = flagged_by (most_of k) k w
+
+-- an option with a value, if it takes one
+abbrev pub valued_by : Option ℕ → Switch → ℕ → List ℕ → Words → Words
+valued_by (Some most) k i word w = numbered k i word w
+valued_by None k i word w = wronged NoValue i w
+
+-- a name in the place of an option's, of n octets of the word
+abbrev pub optioned_by : Option Named → ℕ → ℕ → List ℕ → Words → Words
+optioned_by (Some (AnOption k)) n i word w =
+    pick (eqb n (length word)) (flagged k w) (valued_by (most_of k) k i (part word (n + 1) (length word)) w)
+optioned_by (Some (ACommand k)) n i word w = wronged NoOption i w
+optioned_by None n i word w = wronged NoOption i w
 
 -- a word that looks like an option
 unfoldable pub optioned : ℕ → List ℕ → Words → Words
-optioned i word w = optioned_by (number_of (part word 0 (name_length word))) (name_length word) i word w
+optioned i word w = optioned_by (named (part word 0 (name_length word))) (name_length word) i word w
 
 -- the options are ended
 abbrev pub ended : ℕ → Words → Words
@@ -174,21 +185,28 @@ ended i w =
       command = w.command;
       named_by = w.named_by;
       files = w.files;
-      dashes = i;
+      dashes = Some i;
       waits = w.waits;
-      fault = w.fault;
       wrong = w.wrong;
       values = w.values;
     }
 
+-- where options are not ended, a word that looks like one is one, and `--` ends them
+abbrev pub opened_by : Option ℕ → ℕ → List ℕ → Words → Words
+opened_by (Some end) i word w = plainly i word w
+opened_by None i word w = pick (looks_like word) (pick (same word (octets "--")) (ended i w) (optioned i word w)) (plainly i word w)
+
+-- an option that waits takes its number
+abbrev pub awaited_by : Option Switch → ℕ → List ℕ → Words → Words
+awaited_by (Some k) i word w = numbered k i word w
+awaited_by None i word w = opened_by w.dashes i word w
+
+-- nothing is added to what is wrong
+abbrev pub took_by : Option Wrong → ℕ → List ℕ → Words → Words
+took_by (Some wrong) i word w = w
+took_by None i word w = awaited_by w.waits i word w
+
 -- one more word, argument i: nothing is added to what is wrong; an option that waits takes its number; after `--` and where it does not look like an option
 -- a word is plain
 unfoldable pub took : ℕ → List ℕ → Words → Words
-took i word w =
-    pick (eqb w.fault 0)
-    (pick (eqb w.waits 0)
-    (pick (eqb w.dashes 0)
-    (pick (looks_like word) (pick (same word (octets "--")) (ended i w) (optioned i word w)) (plainly i word w))
-    (plainly i word w))
-    (numbered w.waits i word w))
-    w
+took i word w = took_by w.wrong i word w

@@ -1,49 +1,75 @@
 // The names of options and commands, searched in a table: of each its number, the length of its name, and the name.
-ghost use Rattle.std.specs.Prelude.{◌≡◌};
-ghost use Rattle.cabbook_options.specs.Names.{names, number_of, table_of, most_of};
+ghost use Rattle.std.specs.Prelude.{◌≡◌, ◌<◌};
+ghost use Rattle.cabbook_options.specs.Names.{names, number_of, table_of, options, place_of, meaning, named, most_of};
 
+use crate::command::{COMMANDS, Command};
 use numbers::limit;
 use octets::cases::same_name;
 use octets::indices::wide;
 
-// `--edition N`.
-pub const EDITION: usize = 1;
+// An option.
+#[derive(Clone, Copy, Debug, PartialEq, Eq)]
+pub enum Switch {
+    // `--edition N`.
+    Edition,
+    // `--chunk N`.
+    Chunk,
+    // `--tick N`.
+    Tick,
+    // `--slots N`.
+    Slots,
+    // `--as-read`.
+    AsRead,
+    // `--rfc6350`.
+    Rfc6350,
+    // `--bars`.
+    Bars,
+    // `--all`.
+    All,
+    // `--quiet`.
+    Quiet,
+    // `--json`.
+    Json,
+    // `--help` and `-h`.
+    Help,
+    // `--version`.
+    Version,
+}
 
-// `--chunk N`.
-pub const CHUNK: usize = 2;
+// How many options there are.
+pub const COUNT: usize = 12;
 
-// `--tick N`.
-pub const TICK: usize = 3;
+// The options in the order of their numbers in the table, from 1 on.
+pub const SWITCHES: [Switch; COUNT] = [
+    Switch::Edition,
+    Switch::Chunk,
+    Switch::Tick,
+    Switch::Slots,
+    Switch::AsRead,
+    Switch::Rfc6350,
+    Switch::Bars,
+    Switch::All,
+    Switch::Quiet,
+    Switch::Json,
+    Switch::Help,
+    Switch::Version,
+];
 
-// `--slots N`.
-pub const SLOTS: usize = 4;
+// The numbers of options and of commands in the table.
+const FIRST_OPTION: usize = 1;
 
-// `--as-read`.
-pub const AS_READ: usize = 5;
+const LAST_OPTION: usize = 12;
 
-// `--rfc6350`.
-pub const RFC6350: usize = 6;
+const FIRST_COMMAND: usize = 21;
 
-// `--bars`.
-pub const BARS: usize = 7;
+const LAST_COMMAND: usize = 34;
 
-// `--all`.
-pub const ALL: usize = 8;
-
-// `--quiet`.
-pub const QUIET: usize = 9;
-
-// `--json`.
-pub const JSON: usize = 10;
-
-// `--help` and `-h`.
-pub const HELP: usize = 11;
-
-// `--version`.
-pub const VERSION: usize = 12;
-
-// More than the number of any option; a command's is higher still.
-pub const OPTIONS: usize = 13;
+// What a name stands for.
+#[derive(Clone, Copy, Debug, PartialEq, Eq)]
+pub enum Named {
+    AnOption(Switch),
+    ACommand(Command),
+}
 
 // The octets before a name in the table: its number and its length.
 const HEAD: usize = 2;
@@ -107,29 +133,44 @@ fn number_in(t: &[u8], word: &[u8]) -> usize
     0
 }
 
-// The number of an option or a command with this name; 0 where there is none.
-pub fn number_of(word: &[u8]) -> usize
-    ensures { result ≡ number_of word.now }
+// What a number of the table stands for; nothing where no name has it.
+#[tactic(auto, unfolding(crate::specs::Names::meaning))]
+fn meaning(n: usize) -> Option<Named>
+    ensures { result ≡ meaning n }
 {
-    let t = table();
-    number_in(&t, word)
+    match n {
+        FIRST_OPTION..=LAST_OPTION => Some(Named::AnOption(SWITCHES[n - FIRST_OPTION])),
+        FIRST_COMMAND..=LAST_COMMAND => Some(Named::ACommand(COMMANDS[n - FIRST_COMMAND])),
+        _ => None,
+    }
 }
 
-// The largest number that an option takes; 0 for one that takes none.
-pub fn most_of(option: usize) -> usize
-    ensures { result ≡ most_of option }
+// The option or the command with this name.
+#[tactic(auto, unfolding(crate::specs::Names::named))]
+pub fn find(word: &[u8]) -> Option<Named>
+    ensures { result ≡ named word.now }
 {
-    if option == EDITION {
-        return EDITIONS;
+    let t = table();
+    meaning(number_in(&t, word))
+}
+
+impl Switch {
+    // The largest number that an option takes, where it takes one.
+    pub fn most(self) -> Option<usize>
+        ensures { result ≡ most_of self }
+    {
+        match self {
+            Switch::Edition => Some(EDITIONS),
+            Switch::Chunk | Switch::Tick => Some(limit::OCTETS),
+            Switch::Slots => Some(limit::SLOTS),
+            _ => None,
+        }
     }
-    if option == CHUNK {
-        return limit::OCTETS;
+
+    // An option's place among all.
+    pub(crate) fn place(self) -> usize
+        ensures { (result ≡ place_of self) × (result < options) }
+    {
+        self as usize
     }
-    if option == TICK {
-        return limit::OCTETS;
-    }
-    if option == SLOTS {
-        return limit::SLOTS;
-    }
-    0
 }

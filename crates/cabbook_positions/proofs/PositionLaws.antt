@@ -1,29 +1,23 @@
 -- Counting octets one by one, and going back place by place. Assumes nothing.
-use mathlib.Core.Path.{◌≡◌, refl, ◌∙◌}
+use mathlib.Core.Path.{◌≡◌, refl}
 use mathlib.Core.Bool.{Bool, true, false}
 use mathlib.Core.List.{List, [], ◌∷◌}
 use Prim.Native.Nat.{ℕ, zero, suc, ◌+◌, ◌-◌, ◌<◌, ◌≤◌}
-use native.Mathlib.Numerals.{add-one}
 use native.Mathlib.Omega.{arith}
-use lib.ListN.{length, get_or, drop, drop_of_length-le}
-use lib.Seq.{drop-cons}
+use lib.ListN.{length}
+use Rattle.std.specs.Prelude.{count_by, cond}
+use Rattle.std.proofs.lemmas.List.Recursion.{is_count_by}
 use Rattle.octets.specs.Pick.{pick}
 use Rattle.cabbook_positions.specs.Positions.{count, back_to}
 
-module _ (p : ℕ → Bool) (s : List ℕ) (i : ℕ) where
-  count_at : i < length s → count p (drop i s) ≡ pick (p (get_or s i 0)) 1 0 + count p (drop (i + 1) s)
-  unfolding count
-  count_at h = rw (add-one, drop-cons s i 0 h)
+counted : (b : Bool) (n : ℕ) → pick b 1 0 + n ≡ cond b (1 + n) n
+counted true n = refl
+counted false n = omega arith
 
-  pub count_one : i < length s → p (get_or s i 0) ≡ true → count p (drop i s) ≡ 1 + count p (drop (i + 1) s)
-  count_one h e = count_at h ∙ rw e
-
-  pub count_none : i < length s → p (get_or s i 0) ≡ false → count p (drop i s) ≡ count p (drop (i + 1) s)
-  count_none h e = count_at h ∙ rw e (omega arith)
-
-  pub count_end : length s ≤ i → count p (drop i s) ≡ 0
-  unfolding count
-  count_end h = rw (drop_of_length-le s h)
+-- counting is the library's
+pub count_is : (p : ℕ → Bool) (s : List ℕ) → count p s ≡ count_by p s
+unfolding count
+count_is p s = is_count_by (count p) p refl (λ x xs. counted (p x) (count p xs)) s
 
 one_more : (b : Bool) (n m : ℕ) → n ≤ m → pick b 1 0 + n ≤ suc m
 one_more true n m h = omega arith

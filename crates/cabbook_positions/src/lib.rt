@@ -10,41 +10,21 @@ ghost use Rattle.cabbook_positions.specs.Components.{bare_step, bare_length, ope
 pub fn before(place: usize) -> usize
     ensures { result ≡ place - 1 }
 {
-    if place == 0 {
-        return 0;
-    }
-    place - 1
+    place.saturating_sub(1)
 }
 
 // The number of the line that is reached after these octets, as an editor counts: 1, and 1 more for each LF.
 pub fn line_number(before: &[u8]) -> usize
     ensures { result ≡ 1 + count is_lf before.now }
 {
-    let mut n: usize = 1;
-    let mut i: usize = 0;
-    while i < before.len() {
-        if before[i] == b'\n' {
-            n += 1;
-        }
-        i += 1;
-    }
-    n
+    1 + before.iter().filter(|x| **x == b'\n').count()
 }
 
 // How many characters a text has, each by its first octet.
 pub fn characters(s: &[u8]) -> usize
     ensures { result ≡ count is_first s.now }
 {
-    let mut n: usize = 0;
-    let mut i: usize = 0;
-    while i < s.len() {
-        let tail = utf8::is_tail(s[i]);
-        if !tail {
-            n += 1;
-        }
-        i += 1;
-    }
-    n
+    s.iter().filter(|x| !utf8::is_tail(**x)).count()
 }
 
 // Whether a logical line starts at i, which is not the first place.
@@ -74,13 +54,11 @@ fn line_opens(s: &[u8], i: usize) -> bool
 pub fn line_start(s: &[u8], place: usize) -> usize
     ensures { (result ≡ back_to (opens s.now) (min place (length s.now))) × (result ≤ length s.now) }
 {
-    let mut i = octets::slices::least(place, s.len());
-    while i > 0 {
-        let opens = line_opens(s, i);
-        if opens {
+    let end = place.min(s.len());
+    for i in (1..=end).rev() {
+        if line_opens(s, i) {
             return i;
         }
-        i -= 1;
     }
     0
 }
@@ -89,12 +67,11 @@ pub fn line_start(s: &[u8], place: usize) -> usize
 pub fn row_start(s: &[u8], place: usize) -> usize
     ensures { result ≡ back_to (begins s.now) (min place (length s.now)) }
 {
-    let mut i = octets::slices::least(place, s.len());
-    while i > 0 {
-        if s[i - 1] == b'\n' {
-            return i;
+    let end = place.min(s.len());
+    for i in (0..end).rev() {
+        if s[i] == b'\n' {
+            return i + 1;
         }
-        i -= 1;
     }
     0
 }
@@ -106,13 +83,10 @@ pub fn character_start(s: &[u8], place: usize) -> usize
     if place >= s.len() {
         return s.len();
     }
-    let mut i = place;
-    while i > 0 {
-        let tail = utf8::is_tail(s[i]);
-        if !tail {
+    for i in (1..=place).rev() {
+        if !utf8::is_tail(s[i]) {
             return i;
         }
-        i -= 1;
     }
     0
 }
@@ -170,10 +144,8 @@ pub fn ends_in_escape(s: &[u8]) -> bool
     ensures { result ≡ open_after false s.now }
 {
     let mut waits = false;
-    let mut i: usize = 0;
-    while i < s.len() {
-        waits = opens_escape(waits, s[i]);
-        i += 1;
+    for octet in s {
+        waits = opens_escape(waits, *octet);
     }
     waits
 }
@@ -197,11 +169,9 @@ pub fn parts(s: &[u8]) -> usize
 {
     let mut n: usize = 1;
     let mut waits = false;
-    let mut i: usize = 0;
-    while i < s.len() {
-        n += part_at(waits, s[i]);
-        waits = opens_escape(waits, s[i]);
-        i += 1;
+    for octet in s {
+        n += part_at(waits, *octet);
+        waits = opens_escape(waits, *octet);
     }
     n
 }

@@ -8,8 +8,8 @@ use Rattle.line_folds.specs.Folds.{line_length, unfolded}
 use Rattle.property_table.specs.declared.Edition.TheVariants.{Second}
 use Rattle.card_line.specs.Parts.{line_parts_of}
 use Rattle.card_line.specs.declared.Parts.{Parts}
-use Rattle.card_line.specs.declared.LineParts.{LineParts}
-use Rattle.card_line.specs.declared.LineParts.TheVariants.{Line, Fault}
+use Rattle.card_line.specs.Parts.{LineParts}
+use Rattle.card_line.specs.Parts.{line as Line, fault as Fault}
 use Rattle.cabbook_messages.specs.Words.{words_of}
 use Rattle.cabbook_messages.specs.Wants.{wants}
 use Rattle.cabbook_positions.specs.Components.{open_after, splits}

@@ -26,7 +26,7 @@ use Rattle.card_state.specs.State.{Card, Step, Next, Refused, Flawed, in_order, 
 use Rattle.card_line.specs.Parts.{row_of_line, kind_of_line, altid_of, line_parts_by, line_parts_of}
 use Rattle.card_judge.specs.Judge.{laden, entered, fitting, judge_parts, judge_parsed, judge_line}
 use Rattle.card_line.specs.declared.Parts.{Parts}
-use Rattle.card_line.specs.declared.LineParts.TheVariants.{Line as line}
+use Rattle.card_line.specs.Parts.{line}
 use Rattle.card_line.proofs.PartLaws.{row_of_line_lem, kind_of_line_lem}
 
 -- a choice that was not refused

@@ -22,7 +22,7 @@ use Rattle.card_line.specs.Parts.{altid_name, altid_of, param_value, first_value
 use Rattle.card_state.specs.State.{Card, Step, Refused, in_order}
 use Rattle.card_judge.specs.Judge.{laden, entered, fitting, judge_parts, judge_parsed, judge_line, added_at, added_parsed, added_by}
 use Rattle.card_line.specs.declared.Parts.{Parts}
-use Rattle.card_line.specs.declared.LineParts.TheVariants.{Line as line, Fault as fault}
+use Rattle.card_line.specs.Parts.{line, fault}
 use Rattle.card_line.proofs.PartLaws.{Read, read_accepted, value_is}
 
 -- the judgement by what the tests of 9, 8 and 7 answer

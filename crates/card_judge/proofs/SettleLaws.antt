@@ -13,19 +13,22 @@ use Rattle.octets.specs.Pick.{pick}
 use Rattle.octets.proofs.Bools.{by, and_both}
 use Rattle.property_table.specs.Rows.{rows, newer, all_rows, row_at, single, once_at, is_group}
 use Rattle.card_state.specs.State.{Card, Step, Next, Refused, Flawed, flag_of, once_flag, is_seen, same_tag, tag_of, tagged, second_instance, going, line_card, noted, phase_after, end_card, closed}
+use Rattle.numbers.specs.Refusals.{number}
+use Rattle.numbers.specs.declared.refusal.Reason.{Reason}
 use Rattle.card_state.specs.Kept.{places_of, tag_at, Lies, card_of, step_of, Holds, gone_on, Keeps}
 use Rattle.card_state.specs.declared.Card.{Card as Kept}
-use Rattle.card_state.specs.declared.Step.{Step as KeptStep}
-use Rattle.card_state.specs.declared.Step.TheVariants.{Next as next, Refused as refused, Flawed as flawed}
+use Rattle.card_state.specs.Kept.{KeptStep}
+use Rattle.card_state.specs.Kept.{next, refused, flawed}
 use Rattle.card_state.proofs.KeptLaws.{holds_more, keep_lies, gone_card, keep_card}
 use Rattle.line_parameters.specs.First.{find_first}
-use Rattle.line_parameters.specs.declared.First.{First}
-use Rattle.line_parameters.specs.declared.First.TheVariants.{Between, Nothing}
+use Rattle.line_parameters.specs.First.{First}
+use Rattle.line_parameters.specs.First.{Between, Nothing}
 use Rattle.card_line.specs.Parts.{Accepted, first_value}
 use Rattle.card_line.proofs.PartLaws.{value_missing, value_there}
-use Rattle.card_judge.specs.Judge.{entered, part, read_by, octets_of, added_at, KeepsOn, Keeping, Spans, Told, Takes}
+use Rattle.card_judge.specs.Judge.{entered, part, read_by, octets_of, added_at, KeepsOn, Keeping, Spans, Instance, instance, Told, Takes}
 use Rattle.card_judge.specs.declared.judge.Judgement.{Judgement}
-use Rattle.card_judge.specs.declared.judge.Instance.{Instance}
+use Rattle.card_judge.specs.declared.judge.Instance.{Instance as Found}
+use Rattle.card_judge.specs.declared.judge.Instance.TheVariants.{Second, Opened, Further}
 
 -- END is not marked *1
 end_often : once_at 2 ≡ 0
@@ -90,12 +93,12 @@ stepped c store l j st s e h never q = rw e (
   },
 )
 
-pub stopped : {added : List ℕ} (c : Kept) (store l : List ℕ) (j : Judgement) (n p : ℕ) (s : Step) → j ≡ unkept (refused n p) → Refused n p ≡ s
+pub stopped : {added : List ℕ} (c : Kept) (store l : List ℕ) (j : Judgement) (n : Reason) (p : ℕ) (s : Step) → j ≡ unkept (refused n p) → Refused (number n) p ≡ s
     → (read_by j store l ≡ s) × Keeping c l added j
 unfolding Holds step_of
 stopped c store l j n p s e q = stepped c store l j (refused n p) s e tt (λ d z. let y : ◌≡◌ {A = ℕ} 0 1 = cc in absurd (omega arith)) q
 
-pub flawed_stop : {added : List ℕ} (c : Kept) (store l : List ℕ) (j : Judgement) (n o : ℕ) (s : Step) → j ≡ unkept (flawed n o) → Flawed n o ≡ s
+pub flawed_stop : {added : List ℕ} (c : Kept) (store l : List ℕ) (j : Judgement) (n : Reason) (o : ℕ) (s : Step) → j ≡ unkept (flawed n o) → Flawed (number n) o ≡ s
     → (read_by j store l ≡ s) × Keeping c l added j
 unfolding Holds step_of
 flawed_stop c store l j n o s e q = stepped c store l j (flawed n o) s e tt (λ d z. let y : ◌≡◌ {A = ℕ} 0 1 = cc in absurd (omega arith)) q
@@ -283,3 +286,32 @@ module _ (c : Kept) (store l : List ℕ) (k : ℕ) (a : Option (List ℕ)) (i : 
 
       pub told_on : gone ≡ entered (card_of c store) at row a v
       told_on = by i.keeps first_gone other_gone
+
+      -- such a line, entered in the state r, is judged as it should be
+      pub settled : (st : KeptStep)
+          → ((s : List ℕ) → step_of s st ≡ pick (eqb row 2) (closed (card_of r s) at) (Next (card_of (gone_on r row (is_group v)) s)))
+          → Holds r.used st × KeepsOn r.used st
+          → (read_by (record { step = st; from = i.from; to = i.to }) store l ≡ entered (card_of c store) at row a v)
+          × Keeping c l (added_at row c.seen a) (record { step = st; from = i.from; to = i.to })
+      unfolding read_by
+      settled st f h =
+          let size = takes_used r takes lies short in (
+            f kept ∙ told_on,
+            record {
+              order = told.order;
+              inside = told.inside;
+              holds = subst (λ (n : ℕ). Holds n st) size h.0;
+              adds = λ d z. added_is row here;
+              counts = subst (λ (n : ℕ). KeepsOn n st) size h.1;
+            },
+          )
+
+pub not_second : (x : Found) → (x ≡ Second → ⊥) → (instance x).second ≡ false
+not_second Second h = absurd (h refl)
+not_second (Opened from to) h = refl
+not_second Further h = refl
+
+pub nothing_kept : (x : Found) → ((from to : ℕ) → x ≡ Opened from to → ⊥) → ((instance x).from ≡ 0) × ((instance x).to ≡ 0)
+nothing_kept Second h = (refl, refl)
+nothing_kept (Opened from to) h = absurd (h from to refl)
+nothing_kept Further h = (refl, refl)

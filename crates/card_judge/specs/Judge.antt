@@ -19,15 +19,16 @@ use Rattle.value_kinds.specs.declared.Fault.TheVariants.{Fits, Breaks}
 use Rattle.card_state.specs.State.{Card, Step, Refused, Flawed, before_begin, in_order, flag_of, once_flag, is_seen, same_tag, tag_of, noted, closed}
 use Rattle.card_state.specs.Kept.{places_of, tag_at, Lies, step_of, Holds, Keeps}
 use Rattle.card_state.specs.declared.Card.{Card as Kept}
-use Rattle.card_state.specs.declared.Step.{Step as KeptStep}
-use Rattle.card_state.specs.declared.Step.TheVariants.{Next as next_kept}
+use Rattle.card_state.specs.Kept.{KeptStep}
+use Rattle.card_state.specs.Kept.{next as next_kept}
 use Rattle.card_line.specs.Parts.{row_of_line, kind_of_line, altid_of, line_parts_of}
 use Rattle.card_line.specs.declared.Parts.{Parts}
-use Rattle.card_line.specs.declared.LineParts.TheVariants.{Line as line}
-use Rattle.line_parameters.specs.declared.First.{First}
-use Rattle.line_parameters.specs.declared.First.TheVariants.{Between, Nothing}
+use Rattle.card_line.specs.Parts.{line}
+use Rattle.line_parameters.specs.First.{First}
+use Rattle.line_parameters.specs.First.{Between, Nothing}
 use Rattle.card_judge.specs.declared.judge.Judgement.{Judgement}
-use Rattle.card_judge.specs.declared.judge.Instance.{Instance}
+use Rattle.card_judge.specs.declared.judge.Instance.{Instance as Found}
+use Rattle.card_judge.specs.declared.judge.Instance.TheVariants.{Second, Opened, Further}
 
 -- the lent tables are those of classes, properties and transitions
 abbrev pub Tables : List ℕ → List ℕ → List ℕ → Type 0
@@ -117,6 +118,19 @@ pub record Keeping (c : Kept) (l added : List ℕ) (j : Judgement) : Type 0 wher
 abbrev pub Spans : First → List ℕ → Option (List ℕ) → Type 0
 Spans (Between a e) l o = (a ≤ e) × (e ≤ length l) × (o ≡ some (part a e l))
 Spans Nothing l o = o ≡ none
+
+-- what a line makes of its property's instance: it starts a second one, its ALTID value is to be kept, and where that stands
+pub record Instance : Type 0 where
+  pub second : Bool
+  pub keeps : Bool
+  pub from : ℕ
+  pub to : ℕ
+
+-- the same of what the code answers
+abbrev pub instance : Found → Instance
+instance Second = record { second = true; keeps = false; from = 0; to = 0 }
+instance (Opened from to) = record { second = false; keeps = true; from = from; to = to }
+instance Further = record { second = false; keeps = false; from = 0; to = 0 }
 
 -- what a line l of the k-th property marked *1, or of any other (0), with this ALTID value makes of its instance
 pub record Told (c : Kept) (store l : List ℕ) (k : ℕ) (altid : Option (List ℕ)) (i : Instance) : Type 0 where

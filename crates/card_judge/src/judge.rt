@@ -7,22 +7,24 @@ ghost use Rattle.numbers.specs.Kinds as kinds;
 ghost use Rattle.octets.specs.Pick.{pick};
 ghost use Rattle.octets.specs.Classes.{Classes};
 ghost use Rattle.property_table.specs.Rows.{once_at, is_group};
+ghost use Rattle.line_parameters.specs.First.{first};
 ghost use Rattle.card_line.specs.Parts.{altid_name, first_value};
 ghost use Rattle.card_state.specs.State.{Next, Counted, singles, in_order, flag_of, once_flag, is_seen, closed};
 ghost use Rattle.card_state.specs.Kept.{Lies, card_of, step_of, Holds, gone_on};
-ghost use Rattle.card_judge.specs.Judge.{Tables, Parted, laden, entered, judge_parts, judge_line, read_by, Stored, added_at, added_by, KeepsOn, Keeping, Spans, Told, Takes};
+ghost use Rattle.card_judge.specs.Judge.{Tables, Parted, laden, entered, judge_parts, judge_line, read_by, Stored, added_at, added_by, KeepsOn, Keeping, Spans, instance, Told, Takes};
 
-use card_line::{LineParts, Parts};
-use card_state::{Card, Step};
-use line_parameters::First;
-use numbers::{property, refusal};
+use card_line::Parts;
+use card_state::{Card, Flaw, Step};
+use line_parameters::Span;
+use numbers::property;
+use numbers::refusal::Reason;
 use octets::classes::ClassTable;
 use property_table::Edition;
 use property_table::rows::PropertyTable;
 use value_kinds::Fault;
 
 // What a line makes of its card, and which octets of the line are to be kept behind those in the store, from `from` to `to`.
-#[derive(Clone, Copy)]
+#[derive(Clone, Copy, Debug, PartialEq, Eq)]
 pub struct Judgement {
     pub step: Step,
     pub from: usize,
@@ -30,45 +32,36 @@ pub struct Judgement {
 }
 
 // Whether a line of the row may stand here.
+#[tactic(auto, unfolding(card_state::specs::State::in_order))]
 fn in_order(phase: u32, row: usize) -> bool
     ensures { result ≡ in_order phase row }
 {
-    if phase == card_state::BEFORE_BEGIN {
-        return row == property::BEGIN;
+    match phase {
+        card_state::BEFORE_BEGIN => row == property::BEGIN,
+        card_state::BEFORE_VERSION => row == property::VERSION,
+        _ => row != property::BEGIN && row != property::VERSION,
     }
-    if phase == card_state::BEFORE_VERSION {
-        return row == property::VERSION;
-    }
-    if row == property::BEGIN {
-        return false;
-    }
-    row != property::VERSION
 }
 
 // Whether a framing line has a group or a parameter.
+#[tactic(auto, unfolding(crate::specs::Judge::laden))]
 fn is_laden(x: Parts) -> bool
     ensures { result ≡ laden x.row x.group_length x.param_count }
 {
-    if !property_table::is_framing(x.row) {
-        return false;
-    }
-    if x.group_length != 0 {
-        return true;
-    }
-    x.param_count != 0
+    property_table::is_framing(x.row) && (x.group_length != 0 || x.param_count != 0)
 }
 
 // Where the ALTID value of a line stands; of a line whose property may stand any number of times it is not looked for.
-fn altid_at(t: &ClassTable, s: &[u8], x: Parts, once: usize) -> First
+fn altid_at(t: &ClassTable, s: &[u8], x: Parts, once: usize) -> Option<Span>
     requires classes { Classes t.now }
     requires parted { Parted x s.now }
-    ensures { Spans result s.now (pick (eqb once 0) none (first_value altid_name s.now)) }
+    ensures { Spans (first result) s.now (pick (eqb once 0) none (first_value altid_name s.now)) }
 {
     if once == 0 {
-        return First::Nothing;
+        return None;
     }
     if x.param_count == 0 {
-        return First::Nothing;
+        return None;
     }
     let name_end = x.name_end;
     line_parameters::param_first(t, s, name_end, b"ALTID")
@@ -97,63 +90,57 @@ fn enter(c: Card, at: usize, row: usize, once: usize, value: &[u8]) -> Step
         return card_state::close(c, at);
     }
     let group = property_table::is_group(value);
-    Step::Next(card_state::note(c, row, once, group))
+    Ok(card_state::note(c, row, once, group))
 }
 
 // What the ALTID of a line makes of its property's instance.
 #[derive(Clone, Copy)]
-struct Instance {
+enum Instance {
     // It starts a second one.
-    second: bool,
-    // It is the first line, with an ALTID from `from` to `to` that is to be kept; else both are 0.
-    keeps: bool,
-    from: usize,
-    to: usize,
+    Second,
+    // It is the first line, with an ALTID from `from` to `to` that is to be kept.
+    Opened { from: usize, to: usize },
+    // It is one more line of the same, or has no ALTID to be kept.
+    Further,
 }
 
 // What a line of the k-th property that a card has at most once, or of any other (0), is by the ALTID that was found in it.
-fn instance_of(s: &[u8], f: First, k: usize, again: bool, store: &[u8], c: Card) -> Instance
-    requires spans { Spans f s.now (pick (eqb k 0) none (first_value altid_name s.now)) }
+fn instance_of(s: &[u8], f: Option<Span>, k: usize, again: bool, store: &[u8], c: Card) -> Instance
+    requires spans { Spans (first f) s.now (pick (eqb k 0) none (first_value altid_name s.now)) }
     requires k_le_singles { (k ≤ singles) × (again ≡ is_seen (flag_of k) c.seen) }
     requires stored { Stored c store.now s.now }
-    ensures { Told c store.now s.now k (first_value altid_name s.now) result }
+    ensures { Told c store.now s.now k (first_value altid_name s.now) (instance result) }
 {
-    let First::Between { start, end } = f else {
-        return Instance {
-            second: again,
-            keeps: false,
-            from: 0,
-            to: 0,
+    let Some(Span { start, end }) = f else {
+        return if again {
+            Instance::Second
+        } else {
+            Instance::Further
         };
     };
     if !again {
-        return Instance {
-            second: false,
-            keeps: true,
+        return Instance::Opened {
             from: start,
             to: end,
         };
     }
-    let tags = c.tags;
-    let same = card_state::tags::is_kept(tags, k, store, &s[start..end]);
-    Instance {
-        second: !same,
-        keeps: false,
-        from: 0,
-        to: 0,
+    if card_state::tags::is_kept(c.tags, k, store, &s[start..end]) {
+        Instance::Further
+    } else {
+        Instance::Second
     }
 }
 
 // The state with the ALTID value of the line, where it is to be kept.
 fn with_value(c: Card, k: usize, i: Instance) -> Card
-    requires from_le_to { (i.from ≤ i.to) × (c.used + (i.to - i.from) ≤ limit.octets) }
-    requires k_nonzero { i.keeps ≡ true → (0 < k) × (k ≤ singles) }
-    ensures { Takes c k i result }
+    requires from_le_to { ((instance i).from ≤ (instance i).to) × (c.used + ((instance i).to - (instance i).from) ≤ limit.octets) }
+    requires k_nonzero { (instance i).keeps ≡ true → (0 < k) × (k ≤ singles) }
+    ensures { Takes c k (instance i) result }
 {
-    if i.keeps {
-        return card_state::tags::keep(c, k, i.to - i.from);
+    match i {
+        Instance::Opened { from, to } => card_state::tags::keep(c, k, to - from),
+        _ => c,
     }
-    c
 }
 
 // A line that fits its place and its kind: 10 where it starts a second instance, and at END the checks of the card.
@@ -180,15 +167,14 @@ fn settle(
     let row = x.row;
     let f = altid_at(t, s, x, once);
     let i = instance_of(s, f, once, again, store, c);
-    if i.second {
-        return unkept(Step::Refused(refusal::SECOND, at));
+    if let Instance::Second = i {
+        return unkept(Err(Flaw::Placed(Reason::Second, at)));
     }
     let kept = with_value(c, once, i);
     let step = enter(kept, at, row, once, value);
-    Judgement {
-        step,
-        from: i.from,
-        to: i.to,
+    match i {
+        Instance::Opened { from, to } => Judgement { step, from, to },
+        _ => unkept(step),
     }
 }
 
@@ -218,13 +204,13 @@ fn judge_parts(
     let laden = is_laden(x);
     let fault = value_automaton::judge_value(steps, edition, x.row, x.kind, value);
     if misplaced {
-        return unkept(Step::Refused(refusal::ORDER, at));
+        return unkept(Err(Flaw::Placed(Reason::Order, at)));
     }
     if laden {
-        return unkept(Step::Refused(refusal::LADEN, at));
+        return unkept(Err(Flaw::Placed(Reason::Laden, at)));
     }
     if let Fault::Breaks(octet) = fault {
-        return unkept(Step::Flawed(refusal::VALUE, x.value_start + octet));
+        return unkept(Err(Flaw::Octet(Reason::Value, x.value_start + octet)));
     }
     let once = property_table::once_of(rows, x.row);
     let again = card_state::is_again(c.seen, once);
@@ -250,11 +236,11 @@ pub fn judge_line(
 {
     let bad = utf8_screening::units::first_bad(t, s, false);
     if bad < s.len() {
-        return unkept(Step::Flawed(refusal::BAD_OCTET, bad));
+        return unkept(Err(Flaw::Octet(Reason::BadOctet, bad)));
     }
     match card_line::parts_of(t, rows, edition, s) {
-        LineParts::Fault(e) => unkept(Step::Refused(e, at)),
-        LineParts::Line(x) => {
+        Err(reason) => unkept(Err(Flaw::Placed(reason, at))),
+        Ok(x) => {
             let start = x.value_start;
             judge_parts(t, rows, steps, edition, s, &s[start..], x, store, at, c)
         }

@@ -1,5 +1,5 @@
 -- The numbers that the line rule answers, and what the parts of the line say of them. Assumes nothing.
-use mathlib.Core.Path.{◌≡◌, refl, sym, ap, ◌∙◌, subst}
+use mathlib.Core.Path.{◌≡◌, refl, sym, ap, ◌∙◌}
 use mathlib.Core.Bool.{Bool, true, false}
 use mathlib.Core.Option.{Option, none, some}
 use mathlib.Core.List.{List, [], ◌∷◌}
@@ -11,15 +11,18 @@ use borrow.Author.Tests.{ne_eqb}
 use Rattle.line_parser.specs.Parse.{Parse, got, bad}
 use Rattle.line_parser.specs.Grammar.{Value, Param, Line, name_end}
 use Rattle.line_parser.specs.Rule.{parse_line}
-use Rattle.line_parser.specs.Places.{outcome}
-use Rattle.line_parameters.specs.First.{first_named, find_first}
-use Rattle.line_parameters.specs.declared.First.{First}
-use Rattle.line_parameters.specs.declared.First.TheVariants.{Between, Nothing}
-use Rattle.line_parser.specs.declared.rule.Part.{Part as Answer}
-use Rattle.line_parser.specs.declared.rule.Part.TheVariants.{Upto, Named, Listed, Parsed, Fault}
-use Rattle.line_parser.specs.contracts.rule.Part.{the_type}
-use denote.Enum.Declared.{tag_of}
-use types.Run.{OneOf, miss}
+use Rattle.std.specs.Prelude.{Result, Ok, Err, Option as Maybe, Some, None}
+use Rattle.numbers.specs.Refusals.{number}
+use Rattle.numbers.specs.declared.refusal.Reason.{Reason}
+use Rattle.line_parser.specs.declared.rule.Parsed.{Parsed as ParsedLine}
+use Rattle.line_parameters.specs.declared.Span.{Span}
+use Rattle.octets.proofs.Bools.{clash}
+use Rattle.line_parser.specs.Places.{outcome, parsed}
+use Rattle.line_parameters.specs.First.{first_named, find_first, first}
+use Rattle.line_parameters.specs.First.{First}
+use Rattle.line_parameters.specs.First.{Between, Nothing}
+use Rattle.line_parser.specs.Places.{Part as Answer}
+use Rattle.line_parser.specs.Places.{Upto, Named, Listed, Parsed, Fault}
 use Rattle.line_parser.proofs.Inside.{InLine, in_line}
 use Rattle.line_parameters.specs.Placed.{Placed}
 use Rattle.line_parameters.specs.Found.{Found}
@@ -31,11 +34,11 @@ use Rattle.octets.proofs.Upto.{upto, alike}
 use Rattle.octets.specs.Cases.{same}
 use Rattle.octets.specs.Ascii.{octets}
 use Rattle.property_table.specs.declared.Edition.{Edition}
-use Rattle.property_table.specs.Rows.{rows, newer, all_rows, row_at, row_of, kind_at, framing, takes_value, rule_at, kind_named, says, value_kind, date_kind, zone_kind, line_kind, value_name, calscale_name}
+use Rattle.property_table.specs.Rows.{rows, newer, all_rows, row_at, kind_at, framing, takes_value, rule_at, kind_named, says, value_kind, date_kind, zone_kind, line_kind, value_name, calscale_name}
 use Rattle.property_table.proofs.RowLaws.{count_low, row_low, kind_low}
-use Rattle.card_line.specs.Parts.{octets_of, param_value, row_of_line, kind_of_line, fault_of, Accepted, first_value, value_by, line_parts_by, line_parts_of}
+use Rattle.card_line.specs.Parts.{parted, octets_of, param_value, row_of_line, kind_of_line, Accepted, first_value, value_by, line_parts_by, line_parts_of}
 use Rattle.card_line.specs.declared.Parts.{Parts}
-use Rattle.card_line.specs.declared.LineParts.TheVariants.{Line as line, Fault as fault}
+use Rattle.card_line.specs.Parts.{line, fault}
 
 -- a line that was read with these numbers
 pub record Known (l : List ℕ) (g n c v : ℕ) : Type 0 where
@@ -145,23 +148,32 @@ parts_by ed l g n c v k row kind er ek =
     let w : kind ≡ line_kind (row_of_line ed k.parts) (param_value value_name k.parts) (param_value calscale_name k.parts) = cc (ek, value, calscale, er) in
     rw t (cc (er, w, k.placed.group_length, k.placed.name_end, k.placed.count))
 
--- an answer that is no fault
-pub no_fault : (p : Answer) → ((e : ℕ) → p ≡ Fault e → ⊥) → 0 ≡ fault_of p
-no_fault (Upto e) k = refl
-no_fault (Named g n) k = refl
-no_fault (Listed c e) k = refl
-no_fault (Parsed g n c v) k = refl
-no_fault (Fault e) k = absurd (k e refl)
+-- what the code learns of a line that was read, and of one that was refused
+pub was_read : (l : List ℕ) {r : Result ParsedLine Reason} {x : ParsedLine} → parsed r ≡ outcome (parse_line l) → r ≡ Ok x
+    → Known l x.group_length x.name_end x.param_count x.value_start
+was_read l e q = known _ _ _ _ _ (sym (ap parsed q) ∙ e)
 
--- an answer that is no line is the fault that is answered
-pub parts_fault : (ed : Edition) (l : List ℕ) (p : Answer) (e : ℕ) → p ≡ outcome (parse_line l) → ((g n c v : ℕ) → p ≡ Parsed g n c v → ⊥) → e ≡ fault_of p
-    → fault e ≡ line_parts_of ed l
+pub refused : (ed : Edition) (l : List ℕ) {r : Result ParsedLine Reason} {x : Reason} → parsed r ≡ outcome (parse_line l) → r ≡ Err x
+    → fault (number x) ≡ line_parts_of ed l
 unfolding line_parts_of
-parts_fault ed l p e h k q = by (parse_line l) h
+refused ed l {r} {x} e q = by (parse_line l) (sym (ap parsed q) ∙ e)
   where
-    by : (m : Parse Line) → p ≡ outcome m → fault e ≡ line_parts_by ed m
-    by (bad x) h = ap fault (q ∙ ap fault_of h)
-    by (got x n) h = absurd (k _ _ _ _ h)
+    by : (m : Parse Line) → Fault (number x) ≡ outcome m → fault (number x) ≡ line_parts_by ed m
+    by (bad y) h = let w : number x ≡ y = cc in ap fault w
+    by (got y n) h = clash cc
+
+-- the parts of a line that were answered
+pub parts_ok : (ed : Edition) (l : List ℕ) {r : Result Parts Reason} {x : Parts} → parted r ≡ line_parts_of ed l → r ≡ Ok x → line x ≡ line_parts_of ed l
+parts_ok ed l e q = sym (ap parted q) ∙ e
+
+-- where a value was found or not
+pub sought : (l : List ℕ) (end : ℕ) → Accepted l end → (name : List ℕ) {r : Maybe Span} {x : Span} → first r ≡ find_first name end (suc (length (drop end l))) (drop end l)
+    → r ≡ Some x → Part l x.start x.end (first_value name l)
+sought l end a name e q = value_there l end a name _ _ (sym e ∙ ap first q)
+
+pub unsought : (l : List ℕ) (end : ℕ) → Accepted l end → (name : List ℕ) {r : Maybe Span} → first r ≡ find_first name end (suc (length (drop end l))) (drop end l)
+    → r ≡ None → first_value name l ≡ none
+unsought l end a name e q = value_missing l end a name (sym e ∙ ap first q)
 
 pub group_low : (l : List ℕ) (g n c v : ℕ) → InLine l g n c v → length l ≤ 16384 → g ≤ 16384
 group_low l zero n c v i h = omega arith

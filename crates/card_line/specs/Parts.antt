@@ -1,17 +1,26 @@
 -- The parts of a content line, as the card layer and the records need them. Assumes nothing.
-use Rattle.std.specs.Prelude.{ℕ, ◌≡◌, List, length}
+use Rattle.std.specs.Prelude.{ℕ, ◌≡◌, List, Result, Ok, Err, length}
 use Rattle.std.proofs.Math.Option.{Option, none, some}
 use Rattle.octets.specs.Ascii.{octets}
 use Rattle.line_parser.specs.Parse.{Parse, got, bad}
 use Rattle.line_parser.specs.Grammar.{Value, Line, name_end}
 use Rattle.line_parser.specs.Rule.{parse_line}
 use Rattle.line_parameters.specs.First.{first_named, value_octets}
-use Rattle.line_parser.specs.declared.rule.Part.{Part}
-use Rattle.line_parser.specs.declared.rule.Part.TheVariants.{Upto, Named, Listed, Parsed, Fault}
 use Rattle.property_table.specs.declared.Edition.{Edition}
 use Rattle.property_table.specs.Rows.{row_of, line_kind, value_name, calscale_name}
-use Rattle.card_line.specs.declared.LineParts.{LineParts}
-use Rattle.card_line.specs.declared.LineParts.TheVariants.{Line as line, Fault as fault}
+use Rattle.numbers.specs.Refusals.{number}
+use Rattle.numbers.specs.declared.refusal.Reason.{Reason}
+use Rattle.card_line.specs.declared.Parts.{Parts}
+
+-- the parts of a line, or the number of the fault by which it breaks the line rule
+pub data LineParts : Type 0 where
+  line : Parts → LineParts
+  fault : ℕ → LineParts
+
+-- the same of a result
+abbrev pub parted : Result Parts Reason → LineParts
+parted (Ok x) = line x
+parted (Err r) = fault (number r)
 
 -- the octets of a value, quotes taken off
 abbrev pub octets_of : Option Value → Option (List ℕ)
@@ -51,14 +60,6 @@ line_parts_by e (bad n) = fault n
 
 unfoldable pub line_parts_of : Edition → List ℕ → LineParts
 line_parts_of e l = line_parts_by e (parse_line l)
-
--- the fault of a part that was refused
-abbrev pub fault_of : Part → ℕ
-fault_of (Upto e) = 0
-fault_of (Named g n) = 0
-fault_of (Listed c e) = 0
-fault_of (Parsed g n c v) = 0
-fault_of (Fault e) = e
 
 -- the line rule accepts the line, and its name ends there
 pub record Accepted (l : List ℕ) (name : ℕ) : Type 0 where

@@ -8,18 +8,17 @@ ghost use Rattle.numbers.specs.Properties as property;
 ghost use Rattle.octets.specs.Classes.{Classes};
 ghost use Rattle.property_table.specs.Rows.{Lists, says, value_kind, date_kind, zone_kind, line_kind, value_name, calscale_name};
 ghost use Rattle.line_parser.specs.Places.{name_start};
-ghost use Rattle.card_line.specs.Parts.{fault_of, Accepted, first_value, line_parts_of};
+ghost use Rattle.card_line.specs.Parts.{parted, Accepted, first_value, line_parts_of};
 
-use line_parameters::First;
-use line_parser::rule::Part;
 use numbers::kind;
+use numbers::refusal::Reason;
 use octets::cases::same_name;
 use octets::classes::ClassTable;
 use property_table::Edition;
 use property_table::rows::PropertyTable;
 
 // The parts of a line that keeps the line rule.
-#[derive(Clone, Copy)]
+#[derive(Clone, Copy, Debug, PartialEq, Eq)]
 pub struct Parts {
     // The property's number, 0 for a name that is not listed.
     pub row: usize,
@@ -35,13 +34,6 @@ pub struct Parts {
     pub kind: usize,
 }
 
-// The parts of a line, or the fault by which it breaks the line rule.
-#[derive(Clone, Copy)]
-pub enum LineParts {
-    Line(Parts),
-    Fault(u32),
-}
-
 // Where the name starts: past the group and its dot.
 pub fn name_start(group_length: usize) -> usize
     requires { group_length ≤ limit.octets }
@@ -51,16 +43,6 @@ pub fn name_start(group_length: usize) -> usize
         return 0;
     }
     group_length + 1
-}
-
-// The fault that a part of the parser hands up.
-fn fault_of(p: Part) -> u32
-    ensures { result ≡ fault_of p }
-{
-    let Part::Fault(e) = p else {
-        return 0;
-    };
-    e
 }
 
 // Whether the first value of the line's first parameter of that name is the text in any case; `missing` where it has none.
@@ -76,11 +58,10 @@ fn param_says(
     requires accepted { Accepted s.now name_end }
     ensures { result ≡ says text.now missing (first_value name.now s.now) }
 {
-    let f = line_parameters::param_first(t, s, name_end, name);
-    let First::Between { start, end } = f else {
-        return missing;
-    };
-    same_name(&s[start..end], text)
+    match line_parameters::param_first(t, s, name_end, name) {
+        Some(first) => same_name(&s[first.start..first.end], text),
+        None => missing,
+    }
 }
 
 // The kind that the line's VALUE names; the row's own where it has none.
@@ -89,11 +70,10 @@ fn kind_by_value(t: &ClassTable, s: &[u8], name_end: usize, own: usize) -> usize
     requires accepted { Accepted s.now name_end }
     ensures { result ≡ value_kind own (first_value value_name s.now) }
 {
-    let f = line_parameters::param_first(t, s, name_end, b"VALUE");
-    let First::Between { start, end } = f else {
-        return own;
-    };
-    property_table::kind_named(&s[start..end])
+    match line_parameters::param_first(t, s, name_end, b"VALUE") {
+        Some(first) => property_table::kind_named(&s[first.start..first.end]),
+        None => own,
+    }
 }
 
 // The kind of the value of a line of a row of dates.
@@ -152,31 +132,27 @@ fn kind_at(
 }
 
 // The parts of a line, or the fault by which it breaks the line rule.
-pub fn parts_of(t: &ClassTable, rows: &PropertyTable, edition: Edition, s: &[u8]) -> LineParts
+pub fn parts_of(
+    t: &ClassTable,
+    rows: &PropertyTable,
+    edition: Edition,
+    s: &[u8],
+) -> Result<Parts, Reason>
     requires classes { Classes t.now }
     requires lists { Lists rows.now }
     requires s_len_bound { length s.now ≤ limit.octets }
-    ensures { result ≡ line_parts_of edition s.now }
+    ensures { parted result ≡ line_parts_of edition s.now }
 {
-    let p = line_parser::rule::read_line(t, s);
-    let Part::Parsed {
-        group_length,
-        name_end,
-        param_count,
-        value_start,
-    } = p
-    else {
-        return LineParts::Fault(fault_of(p));
-    };
-    let start = name_start(group_length);
-    let row = property_table::find_row(rows, edition, &s[start..name_end]);
-    let kind = kind_at(t, rows, s, row, name_end, param_count);
-    LineParts::Line(Parts {
+    let line = line_parser::rule::read_line(t, s)?;
+    let start = name_start(line.group_length);
+    let row = property_table::find_row(rows, edition, &s[start..line.name_end]);
+    let kind = kind_at(t, rows, s, row, line.name_end, line.param_count);
+    Ok(Parts {
         row,
-        group_length,
-        name_end,
-        param_count,
-        value_start,
+        group_length: line.group_length,
+        name_end: line.name_end,
+        param_count: line.param_count,
+        value_start: line.value_start,
         kind,
     })
 }

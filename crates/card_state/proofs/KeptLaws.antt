@@ -1,66 +1,36 @@
 -- Two texts compared octet for octet, the values that are kept in a store, and that a value kept later leaves those before it. Assumes nothing.
-use mathlib.Core.Path.{◌≡◌, refl, sym, ap, subst, ◌∙◌}
-use mathlib.Core.Bool.{Bool, true, false, ◌&&◌, and-false}
+use mathlib.Core.Path.{◌≡◌, refl, sym, ap, ◌∙◌}
+use mathlib.Core.Bool.{Bool, true}
 use mathlib.Core.List.{List, [], ◌∷◌, ◌++◌, map}
-use mathlib.Core.Option.{Option, none, some}
+use mathlib.Core.Option.{Option, some}
 use Prim.Native.Nat.{ℕ, zero, suc, ◌+◌, ◌-◌, ◌*◌, ◌/◌, ◌%◌, ◌<◌, ◌≤◌}
 use native.Mathlib.Numerals.{add-one}
 use native.Mathlib.Omega.{arith}
 use lib.Dec.{eqb, leb}
-use lib.ListN.{length, get_or, take, drop, set, drop_of_length-le}
-use lib.Seq.{drop-cons, take-append_seam, drop-append_seam, take-append-le, take-length}
-use borrow.Author.Tests.{eq-eqb, ne_eqb, leb-true}
-use Rattle.octets.specs.Ascii.{octets}
+use lib.ListN.{length, get_or, take, drop, set}
+use lib.Seq.{drop-append_seam, take-append-le, take-length}
+use borrow.Author.Tests.{leb-true}
+use lib.Pointwise.{pointwise}
 use Rattle.octets.proofs.Upto.{upto, alike}
 use Rattle.property_table.specs.Rows.{rows, newer, all_rows, row_at, single, marks, once_at}
-use Rattle.card_state.specs.State.{Card, Next, fresh_card, equal, tagged, going}
+use Rattle.card_state.specs.State.{Next, fresh_card, equal, tagged, going}
 use Rattle.card_state.specs.Kept.{places_of, span, place_of, end_of, tag_at, Inside, Lies, card_of, step_of, Holds, no_tags, fresh_kept, gone_on, Keeps}
 use Rattle.card_state.specs.declared.Card.{Card as Kept}
-use Rattle.card_state.specs.declared.Step.{Step as KeptStep}
-use Rattle.card_state.specs.declared.Step.TheVariants.{Next as next, Refused as refused, Flawed as flawed}
+use Rattle.card_state.specs.Kept.{KeptStep}
+use Rattle.card_state.specs.Kept.{next, refused, flawed}
 
 -- there are ten properties marked *1
 pub once_ten : (row : ℕ) → row < 44 → once_at row ≤ 10
 unfolding upto once_at single marks row_at rows newer all_rows
 once_ten row h = leb-true _ _ (alike (λ j. leb (once_at j) 10) (λ j. true) 44 refl row h)
 
--- a number from n on that is not n
-up : (k n : ℕ) → n ≤ k → (k ≡ n → ⊥) → suc n ≤ k
-up k n h f = omega arith
-
--- a number from 6 to 10 that is none of the first four of them
-pub tenth : (k : ℕ) → 5 < k → k ≤ 10 → (k ≡ 6 → ⊥) → (k ≡ 7 → ⊥) → (k ≡ 8 → ⊥) → (k ≡ 9 → ⊥) → k ≡ 10
-tenth k h g a b c d = least (up k 9 (up k 8 (up k 7 (up k 6 h a) b) c) d) g
-  where
-    least : 10 ≤ k → k ≤ 10 → k ≡ 10
-    least x y = omega arith
-
--- a number from 1 on that is none of the first five
-pub later : (k : ℕ) → 0 < k → (k ≡ 1 → ⊥) → (k ≡ 2 → ⊥) → (k ≡ 3 → ⊥) → (k ≡ 4 → ⊥) → (k ≡ 5 → ⊥) → 5 < k
-later k h a b c d e = up k 5 (up k 4 (up k 3 (up k 2 (up k 1 h a) b) c) d) e
-
-pub equal_length : (a b : List ℕ) → (length a ≡ length b → ⊥) → equal a b ≡ false
+-- what the library says of two texts that are compared
+pub equal_is : (a b : List ℕ) → pointwise eqb a b ≡ equal a b
 unfolding equal
-equal_length [] [] h = absurd (h refl)
-equal_length [] (y ∷ ys) h = refl
-equal_length (x ∷ xs) [] h = refl
-equal_length (x ∷ xs) (y ∷ ys) h = rw (equal_length xs ys (λ e. h (ap suc e))) (and-false (eqb x y))
-
-module _ (a b : List ℕ) (i : ℕ) where
-  equal_at : i < length a → i < length b
-      → equal (drop i a) (drop i b) ≡ eqb (get_or a i 0) (get_or b i 0) && equal (drop (i + 1) a) (drop (i + 1) b)
-  unfolding equal
-  equal_at g h = rw (add-one, drop-cons a i 0 g, drop-cons b i 0 h)
-
-  pub equal_differ : i < length a → i < length b → (get_or a i 0 ≡ get_or b i 0 → ⊥) → equal (drop i a) (drop i b) ≡ false
-  equal_differ g h e = equal_at g h ∙ rw (ne_eqb _ _ e)
-
-  pub equal_next : i < length a → i < length b → get_or a i 0 ≡ get_or b i 0 → equal (drop i a) (drop i b) ≡ equal (drop (i + 1) a) (drop (i + 1) b)
-  equal_next g h e = equal_at g h ∙ rw (eq-eqb _ _ e)
-
-  pub equal_over : length a ≤ i → length b ≤ i → equal (drop i a) (drop i b) ≡ true
-  unfolding equal
-  equal_over g h = rw (drop_of_length-le a g, drop_of_length-le b h)
+equal_is [] [] = refl
+equal_is [] (y ∷ ys) = refl
+equal_is (x ∷ xs) [] = refl
+equal_is (x ∷ xs) (y ∷ ys) = rw (equal_is xs ys) refl
 
 -- a part of the first n octets goes by these alone
 part_front : (f k n : ℕ) (s : List ℕ) → f + k ≤ n → take k (drop f (take n s)) ≡ take k (drop f s)

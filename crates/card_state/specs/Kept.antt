@@ -1,13 +1,28 @@
 -- How the state of a card is kept: the ALTID values stand end to end in a store of octets, and the state has the place of each. Assumes nothing.
-use Rattle.std.specs.Prelude.{ℕ, zero, suc, ◌+◌, ◌-◌, ◌*◌, ◌/◌, ◌%◌, ◌≤◌, ◌≡◌, Bool, false, ◌&&◌, ◌||◌, List, [], ◌∷◌, map, eqb, take, drop, set}
+use Rattle.std.specs.Prelude.{ℕ, zero, suc, ◌+◌, ◌-◌, ◌*◌, ◌/◌, ◌%◌, ◌≤◌, ◌≡◌, Bool, false, ◌&&◌, ◌||◌, List, [], ◌∷◌, Result, Ok, Err, map, eqb, take, drop, set}
 use Rattle.std.proofs.Math.Option.{Option, none, some}
 use Rattle.std.specs.Int.Bits.{bit_or}
 use Rattle.numbers.specs.Properties as property
 use Rattle.card_state.specs.State.{Card, Step, Next, Refused, Flawed, before_begin, once_flag, phase_after}
 use Rattle.card_state.specs.declared.tags.Tags.{Tags}
 use Rattle.card_state.specs.declared.Card.{Card as Kept}
-use Rattle.card_state.specs.declared.Step.{Step as KeptStep}
-use Rattle.card_state.specs.declared.Step.TheVariants.{Next as next, Refused as refused, Flawed as flawed}
+use Rattle.numbers.specs.Refusals.{number}
+use Rattle.numbers.specs.declared.refusal.Reason.{Reason}
+use Rattle.card_state.specs.declared.Flaw.{Flaw}
+use Rattle.card_state.specs.declared.Flaw.TheVariants.{Placed, Octet}
+
+-- the card after a line, or why the line is refused: as the code answers it
+abbrev pub KeptStep : Type 0
+KeptStep = Result Kept Flaw
+
+pattern abbrev pub next : Kept → KeptStep
+next c = Ok c
+
+pattern abbrev pub refused : Reason → ℕ → KeptStep
+refused n p = Err (Placed n p)
+
+pattern abbrev pub flawed : Reason → ℕ → KeptStep
+flawed n o = Err (Octet n o)
 
 -- the places, in the order of the properties marked *1
 unfoldable pub places_of : Tags → List ℕ
@@ -54,8 +69,8 @@ card_of c store = record {
 
 unfoldable pub step_of : List ℕ → KeptStep → Step
 step_of store (next c) = Next (card_of c store)
-step_of store (refused n p) = Refused n p
-step_of store (flawed n o) = Flawed n o
+step_of store (refused n p) = Refused (number n) p
+step_of store (flawed n o) = Flawed (number n) o
 
 -- a state whose values end within the first n octets, or a refusal
 unfoldable pub Holds : ℕ → KeptStep → Type 0

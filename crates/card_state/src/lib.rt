@@ -10,7 +10,8 @@ ghost use Rattle.card_state.specs.Kept.{fresh_kept, card_of, step_of, Holds, gon
 
 pub mod tags;
 
-use numbers::{property, refusal};
+use numbers::property;
+use numbers::refusal::Reason;
 use tags::Tags;
 
 // The phase of a card: BEGIN has not come.
@@ -23,7 +24,7 @@ pub const BEFORE_VERSION: u32 = 1;
 pub const INSIDE: u32 = 2;
 
 // What is known of the card that is being read.
-#[derive(Clone, Copy)]
+#[derive(Clone, Copy, Debug, PartialEq, Eq)]
 pub struct Card {
     // The cards that have ended, and the lines that were judged.
     pub cards: usize,
@@ -41,13 +42,15 @@ pub struct Card {
     pub is_group: bool,
 }
 
-// The card after a line, or the refusal's number and its place in the input, or its number and the octet of the unfolded line.
-#[derive(Clone, Copy)]
-pub enum Step {
-    Next(Card),
-    Refused(u32, usize),
-    Flawed(u32, usize),
+// Why a line is refused: a reason with its place in the input, or with the octet of the unfolded line.
+#[derive(Clone, Copy, Debug, PartialEq, Eq)]
+pub enum Flaw {
+    Placed(Reason, usize),
+    Octet(Reason, usize),
 }
+
+// The card after a line.
+pub type Step = Result<Card, Flaw>;
 
 // Before the first line.
 pub fn fresh() -> Card
@@ -65,16 +68,6 @@ pub fn fresh() -> Card
         has_member: false,
         is_group: false,
     }
-}
-
-// Whether one of two holds.
-fn either(a: bool, b: bool) -> bool
-    ensures { result ≡ (a || b) }
-{
-    if a {
-        return true;
-    }
-    b
 }
 
 // The flag of the k-th property that a card has at most once, counted from 1; 0 for none.
@@ -104,10 +97,7 @@ pub fn is_again(seen: u32, k: usize) -> bool
 fn says_group(row: usize, group: bool) -> bool
     ensures { result ≡ (eqb row property.kind && group) }
 {
-    if row != property::KIND {
-        return false;
-    }
-    group
+    row == property::KIND && group
 }
 
 // The phase after a line of the row.
@@ -127,17 +117,15 @@ pub fn close(c: Card, at: usize) -> Step
     ensures holds { Holds 0 result }
 {
     if !c.has_fn {
-        return Step::Refused(refusal::NO_FN, at);
+        return Err(Flaw::Placed(Reason::NoFn, at));
     }
-    if c.has_member {
-        if !c.is_group {
-            return Step::Refused(refusal::MEMBER, at);
-        }
+    if c.has_member && !c.is_group {
+        return Err(Flaw::Placed(Reason::Member, at));
     }
     let mut next = fresh();
     next.cards = c.cards + 1;
     next.lines = c.lines + 1;
-    Step::Next(next)
+    Ok(next)
 }
 
 // The state after a line of the row, not END, that may stand here. `once` is the row's number among those that a card has at most once, and
@@ -156,8 +144,8 @@ pub fn note(c: Card, row: usize, once: usize, group: bool) -> Card
         seen: c.seen | flag_of(once),
         tags,
         used: c.used,
-        has_fn: either(c.has_fn, row == property::FN),
-        has_member: either(c.has_member, row == property::MEMBER),
-        is_group: either(c.is_group, grouped),
+        has_fn: c.has_fn || row == property::FN,
+        has_member: c.has_member || row == property::MEMBER,
+        is_group: c.is_group || grouped,
     }
 }

@@ -2,13 +2,13 @@
 ghost use Rattle.std.specs.Prelude.{◌≡◌, map, ◌+◌, ◌-◌, ◌<◌, ◌≤◌, length, get_or, set};
 ghost use Rattle.std.proofs.Math.Option.{some};
 ghost use Rattle.numbers.specs.Limits as limit;
-ghost use Rattle.card_state.specs.State.{singles, equal, same_tag, tag_of};
+ghost use Rattle.card_state.specs.State.{singles, same_tag, tag_of};
 ghost use Rattle.card_state.specs.Kept.{places_of, tag_at, Inside, no_tags, Keeps};
 
 use crate::Card;
 
 // The place of each property's value, 0 for none.
-#[derive(Clone, Copy)]
+#[derive(Clone, Copy, Debug, PartialEq, Eq)]
 pub struct Tags {
     pub kind: u32,
     pub n: u32,
@@ -44,110 +44,52 @@ pub fn none() -> Tags
 }
 
 // The place of the k-th property, counted from 1.
+#[tactic(auto, unfolding(crate::specs::Kept::places_of))]
 fn place_at(t: Tags, k: usize) -> u32
     requires { (0 < k) × (k ≤ singles) }
     ensures { result ≡ get_or (places_of t) (k - 1) 0 }
 {
-    if k == 1 {
-        return t.kind;
+    match k {
+        1 => t.kind,
+        2 => t.n,
+        3 => t.bday,
+        4 => t.anniversary,
+        5 => t.gender,
+        6 => t.prodid,
+        7 => t.rev,
+        8 => t.uid,
+        9 => t.created,
+        _ => t.language,
     }
-    if k == 2 {
-        return t.n;
-    }
-    if k == 3 {
-        return t.bday;
-    }
-    if k == 4 {
-        return t.anniversary;
-    }
-    if k == 5 {
-        return t.gender;
-    }
-    if k == 6 {
-        return t.prodid;
-    }
-    if k == 7 {
-        return t.rev;
-    }
-    if k == 8 {
-        return t.uid;
-    }
-    if k == 9 {
-        return t.created;
-    }
-    t.language
-}
-
-// The places with another one for the k-th property, counted from 1, from the sixth on.
-fn with_later_place(t: Tags, k: usize, place: u32) -> Tags
-    requires { (5 < k) × (k ≤ singles) }
-    ensures { places_of result ≡ set (places_of t) (k - 1) place }
-{
-    let mut r = t;
-    if k == 6 {
-        r.prodid = place;
-        return r;
-    }
-    if k == 7 {
-        r.rev = place;
-        return r;
-    }
-    if k == 8 {
-        r.uid = place;
-        return r;
-    }
-    if k == 9 {
-        r.created = place;
-        return r;
-    }
-    r.language = place;
-    r
 }
 
 // The places with another one for the k-th property, counted from 1.
+#[tactic(auto, unfolding(crate::specs::Kept::places_of))]
 fn with_place(t: Tags, k: usize, place: u32) -> Tags
     requires { (0 < k) × (k ≤ singles) }
     ensures { places_of result ≡ set (places_of t) (k - 1) place }
 {
-    let mut r = t;
-    if k == 1 {
-        r.kind = place;
-        return r;
+    match k {
+        1 => Tags { kind: place, ..t },
+        2 => Tags { n: place, ..t },
+        3 => Tags { bday: place, ..t },
+        4 => Tags {
+            anniversary: place,
+            ..t
+        },
+        5 => Tags { gender: place, ..t },
+        6 => Tags { prodid: place, ..t },
+        7 => Tags { rev: place, ..t },
+        8 => Tags { uid: place, ..t },
+        9 => Tags {
+            created: place,
+            ..t
+        },
+        _ => Tags {
+            language: place,
+            ..t
+        },
     }
-    if k == 2 {
-        r.n = place;
-        return r;
-    }
-    if k == 3 {
-        r.bday = place;
-        return r;
-    }
-    if k == 4 {
-        r.anniversary = place;
-        return r;
-    }
-    if k == 5 {
-        r.gender = place;
-        return r;
-    }
-    with_later_place(t, k, place)
-}
-
-// Whether two texts are equal octet for octet.
-fn same_octets(a: &[u8], b: &[u8]) -> bool
-    ensures { result ≡ equal a.now b.now }
-{
-    if a.len() != b.len() {
-        return false;
-    }
-    let mut i: usize = 0;
-    while i < a.len() {
-        if a[i] != b[i] {
-            return false;
-        }
-        i += 1;
-    }
-    true
 }
 
 // Whether a value is the one that is kept in the store for the k-th property, counted from 1.
@@ -162,7 +104,7 @@ pub fn is_kept(t: Tags, k: usize, store: &[u8], value: &[u8]) -> bool
     }
     let from = (place - 1) / SPAN;
     let n = (place - 1) % SPAN;
-    same_octets(&store[from..from + n], value)
+    &store[from..from + n] == value
 }
 
 // The state with a value of n octets kept behind the others for the k-th property, counted from 1.

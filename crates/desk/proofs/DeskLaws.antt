@@ -1,27 +1,25 @@
 -- What an opening does by the position found, and an add or a release by the slot of a ticket. Assumes nothing.
-use Prim.Native.Nat.{ℕ, ◌+◌, ◌*◌, ◌<◌, ◌≤◌}
+use Prim.Native.Nat.{ℕ, ◌*◌, ◌<◌}
 use mathlib.Core.Path.{◌≡◌, refl, sym, ap, ◌∙◌}
 use mathlib.Core.Bool.{Bool, true, false}
 use mathlib.Core.List.{List}
 use native.Mathlib.Omega.{arith}
 use lib.Dec.{eqb}
 use lib.ListN.{length}
-use borrow.Author.Tests.{lt-ltb, le-ltb, eqb-true, eqb-false}
+use borrow.Author.Tests.{eqb-true, eqb-false, eq-eqb, ne_eqb}
 use Rattle.octets.specs.Pick.{pick}
-use Rattle.desk_entries.specs.Search.{first_at, same_as}
+use Rattle.numbers.specs.Refusals.{number}
+use Rattle.numbers.specs.declared.refusal.Reason.TheVariants.{TicketsUsedUp}
+use Rattle.numbers.specs.declared.refusal.Refusal.{Refusal}
+use Rattle.std.specs.Prelude.{Option, Some, None, Result, Ok, Err}
+use Rattle.desk_entries.specs.Search.{Position, At, Nowhere, Barred, place, first_at, same_as}
 use Rattle.desk_slots.specs.Sound.{ticket_at}
-use Rattle.desk_slots.specs.Slots.{free_at, position_of, idle_at, idle_of}
+use Rattle.desk_slots.specs.Slots.{Held, position, free_at, position_of, idle_at, idle_of}
 use Rattle.desk_entries.proofs.Searches.{clash, unbarred, lowest_at_is}
 use Rattle.desk_slots.proofs.SoundLaws.{sound_at_lem as soundness, at_sound as tested}
 use Rattle.desk_slots.proofs.SlotLaws.{Granted as GrantedIn, granted as granted_in, clear, barred, free_position}
-use Rattle.desk_entries.specs.declared.tickets.Position.{Position}
-use Rattle.desk_entries.specs.declared.tickets.Position.TheVariants.{At, Nowhere, Barred}
 use Rattle.desk_entries.specs.declared.Session.{Session}
-use Rattle.desk_entries.specs.declared.State.TheVariants.{Free, Open}
-use Rattle.desk_slots.specs.declared.Slot.{Slot}
-use Rattle.desk_slots.specs.declared.Slot.TheVariants.{Held, No}
-use Rattle.desk_pool.specs.Pools.{patch, zeros}
-use Rattle.desk.specs.Steps.{Sound, sound, guarded, slot_of, seen, idle_slot, Turned, turned, refuse, refused, grant, stamped, open_in, Takes, open_step, grown, add_in, add_step, release_in, release_step}
+use Rattle.desk.specs.Steps.{Sound, sound, guarded, slot_of, seen, idle_slot, Turned, turned, refuse, refused, open_in, Takes, open_step}
 use Rattle.desk.specs.declared.Desk.{Desk}
 use Rattle.desk.specs.declared.Turn.{Turn}
 
@@ -69,6 +67,24 @@ open_position d p m tick x e =
     go true false = refl
     go false b = refl
 
+-- a refusal at 0 leaves all as it is
+turned_refuse : (d : Desk) (p : List ℕ) (n : Refusal) → n.1 ≡ 0 → (t : Turn) → t ≡ refuse d n.0 n.1 → turned t p ≡ refused d p 0 (number n.0)
+turned_refuse d p n z t g = ap (λ (r : Turn). turned r p) g ∙ ap (λ (a : ℕ). turned (refuse d n.0 a) p) z
+
+module _ (d : Desk) (p : List ℕ) (m tick : ℕ) (x : Result (Option ℕ) Refusal) (e : position x ≡ position_of d.entries d.slots d.next d.stamps d.tick (length p) 0) where
+  pub open_barred : (n : Refusal) → x ≡ Err n → n.1 ≡ 0 → (t : Turn) → t ≡ refuse d n.0 n.1 → turned t p ≡ open_step d p m tick
+  open_barred n f z t g = turned_refuse d p n z t g ∙ open_position d p m tick (Barred (number n.0)) (sym e ∙ ap position f)
+
+  open_found : (o : Option ℕ) → x ≡ Ok o → pick (eqb d.next 4294967295) (refused d p 0 21) (open_in d p m (seen d tick) (place o)) ≡ open_step d p m tick
+  open_found None f = open_position d p m tick Nowhere (sym e ∙ ap position f)
+  open_found (Some i) f = open_position d p m tick (At i) (sym e ∙ ap position f)
+
+  pub open_used : (o : Option ℕ) → x ≡ Ok o → d.next ≡ 4294967295 → (t : Turn) → t ≡ refuse d TicketsUsedUp 0 → turned t p ≡ open_step d p m tick
+  open_used o f n t g = ap (λ (r : Turn). turned r p) g ∙ (rw (eq-eqb d.next 4294967295 n) at (open_found o f))
+
+  pub open_left : (o : Option ℕ) → x ≡ Ok o → (d.next ≡ 4294967295 → ⊥) → open_in d p m (seen d tick) (place o) ≡ open_step d p m tick
+  open_left o f n = rw (ne_eqb d.next 4294967295 n) at (open_found o f)
+
 -- where a search was not barred, a desk whose tickets are left can take a slot
 pub can_take : (d : Desk) (p : List ℕ) → position_of d.entries d.slots d.next d.stamps d.tick (length p) 0 ≡ Nowhere → d.next < 4294967295 → Takes d p
 unfolding position_of
@@ -87,30 +103,3 @@ can_take d p e l = go (eqb (guarded d (length p) (λ n. n) 0) 0) refl
 pub idle_inside : (d : Desk) (now i : ℕ) → idle_slot d now ≡ At i → i < d.slots
 unfolding idle_of
 idle_inside d now i e = (lowest_at_is (idle_at d.entries d.stamps now) d.slots i e).inside
-
--- ---- calls that name a ticket
-
-module _ (d : Desk) (p : List ℕ) (t : ℕ) (x : Slot) (e : x ≡ slot_of d (length p) t) where
-  pub add_barred : (q : List ℕ) (tick n : ℕ) → x ≡ No n → (r : Turn) → r ≡ refuse d n 0 → turned r p ≡ add_step d p t q tick
-  unfolding add_step
-  add_barred q tick n f r g = ap (λ (r : Turn). turned r p) g ∙ ap (add_in d p q (seen d tick)) (sym f ∙ e)
-
-  pub add_full : (q : List ℕ) (tick i : ℕ) (s : Session) → x ≡ Held i s → 16384 < s.held + length q → (r : Turn) → r ≡ refuse d 23 s.held
-      → turned r p ≡ add_step d p t q tick
-  unfolding add_step
-  add_full q tick i s f h r g = rw (g, ← e, f, lt-ltb 16384 (s.held + length q) h)
-
-  pub add_done : (q : List ℕ) (tick i : ℕ) (s : Session) → x ≡ Held i s → s.held + length q ≤ 16384 → (r : Turn)
-      → r ≡ grant (stamped d i (seen d tick)) i (Open (grown s (length q))) (s.held + length q) → (p' : List ℕ) → p' ≡ patch p (i * 16384 + s.held) q
-      → turned r p' ≡ add_step d p t q tick
-  unfolding add_step
-  add_done q tick i s f h r g p' k = rw (g, k, ← e, f, le-ltb 16384 (s.held + length q) h)
-
-  pub release_barred : (n : ℕ) → x ≡ No n → (r : Turn) → r ≡ refuse d n 0 → turned r p ≡ release_step d p t
-  unfolding release_step
-  release_barred n f r g = ap (λ (r : Turn). turned r p) g ∙ ap (release_in d p) (sym f ∙ e)
-
-  pub release_done : (i : ℕ) (s : Session) → x ≡ Held i s → (r : Turn) → r ≡ grant d i Free 0 → (p' : List ℕ) → p' ≡ patch p (i * 16384) zeros
-      → turned r p' ≡ release_step d p t
-  unfolding release_step
-  release_done i s f r g p' k = rw (g, k, ← e, f)

@@ -1,29 +1,31 @@
 -- What each call answers, the next desk and what the pool holds then, for every desk, pool and ticket. Assumes nothing.
-use Rattle.std.specs.Prelude.{ℕ, ◌+◌, ◌*◌, ◌<◌, ◌≤◌, Bool, List, [], ltb, eqb, length, set, replicate}
+use Rattle.std.specs.Prelude.{ℕ, ◌+◌, ◌*◌, ◌<◌, ◌≤◌, Bool, List, [], Ok, Err, ltb, eqb, length, set, replicate}
 use Rattle.numbers.specs.Limits as limit
 use Rattle.numbers.specs.Refusals as refusal
+use Rattle.numbers.specs.declared.refusal.Reason.{Reason}
+use Rattle.numbers.specs.declared.refusal.Reason.TheVariants.{SlotCount}
 use Rattle.octets.specs.Pick.{pick}
 use Rattle.reader.specs.Outcome.{judge_of}
 use Rattle.reader.specs.Outcome.{Verdict}
 use Rattle.reader.specs.Outcome.{Refused as Unread}
-use Rattle.desk_entries.specs.Search.{first_at}
+use Rattle.desk_entries.specs.Search.{Position, At, Nowhere, Barred, first_at}
 use Rattle.desk_entries.specs.Ticks.{higher}
 use Rattle.desk_slots.specs.Sound.{none, bounds, SoundAt, sound_at}
-use Rattle.desk_slots.specs.Slots.{guarded as guarded_entries, free_at, idle_of, slot_of as slot_in}
-use Rattle.desk_entries.specs.declared.tickets.Position.{Position}
-use Rattle.desk_entries.specs.declared.tickets.Position.TheVariants.{At, Nowhere, Barred}
+use Rattle.desk_slots.specs.Slots.{Slot, Held, No, guarded as guarded_entries, free_at, idle_of, slot_of as slot_in}
 use Rattle.desk_entries.specs.declared.Session.{Session}
 use Rattle.desk_entries.specs.declared.State.{State}
 use Rattle.desk_entries.specs.declared.State.TheVariants.{Free, Open}
-use Rattle.desk_slots.specs.declared.Slot.{Slot}
-use Rattle.desk_slots.specs.declared.Slot.TheVariants.{Held, No}
+use Rattle.desk_slots.specs.declared.Table.{Table}
 use Rattle.desk_pool.specs.Pools.{patch, zeros, Part, part_of}
 use Rattle.desk.specs.declared.Desk.{Desk}
-use Rattle.desk.specs.declared.Answer.{Answer}
-use Rattle.desk.specs.declared.Answer.TheVariants.{Done, Refused}
+use Rattle.desk.specs.Answer.{Answer, Done, Refused, answer}
 use Rattle.desk.specs.declared.Turn.{Turn}
 
 -- ---- a sound desk, and the slot of a ticket
+
+-- what is known of its slots
+abbrev pub table : Desk → Table
+table d = record { entries = d.entries; stamps = d.stamps; slots = d.slots; next = d.next; tick = d.tick }
 
 abbrev pub Sound : Desk → Type 0
 Sound d = SoundAt d.entries d.slots d.next d.stamps d.tick
@@ -56,14 +58,14 @@ pub record Turned : Type 0 where
   pub pool : List ℕ
 
 abbrev pub turned : Turn → List ℕ → Turned
-turned r p = record { answer = r.answer; desk = r.desk; pool = p }
+turned r p = record { answer = answer r.answer; desk = r.desk; pool = p }
 
 -- a refusal's number and place; it changes nothing
-abbrev pub refuse : Desk → ℕ → ℕ → Turn
-refuse d n at = record { answer = Refused n at; desk = d }
+abbrev pub refuse : Desk → Reason → ℕ → Turn
+refuse d n at = record { answer = Err (record { 0 = n; 1 = at }); desk = d }
 
 abbrev pub refused : Desk → List ℕ → ℕ → ℕ → Turned
-refused d p at n = turned (refuse d n at) p
+refused d p at n = record { answer = Refused n at; desk = d; pool = p }
 
 -- ---- a new desk
 
@@ -71,7 +73,7 @@ abbrev pub fresh_desk : ℕ → Desk
 fresh_desk n = record { entries = replicate limit.slots none; slots = n; next = 1; tick = 0; stamps = replicate limit.slots 0 }
 
 unfoldable pub new_step : ℕ → Turn
-new_step n = pick (bounds n 1) (record { answer = Done 0; desk = fresh_desk n }) (refuse (fresh_desk 0) refusal.slot_count 0)
+new_step n = pick (bounds n 1) (record { answer = Ok 0; desk = fresh_desk n }) (refuse (fresh_desk 0) SlotCount 0)
 
 -- ---- open
 
@@ -80,7 +82,7 @@ with_state d i s = record { entries = set d.entries i (record { state = s }); sl
 
 -- the desk with entry i in a new state, and an answer
 abbrev pub grant : Desk → ℕ → State → ℕ → Turn
-grant d i s n = record { answer = Done n; desk = with_state d i s }
+grant d i s n = record { answer = Ok n; desk = with_state d i s }
 
 -- the desk with its tick and that of entry i
 abbrev pub stamped : Desk → ℕ → ℕ → Desk
@@ -98,7 +100,7 @@ opened d m now i =
     }
 
 abbrev pub begun : Desk → ℕ → ℕ → ℕ → Turn
-begun d m now i = record { answer = Done d.next; desk = opened d m now i }
+begun d m now i = record { answer = Ok d.next; desk = opened d m now i }
 
 -- with no free slot: the idle one that is found is zeroed and taken, else 20
 abbrev pub reclaim_in : Desk → List ℕ → ℕ → ℕ → Position → Turned

@@ -7,10 +7,11 @@ use native.Mathlib.Omega.{arith}
 use lib.Dec.{ltb, eqb}
 use borrow.Author.Tests.{ltb-true, ltb-false, eqb-true, eqb-false, eq-eqb, ne_eqb}
 use Rattle.octets.specs.Pick.{pick}
-use Rattle.desk_entries.specs.Search.{first_at, all_at, any_at, same_as, is_at, among, AtMost, none_yet, lower, lowest_of, lowest_at, longer, leading}
+use Rattle.std.specs.Prelude.{Option, Some, None, is_some, List, ◌≢◌, length, take, MatchOption, IsSomeAnd}
+use Rattle.std.specs.List.{AllWithin, HoldsAt}
+use lib.Seq.{get_or-take, length-take-le}
+use Rattle.desk_entries.specs.Search.{Position, At, Nowhere, Barred, place, first_at, all_at, any_at, column, same_as, is_at, among, AtMost, lower, lowest_of, at_lowest, lowest_at, longer, leading}
 use Rattle.desk_entries.specs.declared.tickets.Lowest.{Lowest}
-use Rattle.desk_entries.specs.declared.tickets.Position.{Position}
-use Rattle.desk_entries.specs.declared.tickets.Position.TheVariants.{At, Nowhere, Barred}
 
 -- no two constructors are equal
 pub clash : {A : Type 0} → ◌≡◌ {A = ℕ} 0 1 → A
@@ -27,18 +28,6 @@ next : (i j : ℕ) → i ≤ j → (i ≡ j → ⊥) → i + 1 ≤ j
 next i j h n = omega arith
 
 -- ---- the turns of a loop
-
-pub first_at_none : (p : ℕ → Bool) (n i : ℕ) → n ≤ i → first_at p i (n - i) ≡ Nowhere
-unfolding first_at
-first_at_none p n i h = let e : n - i ≡ 0 = omega arith in rw e
-
-pub first_at_hit : (p : ℕ → Bool) (n i : ℕ) → i < n → p i ≡ true → first_at p i (n - i) ≡ At i
-unfolding first_at
-first_at_hit p n i h e = rw (rest n i h, e)
-
-pub first_at_miss : (p : ℕ → Bool) (n i : ℕ) → i < n → p i ≡ false → first_at p i (n - i) ≡ first_at p (i + 1) (n - (i + 1))
-unfolding first_at
-first_at_miss p n i h e = rw (rest n i h, e)
 
 pub all_at_none : (p : ℕ → Bool) (n i : ℕ) → n ≤ i → all_at p i (n - i) ≡ true
 unfolding all_at
@@ -242,66 +231,83 @@ leading_there p n m h l = let k = leads p n in first_at_past p m 0 (leading p n)
 pub leading_not : (p : ℕ → Bool) (n m : ℕ) → m ≤ leading p n → first_at p 0 m ≡ Nowhere
 leading_not p n m h = let k = leads p n in first_at_nowhere p m 0 (λ j u v. k.before j (omega arith))
 
+-- ---- a number among the first
+
+-- what a search of the library finds
+pub found_at : (r : Option ℕ) (ts : List ℕ) (t n : ℕ) → n ≤ length ts
+    → MatchOption r (AllWithin (λ x. x ≢ t) (take n ts) 0 (length (take n ts))) (λ i. (i < length (take n ts)) × HoldsAt (λ x. x ≡ t) (take n ts) i × AllWithin (λ x. x ≢ t) (take n ts) 0 i)
+    → place r ≡ first_at (same_as (column ts) t) 0 n
+found_at None ts t n l h =
+    sym (first_at_nowhere (same_as (column ts) t) n 0 (λ j u v. (let w : j < n = omega arith in ne_eqb (column ts j) t (λ e. h j 0 u (rw (length-take-le n ts l) w) (get_or-take n ts j 0 w ∙ e)))))
+found_at (Some i) ts t n l h =
+    let b : i < n = rw (length-take-le n ts l) at h.0 in
+    sym (first_at_past (same_as (column ts) t) n 0 i (omega arith) (omega arith) (λ j u v. ne_eqb (column ts j) t (λ e. h.2 j 0 u v (get_or-take n ts j 0 (omega arith) ∙ e))) (eq-eqb (column ts i) t (sym (get_or-take n ts i 0 b) ∙ h.1 0)))
+
+pub is_some_place : (r : Option ℕ) → is_some r ≡ is_at (place r)
+is_some_place None = refl
+is_some_place (Some i) = refl
+
 -- ---- the lowest number
 
--- what was found among the first n numbers: none of them is a number, or the lowest
-pub record Finds (f : ℕ → ℕ) (n : ℕ) (b : Lowest) : Type 0 where
-  pub none : b.ticket ≡ 0 → (j : ℕ) → j < n → f j ≡ 0
-  pub inside : (b.ticket ≡ 0 → ⊥) → b.at < n
-  pub there : (b.ticket ≡ 0 → ⊥) → f b.at ≡ b.ticket
+-- the lowest number among the first n, and where it stands
+pub record FindsAt (f : ℕ → ℕ) (n : ℕ) (b : Lowest) : Type 0 where
+  pub some : b.ticket ≡ 0 → ⊥
+  pub inside : b.at < n
+  pub there : f b.at ≡ b.ticket
   pub least : (j : ℕ) → j < n → (f j ≡ 0 → ⊥) → b.ticket ≤ f j
 
-module _ (f : ℕ → ℕ) (n : ℕ) (b : Lowest) (h : Finds f n b) where
-  -- the same among one number more, which is none or not lower
-  same : ((b.ticket ≡ 0 → f n ≡ 0) × ((f n ≡ 0 → ⊥) → b.ticket ≤ f n)) → Finds f (suc n) b
-  same k =
-      record {
-        none = λ z j l. none z j l (eqb j n) refl;
-        inside = λ z. omega (arith, h.inside z);
-        there = h.there;
-        least = λ j l z. least j l z (eqb j n) refl;
-      }
-    where
-      none : b.ticket ≡ 0 → (j : ℕ) → j < suc n → (t : Bool) → eqb j n ≡ t → f j ≡ 0
-      none z j l true q = let w : j ≡ n = eqb-true j n q in rw w (k.0 z)
-      none z j l false q = h.none z j (omega (arith, eqb-false j n q))
+-- what was found among the first n numbers: none of them is a number, or the lowest
+abbrev pub Finds : (ℕ → ℕ) → ℕ → Option Lowest → Type 0
+Finds f n None = (j : ℕ) → j < n → f j ≡ 0
+Finds f n (Some b) = FindsAt f n b
 
+module _ (f : ℕ → ℕ) (n : ℕ) where
+  -- a number more where the others are none
+  none_more : Finds f n None → f n ≡ 0 → Finds f (suc n) None
+  none_more h z j l = go (eqb j n) refl
+    where
+      go : (t : Bool) → eqb j n ≡ t → f j ≡ 0
+      go true q = let w : j ≡ n = eqb-true j n q in rw w z
+      go false q = h j (omega (arith, eqb-false j n q))
+
+  -- the same among one number more, which is none or not lower
+  same : (b : Lowest) → FindsAt f n b → ((f n ≡ 0 → ⊥) → b.ticket ≤ f n) → FindsAt f (suc n) b
+  same b h k =
+      record { some = h.some; inside = omega (arith, h.inside); there = h.there; least = λ j l z. least j l z (eqb j n) refl }
+    where
       least : (j : ℕ) → j < suc n → (f j ≡ 0 → ⊥) → (t : Bool) → eqb j n ≡ t → b.ticket ≤ f j
-      least j l z true q = let w : j ≡ n = eqb-true j n q in rw w (k.1 (λ e. z (rw w e)))
+      least j l z true q = let w : j ≡ n = eqb-true j n q in rw w (k (λ e. z (rw w e)))
       least j l z false q = h.least j (omega (arith, eqb-false j n q)) z
 
   -- a number more that is the lowest then
-  new : (f n ≡ 0 → ⊥) → ((j : ℕ) → j < n → (f j ≡ 0 → ⊥) → f n ≤ f j) → Finds f (suc n) (record { ticket = f n; at = n })
+  new : (f n ≡ 0 → ⊥) → ((j : ℕ) → j < n → (f j ≡ 0 → ⊥) → f n ≤ f j) → FindsAt f (suc n) (record { ticket = f n; at = n })
   new z k =
-      record {
-        none = λ e. absurd (z e);
-        inside = λ e. omega arith;
-        there = λ e. refl;
-        least = λ j l e. least j l e (eqb j n) refl;
-      }
+      record { some = z; inside = omega arith; there = refl; least = λ j l e. least j l e (eqb j n) refl }
     where
       least : (j : ℕ) → j < suc n → (f j ≡ 0 → ⊥) → (t : Bool) → eqb j n ≡ t → f n ≤ f j
       least j l e true q = let w : j ≡ n = eqb-true j n q in rw w (omega arith)
       least j l e false q = k j (omega (arith, eqb-false j n q)) e
 
-  finds_more : Finds f (suc n) (lower b (f n) n)
-  finds_more = go (eqb (f n) 0) refl (eqb b.ticket 0) refl (ltb (f n) b.ticket) refl
+  finds_more : (b : Option Lowest) → Finds f n b → Finds f (suc n) (lower b (f n) n)
+  finds_more None h = go (eqb (f n) 0) refl
     where
-      go : (x : Bool) → eqb (f n) 0 ≡ x → (y : Bool) → eqb b.ticket 0 ≡ y → (z : Bool) → ltb (f n) b.ticket ≡ z → Finds f (suc n) (lower b (f n) n)
-      go true p y q z r = rw p (same (λ e. eqb-true (f n) 0 p, λ e. absurd (e (eqb-true (f n) 0 p))))
-      go false p true q z r = rw (p, q) (new (eqb-false (f n) 0 p) (λ j l e. absurd (e (h.none (eqb-true b.ticket 0 q) j l))))
-      go false p false q true r =
-          rw (p, q, r) (new (eqb-false (f n) 0 p) (λ j l e. (let k = h.least j l e in omega (arith, ltb-true (f n) b.ticket r))))
-      go false p false q false r =
-          rw (p, q, r) (same (λ e. absurd (eqb-false b.ticket 0 q e), λ e. ltb-false (f n) b.ticket r))
+      go : (x : Bool) → eqb (f n) 0 ≡ x → Finds f (suc n) (lower None (f n) n)
+      go true p = rw p (none_more h (eqb-true (f n) 0 p))
+      go false p = rw p (new (eqb-false (f n) 0 p) (λ j l e. absurd (e (h j l))))
+  finds_more (Some b) h = go (eqb (f n) 0) refl (ltb (f n) b.ticket) refl
+    where
+      go : (x : Bool) → eqb (f n) 0 ≡ x → (y : Bool) → ltb (f n) b.ticket ≡ y → Finds f (suc n) (lower (Some b) (f n) n)
+      go true p y q = rw p (same b h (λ e. absurd (e (eqb-true (f n) 0 p))))
+      go false p true q =
+          rw (p, q) (new (eqb-false (f n) 0 p) (λ j l e. (let k = h.least j l e in omega (arith, ltb-true (f n) b.ticket q))))
+      go false p false q = rw (p, q) (same b h (λ e. ltb-false (f n) b.ticket q))
 
 finds : (f : ℕ → ℕ) (n : ℕ) → Finds f n (lowest_of f n)
 unfolding lowest_of
-finds f zero =
-    record { none = λ z j l. absurd (omega arith); inside = λ z. absurd (z refl); there = λ z. absurd (z refl); least = λ j l z. omega arith }
+finds f zero = λ j l. absurd (omega arith)
 finds f (suc n) = finds_more f n (lowest_of f n) (finds f n)
 
-pub lowest_of_none : (f : ℕ → ℕ) → lowest_of f 0 ≡ none_yet
+pub lowest_of_none : (f : ℕ → ℕ) → lowest_of f 0 ≡ None
 unfolding lowest_of
 lowest_of_none f = refl
 
@@ -309,21 +315,23 @@ pub lowest_of_more : (f : ℕ → ℕ) (n : ℕ) → lowest_of f (n + 1) ≡ low
 unfolding lowest_of
 lowest_of_more f n = rw (add-one n)
 
-pub lowest_none : (f : ℕ → ℕ) (n : ℕ) (b : Lowest) → b ≡ lowest_of f n → b.ticket ≡ 0 → Nowhere ≡ lowest_at f n
+pub lowest_found : (f : ℕ → ℕ) (n : ℕ) (b : Option Lowest) → b ≡ lowest_of f n → at_lowest b ≡ lowest_at f n
 unfolding lowest_at
-lowest_none f n b e z = rw (← e, eq-eqb b.ticket 0 z)
+lowest_found f n b e = ap at_lowest e
 
-pub lowest_some : (f : ℕ → ℕ) (n : ℕ) (b : Lowest) → b ≡ lowest_of f n → (b.ticket ≡ 0 → ⊥) → At b.at ≡ lowest_at f n
-unfolding lowest_at
-lowest_some f n b e z = rw (← e, ne_eqb b.ticket 0 z)
+-- where what was found stands
+pub lowest_mapped : (b : Option Lowest) (r : Option ℕ) (Q : Lowest → ℕ → Type 0) → MatchOption b (r ≡ None) (λ x. IsSomeAnd r (Q x)) → ((x : Lowest) (y : ℕ) → Q x y → y ≡ x.at) → place r ≡ at_lowest b
+lowest_mapped None r Q e f = ap place e
+lowest_mapped (Some x) None Q e f = absurd e
+lowest_mapped (Some x) (Some y) Q e f = ap At (f x y e)
 
 pub lowest_at_not : (f : ℕ → ℕ) (n : ℕ) → lowest_at f n ≡ Nowhere → (j : ℕ) → j < n → f j ≡ 0
 unfolding lowest_at
-lowest_at_not f n e = go (eqb (lowest_of f n).ticket 0) refl e
+lowest_at_not f n e = go (lowest_of f n) (finds f n) e
   where
-    go : (b : Bool) → eqb (lowest_of f n).ticket 0 ≡ b → pick b Nowhere (At (lowest_of f n).at) ≡ Nowhere → (j : ℕ) → j < n → f j ≡ 0
-    go true q e = (finds f n).none (eqb-true (lowest_of f n).ticket 0 q)
-    go false q e = clash cc
+    go : (b : Option Lowest) → Finds f n b → at_lowest b ≡ Nowhere → (j : ℕ) → j < n → f j ≡ 0
+    go None h e = h
+    go (Some b) h e = clash cc
 
 -- position i is one of the first n, and no number there is lower but 0
 pub record LowestIs (f : ℕ → ℕ) (n i : ℕ) : Type 0 where
@@ -333,21 +341,19 @@ pub record LowestIs (f : ℕ → ℕ) (n i : ℕ) : Type 0 where
 
 pub lowest_at_is : (f : ℕ → ℕ) (n i : ℕ) → lowest_at f n ≡ At i → LowestIs f n i
 unfolding lowest_at
-lowest_at_is f n i e = go (eqb (lowest_of f n).ticket 0) refl e
+lowest_at_is f n i e = go (lowest_of f n) (finds f n) e
   where
-    go : (b : Bool) → eqb (lowest_of f n).ticket 0 ≡ b → pick b Nowhere (At (lowest_of f n).at) ≡ At i → LowestIs f n i
-    go true q e = clash cc
-    go false q e =
-        let z = eqb-false (lowest_of f n).ticket 0 q in
-        let h = finds f n in
-        let w : (lowest_of f n).at ≡ i = cc in
-        let t : f i ≡ (lowest_of f n).ticket = rw (← w) (h.there z) in
-        record { inside = rw w at (h.inside z); some = λ k. z (sym t ∙ k); least = λ j l k. rw t (h.least j l k) }
+    go : (b : Option Lowest) → Finds f n b → at_lowest b ≡ At i → LowestIs f n i
+    go None h e = clash cc
+    go (Some b) h e =
+        let w : b.at ≡ i = cc in
+        let t : f i ≡ b.ticket = rw (← w) h.there in
+        record { inside = rw w at h.inside; some = λ k. h.some (sym t ∙ k); least = λ j l k. rw t (h.least j l k) }
 
 pub lowest_unbarred : {A : Type 0} (f : ℕ → ℕ) (n k : ℕ) → lowest_at f n ≡ Barred k → A
 unfolding lowest_at
-lowest_unbarred {A} f n k e = go (eqb (lowest_of f n).ticket 0) e
+lowest_unbarred {A} f n k e = go (lowest_of f n) e
   where
-    go : (b : Bool) → pick b Nowhere (At (lowest_of f n).at) ≡ Barred k → A
-    go true e = clash cc
-    go false e = clash cc
+    go : (b : Option Lowest) → at_lowest b ≡ Barred k → A
+    go None e = clash cc
+    go (Some b) e = clash cc

@@ -1,9 +1,18 @@
 -- The first position at which a test holds, a test at every position, and numbers side by side. Assumes nothing.
-use Rattle.std.specs.Prelude.{ℕ, zero, suc, ◌+◌, ◌<◌, ◌≤◌, Bool, true, false, List, ltb, eqb, get_or}
+use Rattle.std.specs.Prelude.{ℕ, zero, suc, ◌+◌, ◌<◌, ◌≤◌, Bool, true, false, List, Option, Some, None, ltb, eqb, get_or}
 use Rattle.octets.specs.Pick.{pick}
 use Rattle.desk_entries.specs.declared.tickets.Lowest.{Lowest}
-use Rattle.desk_entries.specs.declared.tickets.Position.{Position}
-use Rattle.desk_entries.specs.declared.tickets.Position.TheVariants.{At, Nowhere, Barred}
+
+-- where something stands among the entries, or the refusal that bars a call
+pub data Position : Type 0 where
+  At : ℕ → Position
+  Nowhere : Position
+  Barred : ℕ → Position
+
+-- the same of an option
+abbrev pub place : Option ℕ → Position
+place None = Nowhere
+place (Some i) = At i
 
 -- the first of the k positions from i on at which p holds
 unfoldable pub first_at : (ℕ → Bool) → ℕ → ℕ → Position
@@ -42,20 +51,22 @@ AtMost f n h = (j : ℕ) → j < n → f j ≤ h
 
 -- ---- the lowest number, where 0 is none
 
-abbrev pub none_yet : Lowest
-none_yet = record { ticket = 0; at = 0 }
-
 -- the lower one of what was found and of the number at a position
-abbrev pub lower : Lowest → ℕ → ℕ → Lowest
-lower b t i = pick (eqb t 0) b (pick (eqb b.ticket 0) (record { ticket = t; at = i }) (pick (ltb t b.ticket) (record { ticket = t; at = i }) b))
+abbrev pub lower : Option Lowest → ℕ → ℕ → Option Lowest
+lower None t i = pick (eqb t 0) None (Some (record { ticket = t; at = i }))
+lower (Some b) t i = pick (eqb t 0) (Some b) (pick (ltb t b.ticket) (Some (record { ticket = t; at = i })) (Some b))
 
 -- the lowest number of f at one of the first n positions, and the first such position
-unfoldable pub lowest_of : (ℕ → ℕ) → ℕ → Lowest
-lowest_of f zero = none_yet
+unfoldable pub lowest_of : (ℕ → ℕ) → ℕ → Option Lowest
+lowest_of f zero = None
 lowest_of f (suc n) = lower (lowest_of f n) (f n) n
 
+abbrev pub at_lowest : Option Lowest → Position
+at_lowest None = Nowhere
+at_lowest (Some b) = At b.at
+
 unfoldable pub lowest_at : (ℕ → ℕ) → ℕ → Position
-lowest_at f n = pick (eqb (lowest_of f n).ticket 0) Nowhere (At (lowest_of f n).at)
+lowest_at f n = at_lowest (lowest_of f n)
 
 -- ---- the positions that come first
 

@@ -11,22 +11,23 @@ pub mod tickets;
 pub mod ticks;
 
 // An open upload: its ticket, the tram's identifier and the octets held.
-#[derive(Clone, Copy)]
+#[derive(Clone, Copy, Debug, PartialEq, Eq)]
 pub struct Session {
     pub ticket: u32,
     pub tram: u32,
     pub held: u32,
 }
 
-// What an entry is: free, or open with a session.
-#[derive(Clone, Copy)]
+// What an entry is: free, or open with a session. It stays an enum of its own, since the theorems of `desk_laws` and the reference name
+// these two states.
+#[derive(Clone, Copy, Debug, PartialEq, Eq)]
 pub enum State {
     Free,
     Open(Session),
 }
 
 // An entry of a desk's table.
-#[derive(Clone, Copy)]
+#[derive(Clone, Copy, Debug, PartialEq, Eq)]
 pub struct Entry {
     pub state: State,
 }
@@ -35,8 +36,7 @@ pub struct Entry {
 pub fn ticket_of(e: Entry) -> u32
     ensures { result ≡ ticket_of e.state }
 {
-    let s = e.state;
-    match s {
+    match e.state {
         State::Free => 0,
         State::Open(o) => o.ticket,
     }
@@ -56,20 +56,8 @@ pub fn idle_ticket(e: Entry, tick: u32, now: u32) -> u32
 pub fn fits(e: Entry, i: usize, slots: usize, next: u32) -> bool
     ensures { result ≡ fits slots next i e.state }
 {
-    let s = e.state;
-    match s {
+    match e.state {
         State::Free => true,
-        State::Open(o) => {
-            if i >= slots {
-                return false;
-            }
-            if o.ticket < 1 {
-                return false;
-            }
-            if o.ticket >= next {
-                return false;
-            }
-            o.held <= limit::HELD
-        }
+        State::Open(o) => { i < slots && 1 <= o.ticket && o.ticket < next && o.held <= limit::HELD }
     }
 }

@@ -1,79 +1,49 @@
 // The tickets of a desk's entries side by side, 0 for a free one, and searches among them.
 ghost use Rattle.std.specs.Prelude.{◌≡◌, ◌<◌, ◌≤◌};
 ghost use Rattle.numbers.specs.Limits as limit;
-ghost use Rattle.desk_entries.specs.Search.{first_at, column, same_as, among, AtMost, lower, longer};
+ghost use Rattle.desk_entries.specs.Search.{place, first_at, column, same_as, among, AtMost, lower, longer};
 
 use numbers::limit;
 
-// Where a ticket stands among the entries, or the refusal that bars a call.
-#[derive(Clone, Copy)]
-pub enum Position {
-    At(usize),
-    Nowhere,
-    Barred(u32),
-}
-
-// The lowest ticket found so far, 0 where there is none yet, and where it stands.
-#[derive(Clone, Copy)]
+// The lowest ticket found so far, and where it stands.
+#[derive(Clone, Copy, Debug, PartialEq, Eq)]
 pub struct Lowest {
     pub ticket: u32,
     pub at: usize,
 }
 
 // Takes a ticket at a position, which 0 is none of, where it is lower than what was found.
-pub fn lower(found: Lowest, ticket: u32, at: usize) -> Lowest
+pub fn lower(found: Option<Lowest>, ticket: u32, at: usize) -> Option<Lowest>
     ensures { result ≡ lower found ticket at }
 {
     if ticket == 0 {
         return found;
     }
-    if found.ticket == 0 {
-        return Lowest {
-            ticket: ticket,
-            at: at,
-        };
+    match found {
+        Some(lowest) if lowest.ticket <= ticket => found,
+        _ => Some(Lowest { ticket, at }),
     }
-    if ticket < found.ticket {
-        return Lowest {
-            ticket: ticket,
-            at: at,
-        };
-    }
-    found
 }
 
 // Finds the first of n positions that has a ticket, where a free one has 0.
-pub fn find(tickets: &[u32; limit::SLOTS], t: u32, n: usize) -> Position
+pub fn find(tickets: &[u32; limit::SLOTS], t: u32, n: usize) -> Option<usize>
     requires { n ≤ limit.slots }
-    ensures { result ≡ first_at (same_as (column tickets.now) t) 0 n }
+    ensures { place result ≡ first_at (same_as (column tickets.now) t) 0 n }
 {
-    let mut position: usize = 0;
-    while position < n {
-        if tickets[position] == t {
-            return Position::At(position);
-        }
-        position += 1;
-    }
-    Position::Nowhere
+    tickets[..n].iter().position(|&ticket| ticket == t)
 }
 
 // Tells whether a ticket, which 0 is none of, stands at one of the first n positions.
+#[tactic(auto, using(crate::proofs::Searches::is_some_place), unfolding(crate::specs::Search::among))]
 pub fn stands(tickets: &[u32; limit::SLOTS], t: u32, n: usize) -> bool
     requires { n ≤ limit.slots }
     ensures { result ≡ among (column tickets.now) t n }
 {
-    if t == 0 {
-        return false;
-    }
-    let p = find(tickets, t, n);
-    match p {
-        Position::At(_) => true,
-        Position::Nowhere => false,
-        Position::Barred(_) => false,
-    }
+    t != 0 && find(tickets, t, n).is_some()
 }
 
 // Tells the same as `stands`, at once for 0 and for a ticket that is higher than all of them.
+#[tactic(auto, using(crate::proofs::Searches::above_all), unfolding(crate::specs::Search::among))]
 pub fn repeats(tickets: &[u32; limit::SLOTS], t: u32, n: usize, highest: u32) -> bool
     requires { (n ≤ limit.slots) × AtMost (column tickets.now) n highest }
     ensures { result ≡ among (column tickets.now) t n }

@@ -9,10 +9,7 @@ pub const IDLE: u32 = 600;
 pub fn higher(a: u32, b: u32) -> u32
     ensures { result ≡ higher a b }
 {
-    if a < b {
-        return b;
-    }
-    a
+    a.max(b)
 }
 
 // Tells whether a session with that tick is idle when the desk's tick is `now`.

@@ -16,8 +16,8 @@ use Rattle.desk.specs.Steps.{Sound, Turned, refused, seen as counts-as, new_step
 use Rattle.desk_entries.proofs.Searches.{clash, first_at_is, first_at_not, unbarred, lowest_at_is, lowest_at_not, lowest_unbarred}
 use Rattle.desk_slots.proofs.SlotLaws.{free_is, slot_inside}
 use Rattle.desk.proofs.DeskLaws.{is_sound}
-use Rattle.desk_entries.specs.declared.tickets.Position.{Position}
-use Rattle.desk_entries.specs.declared.tickets.Position.TheVariants.{At, Nowhere, Barred}
+use Rattle.desk_entries.specs.Search.{Position}
+use Rattle.desk_entries.specs.Search.{At, Nowhere, Barred}
 use Rattle.desk_entries.specs.declared.Session.{Session}
 use Rattle.desk_entries.specs.declared.State.{State}
 use Rattle.desk_entries.specs.declared.State.TheVariants.{Free, Open}

@@ -19,16 +19,16 @@ use Rattle.desk_entries.proofs.Searches.{clash, first_at_is, first_at_not, unbar
 use Rattle.desk_slots.proofs.SoundLaws.{in_bounds}
 use Rattle.desk_slots.proofs.SlotLaws.{free_is, slot_inside}
 use Rattle.desk.proofs.DeskLaws.{is_sound, Granted}
-use Rattle.desk_entries.specs.declared.tickets.Position.{Position}
-use Rattle.desk_entries.specs.declared.tickets.Position.TheVariants.{At, Nowhere, Barred}
+use Rattle.desk_entries.specs.Search.{Position}
+use Rattle.desk_entries.specs.Search.{At, Nowhere, Barred}
 use Rattle.desk_entries.specs.declared.Session.{Session}
 use Rattle.desk_entries.specs.declared.Entry.{Entry}
 use Rattle.desk_entries.specs.declared.State.{State}
 use Rattle.desk_entries.specs.declared.State.TheVariants.{Free, Open}
 use Rattle.desk.specs.declared.Desk.{Desk}
-use Rattle.desk.specs.declared.Answer.TheVariants.{Done}
-use Rattle.desk_slots.specs.declared.Slot.{Slot}
-use Rattle.desk_slots.specs.declared.Slot.TheVariants.{Held, No}
+use Rattle.desk.specs.Answer.{Done}
+use Rattle.desk_slots.specs.Slots.{Slot}
+use Rattle.desk_slots.specs.Slots.{Held, No}
 use Rattle.desk_ledger.specs.Answers.{said}
 use Rattle.desk_ledger.specs.Ledger.{adds, opens, on, Reply, told, absent, present, Ledger, lookup, change, Out, ledger_step}
 use Rattle.desk_ledger.specs.Ticks.{Ask, judging, showing, counting, releasing, deed, Ticked, opens_at, adds_at, asks_of, Stamp, Clocked, stamp_of, counted, idle, Whose, nobody, of, lowest_idle, takes, freed, clocked_by, clocked_step, fresh_clocked, run_ticked, after_ticked}

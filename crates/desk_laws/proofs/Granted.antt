@@ -18,13 +18,13 @@ use Rattle.desk_pool.specs.Pools.{patch, zeros}
 use Rattle.desk_pool.proofs.Patches.{zeros_are, zeros_length}
 use Rattle.desk.specs.Steps.{Turned, refused as refusing, slot_of, seen, opened, reclaim_in, open_in, open_step, add_in, add_step, release_in, release_step}
 use Rattle.desk.proofs.DeskLaws.{is_sound, granted}
-use Rattle.desk_entries.specs.declared.tickets.Position.{Position}
-use Rattle.desk_entries.specs.declared.tickets.Position.TheVariants.{At, Nowhere, Barred}
+use Rattle.desk_entries.specs.Search.{Position}
+use Rattle.desk_entries.specs.Search.{At, Nowhere, Barred}
 use Rattle.desk_entries.specs.declared.Session.{Session}
 use Rattle.desk_entries.specs.declared.State.{State}
 use Rattle.desk_entries.specs.declared.State.TheVariants.{Free, Open}
-use Rattle.desk_slots.specs.declared.Slot.{Slot}
-use Rattle.desk_slots.specs.declared.Slot.TheVariants.{Held, No}
+use Rattle.desk_slots.specs.Slots.{Slot}
+use Rattle.desk_slots.specs.Slots.{Held, No}
 use Rattle.desk.specs.declared.Desk.{Desk}
 use Rattle.desk_ledger.specs.Answers.{told, said}
 use Rattle.desk_laws.specs.Granted.{Usable, OpenAt, EntryBecomes, TicksBecome, OctetsBecome, Opened, Opens, in_free_slot, in_idle_slot, Added, Released, Granted}

@@ -9,10 +9,10 @@ use Rattle.octets.specs.Pick.{pick}
 use Rattle.desk_entries.specs.Search.{first_at}
 use Rattle.desk_slots.specs.Slots.{free_at}
 use Rattle.desk.specs.Steps.{sound, seen, idle_slot, Turned, reclaim_in, open_in, open_step, slot_of, add_in, add_step, release_in, release_step}
-use Rattle.desk_entries.specs.declared.tickets.Position.{Position}
-use Rattle.desk_entries.specs.declared.tickets.Position.TheVariants.{At, Nowhere, Barred}
-use Rattle.desk_slots.specs.declared.Slot.{Slot}
-use Rattle.desk_slots.specs.declared.Slot.TheVariants.{Held, No}
+use Rattle.desk_entries.specs.Search.{Position}
+use Rattle.desk_entries.specs.Search.{At, Nowhere, Barred}
+use Rattle.desk_slots.specs.Slots.{Slot}
+use Rattle.desk_slots.specs.Slots.{Held, No}
 use Rattle.desk.specs.declared.Desk.{Desk}
 use Rattle.desk_ledger.specs.Ticks.{judging, showing, counting, releasing, Ticked, opens_at, adds_at, asks_of, Clocked, clocked_step, fresh_clocked, after_ticked}
 use Rattle.desk_ledger.specs.Desks.{World, desk_step, fresh, Proper, world}

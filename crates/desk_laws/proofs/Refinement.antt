@@ -22,7 +22,7 @@ use Rattle.desk_entries.specs.declared.Entry.{Entry}
 use Rattle.desk_entries.specs.declared.State.{State}
 use Rattle.desk_entries.specs.declared.State.TheVariants.{Free, Open}
 use Rattle.desk.specs.declared.Desk.{Desk}
-use Rattle.desk_slots.specs.declared.Slot.TheVariants.{Held, No}
+use Rattle.desk_slots.specs.Slots.{Held, No}
 use Rattle.desk_ledger.specs.Ledger.{Deed, adds, judges, shows, asks, releases, on, told, absent, present, answer, leaves, Row, Ledger, lookup, change, Out, ledger_step, fresh_ledger}
 use Rattle.desk_ledger.specs.Ticks.{judging, showing, counting, releasing}
 use Rattle.desk_ledger.specs.Desks.{World, took, ask_step}

@@ -15,14 +15,14 @@ use Rattle.desk.specs.Steps.{Sound, sound, slot_of, octets_in}
 use Rattle.desk_entries.proofs.Searches.{clash, first_at_is, first_at_not, unbarred}
 use Rattle.desk_slots.proofs.SlotLaws.{session_at}
 use Rattle.desk.proofs.DeskLaws.{is_sound, Granted, granted}
-use Rattle.desk_entries.specs.declared.tickets.Position.{Position}
-use Rattle.desk_entries.specs.declared.tickets.Position.TheVariants.{At, Nowhere, Barred}
+use Rattle.desk_entries.specs.Search.{Position}
+use Rattle.desk_entries.specs.Search.{At, Nowhere, Barred}
 use Rattle.desk_entries.specs.declared.Session.{Session}
 use Rattle.desk_entries.specs.declared.Entry.{Entry}
 use Rattle.desk_entries.specs.declared.State.{State}
 use Rattle.desk_entries.specs.declared.State.TheVariants.{Free, Open}
 use Rattle.desk.specs.declared.Desk.{Desk}
-use Rattle.desk_slots.specs.declared.Slot.TheVariants.{Held, No}
+use Rattle.desk_slots.specs.Slots.{Held, No}
 use Rattle.desk_ledger.specs.Ledger.{Found, absent, present, Row, Ledger, lookup}
 use Rattle.desk_ledger.specs.Ticks.{Stamp, Clocked, stamp_of}
 use Rattle.desk_laws.proofs.LedgerRows.{no, Below}

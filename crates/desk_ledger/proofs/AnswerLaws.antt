@@ -6,8 +6,8 @@ use Rattle.octets.specs.Room.{Written}
 use Rattle.octets.specs.Room.{Wrote, Refused as Unwritten}
 use Rattle.reader.specs.Outcome.{Verdict}
 use Rattle.reader.specs.Outcome.{Accepted, Refused as Unread}
-use Rattle.desk.specs.declared.Answer.{Answer}
-use Rattle.desk.specs.declared.Answer.TheVariants.{Done, Refused}
+use Rattle.desk.specs.Answer.{Answer}
+use Rattle.desk.specs.Answer.{Done, Refused}
 use Rattle.desk_ledger.specs.Answers.{refused, told, counts, verdict, wrote, said}
 
 clash : {A : Type 0} → ◌≡◌ {A = ℕ} 0 1 → A

@@ -4,8 +4,8 @@ use Rattle.octets.specs.Room.{Written}
 use Rattle.octets.specs.Room.{Wrote, Refused as Unwritten}
 use Rattle.reader.specs.Outcome.{Verdict}
 use Rattle.reader.specs.Outcome.{Accepted, Refused as Unread}
-use Rattle.desk.specs.declared.Answer.{Answer}
-use Rattle.desk.specs.declared.Answer.TheVariants.{Done, Refused}
+use Rattle.desk.specs.Answer.{Answer}
+use Rattle.desk.specs.Answer.{Done, Refused}
 
 -- an answer: a refusal's number and place; a ticket, a count of octets or 0; counts of cards and lines; octets shown
 pub data Reply : Type 0 where

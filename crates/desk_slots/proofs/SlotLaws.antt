@@ -9,20 +9,16 @@ use lib.ListN.{length, set}
 use lib.Seq.{get_or-set_same, get_or-set_other}
 use borrow.Author.Tests.{ltb-true, ltb-false, eqb-true, eqb-false, ne_eqb}
 use Rattle.octets.specs.Pick.{pick}
-use Rattle.desk_entries.specs.Search.{first_at, column, same_as, among, AtMost}
+use Rattle.desk_entries.specs.Search.{Position, At, Nowhere, Barred, first_at, column, same_as, among, AtMost}
 use Rattle.desk_entries.specs.Ticks.{higher}
 use Rattle.desk_slots.specs.Sound.{state_at, Sound, SoundAt, ticket_at, sound_at}
-use Rattle.desk_slots.specs.Slots.{guarded, is_free, free_at, open_at, in_state, at_position, position_of, slot_of, Within}
+use Rattle.desk_slots.specs.Slots.{Slot, Held, No, guarded, is_free, free_at, open_at, in_state, at_position, position_of, slot_of, Within}
 use Rattle.desk_entries.proofs.Searches.{clash, first_at_is, first_at_same, among_same}
 use Rattle.desk_slots.proofs.SoundLaws.{sound_at_lem}
-use Rattle.desk_entries.specs.declared.tickets.Position.{Position}
-use Rattle.desk_entries.specs.declared.tickets.Position.TheVariants.{At, Nowhere, Barred}
 use Rattle.desk_entries.specs.declared.Session.{Session}
 use Rattle.desk_entries.specs.declared.State.{State}
 use Rattle.desk_entries.specs.declared.State.TheVariants.{Free, Open}
 use Rattle.desk_entries.specs.declared.Entry.{Entry}
-use Rattle.desk_slots.specs.declared.Slot.{Slot}
-use Rattle.desk_slots.specs.declared.Slot.TheVariants.{Held, No}
 
 -- ---- 25 and 24
 

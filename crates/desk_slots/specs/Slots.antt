@@ -1,21 +1,36 @@
 -- The slot of a ticket, the lowest free slot and the idle one with the lowest ticket, with the refusals 25, 24 and 22, for all entries of a
 -- desk, its slot count, its next ticket and its ticks, every size of the pool and every ticket. Assumes nothing.
-use Rattle.std.specs.Prelude.{ℕ, zero, suc, ◌+◌, ◌*◌, ◌<◌, ◌≤◌, Bool, true, false, List, eqb}
+use Rattle.std.specs.Prelude.{ℕ, zero, suc, ◌+◌, ◌*◌, ◌<◌, ◌≤◌, Bool, true, false, List, Option, Some, None, Result, Ok, Err, eqb}
 use Rattle.numbers.specs.Limits as limit
 use Rattle.numbers.specs.Refusals as refusal
 use Rattle.octets.specs.Pick.{pick}
-use Rattle.desk_entries.specs.Search.{first_at, same_as, lowest_at, leading}
+use Rattle.desk_entries.specs.Search.{Position, At, Nowhere, Barred, place, first_at, same_as, lowest_at, leading}
 use Rattle.desk_entries.specs.Ticks.{idle_ticket}
 use Rattle.desk_slots.specs.Sound.{state_at, ticket_at, tick_at, sound_at}
-use Rattle.desk_entries.specs.declared.tickets.Position.{Position}
-use Rattle.desk_entries.specs.declared.tickets.Position.TheVariants.{At, Nowhere, Barred}
+use Rattle.numbers.specs.Refusals.{number}
+use Rattle.numbers.specs.declared.refusal.Reason.TheVariants.{PoolLength, Unsound}
+use Rattle.numbers.specs.declared.refusal.Refusal.{Refusal}
 use Rattle.desk_entries.specs.declared.Session.{Session}
 use Rattle.desk_entries.specs.declared.State.{State}
 use Rattle.desk_entries.specs.declared.State.TheVariants.{Free, Open}
 use Rattle.desk_entries.specs.declared.Entry.{Entry}
-use Rattle.desk_slots.specs.declared.Slot.{Slot}
-use Rattle.desk_slots.specs.declared.Slot.TheVariants.{Held, No}
+use Rattle.desk_slots.specs.declared.Found.{Found}
 use Rattle.desk_slots.specs.declared.Look.{Look}
+
+-- the slot of a ticket with its session, or a refusal
+pub data Slot : Type 0 where
+  Held : ℕ → Session → Slot
+  No : ℕ → Slot
+
+-- the same of a result
+abbrev pub found : Result Found Refusal → Slot
+found (Ok f) = Held f.slot f.session
+found (Err r) = No (number r.0)
+
+-- a position, or the refusal that bars a call
+abbrev pub position : Result (Option ℕ) Refusal → Position
+position (Ok o) = place o
+position (Err r) = Barred (number r.0)
 
 -- 25 where the desk is not sound, then 24 where the pool has another size, else a
 abbrev pub guarded : {A : Type 0} → List Entry → ℕ → ℕ → List ℕ → ℕ → ℕ → (ℕ → A) → A → A
@@ -63,21 +78,27 @@ slot_of es slots next stamps tick size t = guarded es slots next stamps tick siz
 -- ---- one look along the entries
 
 -- entry i, where it has the ticket, and else what was found before
-abbrev pub met : Slot → ℕ → ℕ → State → Slot
-met slot i t Free = slot
-met slot i t (Open s) = pick (eqb s.ticket t) (Held i s) slot
+abbrev pub met : Option Found → ℕ → ℕ → State → Option Found
+met f i t Free = f
+met f i t (Open s) = pick (eqb s.ticket t) (Some (record { slot = i; session = s })) f
 
 -- the last of the first n entries that has a ticket
-unfoldable pub latest : List Entry → ℕ → ℕ → Slot
-latest es t zero = No refusal.not_open
+unfoldable pub latest : List Entry → ℕ → ℕ → Option Found
+latest es t zero = None
 latest es t (suc n) = met (latest es t n) n t (state_at es n)
 
-abbrev pub unsound : Look
-unsound = record { sound = false; slot = No refusal.not_open; run = 0 }
+-- the entry that has a ticket, and how many open entries come first
+abbrev pub look_in : List Entry → ℕ → Look
+look_in es t = record { found = latest es t limit.slots; run = leading (free_at es) limit.slots }
 
--- of a sound desk the entry that has a ticket, and how many open entries come first
-unfoldable pub look_of : List Entry → ℕ → ℕ → List ℕ → ℕ → ℕ → Look
-look_of es slots next stamps tick t = pick (sound_at es slots next stamps tick) (record { sound = true; slot = latest es t limit.slots; run = leading (free_at es) limit.slots }) unsound
+-- the same of a sound desk
+unfoldable pub look_of : List Entry → ℕ → ℕ → List ℕ → ℕ → ℕ → Option Look
+look_of es slots next stamps tick t = pick (sound_at es slots next stamps tick) (Some (look_in es t)) None
+
+-- 25, 24, or what a look tells
+unfoldable pub seen_of : List Entry → ℕ → ℕ → List ℕ → ℕ → ℕ → ℕ → Result Look Refusal
+seen_of es slots next stamps tick size t =
+    pick (sound_at es slots next stamps tick) (pick (eqb size (slots * limit.octets)) (Ok (look_in es t)) (Err (record { 0 = PoolLength; 1 = 0 }))) (Err (record { 0 = Unsound; 1 = 0 }))
 
 -- slot i lies within the desk and its pool of that size, and the octets held within the slot
 pub record Bounded (size i : ℕ) (s : Session) : Type 0 where

@@ -1,184 +1,138 @@
 // One search along the entries of a desk: whether the desk is sound, and the slot of a ticket, the lowest free one or the idle one to take.
 #![tactic(auto)]
 
-ghost use Rattle.std.specs.Prelude.{◌≡◌, ◌≤◌};
+ghost use Rattle.std.specs.Prelude.{◌≡◌, ◌≤◌, IfErr};
 ghost use Rattle.numbers.specs.Limits as limit;
+ghost use Rattle.desk_entries.specs.Search.{place};
 ghost use Rattle.desk_slots.specs.Sound.{bounds};
 ghost use Rattle.desk_entries.specs.declared.State.TheVariants.{Open};
-ghost use Rattle.desk_slots.specs.Slots.{position_of, idle_of, slot_of, met, unsound, look_of, Within};
+ghost use Rattle.desk_slots.specs.Slots.{position, position_of, idle_of, found, slot_of, met, look_of, seen_of, Within};
 
-use desk_entries::tickets::{Lowest, Position};
+use desk_entries::tickets::Lowest;
 use desk_entries::{Entry, Session, State, tickets, ticks};
-use numbers::{limit, refusal};
+use numbers::limit;
+use numbers::refusal::{Reason, Refusal};
 
-// The slot of a ticket with its session, or a refusal.
-#[derive(Clone, Copy)]
-pub enum Slot {
-    Held(usize, Session),
-    No(u32),
+// What is known of a desk's slots: their entries with the tick of each, their count, the next ticket and the desk's tick.
+#[derive(Clone, Copy, Debug, PartialEq, Eq)]
+pub struct Table {
+    pub entries: [Entry; limit::SLOTS],
+    pub stamps: [u32; limit::SLOTS],
+    pub slots: usize,
+    pub next: u32,
+    pub tick: u32,
 }
 
-// What a look along the entries tells: whether the desk is sound, and then the slot of a ticket and how many open entries come first.
-#[derive(Clone, Copy)]
+// The slot of a ticket, and its session.
+#[derive(Clone, Copy, Debug, PartialEq, Eq)]
+pub struct Found {
+    pub slot: usize,
+    pub session: Session,
+}
+
+// What a look along the entries of a sound desk tells: the slot of a ticket, and how many open entries come first.
+#[derive(Clone, Copy, Debug, PartialEq, Eq)]
 pub struct Look {
-    pub sound: bool,
-    pub slot: Slot,
+    pub found: Option<Found>,
     pub run: usize,
 }
 
 // Tells whether the slot count is in range and the next ticket at least 1.
+#[tactic(auto, unfolding(crate::specs::Sound::bounds))]
 pub fn in_bounds(slots: usize, next: u32) -> bool
     ensures { result ≡ bounds slots next }
 {
-    if slots < 1 {
-        return false;
-    }
-    if slots > limit::SLOTS {
-        return false;
-    }
-    next >= 1
-}
-
-// What a look tells of a desk that is not sound.
-fn unsound() -> Look
-    ensures { result ≡ unsound }
-{
-    Look {
-        sound: false,
-        slot: Slot::No(refusal::NOT_OPEN),
-        run: 0,
-    }
+    1 <= slots && slots <= limit::SLOTS && 1 <= next
 }
 
 // Takes the session of entry i where it has the ticket, and else what was found before.
-fn met(slot: Slot, i: usize, o: Session, t: u32) -> Slot
-    ensures { result ≡ met slot i t (Open o) }
+fn met(found: Option<Found>, i: usize, session: Session, t: u32) -> Option<Found>
+    ensures { result ≡ met found i t (Open session) }
 {
-    if o.ticket == t {
-        return Slot::Held(i, o);
+    if session.ticket == t {
+        return Some(Found { slot: i, session });
     }
-    slot
+    found
 }
 
-// Looks along the entries once: whether the desk is sound, and then the slot of a ticket and how many open entries come first.
-fn look_along(
-    entries: [Entry; limit::SLOTS],
-    slots: usize,
-    next: u32,
-    stamps: &[u32; limit::SLOTS],
-    tick: u32,
-    t: u32,
-) -> Look
-    ensures { result ≡ look_of entries slots next stamps.now tick t }
-{
-    if !in_bounds(slots, next) {
-        return unsound();
-    }
-    let mut ts = [0u32; limit::SLOTS];
-    let mut highest: u32 = 0;
-    let mut slot = Slot::No(refusal::NOT_OPEN);
-    let mut run: usize = 0;
-    let mut i: usize = 0;
-    while i < limit::SLOTS {
-        let e = entries[i];
-        let s = e.state;
-        match s {
-            State::Free => {
-                i += 1;
-                continue;
-            }
-            State::Open(o) => {
-                if !desk_entries::fits(e, i, slots, next) {
-                    return unsound();
-                }
-                if tick < stamps[i] {
-                    return unsound();
-                }
-                if tickets::repeats(&ts, o.ticket, i, highest) {
-                    return unsound();
-                }
-                ts[i] = o.ticket;
-                highest = ticks::higher(highest, o.ticket);
-                slot = met(slot, i, o, t);
-                run = tickets::longer(run, i);
-                i += 1;
-            }
+impl Table {
+    // Looks along the entries once, and tells what it sees of a sound desk.
+    fn look_along(&self, t: u32) -> Option<Look>
+        ensures { result ≡ look_of self.now.entries self.now.slots self.now.next self.now.stamps self.now.tick t }
+    {
+        if !in_bounds(self.slots, self.next) {
+            return None;
         }
+        let mut ts = [0u32; limit::SLOTS];
+        let mut highest: u32 = 0;
+        let mut found = None;
+        let mut run: usize = 0;
+        for i in 0..limit::SLOTS {
+            let State::Open(session) = self.entries[i].state else {
+                continue;
+            };
+            if !desk_entries::fits(self.entries[i], i, self.slots, self.next) {
+                return None;
+            }
+            if self.tick < self.stamps[i] {
+                return None;
+            }
+            if tickets::repeats(&ts, session.ticket, i, highest) {
+                return None;
+            }
+            ts[i] = session.ticket;
+            highest = ticks::higher(highest, session.ticket);
+            found = met(found, i, session, t);
+            run = tickets::longer(run, i);
+        }
+        Some(Look { found, run })
     }
-    Look {
-        sound: true,
-        slot: slot,
-        run: run,
-    }
-}
 
-// Finds the lowest free slot, or bars the call with 25 or 24.
-pub fn find_slot(
-    entries: [Entry; limit::SLOTS],
-    slots: usize,
-    next: u32,
-    stamps: &[u32; limit::SLOTS],
-    tick: u32,
-    size: usize,
-) -> Position
-    ensures { result ≡ position_of entries slots next stamps.now tick size 0 }
-{
-    let seen = look_along(entries, slots, next, stamps, tick, 0);
-    if !seen.sound {
-        return Position::Barred(refusal::UNSOUND);
+    // Looks along the entries of a sound desk whose pool has its size, or refuses with 25 or 24.
+    fn checked_look(&self, size: usize, t: u32) -> Result<Look, Refusal>
+        ensures { result ≡ seen_of self.now.entries self.now.slots self.now.next self.now.stamps self.now.tick size t }
+    {
+        let Some(seen) = self.look_along(t) else {
+            return Err(Refusal(Reason::Unsound, 0));
+        };
+        if size != self.slots * limit::OCTETS {
+            return Err(Refusal(Reason::PoolLength, 0));
+        }
+        Ok(seen)
     }
-    if size != slots * limit::OCTETS {
-        return Position::Barred(refusal::POOL_LENGTH);
-    }
-    if seen.run < slots {
-        return Position::At(seen.run);
-    }
-    Position::Nowhere
-}
 
-// Finds the idle slot with the lowest ticket.
-pub fn find_idle(
-    entries: [Entry; limit::SLOTS],
-    slots: usize,
-    stamps: &[u32; limit::SLOTS],
-    at: u32,
-) -> Position
-    requires { slots ≤ limit.slots }
-    ensures { result ≡ idle_of entries slots stamps.now at }
-{
-    let mut lowest = Lowest { ticket: 0, at: 0 };
-    let mut i: usize = 0;
-    while i < slots {
-        let u = desk_entries::idle_ticket(entries[i], stamps[i], at);
-        lowest = tickets::lower(lowest, u, i);
-        i += 1;
+    // Finds the lowest free slot, or refuses with 25 or 24.
+    pub fn find_slot(&self, size: usize) -> Result<Option<usize>, Refusal>
+        ensures value { position result ≡ position_of self.now.entries self.now.slots self.now.next self.now.stamps self.now.tick size 0 }
+        ensures start { IfErr result (λ r. r.1 ≡ 0) }
+    {
+        let seen = self.checked_look(size, 0)?;
+        if seen.run < self.slots {
+            return Ok(Some(seen.run));
+        }
+        Ok(None)
     }
-    if lowest.ticket == 0 {
-        return Position::Nowhere;
-    }
-    Position::At(lowest.at)
-}
 
-// Finds the slot of a ticket, or refuses with 25, 24 or 22.
-pub fn at_ticket(
-    entries: [Entry; limit::SLOTS],
-    slots: usize,
-    next: u32,
-    stamps: &[u32; limit::SLOTS],
-    tick: u32,
-    size: usize,
-    t: u32,
-) -> Slot
-    ensures slot { result ≡ slot_of entries slots next stamps.now tick size t }
-    ensures within { Within size result }
-{
-    let seen = look_along(entries, slots, next, stamps, tick, t);
-    if !seen.sound {
-        return Slot::No(refusal::UNSOUND);
+    // Finds the idle slot with the lowest ticket, when the desk's tick is `now`.
+    pub fn find_idle(&self, now: u32) -> Option<usize>
+        requires { self.now.slots ≤ limit.slots }
+        ensures { place result ≡ idle_of self.now.entries self.now.slots self.now.stamps now }
+    {
+        let mut lowest: Option<Lowest> = None;
+        for i in 0..self.slots {
+            let ticket = desk_entries::idle_ticket(self.entries[i], self.stamps[i], now);
+            lowest = tickets::lower(lowest, ticket, i);
+        }
+        lowest.map(|found| found.at)
     }
-    if size != slots * limit::OCTETS {
-        return Slot::No(refusal::POOL_LENGTH);
+
+    // Finds the slot of a ticket, or refuses with 25, 24 or 22.
+    pub fn at_ticket(&self, size: usize, t: u32) -> Result<Found, Refusal>
+        ensures slot { found result ≡ slot_of self.now.entries self.now.slots self.now.next self.now.stamps self.now.tick size t }
+        ensures within { Within size (found result) }
+        ensures start { IfErr result (λ r. r.1 ≡ 0) }
+    {
+        let seen = self.checked_look(size, t)?;
+        seen.found.ok_or(Refusal(Reason::NotOpen, 0))
     }
-    let slot = seen.slot;
-    slot
 }

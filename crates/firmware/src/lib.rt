@@ -3,21 +3,22 @@
 
 ghost use Rattle.std.specs.Prelude.{◌≡◌, ◌<◌};
 ghost use Rattle.numbers.specs.Limits as limit;
+ghost use Rattle.octets.specs.Room.{written};
 ghost use Rattle.reader.specs.Outcome.{judge_of};
 ghost use Rattle.folder.specs.Outcome.{fold_outcome};
 ghost use Rattle.text.specs.Outcomes.{unescape_outcome};
 ghost use Rattle.firmware.specs.Word.{word, verdict_word, written_word, worded, word_outcome, Low};
 
 use numbers::limit;
-use octets::rooms::Written;
+use numbers::refusal::Refusal;
 use property_table::Edition;
-use reader::Verdict;
 
 // Packs a refusal's number and place into one word.
-fn pack_refusal(n: u32, p: usize) -> u64
-    requires { p < limit.word }
-    ensures { result ≡ word n p }
+fn pack_refusal(r: Refusal) -> u64
+    requires { r.1 < limit.word }
+    ensures { result ≡ word r.0 r.1 }
 {
+    let Refusal(n, p) = r;
     (n as u64) * limit::WORD + (p as u64)
 }
 
@@ -25,21 +26,20 @@ fn pack_refusal(n: u32, p: usize) -> u64
 pub fn judge(input: &[u8]) -> u64
     ensures { result ≡ verdict_word (judge_of input.now) }
 {
-    let v = reader::judge(input);
-    match v {
-        Verdict::Accepted(cards, _) => cards as u64,
-        Verdict::Refused(n, p) => pack_refusal(n, p),
+    match reader::judge(input) {
+        Ok(counts) => counts.cards as u64,
+        Err(r) => pack_refusal(r),
     }
 }
 
 // Packs the answer of an entry that writes octets into one word.
-fn pack_written(w: Written) -> u64
-    requires { Low w }
-    ensures { result ≡ written_word w }
+fn pack_written(w: Result<usize, Refusal>) -> u64
+    requires { Low (written w) }
+    ensures { result ≡ written_word (written w) }
 {
     match w {
-        Written::Wrote(n) => n as u64,
-        Written::Refused(n, p) => pack_refusal(n, p),
+        Ok(n) => n as u64,
+        Err(r) => pack_refusal(r),
     }
 }
 

@@ -2,12 +2,11 @@
 use mathlib.Core.Path.{◌≡◌, refl, sym, ap, ◌∙◌}
 use mathlib.Core.Bool.{Bool, true, false}
 use mathlib.Core.List.{List, [], ◌∷◌, ◌++◌, map, append_assoc, append-nil}
-use Prim.Native.Nat.{ℕ, suc, ◌+◌, ◌-◌, ◌<◌, ◌≤◌}
-use native.Mathlib.Numerals.{add-one}
+use Prim.Native.Nat.{ℕ, ◌+◌, ◌-◌, ◌<◌, ◌≤◌}
 use native.Mathlib.Omega.{arith}
 use lib.Dec.{ltb}
-use lib.ListN.{length, get_or, take, drop}
-use lib.Seq.{take-add, drop-drop, drop-cons}
+use lib.ListN.{length, take, drop}
+use lib.Seq.{take-add, drop-drop}
 use borrow.Author.Tests.{le-ltb, ltb-true, ltb-false}
 use Rattle.octets.specs.Pick.{pick}
 use Rattle.octets.specs.Slices.{part}
@@ -25,22 +24,15 @@ use Rattle.folder.proofs.TextLaws.{none_left, nothing}
 pub only_true : {A : Type 0} → false ≡ true → A
 only_true e = absurd (let z : ◌≡◌ {A = ℕ} 0 1 = cc in omega arith)
 
--- CR LF behind a line
-module _ (s : List ℕ) (at end : ℕ) (le : at ≤ end) (room : end + 2 ≤ length s) (cr : get_or s end 0 ≡ 13) (lf : get_or s (end + 1) 0 ≡ 10) where
-  mark : take 2 (drop end s) ≡ 13 ∷ 10 ∷ []
-  mark =
-      ap (take 2)
-      (drop-cons s end 0 (omega arith) ∙ ap (λ (b : ℕ). b ∷ drop (suc end) s) cr
-      ∙ ap (λ (r : List ℕ). 13 ∷ r) (drop-cons s (suc end) 0 (omega arith) ∙ ap (λ (b : ℕ). b ∷ drop (suc (suc end)) s) (ap (λ (i : ℕ). get_or s i 0) (sym (add-one end)) ∙ lf)))
-
-  pub with_end : take (end - at) (drop at s) ++ (13 ∷ 10 ∷ []) ≡ take (end + 2 - at) (drop at s)
-  with_end =
-      let n : end - at + 2 ≡ end + 2 - at = omega arith in
-      let k : at + (end - at) ≡ end = omega arith in
-      sym
-      (ap (λ (i : ℕ). take i (drop at s)) (sym n)
-      ∙ take-add (end - at) 2 (drop at s)
-      ∙ ap (λ (r : List ℕ). take (end - at) (drop at s) ++ r) (ap (take 2) (drop-drop (end - at) at s ∙ ap (λ (i : ℕ). drop i s) k) ∙ mark))
+-- a line and the CR LF behind it
+pub with_end : (s : List ℕ) (at end : ℕ) → at ≤ end → drop end s ≡ 13 ∷ 10 ∷ drop (end + 2) s → take (end - at) (drop at s) ++ (13 ∷ 10 ∷ []) ≡ take (end + 2 - at) (drop at s)
+with_end s at end le mark =
+    let n : end - at + 2 ≡ end + 2 - at = omega arith in
+    let k : at + (end - at) ≡ end = omega arith in
+    sym
+    (ap (λ (i : ℕ). take i (drop at s)) (sym n)
+    ∙ take-add (end - at) 2 (drop at s)
+    ∙ ap (λ (r : List ℕ). take (end - at) (drop at s) ++ r) (ap (take 2) (drop-drop (end - at) at s ∙ ap (λ (i : ℕ). drop i s) k ∙ mark)))
 
 -- a line of at most 75 octets is its own folded form
 pub short_stands : (l : List ℕ) → Clean l → length l ≤ 75 → folded l ≡ l ++ (13 ∷ 10 ∷ [])

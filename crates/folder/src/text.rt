@@ -9,8 +9,8 @@ ghost use Rattle.folder_raising.specs.Walk.{raised, written};
 ghost use Rattle.folder.specs.Fitting.{Fitted, Poured};
 
 use folder_raising::Style;
-use numbers::refusal::Refusal;
-use numbers::{limit, refusal};
+use numbers::refusal::{Reason, Refusal};
+use numbers::limit;
 
 // Raises the names of the line that stands in the first n octets of d.
 fn raise_start(d: &mut [u8], n: usize)
@@ -111,19 +111,8 @@ fn stays(style: Style, s: &[u8], at: usize, end: usize, folds: bool) -> bool
     requires s_value { folds ≡ false → unfolded (take (end - at) (drop at s.now)) ≡ take (end - at) (drop at s.now) }
     ensures { result ≡ true → (end + 2 ≤ length s.now) × (folded (written style (unfolded (take (end - at) (drop at s.now)))) ≡ take (end + 2 - at) (drop at s.now)) }
 {
-    if s.len() - end < 2 {
-        return false;
-    }
-    if s[end] != b'\r' {
-        return false;
-    }
-    if s[end + 1] != b'\n' {
-        return false;
-    }
-    if !stands(&s[at..end], folds) {
-        return false;
-    }
-    keeps_names(style, &s[at..end])
+    let line = &s[at..end];
+    s[end..].starts_with(b"\r\n") && stands(line, folds) && keeps_names(style, line)
 }
 
 // Copies the last run of lines to d from w on, where there is room for it: the octets then written in all, or 16.
@@ -133,7 +122,7 @@ fn put_run(run: &[u8], d: &mut [u8], w: usize) -> Result<usize, Refusal>
 {
     let n = run.len();
     if d.len() - w < n {
-        return Err(Refusal(refusal::FORM_TOO_LONG, limit::OCTETS));
+        return Err(Refusal(Reason::FormTooLong, limit::OCTETS));
     }
     octets::copying::copy_in(&mut d[w..], run);
     Ok(w + n)
@@ -158,7 +147,7 @@ fn pour(style: Style, s: &[u8], d: &mut [u8]) -> Result<usize, Refusal>
         } else {
             let n = put_behind(style, &s[from..at], &s[at..end], folds, &mut d[w..]);
             if d.len() - w < n {
-                return Err(Refusal(refusal::FORM_TOO_LONG, limit::OCTETS));
+                return Err(Refusal(Reason::FormTooLong, limit::OCTETS));
             }
             w += n;
             at = end + 2;
@@ -176,7 +165,7 @@ fn fold_buffered(style: Style, s: &[u8], out: &mut [u8]) -> Result<usize, Refusa
     let mut buffer = [0u8; limit::OCTETS];
     let n = pour(style, s, &mut buffer)?;
     if out.len() < n {
-        return Err(Refusal(refusal::ROOM, n));
+        return Err(Refusal(Reason::Room, n));
     }
     octets::copying::copy_in(out, &buffer[..n]);
     Ok(n)
@@ -188,10 +177,7 @@ fn is_roomy(n: usize, room: usize) -> bool
     ensures { result ≡ true → (4 * n + 2 ≤ room) × (4 * n + 2 ≤ limit.octets) }
 {
     let most = 4 * n + 2;
-    if limit::OCTETS < most {
-        return false;
-    }
-    most <= room
+    most <= limit::OCTETS && most <= room
 }
 
 // Folds a text in a style: 16 where the folded form is over 16,384 octets, 15 where out is too small for it, else the octets written. It is written at

@@ -2,13 +2,15 @@
 use mathlib.Core.Path.{◌≡◌, refl, sym, ap, ◌∙◌}
 use mathlib.Core.Bool.{Bool, true, false, not}
 use mathlib.Core.List.{List, [], ◌∷◌, ◌++◌, append_assoc}
-use Prim.Native.Nat.{ℕ, suc, ◌+◌, ◌-◌, ◌<◌, ◌≤◌}
-use native.Mathlib.Numerals.{add-one}
+use Prim.Native.Nat.{ℕ, ◌+◌, ◌-◌, ◌<◌, ◌≤◌}
 use native.Mathlib.Omega.{arith}
 use lib.Dec.{eqb}
 use lib.ListN.{length, get_or, take, drop, length-append, length-drop, take-append-drop}
-use lib.Seq.{drop-cons, take_all, take-append_seam, drop-append_seam, get_or-append-add, drop-drop, length-take-le}
+use lib.Seq.{take_all, take-append_seam, drop-append_seam, get_or-append-add, drop-drop, length-take-le}
 use borrow.Author.Tests.{eqb-false}
+use Rattle.std.specs.List.{starts_with}
+use Rattle.std.proofs.lemmas.Slice.Eq.{starts_is}
+use Rattle.std.proofs.lemmas.Bool.Decides.{Decides-eqb}
 use Rattle.octets.specs.Classes.{run, more}
 use Rattle.utf8.specs.Characters.{tail}
 use Rattle.line_folds.specs.Folds.{fold_at, unfolded, not_cr}
@@ -17,18 +19,11 @@ use Rattle.line_folds.proofs.QuickLaws.{no_fold}
 use Rattle.folder_line.specs.Pieces.{first, Clean}
 use Rattle.folder_line.proofs.Turns.{folded_from, last_piece, turn, turn_clean, cut_place}
 
--- CR LF and a space stand at i
-module _ (s : List ℕ) where
-  octet_at : (j b : ℕ) → j < length s → get_or s j 0 ≡ b → drop j s ≡ b ∷ drop (j + 1) s
-  octet_at j b h e = drop-cons s j 0 h ∙ ap (λ (y : ℕ). y ∷ drop (suc j) s) e ∙ ap (λ (k : ℕ). b ∷ drop k s) (sym (add-one j))
-
-  pub fold_octets : (i : ℕ) → i + 3 < length s → get_or s i 0 ≡ 13 → get_or s (i + 1) 0 ≡ 10 → get_or s (i + 2) 0 ≡ 32 → drop i s ≡ 13 ∷ 10 ∷ 32 ∷ drop (i + 3) s
-  fold_octets i h e f g =
-      let y : i + 1 + 1 ≡ i + 2 = omega arith in
-      let z : i + 2 + 1 ≡ i + 3 = omega arith in
-      octet_at i 13 (omega arith) e
-      ∙ ap (λ (r : List ℕ). 13 ∷ r) (octet_at (i + 1) 10 (omega arith) f ∙ ap (λ (k : ℕ). 10 ∷ drop k s) y)
-      ∙ ap (λ (r : List ℕ). 13 ∷ 10 ∷ r) (octet_at (i + 2) 32 (omega arith) g ∙ ap (λ (k : ℕ). 32 ∷ drop k s) z)
+-- p stands at i where what is left there starts with it
+pub starts_at : (p s : List ℕ) (i : ℕ) (r : Bool) → r ≡ starts_with eqb (take (length s - i) (drop i s)) p → r ≡ true → drop i s ≡ p ++ drop (i + length p) s
+starts_at p s i r h e =
+    let all : take (length s - i) (drop i s) ≡ drop i s = take_all (length s - i) (drop i s) (rw length-drop (omega arith)) in
+    (starts_is Decides-eqb (drop i s) p r (rw all at h)).0 e ∙ ap (λ (t : List ℕ). p ++ t) (drop-drop (length p) i s)
 
 -- up to the first CR nothing is unfolded, and then the rest is
 unfold_run : (l : List ℕ) → unfolded l ≡ take (run not_cr l) l ++ unfolded (drop (run not_cr l) l)

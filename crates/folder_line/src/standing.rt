@@ -16,19 +16,8 @@ fn is_cut(s: &[u8], i: usize) -> bool
     if s.len() - i <= FOLD_LENGTH {
         return false;
     }
-    if s[i] != b'\r' {
-        return false;
-    }
-    if s[i + 1] != b'\n' {
-        return false;
-    }
-    if s[i + 2] != b' ' {
-        return false;
-    }
-    if s[i + 3] == b'\r' {
-        return false;
-    }
-    !utf8::is_tail(s[i + 3])
+    let next = s[i + FOLD_LENGTH];
+    s[i..].starts_with(b"\r\n ") && next != b'\r' && !utf8::is_tail(next)
 }
 
 // True only where the line s, its folds with it, is the folded form of what it has without them: each physical line but the last is full.

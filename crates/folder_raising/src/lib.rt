@@ -6,14 +6,14 @@ ghost use Rattle.folder_raising.specs.Letters.{upper};
 ghost use Rattle.folder_raising.specs.Walk.{after, turned, raised, Kept};
 
 // As read, or with the ASCII letters of group, property and parameter names as capitals.
-#[derive(Clone, Copy)]
+#[derive(Clone, Copy, Debug, PartialEq, Eq)]
 pub enum Style {
     AsRead,
     Raised,
 }
 
 // Where a line stands: in its group, its name or a parameter's name; in a parameter's values; between quote marks there; behind the colon.
-#[derive(Clone, Copy)]
+#[derive(Clone, Copy, Debug, PartialEq, Eq)]
 pub enum Spot {
     Name,
     Values,
@@ -25,49 +25,37 @@ pub enum Spot {
 fn capital(b: u8) -> u8
     ensures { result ≡ upper b }
 {
-    if b < b'a' {
-        return b;
-    }
-    if b'z' < b {
-        return b;
-    }
-    b - 32
+    b.to_ascii_uppercase()
 }
 
 fn after_name(b: u8) -> Spot
     ensures { result ≡ after Spot.Name b }
 {
-    if b == b':' {
-        return Spot::Past;
+    match b {
+        b':' => Spot::Past,
+        b'=' => Spot::Values,
+        _ => Spot::Name,
     }
-    if b == b'=' {
-        return Spot::Values;
-    }
-    Spot::Name
 }
 
 fn after_value(b: u8) -> Spot
     ensures { result ≡ after Spot.Values b }
 {
-    if b == b'"' {
-        return Spot::Quotes;
+    match b {
+        b'"' => Spot::Quotes,
+        b';' => Spot::Name,
+        b':' => Spot::Past,
+        _ => Spot::Values,
     }
-    if b == b';' {
-        return Spot::Name;
-    }
-    if b == b':' {
-        return Spot::Past;
-    }
-    Spot::Values
 }
 
 fn after_quoted(b: u8) -> Spot
     ensures { result ≡ after Spot.Quotes b }
 {
-    if b == b'"' {
-        return Spot::Values;
+    match b {
+        b'"' => Spot::Values,
+        _ => Spot::Quotes,
     }
-    Spot::Quotes
 }
 
 // Where the line stands after an octet.
@@ -88,20 +76,7 @@ fn raise_octet(spot: Spot, b: u8) -> u8
 {
     match spot {
         Spot::Name => capital(b),
-        Spot::Values => b,
-        Spot::Quotes => b,
-        Spot::Past => b,
-    }
-}
-
-fn is_past(spot: Spot) -> bool
-    ensures { result ≡ true → spot ≡ Spot.Past }
-{
-    match spot {
-        Spot::Name => false,
-        Spot::Values => false,
-        Spot::Quotes => false,
-        Spot::Past => true,
+        Spot::Values | Spot::Quotes | Spot::Past => b,
     }
 }
 
@@ -110,15 +85,13 @@ pub fn raise(d: &mut [u8])
     ensures { d.new ≡ raised d.old }
 {
     let mut spot = Spot::Name;
-    let mut i: usize = 0;
-    while i < d.len() {
-        if is_past(spot) {
+    for x in d.iter_mut() {
+        if spot == Spot::Past {
             return;
         }
-        let b = d[i];
-        d[i] = raise_octet(spot, b);
+        let b = *x;
+        *x = raise_octet(spot, b);
         spot = next(spot, b);
-        i += 1;
     }
 }
 
@@ -127,26 +100,16 @@ fn pass_values(s: &[u8], from: usize) -> usize
     requires { from ≤ length s.now }
     ensures { (from ≤ result) × (result ≤ length s.now) × (Kept Spot.Name result s.now → Kept Spot.Values from s.now) }
 {
-    let mut i = from;
     let mut quoted = false;
-    while i < s.len() {
+    for i in from..s.len() {
         let b = s[i];
         if b == b'"' {
             quoted = !quoted;
-            i += 1;
-        } else if quoted {
-            i += 1;
-        } else {
-            if b == b';' {
-                return i;
-            }
-            if b == b':' {
-                return i;
-            }
-            i += 1;
+        } else if !quoted && (b == b';' || b == b':') {
+            return i;
         }
     }
-    i
+    s.len()
 }
 
 // True only where raising the names of a line leaves it as it is.

@@ -1,16 +1,19 @@
 -- Encoding and decoding as changes of a text: which octets they allow, which are marks, and that a text without marks stays. Assumes nothing.
 use mathlib.Core.Path.{◌≡◌, refl, sym, ap, ◌∙◌}
-use mathlib.Core.Bool.{true, false, ◌||◌}
+use mathlib.Core.Bool.{Bool, true, false, not, cond, ◌||◌}
 use mathlib.Core.List.{List, [], ◌∷◌}
-use Prim.Native.Nat.{ℕ, ◌<◌, ◌≤◌}
+use Prim.Native.Nat.{ℕ, ◌+◌, ◌<◌, ◌≤◌}
 use native.Mathlib.Omega.{arith}
-use lib.Dec.{eqb}
+use lib.Dec.{eqb, ltb}
 use lib.ListN.{length}
-use borrow.Author.Tests.{lt-ltb, le-ltb}
-use Rattle.octets.specs.Classes.{quoted, run}
+use borrow.Author.Tests.{lt-ltb, le-ltb, ltb-true, ltb-false}
+use Rattle.std.specs.List.{position_or_len}
+use Rattle.octets.specs.Pick.{pick}
+use Rattle.std.proofs.Common.{Some, None}
+use Rattle.octets.specs.Classes.{quoted, run, more}
 use Rattle.octets.specs.Counts.{any}
 use Rattle.octets.specs.Room.{Filled, refuse, fill, fill_bounded}
-use Rattle.octets.proofs.Bools.{or_none_left, or_none_right}
+use Rattle.octets.proofs.Bools.{clash, or_none_left, or_none_right}
 use Rattle.octets.proofs.RoomLaws.{within_bound}
 use Rattle.utf8.specs.Characters.{allowed}
 use Rattle.text.proofs.OutcomeLaws.{Change}
@@ -21,7 +24,7 @@ use Rattle.label_carets.specs.declared.Rule.{Rule}
 use Rattle.label_carets.specs.declared.Rule.TheVariants.{Rfc6350, Rfc6868}
 use Rattle.label_carets.proofs.EncodeLaws.{old_encoded, none_encoded}
 use Rattle.label_carets.proofs.PairLaws.{bare, old_decoded}
-use Rattle.label.specs.Outcomes.{writable, sayable}
+use Rattle.label.specs.Outcomes.{writable, unwritable, sayable}
 
 -- ---- 44
 
@@ -32,6 +35,41 @@ module _ (t room : List ℕ) (left : Filled) (n : ℕ) (e : n ≡ run writable t
 
   pub said : length t ≤ n → left ≡ sayable Rfc6350 t room left
   said h = simp (sym e, le-ltb n (length t) h)
+
+-- what the search for that octet answers
+searched : (t : List ℕ) → position_or_len (λ b. eqb b 10 || eqb b 34) t ≡ run writable t
+unfolding run writable
+searched [] = refl
+searched (x ∷ xs) = by (eqb x 10 || eqb x 34) (searched xs)
+  where
+    by : (u : Bool) {n m : ℕ} → n ≡ m → cond (not u) (1 + n) 0 ≡ more (not u) m
+    by true e = refl
+    by false e = omega arith
+
+pub searched_all : (t : List ℕ) (n : ℕ) → n ≡ position_or_len (λ b. eqb b 10 || eqb b 34) t → cond (ltb n (length t)) (Some n) None ≡ unwritable t
+unfolding unwritable
+searched_all t n e = rw (e, searched t) (by (ltb (run writable t) (length t)) (run writable t))
+  where
+    by : (u : Bool) (n : ℕ) → cond u (Some n) None ≡ pick u (Some n) None
+    by true n = refl
+    by false n = refl
+
+module _ (t : List ℕ) where
+  pub found : {n : ℕ} → Some n ≡ unwritable t → (n ≡ run writable t) × (n < length t)
+  unfolding unwritable
+  found {n} e = by (ltb (run writable t) (length t)) refl e
+    where
+      by : (b : Bool) → ltb (run writable t) (length t) ≡ b → Some n ≡ pick b (Some (run writable t)) None → (n ≡ run writable t) × (n < length t)
+      by true h e = let q : n ≡ run writable t = cc in (q, omega (arith, q, ltb-true (run writable t) (length t) h))
+      by false h e = clash cc
+
+  pub not_found : None ≡ unwritable t → length t ≤ run writable t
+  unfolding unwritable
+  not_found e = by (ltb (run writable t) (length t)) refl e
+    where
+      by : (b : Bool) → ltb (run writable t) (length t) ≡ b → None ≡ pick b (Some (run writable t)) None → length t ≤ run writable t
+      by true h e = clash cc
+      by false h e = ltb-false (run writable t) (length t) h
 
 -- a value without marks can be written by either rule
 writable_all : (t : List ℕ) → any marked t ≡ false → length t ≤ run writable t

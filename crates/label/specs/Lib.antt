@@ -1,3 +1,2 @@
 -- The definitions that the contracts of `label` cite. Assumes nothing.
 pub mod Outcomes
-pub mod Screened

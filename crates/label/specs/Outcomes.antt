@@ -1,6 +1,6 @@
 -- The outcomes of encode and decode under a rule, by REFERENCE, Labels: refusals 1, 31, 44, 16, 15 and 1, 31, 15, each over the whole before the
 -- next. Assumes nothing.
-use Rattle.std.specs.Prelude.{ℕ, Bool, true, not, ◌||◌, List, ltb, eqb, length}
+use Rattle.std.specs.Prelude.{ℕ, Bool, true, not, ◌||◌, List, Option, Some, None, ltb, eqb, length}
 use Rattle.numbers.specs.Refusals as refusal
 use Rattle.octets.specs.Ascii as ascii
 use Rattle.octets.specs.Pick.{pick}
@@ -16,6 +16,10 @@ use Rattle.label_carets.specs.declared.Rule.TheVariants.{Rfc6350, Rfc6868}
 -- neither a newline nor a quote mark
 unfoldable pub writable : ℕ → Bool
 writable b = not (eqb b ascii.lf || eqb b ascii.quote)
+
+-- the place of the first octet that RFC 6350 can't write
+unfoldable pub unwritable : List ℕ → Option ℕ
+unwritable t = pick (ltb (run writable t) (length t)) (Some (run writable t)) None
 
 -- 44 at the first octet that RFC 6350 can't write, then the outcome that is left; RFC 6868 writes all
 abbrev pub sayable : Rule → List ℕ → List ℕ → Filled → Filled

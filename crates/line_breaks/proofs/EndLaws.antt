@@ -1,17 +1,19 @@
--- The laws of a lone CR or LF and of paired ones at a place of a list. Assumes nothing.
+-- The laws of a lone CR or LF and of paired ones at a place of a list, and of the last two octets. Assumes nothing.
 use mathlib.Core.Path.{◌≡◌, refl, sym, ap, ◌∙◌}
-use mathlib.Core.Bool.{Bool, true, false, not, ◌&&◌, true≢false}
+use mathlib.Core.Bool.{Bool, true, false, not, ◌&&◌, and-false, and-true, true≢false}
 use mathlib.Core.List.{List, [], ◌∷◌}
 use Prim.Native.Nat.{ℕ, suc, ◌+◌, ◌-◌, ◌<◌, ◌≤◌}
 use native.Mathlib.Nat.{add-zero}
 use native.Mathlib.Omega.{arith}
 use lib.Dec.{eqb, ltb}
-use lib.ListN.{length, get_or, drop, get_or-eq_default}
-use lib.Seq.{get_or-drop}
-use borrow.Author.Tests.{ne_eqb, eqb-true, ltb-true, ltb-false}
+use lib.ListN.{length, get_or, drop, get_or-eq_default, drop_of_length-le}
+use lib.Seq.{get_or-drop, drop-cons}
+use borrow.Author.Tests.{ne_eqb, eqb-true, ltb-true, ltb-false, le-ltb}
+use Rattle.std.specs.List.{ends_with}
+use Rattle.std.proofs.lemmas.Bool.Decides.{nat_tests}
 use Rattle.octets.specs.Pick.{pick}
-use Rattle.octets.specs.Scan.{after, scan}
-use Rattle.line_breaks.specs.Lone.{lone_step, first_lone, differ, split_at, Joined, paired_after, paired}
+use Rattle.octets.specs.Scan.{scan}
+use Rattle.line_breaks.specs.Lone.{lone_step, first_lone, differ, split_at, Joined, paired_after, paired, ends_cr_lf}
 
 module _ (s : List ℕ) (i : ℕ) where
   pub step_eq : lone_step (drop i s) ≡ pick (eqb (get_or s i 0) 10) 0 (pick (eqb (get_or s i 0) 13) (pick (eqb (get_or s (i + 1) 0) 10) 2 0) 1)
@@ -106,3 +108,26 @@ no_lone (x ∷ y ∷ ys) e = pair_two x y ys (eqb x 10) (eqb x 13) (eqb y 10) re
 pub paired_all : (s : List ℕ) → paired s ≡ true → first_lone s ≡ length s
 unfolding paired first_lone
 paired_all s e = no_lone s e
+
+turned : (a b : ℕ) → eqb a b ≡ eqb b a
+turned a b = grind (arith, nat_tests)
+
+tail_two : (s : List ℕ) (i : ℕ) → i + 2 ≡ length s → drop i s ≡ get_or s i 0 ∷ get_or s (suc i) 0 ∷ []
+tail_two s i h =
+    let none : drop (suc (suc i)) s ≡ [] = drop_of_length-le s {i = suc (suc i)} (omega arith) in
+    drop-cons s i 0 (omega arith) ∙ ap (λ (l : List ℕ). get_or s i 0 ∷ l) (drop-cons s (suc i) 0 (omega arith) ∙ ap (λ (l : List ℕ). get_or s (suc i) 0 ∷ l) none)
+
+ends_long : (s : List ℕ) (i : ℕ) → i + 2 ≡ length s → ends_with eqb s (13 ∷ 10 ∷ []) ≡ ends_cr_lf s
+unfolding ends_cr_lf
+ends_long s i h =
+    let two : length s - 2 ≡ i = omega arith in
+    let one : length s - 1 ≡ suc i = omega arith in
+    let long : ltb (length s) 2 ≡ false = le-ltb (length s) 2 (omega arith) in
+    simp (two, one, long, tail_two s i h, turned 13, turned 10, and-true)
+
+-- what the library's test of the last two octets says
+pub ends_is : (s : List ℕ) → ends_with eqb s (13 ∷ 10 ∷ []) ≡ ends_cr_lf s
+unfolding ends_cr_lf
+ends_is [] = refl
+ends_is (x ∷ []) = simp (turned 13, and-false)
+ends_is (x ∷ y ∷ r) = ends_long (x ∷ y ∷ r) (length r) (omega arith)

@@ -60,10 +60,8 @@ fn is_split(s: &[u8], i: usize) -> bool
     ensures { result ≡ false → (k : ℕ) → k < 16 → split_at s.now (i + k) ≡ false }
 {
     let mut bad: u8 = 0;
-    let mut k: usize = 0;
-    while k < BLOCK {
-        bad = bad | split_bit(s[i + k], s[i + k + 1]);
-        k += 1;
+    for k in 0..BLOCK {
+        bad |= split_bit(s[i + k], s[i + k + 1]);
     }
     bad != 0
 }
@@ -73,13 +71,10 @@ fn each_joined(s: &[u8]) -> bool
     requires { 0 < length s.now }
     ensures { result ≡ true → Joined s.now (length s.now - 1) }
 {
-    let last = s.len() - 1;
-    let mut i: usize = 0;
-    while i < last {
+    for i in 0..s.len() - 1 {
         if split_bit(s[i], s[i + 1]) != 0 {
             return false;
         }
-        i += 1;
     }
     true
 }
@@ -107,7 +102,7 @@ fn all_joined(s: &[u8]) -> bool
 fn all_paired(s: &[u8]) -> bool
     ensures { result ≡ true → paired s.now ≡ true }
 {
-    if s.len() == 0 {
+    if s.is_empty() {
         return true;
     }
     if s[0] == b'\n' {
@@ -134,12 +129,5 @@ pub fn first_lone(s: &[u8]) -> usize
 pub fn ends_cr_lf(s: &[u8]) -> bool
     ensures { result ≡ ends_cr_lf s.now }
 {
-    let n = s.len();
-    if n < 2 {
-        return false;
-    }
-    if s[n - 2] != b'\r' {
-        return false;
-    }
-    s[n - 1] == b'\n'
+    s.ends_with(b"\r\n")
 }

@@ -6,7 +6,7 @@ use Prim.Native.Nat.{ℕ, zero, suc, ◌+◌, ◌≤◌}
 use native.Mathlib.Nat.{zero-add, suc-add, le_of_suc-le-suc, not-suc-le-zero}
 use native.Mathlib.Omega.{arith}
 use lib.Dec.{eqb}
-use lib.ListN.{length, take, drop}
+use lib.ListN.{take, drop}
 use Rattle.octets.specs.Classes.{run, more}
 use Rattle.octets.specs.Scan.{after, scan, gather}
 use Rattle.line_folds.specs.Folds.{fold_at, line_step, line_length, passed, kept, unfolded, not_cr}

@@ -13,10 +13,8 @@ pub fn has_cr(s: &[u8], i: usize) -> bool
     ensures { result ≡ false → (k : ℕ) → k < 16 → get_or s.now (i + k) 0 ≡ ascii.cr → ⊥ }
 {
     let mut hit: u8 = 0;
-    let mut k: usize = 0;
-    while k < BLOCK {
-        hit = hit | (s[i + k] == b'\r') as u8;
-        k += 1;
+    for k in 0..BLOCK {
+        hit |= (s[i + k] == b'\r') as u8;
     }
     hit != 0
 }
@@ -41,12 +39,10 @@ pub fn next_cr(s: &[u8], from: usize) -> usize
     requires { from ≤ length s.now }
     ensures { (result ≤ length s.now) × (result ≡ from + run not_cr (drop from s.now)) }
 {
-    let mut i = skip_to_cr(s, from);
-    while i < s.len() {
+    for i in skip_to_cr(s, from)..s.len() {
         if s[i] == b'\r' {
             return i;
         }
-        i += 1;
     }
-    i
+    s.len()
 }

@@ -10,7 +10,7 @@ pub const FOLD_LENGTH: usize = 3;
 pub const ONE_BY_ONE: usize = 4;
 
 // A logical line: its first CR, and its end; they differ where it has a fold.
-#[derive(Clone, Copy)]
+#[derive(Clone, Copy, Debug, PartialEq, Eq)]
 pub struct Span {
     pub cr: usize,
     pub end: usize,

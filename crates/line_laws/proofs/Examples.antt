@@ -12,10 +12,10 @@ use Rattle.line_parser.specs.Grammar.{group_text, name_end}
 use Rattle.line_parser.specs.Rule.{word, closing, value, ends, is_colon, more_values, values, param, params, head, parse_line}
 use Rattle.line_parser.specs.Places.{outcome}
 use Rattle.line_parameters.specs.First.{find_first}
-use Rattle.line_parser.specs.declared.rule.Part.{Part}
-use Rattle.line_parser.specs.declared.rule.Part.TheVariants.{Parsed, Fault}
-use Rattle.line_parameters.specs.declared.First.{First}
-use Rattle.line_parameters.specs.declared.First.TheVariants.{Between, Nothing}
+use Rattle.line_parser.specs.Places.{Part}
+use Rattle.line_parser.specs.Places.{Parsed, Fault}
+use Rattle.line_parameters.specs.First.{First}
+use Rattle.line_parameters.specs.First.{Between, Nothing}
 
 pub record Example : Type 0 where
   pub line : String

@@ -16,7 +16,7 @@ use Rattle.line_parser.specs.Parse.{got, hd, many}
 use Rattle.line_parser.specs.Grammar.{Value, plain, in_quotes, Param, Line, led, value_text, param_text, group_text, front, render, name_end, WellFormed}
 use Rattle.line_parser.specs.Rule.{ends, is_colon, or_end, param, params, head, parse_line}
 use Rattle.line_parameters.specs.First.{span_of, first_place, find_first, value_octets, first_named}
-use Rattle.line_parameters.specs.declared.First.{First}
+use Rattle.line_parameters.specs.First.{First}
 use Rattle.line_parser.proofs.ParseLaws.{bad_got, guard_inv, pick_inv, next_inv}
 use Rattle.line_parser.proofs.PartLaws.{param_parts, head_count}
 use Rattle.line_parameters.specs.Found.{Found}

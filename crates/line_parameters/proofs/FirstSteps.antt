@@ -18,7 +18,7 @@ use Rattle.line_parser.specs.Parse.{got, bad, hd}
 use Rattle.line_parser.specs.Grammar.{Value, plain, in_quotes, Param}
 use Rattle.line_parser.specs.Rule.{closing, value, param}
 use Rattle.line_parameters.specs.First.{span_of, find_first, spanned}
-use Rattle.line_parameters.specs.declared.First.TheVariants.{Between, Nothing}
+use Rattle.line_parameters.specs.First.{Between, Nothing}
 use Rattle.line_parser.proofs.ParseLaws.{guard_inv, pick_inv}
 use Rattle.line_parser.proofs.PartLaws.{run_le, word_taken, param_parts}
 use Rattle.line_parser.proofs.Steps.{is, isnt, inside}

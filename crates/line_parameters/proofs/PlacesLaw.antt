@@ -14,7 +14,7 @@ use Rattle.line_parser.specs.Parse.{Parse, got, bad, hd}
 use Rattle.line_parser.specs.Grammar.{Line, WellFormed, led, param_text, group_text, front, render, name_end}
 use Rattle.line_parser.specs.Rule.{word, head, parse_line}
 use Rattle.line_parser.specs.Places.{outcome, name_start}
-use Rattle.line_parser.specs.declared.rule.Part.TheVariants.{Parsed}
+use Rattle.line_parser.specs.Places.{Parsed}
 use Rattle.line_parser.proofs.ParseLaws.{next_inv}
 use Rattle.line_parser.proofs.PartLaws.{word_taken, group_dot}
 use Rattle.line_parameters.specs.Placed.{Placed, Starts}

@@ -9,8 +9,21 @@ use Rattle.octets.specs.Cases.{same}
 use Rattle.line_parser.specs.Parse.{Parse, got, bad, hd}
 use Rattle.line_parser.specs.Grammar.{Value, plain, in_quotes, Param, param_text}
 use Rattle.line_parser.specs.Rule.{param}
-use Rattle.line_parameters.specs.declared.First.{First}
-use Rattle.line_parameters.specs.declared.First.TheVariants.{Between, Nothing}
+use Rattle.std.specs.Prelude.{Option as Given, Some, None}
+use Rattle.line_parameters.specs.declared.Span.{Span}
+
+-- where the octets of a parameter's first value stand in a line, or that there is no such parameter
+pub data First : Type 0 where
+  Between : ℕ → ℕ → First
+  Nothing : First
+
+-- the same of what the code answers
+abbrev pub between : Span → First
+between x = Between x.start x.end
+
+abbrev pub first : Given Span → First
+first (Some x) = between x
+first None = Nothing
 
 -- the first value of the first parameter of that name
 unfoldable pub first_named : List ℕ → List Param → Option Value

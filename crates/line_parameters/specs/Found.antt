@@ -3,8 +3,8 @@ use Rattle.std.specs.Prelude.{◌≡◌, List, ℕ, ◌-◌, ◌≤◌, length, 
 use Rattle.std.proofs.Math.Option.{Option, none, some}
 use Rattle.line_parser.specs.Grammar.{Value}
 use Rattle.line_parameters.specs.First.{value_octets}
-use Rattle.line_parameters.specs.declared.First.{First}
-use Rattle.line_parameters.specs.declared.First.TheVariants.{Between, Nothing}
+use Rattle.line_parameters.specs.First.{First}
+use Rattle.line_parameters.specs.First.{Between, Nothing}
 
 -- the octets of l at the place answered are those of the value, quotes taken off
 pub record Holds (l : List ℕ) (v : Value) (r : First) : Type 0 where

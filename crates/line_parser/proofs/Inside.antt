@@ -10,7 +10,7 @@ use Rattle.line_parser.specs.Parse.{Parse, got, bad}
 use Rattle.line_parser.specs.Grammar.{Line, name_end}
 use Rattle.line_parser.specs.Rule.{or_end, is_colon, param, params, Head, head, parse_line}
 use Rattle.line_parser.specs.Places.{outcome, name_start}
-use Rattle.line_parser.specs.declared.rule.Part.TheVariants.{Parsed}
+use Rattle.line_parser.specs.Places.{Parsed}
 use Rattle.line_parser.proofs.ParseLaws.{next_inv, many_count}
 use Rattle.line_parser.proofs.PartLaws.{before_end, head_parts, head_count, params_stop}
 

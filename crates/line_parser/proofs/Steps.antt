@@ -9,6 +9,11 @@ use lib.Dec.{eqb}
 use lib.ListN.{length, get_or, take, drop, drop_of_length-le, get_or-eq_default, length-drop}
 use lib.Seq.{drop-drop, get_or-drop}
 use borrow.Author.Tests.{eq-eqb, ne_eqb, lt-ltb, le-ltb}
+use Rattle.std.specs.Prelude.{Result, Ok, Err}
+use Rattle.numbers.specs.Refusals.{number}
+use Rattle.numbers.specs.declared.refusal.Reason.{Reason}
+use Rattle.line_parser.specs.declared.rule.Named.{Named as NamedPart}
+use Rattle.line_parser.specs.declared.rule.Listed.{Listed as ListedPart}
 use Rattle.octets.specs.Classes.{run, has, named, quoted, bare, bare_mask, name_mask, quoted_mask}
 use Rattle.octets.proofs.Runs.{run_has}
 use Rattle.octets.proofs.Masks.{has_named, has_bare, has_quoted}
@@ -16,9 +21,9 @@ use Rattle.octets.proofs.Bools.{clash}
 use Rattle.line_parser.specs.Parse.{Parse, got, bad, next, guard, hd, many}
 use Rattle.line_parser.specs.Grammar.{Value, in_quotes, Param, name_end}
 use Rattle.line_parser.specs.Rule.{word, closing, value, ends, or_end, is_colon, more_values, values, param, params, Head, head, parse_line}
-use Rattle.line_parser.specs.Places.{place, listed, headed, outcome}
-use Rattle.line_parser.specs.declared.rule.Part.{Part}
-use Rattle.line_parser.specs.declared.rule.Part.TheVariants.{Upto, Named, Listed, Parsed, Fault}
+use Rattle.line_parser.specs.Places.{place, listed, headed, outcome, upto, named as head_told, counted}
+use Rattle.line_parser.specs.Places.{Part}
+use Rattle.line_parser.specs.Places.{Upto, Named, Listed, Parsed, Fault}
 use Rattle.line_parser.proofs.PartLaws.{word_taken, before_end, head_count, params_stop}
 use Rattle.line_parser.proofs.ParseLaws.{next_got, next_bad, pick_yes, pick_no, guard_yes, guard_no, many_end, many_bad, many_on}
 
@@ -32,6 +37,14 @@ module _ {A : Type 0} (f : Parse A → Part) where
   fault_up : ((x : ℕ) → f (bad x) ≡ Fault x) → (m : Parse A) {r g : Part} → r ≡ f m → ((a : A) (k : ℕ) → r ≡ f (got a k) → ⊥)
       → ((x : ℕ) → m ≡ bad x → g ≡ Fault x) → r ≡ g
   fault_up fb m h k g = only_fault m h k (λ x q. h ∙ ap f q ∙ fb x ∙ sym (g x q))
+
+-- a result that is no end, and an error
+pub not_upto : (r : Result ℕ Reason) → ((e : ℕ) → r ≡ Ok e → ⊥) → (e : ℕ) → upto r ≡ Upto e → ⊥
+not_upto (Ok n) k e p = k n refl
+not_upto (Err x) k e p = let z : Fault (number x) ≡ Upto e = p in clash cc
+
+err_never : {r : Result ℕ Reason} {x : Reason} → r ≡ Err x → (e : ℕ) → upto r ≡ Upto e → ⊥
+err_never {r} {x} q e p = let z : Fault (number x) ≡ Upto e = sym (ap upto q) ∙ p in clash cc
 
 -- what the code learns of a reading whose answer it takes apart
 module _ {A : Type 0} where
@@ -53,6 +66,22 @@ module _ {A : Type 0} where
   pub hand_up : (at : ℕ) (m : Parse A) {r g : Part} → r ≡ place at m → ((e : ℕ) → r ≡ Upto e → ⊥)
       → ((x : ℕ) → m ≡ bad x → g ≡ Fault x) → r ≡ g
   hand_up at m h n = fault_up (place at) (λ x. refl) m h (λ a k. n (at + k))
+
+  -- a result of the code, taken apart
+  pub ok_upto : {C : Type 0} (at : ℕ) (m : Parse A) {r : Result ℕ Reason} {e : ℕ} → upto r ≡ place at m → r ≡ Ok e
+      → ((a : A) (k : ℕ) → m ≡ got a k → e ≡ at + k → C) → C
+  ok_upto at m h q f = place_upto at m h (ap upto q) f
+
+  pub ok_first : {C : Type 0} (m : Parse A) {r : Result ℕ Reason} {e : ℕ} → upto r ≡ place 0 m → r ≡ Ok e → ((a : A) → m ≡ got a e → C) → C
+  ok_first m h q f = place_first m h (ap upto q) f
+
+  pub err_fault : {C : Type 0} (at : ℕ) (m : Parse A) {r : Result ℕ Reason} {x : Reason} → upto r ≡ place at m → r ≡ Err x
+      → ((y : ℕ) → m ≡ bad y → C) → C
+  err_fault at m h q = place_fault at m h (err_never q)
+
+  pub err_up : (at : ℕ) (m : Parse A) {r : Result ℕ Reason} {x : Reason} {g : Part} → upto r ≡ place at m → r ≡ Err x
+      → ((y : ℕ) → m ≡ bad y → g ≡ Fault y) → Fault (number x) ≡ g
+  err_up at m h q f = sym (ap upto q) ∙ hand_up at m h (err_never q) f
 
   pub place_shift : {B : Type 0} (m : Parse A) (at b : ℕ) (f : A → B) (h : ℕ → ℕ) → ((j : ℕ) → at + h j ≡ b + j)
       → place at (next m (λ a j. got (f a) (h j))) ≡ place b m
@@ -301,6 +330,21 @@ module _ {A : Type 0} (c at : ℕ) where
   pub listed_up : (m : Parse (List A)) {r g : Part} → r ≡ listed c at m → ((d e : ℕ) → r ≡ Listed d e → ⊥)
       → ((x : ℕ) → m ≡ bad x → g ≡ Fault x) → r ≡ g
   listed_up m h n = fault_up (listed c at) (λ x. refl) m h (λ xs k. n (c + length xs) (at + k))
+
+-- results of the code, taken apart
+pub named_ok : {C : Type 0} (m : Parse Head) {r : Result NamedPart Reason} {h : NamedPart} → head_told r ≡ headed m → r ≡ Ok h
+    → ((x : Head) → m ≡ got x h.name_end → h.group_length ≡ length x.group → C) → C
+named_ok m p q f = headed_named m p (ap head_told q) f
+
+pub named_err : (m : Parse Head) {r : Result NamedPart Reason} {x : Reason} {g : Part} → head_told r ≡ headed m → r ≡ Err x
+    → ((y : ℕ) → m ≡ bad y → g ≡ Fault y) → Fault (number x) ≡ g
+named_err m {r} {x} p q f =
+    sym (ap head_told q) ∙ headed_up m p (λ g n h. let z : Fault (number x) ≡ Named g n = sym (ap head_told q) ∙ h in clash cc) f
+
+pub listed_err : {A : Type 0} (c at : ℕ) (m : Parse (List A)) {r : Result ListedPart Reason} {x : Reason} {g : Part} → counted r ≡ listed c at m → r ≡ Err x
+    → ((y : ℕ) → m ≡ bad y → g ≡ Fault y) → Fault (number x) ≡ g
+listed_err c at m {r} {x} p q f =
+    sym (ap counted q) ∙ listed_up c at m p (λ d e h. let z : Fault (number x) ≡ Listed d e = sym (ap counted q) ∙ h in clash cc) f
 
 -- an octet that is not 0 stands inside the line
 pub inside : (s : List ℕ) (at k c : ℕ) → 0 < c → hd (drop k (drop at s)) ≡ c → at + k < length s

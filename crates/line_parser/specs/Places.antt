@@ -1,11 +1,44 @@
 -- What the code answers of a reading: places and counts in the line, or the fault. Assumes nothing.
-use Rattle.std.specs.Prelude.{ℕ, ◌+◌, List, eqb, length}
+use Rattle.std.specs.Prelude.{ℕ, ◌+◌, List, Result, Ok, Err, eqb, length}
 use Rattle.octets.specs.Pick.{pick}
 use Rattle.line_parser.specs.Parse.{Parse, got, bad}
 use Rattle.line_parser.specs.Grammar.{Line, name_end}
 use Rattle.line_parser.specs.Rule.{Head}
-use Rattle.line_parser.specs.declared.rule.Part.{Part}
-use Rattle.line_parser.specs.declared.rule.Part.TheVariants.{Upto, Named, Listed, Parsed, Fault}
+use Rattle.numbers.specs.Refusals.{number}
+use Rattle.numbers.specs.declared.refusal.Reason.{Reason}
+use Rattle.line_parser.specs.declared.rule.Named.{Named as NamedPart}
+use Rattle.line_parser.specs.declared.rule.Listed.{Listed as ListedPart}
+use Rattle.line_parser.specs.declared.rule.Parsed.{Parsed as ParsedLine}
+
+-- what reading a part of a line answers
+pub data Part : Type 0 where
+  -- where the part ends
+  Upto : ℕ → Part
+  -- how long the group is, and where the name ends
+  Named : ℕ → ℕ → Part
+  -- how many parameters there are, and where they end
+  Listed : ℕ → ℕ → Part
+  -- how long the group is, where the name ends, how many parameters there are, where the value starts
+  Parsed : ℕ → ℕ → ℕ → ℕ → Part
+  -- the refusal's number, 40 to 43
+  Fault : ℕ → Part
+
+-- the same of the results of the code
+abbrev pub upto : Result ℕ Reason → Part
+upto (Ok n) = Upto n
+upto (Err r) = Fault (number r)
+
+abbrev pub named : Result NamedPart Reason → Part
+named (Ok h) = Named h.group_length h.name_end
+named (Err r) = Fault (number r)
+
+abbrev pub counted : Result ListedPart Reason → Part
+counted (Ok l) = Listed l.param_count l.end
+counted (Err r) = Fault (number r)
+
+abbrev pub parsed : Result ParsedLine Reason → Part
+parsed (Ok x) = Parsed x.group_length x.name_end x.param_count x.value_start
+parsed (Err r) = Fault (number r)
 
 -- of a part that starts at a place: where it ends
 abbrev pub place : {A : Type 0} → ℕ → Parse A → Part

@@ -5,12 +5,11 @@ ghost use Rattle.line_parser.specs.Parse.{hd};
 ghost use Rattle.line_parser.specs.AtFault.{name_from, param_from, value_from, word_from, at_fault, quote_fault};
 
 use crate::rule;
-use crate::rule::Part;
 use octets::classes;
 use octets::classes::ClassTable;
 
 // The name that is at fault, or that stands before the fault: where it starts and ends, and whether it is a parameter's.
-#[derive(Clone, Copy)]
+#[derive(Clone, Copy, Debug, PartialEq, Eq)]
 pub struct AtFault {
     pub is_param: bool,
     pub start: usize,
@@ -18,7 +17,7 @@ pub struct AtFault {
 }
 
 // What is wrong with the quote marks of a parameter.
-#[derive(Clone, Copy)]
+#[derive(Clone, Copy, Debug, PartialEq, Eq)]
 pub enum QuoteFault {
     // A quoted value is not closed.
     LeftOpen,
@@ -60,8 +59,7 @@ fn param_from(t: &ClassTable, s: &[u8], from: usize) -> usize
 {
     let mut at = from;
     while at < s.len() {
-        let p = rule::read_param(t, s, at + 1);
-        let Part::Upto(end) = p else {
+        let Ok(end) = rule::read_param(t, s, at + 1) else {
             return at + 1;
         };
         at = end;
@@ -76,8 +74,7 @@ fn value_from(t: &ClassTable, s: &[u8], from: usize) -> usize
 {
     let mut start = from;
     while start < s.len() {
-        let v = rule::read_value(t, s, start);
-        let Part::Upto(end) = v else {
+        let Ok(end) = rule::read_value(t, s, start) else {
             return start;
         };
         if octet_at(s, end) != b',' {

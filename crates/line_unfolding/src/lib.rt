@@ -27,10 +27,8 @@ pub fn unfolded_length(s: &[u8]) -> usize
     }
     let last = s.len() - 2;
     let mut folds: u16 = 0;
-    let mut i: usize = 0;
-    while i < last {
+    for i in 0..last {
         folds += fold_bit(s[i], s[i + 1], s[i + 2]) as u16;
-        i += 1;
     }
     s.len() - FOLD_LENGTH * folds as usize
 }
@@ -56,10 +54,8 @@ fn has_fold(s: &[u8], i: usize) -> bool
     ensures { result ≡ false → (k : ℕ) → k < 16 → fold_at (drop (i + k) s.now) ≡ false }
 {
     let mut hit: u8 = 0;
-    let mut k: usize = 0;
-    while k < BLOCK {
-        hit = hit | ((s[i + k + 1] == b'\n') as u8 & (s[i + k + 2] <= b' ') as u8);
-        k += 1;
+    for k in 0..BLOCK {
+        hit |= (s[i + k + 1] == b'\n') as u8 & (s[i + k + 2] <= b' ') as u8;
     }
     hit != 0
 }

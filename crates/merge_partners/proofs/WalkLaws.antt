@@ -3,11 +3,13 @@ use mathlib.Core.Path.{◌≡◌, refl, sym, ap, ◌∙◌}
 use mathlib.Core.Bool.{not}
 use mathlib.Core.List.{List, [], ◌++◌}
 use Prim.Native.Nat.{ℕ, zero, suc, ◌+◌, ◌-◌, ◌<◌, ◌≤◌, min}
+use native.Mathlib.Numerals.{add-one}
 use native.Mathlib.Omega.{arith}
 use lib.Dec.{eqb}
-use lib.ListN.{length, get_or, take, set, replicate, length-take, length-set, length-replicate}
-use lib.Seq.{get_or-take, get_or-set_same, get_or-set_other}
+use lib.ListN.{length, get_or, take, drop, set, drop_of_length-le, replicate, length-take, length-set, length-replicate}
+use lib.Seq.{drop-cons, get_or-take, get_or-set_same, get_or-set_other}
 use borrow.Author.Tests.{eqb-true, eqb-false}
+use Rattle.std.specs.List.{filter}
 use Rattle.octets.proofs.Bools.{by}
 use Rattle.merge_sources.specs.declared.Row.{Row}
 use Rattle.merge_sides.specs.Lines.{one}
@@ -68,14 +70,14 @@ module _ (tags seats : List ℕ) (own partner n k : ℕ) where
   unfolding count_new
   new_over h = rw (over n k h)
 
-module _ (p : List ℕ) (n i : ℕ) where
-  pub pairs_turn : i < n → length (pairs_from p i (n - i)) ≡ one (not (eqb (get_or p i 0) 0)) + length (pairs_from p (i + 1) (n - (i + 1)))
+module _ (p : List ℕ) where
+  pub partners_counted : (i k : ℕ) → i + k ≡ length p → length (filter (λ n. not (eqb n 0)) (drop i p)) ≡ length (pairs_from p i k)
   unfolding pairs_from
-  pairs_turn h = rw (left n i h) (by (eqb (get_or p i 0) 0) (λ e. rw e (omega arith)) (λ e. rw e (omega arith)))
-
-  pub pairs_over : n ≤ i → length (pairs_from p i (n - i)) ≡ 0
-  unfolding pairs_from
-  pairs_over h = rw (over n i h)
+  partners_counted i zero h = rw (drop_of_length-le p {i = i} (omega arith))
+  partners_counted i (suc k) h =
+      let here : i < length p = omega arith in
+      let rest = rw add-one at (partners_counted (i + 1) k (omega arith)) in
+      rw (drop-cons p i 0 here, add-one) (by (eqb (get_or p i 0) 0) (λ e. rw e (omega (arith, rest))) (λ e. rw e (omega (arith, rest))))
 
 module _ (ca ra : List ℕ) (i key : ℕ) (cb rb marks keys : List ℕ) where
   pub hits_turn : (n k : ℕ) → k < n → hit_pairs ca ra i key cb rb marks keys k (n - k) ≡ key_pair ca ra i key cb rb marks keys k ++ hit_pairs ca ra i key cb rb marks keys (k + 1) (n - (k + 1))

@@ -1,13 +1,11 @@
 -- The key of a PID: its first number and the class of the URI that its source number leads to. Assumes nothing.
-use Rattle.std.specs.Prelude.{ℕ, zero, suc, ◌+◌, ◌*◌, List, ltb, get_or, set, replicate}
+use Rattle.std.specs.Prelude.{ℕ, zero, suc, ◌+◌, ◌*◌, List, Option, Some, None, ltb, get_or, set, replicate}
 use Rattle.numbers.specs.Limits as limit
 use Rattle.octets.specs.Pick.{pick}
 use Rattle.octets.specs.Slices.{part}
 use Rattle.merge_sources.specs.Row.{none, least, first_in}
 use Rattle.merge_sources.specs.declared.Source.{Source}
 use Rattle.merge_sources.specs.declared.Row.{Row}
-use Rattle.merge_sources.specs.declared.Found.{Found}
-use Rattle.merge_sources.specs.declared.Found.TheVariants.{At, Nothing}
 use Rattle.merge_pids.specs.Marks.{mark_length}
 use Rattle.merge_sides.specs.Lines.{same_octets}
 
@@ -37,9 +35,9 @@ unfoldable pub classes_of : List ℕ → Row → List ℕ → Row → List ℕ
 classes_of ca a c own = sets_from (class_at ca a c own) (replicate limit.sources limit.sources) 0 limit.sources
 
 -- by the first entry of a number
-abbrev pub class_in : List ℕ → Found → ℕ
-class_in classes (At i) = pick (ltb i limit.sources) (get_or classes i 0) limit.sources
-class_in classes Nothing = limit.sources
+abbrev pub class_in : List ℕ → Option ℕ → ℕ
+class_in classes (Some i) = pick (ltb i limit.sources) (get_or classes i 0) limit.sources
+class_in classes None = limit.sources
 
 -- the class that a source number leads to through its card's row, 16 for none
 unfoldable pub class_by : Row → List ℕ → ℕ → ℕ

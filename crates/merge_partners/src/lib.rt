@@ -11,7 +11,7 @@ ghost use Rattle.merge_partners.specs.Keys.{sets_from, uri_of, class_of, classes
 ghost use Rattle.merge_partners.specs.Heads.{modulus, with_octet, digest_from, digest_of, head_from, Digests, Known, tag_of, seat_of, tag_at, seat_at, is_new, count_new, partner_of, Tagged, Sifts};
 ghost use Rattle.merge_partners.specs.Pairs.{joined, join_to, join_all, key_pair, hit_pairs, mark_pairs, shared_pairs, row_pairs, single_pairs, joined_first, first_of, demanded_pairs, pairs_from, same_uids};
 
-use merge_sources::{Found, Row, Source};
+use merge_sources::{Row, Source};
 use numbers::{field, limit, property};
 use octets::indices::wide_number;
 use octets::slices::part;
@@ -67,16 +67,13 @@ fn class_of(ca: &[u8], a: Row, uri: &[u8]) -> usize
     ensures value { result ≡ class_of ca.now a uri.now }
     ensures upper_bound { result ≤ limit.sources }
 {
-    let mut i: usize = 0;
-    while i < limit::SOURCES {
+    for (i, e) in a.entries.iter().enumerate() {
         if a.count <= i {
             return limit::SOURCES;
         }
-        let e = a.entries[i];
-        if merge_sides::same_octets(uri_of(ca, e), uri) {
+        if merge_sides::same_octets(uri_of(ca, *e), uri) {
             return i;
         }
-        i += 1;
     }
     limit::SOURCES
 }
@@ -86,11 +83,8 @@ fn classes_of(ca: &[u8], a: Row, c: &[u8], own: Row) -> Classes
     ensures { result ≡ classes_of ca.now a c.now own }
 {
     let mut classes = [limit::SOURCES; limit::SOURCES];
-    let mut i: usize = 0;
-    while i < limit::SOURCES {
-        let e = own.entries[i];
-        classes[i] = class_of(ca, a, uri_of(c, e));
-        i += 1;
+    for (i, e) in own.entries.iter().enumerate() {
+        classes[i] = class_of(ca, a, uri_of(c, *e));
     }
     classes
 }
@@ -99,8 +93,7 @@ fn classes_of(ca: &[u8], a: Row, c: &[u8], own: Row) -> Classes
 fn class_by(own: Row, classes: &Classes, source: u32) -> usize
     ensures { result ≡ class_by own classes.now source }
 {
-    let f = merge_sources::search(own, source);
-    let Found::At(i) = f else {
+    let Some(i) = merge_sources::search(own, source) else {
         return limit::SOURCES;
     };
     if limit::SOURCES <= i {
@@ -160,10 +153,8 @@ fn put_number(xs: &mut [u32], i: usize, n: u32)
 fn put_keys(marks: &[u32], n: usize, own: Row, classes: &Classes, keys: &mut [u32])
     ensures { keys.new ≡ sets_from (key_at marks.now own classes.now) keys.old 0 n }
 {
-    let mut k: usize = 0;
-    while k < n {
+    for k in 0..n {
         put_number(keys, k, key_at(marks, k, own, classes));
-        k += 1;
     }
 }
 
@@ -182,10 +173,8 @@ fn digest_name(s: &[u8]) -> usize
     ensures { result ≡ digest_from 0 s.now }
 {
     let mut digest: usize = 0;
-    let mut i: usize = 0;
-    while i < s.len() {
-        digest = append_octet(digest, s[i]);
-        i += 1;
+    for b in s {
+        digest = append_octet(digest, *b);
     }
     digest
 }
@@ -216,10 +205,8 @@ fn put_digest(xs: &mut [usize], i: usize, digest: usize)
 fn put_digests(c: &[u8], rs: &[u32], n: usize, digests: &mut [usize])
     ensures { digests.new ≡ sets_from (digest_of c.now rs.now) digests.old 0 n }
 {
-    let mut i: usize = 0;
-    while i < n {
+    for i in 0..n {
         put_digest(digests, i, digest_of(c, rs, i));
-        i += 1;
     }
 }
 
@@ -249,12 +236,10 @@ fn head_of(ca: &[u8], ra: &[u32], digests: &[usize], c: &[u8], rs: &[u32], j: us
     ensures { result ≡ head_from ca.now ra.now c.now rs.now j 0 (length digests.now) }
 {
     let digest = digest_of(c, rs, j);
-    let mut i: usize = 0;
-    while i < digests.len() {
-        if is_alike(ca, ra, i, digests[i], c, rs, j, digest) {
+    for (i, x) in digests.iter().enumerate() {
+        if is_alike(ca, ra, i, *x, c, rs, j, digest) {
             return i;
         }
-        i += 1;
     }
     limit::LINES
 }
@@ -316,13 +301,10 @@ fn put_tags(
         line: NO_LINE,
         head: 0,
     };
-    let mut k: usize = 0;
-    while k < keys.len() {
+    for (k, key) in keys.iter().enumerate() {
         let j = wide_number(number_of(marks, k, LINE));
         last = look(ca, ra, digests, cb, rb, j, last);
-        let head = last.head;
-        put_number(tags, k, tag_of(head, keys[k]));
-        k += 1;
+        put_number(tags, k, tag_of(last.head, *key));
     }
 }
 
@@ -340,10 +322,8 @@ fn seat_of(line: u32) -> u32
 fn put_seats(marks: &[u32], n: usize, seats: &mut [u32])
     ensures { seats.new ≡ sets_from (seat_at marks.now) seats.old 0 n }
 {
-    let mut k: usize = 0;
-    while k < n {
+    for k in 0..n {
         put_number(seats, k, seat_of(number_of(marks, k, LINE)));
-        k += 1;
     }
 }
 
@@ -367,10 +347,8 @@ fn count_new(tags: &[u32], seats: &[u32], own: u32, partner: u32) -> u32
     ensures { result ≡ count_new tags.now seats.now own partner 0 (length tags.now) }
 {
     let mut hits: u32 = 0;
-    let mut k: usize = 0;
-    while k < tags.len() {
-        hits += is_new(tags[k], seats[k], own, partner);
-        k += 1;
+    for (k, tag) in tags.iter().enumerate() {
+        hits += is_new(*tag, seats[k], own, partner);
     }
     hits
 }
@@ -466,14 +444,12 @@ fn join_hits(
     requires { Sifts ca.now ra.now i key tag cb.now rb.now marks.now keys.now tags.now seats.now }
     ensures { joined result p.new t.new ≡ join_all (joined true p.old t.old) (hit_pairs ca.now ra.now i key cb.now rb.now marks.now keys.now 0 (length keys.now)) }
 {
-    let mut k: usize = 0;
-    while k < keys.len() {
+    for k in 0..keys.len() {
         if !join_at(
             ca, ra, i, key, tag, cb, rb, marks, keys, tags, seats, k, p, t,
         ) {
             return false;
         }
-        k += 1;
     }
     true
 }
@@ -533,17 +509,14 @@ fn join_marks(
         line: NO_LINE,
         head: 0,
     };
-    let mut k: usize = 0;
-    while k < n {
+    for k in 0..n {
         let i = wide_number(number_of(firsts, k, LINE));
         let key = key_at(firsts, k, own, classes);
         last = look(ca, ra, digests, ca, ra, i, last);
-        let head = last.head;
-        let tag = tag_of(head, key);
+        let tag = tag_of(last.head, key);
         if !join_mark(ca, ra, i, key, tag, cb, rb, marks, keys, tags, seats, p, t) {
             return false;
         }
-        k += 1;
     }
     true
 }
@@ -589,12 +562,10 @@ fn join_singles(
     ensures { joined result p.new t.new ≡ join_all (joined true p.old t.old) (single_pairs ra.now na rb.now nb 0 property.count) }
 {
     let rows = property_table::table();
-    let mut row: usize = 0;
-    while row < property::COUNT {
+    for row in 0..property::COUNT {
         if !join_row(&rows, row, ra, na, rb, nb, p, t) {
             return false;
         }
-        row += 1;
     }
     true
 }
@@ -674,29 +645,12 @@ pub fn join_all(
     join_singles(ra, na, rb, nb, p, &mut t)
 }
 
-// 1 for a partner, 0 for none.
-fn one_of(partner: u32) -> usize
-    ensures value { result ≡ one (not (eqb partner 0)) }
-    ensures upper_bound { result ≤ 1 }
-{
-    if partner == 0 {
-        return 0;
-    }
-    1
-}
-
 // How many lines have a partner.
 pub fn count_pairs(p: &Partners) -> usize
     ensures value { result ≡ length (pairs_from p.now 0 limit.lines) }
     ensures upper_bound { result ≤ limit.lines }
 {
-    let mut n: usize = 0;
-    let mut i: usize = 0;
-    while i < limit::LINES {
-        n += one_of(p[i]);
-        i += 1;
-    }
-    n
+    p.iter().filter(|partner| **partner != 0).count()
 }
 
 // Whether both cards have a UID line, and the first ones have the same value.

@@ -1,30 +1,34 @@
 -- Digits at a place, and numbers digit by digit. Assumes nothing.
-use mathlib.Core.Path.{◌≡◌, sym, ◌∙◌}
-use mathlib.Core.Bool.{true, false}
-use mathlib.Core.List.{List}
+use mathlib.Core.Path.{◌≡◌, refl, sym, ◌∙◌}
+use mathlib.Core.List.{List, [], ◌∷◌}
 use Prim.Native.Nat.{ℕ, ◌+◌, ◌<◌, ◌≤◌}
 use native.Mathlib.Numerals.{add-one}
 use native.Mathlib.Omega.{arith}
 use lib.ListN.{length, get_or, take, drop, drop_of_length-le}
 use lib.Seq.{drop-cons}
-use borrow.Author.Tests.{le-leb, lt-leb, eq-eqb, ne_eqb, lt-ltb, le-ltb}
+use borrow.Author.Tests.{eq-eqb, ne_eqb, lt-ltb, le-ltb}
+use Rattle.std.specs.Char.{is_ascii_digit}
+use Rattle.std.specs.List.{prefix_len}
+use Rattle.std.proofs.lemmas.List.Folds.{length-prefix_len}
+use Rattle.octets.proofs.Bools.{by}
 use Rattle.octets.specs.Classes.{run, digit}
 use Rattle.line_parser.specs.Parse.{hd}
 use Rattle.line_parser.proofs.Steps.{look}
-use Rattle.merge_pids.specs.Numbers.{with_digit, digits, after_dot, pid_of}
-use Rattle.merge_pids.specs.declared.Pid.TheVariants.{Marks, Nothing}
+use Rattle.merge_pids.specs.Numbers.{with_digit, digits, pid, after_dot, pid_of}
+use Rattle.std.specs.Prelude.{Some, None}
 
-pub digit_low : (b : ℕ) → b < 48 → digit b ≡ false
+digit_is : (b : ℕ) → is_ascii_digit b ≡ digit b
 unfolding digit
-digit_low b h = rw (lt-leb 48 b h)
+digit_is b = grind arith
 
-pub digit_high : (b : ℕ) → 57 < b → digit b ≡ false
-unfolding digit
-digit_high b h = let low : 48 ≤ b = omega arith in rw (le-leb 48 b low, lt-leb b 57 h)
+prefix_is : (xs : List ℕ) → prefix_len is_ascii_digit xs ≡ run digit xs
+unfolding run
+prefix_is [] = refl
+prefix_is (x ∷ xs) = rw (digit_is x) (by (digit x) (λ e. rw e (omega (arith, prefix_is xs))) (λ e. rw e))
 
-pub digit_in : (b : ℕ) → 48 ≤ b → b ≤ 57 → digit b ≡ true
-unfolding digit
-digit_in b h g = rw (le-leb 48 b h, le-leb b 57 g)
+-- how many octets at the start are digits
+pub run_is : (xs : List ℕ) → length (take (prefix_len is_ascii_digit xs) xs) ≡ run digit xs
+run_is xs = length-prefix_len is_ascii_digit xs ∙ prefix_is xs
 
 -- one turn of reading a number, and its end
 module _ (s : List ℕ) (n i : ℕ) where
@@ -38,11 +42,11 @@ module _ (s : List ℕ) (n i : ℕ) where
 
 -- a PID value by what the code tests, d being where its digits end
 module _ (l : List ℕ) (d : ℕ) (is-d : d ≡ run digit l) where
-  pub pid_none : d ≡ 0 → pid_of l ≡ Nothing
+  pub pid_none : d ≡ 0 → pid_of l ≡ None
   unfolding pid_of
   pid_none h = rw (eq-eqb (run digit l) 0 (sym is-d ∙ h))
 
-  pub pid_no_dot : (d ≡ 0 → ⊥) → (get_or l d 0 ≡ 46 → ⊥) → pid_of l ≡ Nothing
+  pub pid_no_dot : (d ≡ 0 → ⊥) → (get_or l d 0 ≡ 46 → ⊥) → pid_of l ≡ None
   unfolding pid_of
   pid_no_dot h g = rw (← is-d, ne_eqb d 0 h, ne_eqb (hd (drop d l)) 46 (λ e. g (sym (look l d) ∙ e)))
 
@@ -52,14 +56,14 @@ module _ (l : List ℕ) (d : ℕ) (is-d : d ≡ run digit l) where
 
 -- and what stands after its dot
 module _ (a m : List ℕ) where
-  pub after_none : run digit m ≡ 0 → after_dot a m ≡ Nothing
+  pub after_none : run digit m ≡ 0 → after_dot a m ≡ None
   unfolding after_dot
   after_none h = rw (eq-eqb (run digit m) 0 h)
 
-  pub after_more : (run digit m ≡ 0 → ⊥) → run digit m < length m → after_dot a m ≡ Nothing
+  pub after_more : (run digit m ≡ 0 → ⊥) → run digit m < length m → after_dot a m ≡ None
   unfolding after_dot
   after_more h g = rw (ne_eqb (run digit m) 0 h, lt-ltb (run digit m) (length m) g)
 
-  pub after_all : (run digit m ≡ 0 → ⊥) → length m ≤ run digit m → after_dot a m ≡ Marks (digits 0 a) (digits 0 m)
+  pub after_all : (run digit m ≡ 0 → ⊥) → length m ≤ run digit m → after_dot a m ≡ Some (pid (digits 0 a) (digits 0 m))
   unfolding after_dot
   after_all h g = rw (ne_eqb (run digit m) 0 h, le-ltb (run digit m) (length m) g)

@@ -1,5 +1,5 @@
 -- The marks of a line, one for each value of its PID parameters that counts: the line's number and the PID's two. Assumes nothing.
-use Rattle.std.specs.Prelude.{ℕ, zero, suc, ◌+◌, ◌-◌, List, [], ◌∷◌, ◌++◌, eqb, ltb, length, take, drop, set}
+use Rattle.std.specs.Prelude.{ℕ, zero, suc, ◌+◌, ◌-◌, List, [], ◌∷◌, ◌++◌, Option, Some, None, eqb, ltb, length, take, drop, set}
 use Rattle.octets.specs.Ascii as ascii
 use Rattle.octets.specs.Ascii.{octets}
 use Rattle.octets.specs.Pick.{pick}
@@ -9,7 +9,6 @@ use Rattle.line_parser.specs.Parse.{Parse, got, bad, hd}
 use Rattle.line_parser.specs.Grammar.{Param}
 use Rattle.line_parser.specs.Rule.{param}
 use Rattle.merge_pids.specs.declared.Pid.{Pid}
-use Rattle.merge_pids.specs.declared.Pid.TheVariants.{Marks, Nothing}
 use Rattle.merge_pids.specs.declared.Span.{Span}
 use Rattle.merge_pids.specs.Numbers.{pid_of}
 
@@ -48,9 +47,9 @@ put_all s [] = s
 put_all s (m ∷ ms) = put_all (put_mark s m) ms
 
 -- the marks of a value on the line i
-abbrev pub value_marks : ℕ → Pid → List Mark
-value_marks i (Marks p s) = mark i p s ∷ []
-value_marks i Nothing = []
+abbrev pub value_marks : ℕ → Option Pid → List Mark
+value_marks i (Some v) = mark i v.first v.source ∷ []
+value_marks i None = []
 
 -- where the value at the start of l stands, l being at a place
 unfoldable pub span_at : ℕ → List ℕ → Span

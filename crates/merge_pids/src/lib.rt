@@ -16,13 +16,11 @@ use octets::classes::ClassTable;
 // How many numbers a mark has: its line, the PID's first number and its source number.
 pub const MARK: usize = 3;
 
-// What a value of a PID parameter says.
-#[derive(Clone, Copy)]
-pub enum Pid {
-    // Digits, a dot and digits.
-    Marks { first: u32, source: u32 },
-    // Anything else, which counts as no PID.
-    Nothing,
+// What a value of a PID parameter says: digits, a dot and digits.
+#[derive(Clone, Copy, Debug, PartialEq, Eq)]
+pub struct Pid {
+    pub first: u32,
+    pub source: u32,
 }
 
 // Where a value's octets stand, quote marks off, and where the value ends.
@@ -37,27 +35,18 @@ struct Span {
 pub fn digits_end(s: &[u8], from: usize) -> usize
     ensures { result ≡ from + run digit (drop from s.now) }
 {
-    let mut i = from;
-    while i < s.len() {
-        if s[i] < b'0' {
-            return i;
-        }
-        if b'9' < s[i] {
-            return i;
-        }
-        i += 1;
-    }
-    i
+    from + s
+        .iter()
+        .skip(from)
+        .take_while(|b| b.is_ascii_digit())
+        .count()
 }
 
 // What an octet adds as a digit.
 fn ones(b: u8) -> usize
     ensures { result ≡ b - 48 }
 {
-    if b < b'0' {
-        return 0;
-    }
-    octets::indices::wide(b - b'0')
+    usize::from(b.saturating_sub(b'0'))
 }
 
 // A number with one digit more, 65,536 for any larger one.
@@ -66,11 +55,7 @@ fn append_digit(n: usize, b: u8) -> usize
     ensures value { result ≡ with_digit n b }
     ensures upper_bound { result ≤ source_number + 1 }
 {
-    let next = n * 10 + ones(b);
-    if limit::SOURCE_NUMBER < next {
-        return limit::SOURCE_NUMBER + 1;
-    }
-    next
+    (n * 10 + ones(b)).min(limit::SOURCE_NUMBER + 1)
 }
 
 // The number that digits stand for, 65,536 for any larger one.
@@ -79,44 +64,42 @@ pub fn read_number(s: &[u8]) -> u32
     ensures upper_bound { result ≤ source_number + 1 }
 {
     let mut n: usize = 0;
-    let mut i: usize = 0;
-    while i < s.len() {
-        n = append_digit(n, s[i]);
-        i += 1;
+    for b in s {
+        n = append_digit(n, *b);
     }
     n as u32
 }
 
-// The numbers of a PID value, quote marks off.
-pub fn read_pid(s: &[u8]) -> Pid
+// The numbers of a PID value, quote marks off; None for anything else, which counts as no PID.
+pub fn read_pid(s: &[u8]) -> Option<Pid>
     ensures { result ≡ pid_of s.now }
 {
     let dot = digits_end(s, 0);
     if dot == 0 {
-        return Pid::Nothing;
+        return None;
     }
     if s.len() <= dot {
-        return Pid::Nothing;
+        return None;
     }
     if s[dot] != b'.' {
-        return Pid::Nothing;
+        return None;
     }
     let end = digits_end(s, dot + 1);
     if end == dot + 1 {
-        return Pid::Nothing;
+        return None;
     }
     if end < s.len() {
-        return Pid::Nothing;
+        return None;
     }
-    Pid::Marks {
+    Some(Pid {
         first: read_number(&s[..dot]),
         source: read_number(&s[dot + 1..]),
-    }
+    })
 }
 
 // Writes a mark where there is room for it, and answers where the next one goes.
-fn put_mark(line: u32, first: u32, source: u32, out: &mut [u32], at: usize) -> usize
-    ensures { marked result out.new ≡ put_mark (marked at out.old) (mark line first source) }
+fn put_mark(line: u32, pid: Pid, out: &mut [u32], at: usize) -> usize
+    ensures { marked result out.new ≡ put_mark (marked at out.old) (mark line pid.first pid.source) }
 {
     if out.len() < MARK {
         return at;
@@ -125,8 +108,8 @@ fn put_mark(line: u32, first: u32, source: u32, out: &mut [u32], at: usize) -> u
         return at;
     }
     out[at] = line;
-    out[at + 1] = first;
-    out[at + 2] = source;
+    out[at + 1] = pid.first;
+    out[at + 2] = pid.source;
     at + MARK
 }
 
@@ -134,21 +117,17 @@ fn put_mark(line: u32, first: u32, source: u32, out: &mut [u32], at: usize) -> u
 fn put_value(s: &[u8], line: u32, out: &mut [u32], at: usize) -> usize
     ensures { marked result out.new ≡ put_all (marked at out.old) (value_marks line (pid_of s.now)) }
 {
-    let p = read_pid(s);
-    let Pid::Marks { first, source } = p else {
+    let Some(pid) = read_pid(s) else {
         return at;
     };
-    put_mark(line, first, source, out, at)
+    put_mark(line, pid, out, at)
 }
 
 // The octet at a place; 0 past the end.
 fn octet_at(s: &[u8], at: usize) -> u8
     ensures { result ≡ hd (drop at s.now) }
 {
-    if s.len() <= at {
-        return 0;
-    }
-    s[at]
+    s.get(at).copied().unwrap_or(0)
 }
 
 // Where the value at a place stands.

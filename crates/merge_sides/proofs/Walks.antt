@@ -1,22 +1,31 @@
 -- Walks over lines, entries and marks by number: one more of those that are left, and none; and the source of a value. Assumes nothing.
-use mathlib.Core.Path.{◌≡◌, ap, ◌∙◌}
-use mathlib.Core.List.{List}
-use Prim.Native.Nat.{ℕ, suc, ◌+◌, ◌-◌, ◌<◌, ◌≤◌}
+use mathlib.Core.Path.{◌≡◌, refl, ap, ◌∙◌}
+use mathlib.Core.Bool.{false}
+use mathlib.Core.List.{List, [], ◌∷◌}
+use Prim.Native.Nat.{ℕ, zero, suc, ◌+◌, ◌-◌, ◌<◌, ◌≤◌}
+use native.Mathlib.Numerals.{add-one}
 use native.Mathlib.Omega.{arith}
 use lib.Dec.{eqb, ltb}
-use lib.ListN.{length, take, drop, length-take, length-drop}
-use borrow.Author.Tests.{lt-ltb, le-ltb}
+use lib.ListN.{length, get_or, take, drop, length-take, length-drop, drop_of_length-le}
+use lib.Seq.{drop-cons}
+use lib.Pointwise.{pointwise}
+use borrow.Author.Tests.{lt-ltb, le-ltb, eqb-true, eqb-false, ltb-true, ltb-false}
+use Rattle.std.specs.Prelude.{Result, Ok, Err}
+use Rattle.std.specs.Result.{OkIff, result_unwrap_or}
+use Rattle.std.specs.List.{filter, range_with_len, list_any}
 use Rattle.numbers.specs.Fields as field
 use Rattle.octets.specs.Classes.{run, digit}
 use Rattle.octets.specs.Slices.{part}
 use Rattle.octets.proofs.Bools.{by}
+use Rattle.merge_sources.specs.Row.{none}
+use Rattle.merge_sources.specs.declared.Source.{Source}
 use Rattle.merge_sources.specs.declared.Row.{Row}
 use Rattle.merge_pids.specs.Numbers.{digits}
 use Rattle.merge_pids.specs.Marks.{Marked, put_all}
 use Rattle.merge_pids.proofs.MarkLaws.{put_append}
-use Rattle.merge_sides.specs.Lines.{field_at, one, count_lines}
-use Rattle.merge_sides.specs.Sources.{narrowed, source_in, with_line, with_lines}
-use Rattle.merge_sides.specs.Marks.{line_marks, marks_from}
+use Rattle.merge_sides.specs.Lines.{field_at, same_from, same_octets, count_lines}
+use Rattle.merge_sides.specs.Sources.{narrowed, source_in, with_line, with_lines, over_entries}
+use Rattle.merge_sides.specs.Marks.{line_marks, marks_from, over_from}
 
 pub left : (n i : ℕ) → i < n → n - i ≡ suc (n - (i + 1))
 left n i h = omega arith
@@ -36,14 +45,72 @@ part_short c a e =
 pub sum_at : {a b x y : ℕ} → a ≡ x → b ≡ y → a + b ≡ x + y
 sum_at e f = omega arith
 
-module _ (rs : List ℕ) (row n i : ℕ) where
-  pub count_turn : i < n → count_lines rs row i (n - i) ≡ one (eqb (field_at rs i field.property) row) + count_lines rs row (i + 1) (n - (i + 1))
-  unfolding count_lines
-  count_turn h = rw (left n i h)
+-- ---- what the library's methods say
 
-  pub count_over : n ≤ i → count_lines rs row i (n - i) ≡ 0
+-- of two lists, octet by octet
+octets_are : (xs ys : List ℕ) (i k : ℕ) → i + k ≡ length xs → i + k ≡ length ys → pointwise eqb (drop i xs) (drop i ys) ≡ same_from xs ys i k
+unfolding same_from
+octets_are xs ys i zero h g = rw (drop_of_length-le xs {i = i} (omega arith), drop_of_length-le ys {i = i} (omega arith))
+octets_are xs ys i (suc k) h g =
+    let here : i < length xs = omega arith in
+    let there : i < length ys = omega arith in
+    let rest = rw add-one at (octets_are xs ys (i + 1) k (omega arith) (omega arith)) in
+    rw (drop-cons xs i 0 here, drop-cons ys i 0 there, rest, add-one)
+    (by (eqb (get_or xs i 0) (get_or ys i 0)) (λ e. rw e) (λ e. rw e))
+
+lengths_differ : (xs ys : List ℕ) → (length xs ≡ length ys → ⊥) → pointwise eqb xs ys ≡ false
+lengths_differ [] [] h = absurd (h refl)
+lengths_differ [] (y ∷ ys) h = refl
+lengths_differ (x ∷ xs) [] h = refl
+lengths_differ (x ∷ xs) (y ∷ ys) h =
+    let rest = lengths_differ xs ys (λ e. h (ap suc e)) in
+    by (eqb x y) (λ e. rw (e, rest)) (λ e. rw e)
+
+pub octets_compared : (xs ys : List ℕ) → pointwise eqb xs ys ≡ same_octets xs ys
+unfolding same_octets
+octets_compared xs ys =
+    by (eqb (length xs) (length ys))
+    (λ e. rw e (octets_are xs ys 0 (length xs) (omega arith) (let n = eqb-true (length xs) (length ys) e in omega arith)))
+    (λ e. rw e (lengths_differ xs ys (eqb-false (length xs) (length ys) e)))
+
+-- of the lines from i on that have a property number
+module _ (rs : List ℕ) (row : ℕ) where
+  pub lines_counted : (i k : ℕ) → length (filter (λ j. eqb (field_at rs j field.property) row) (range_with_len i k)) ≡ count_lines rs row i k
   unfolding count_lines
-  count_over h = rw (over n i h)
+  lines_counted i zero = refl
+  lines_counted i (suc k) =
+      by (eqb (field_at rs i field.property) row)
+      (λ e. rw e (omega (arith, lines_counted (i + 1) k)))
+      (λ e. rw e (omega (arith, lines_counted (i + 1) k)))
+
+-- of numbers and entries over a limit
+module _ (xs : List ℕ) where
+  pub over_any : (i k : ℕ) → i + k ≤ length xs → list_any (λ x. ltb 65535 x) (take k (drop i xs)) ≡ over_from xs i k
+  unfolding over_from
+  over_any i zero h = refl
+  over_any i (suc k) h =
+      let here : i < length xs = omega arith in
+      let rest = rw add-one at (over_any (i + 1) k (omega arith)) in
+      rw (drop-cons xs i 0 here, rest, add-one) (by (ltb 65535 (get_or xs i 0)) (λ e. rw e) (λ e. rw e))
+
+module _ (es : List Source) where
+  pub entries_any : (i k : ℕ) → i + k ≡ length es → list_any (λ (e : Source). ltb 65535 e.number) (drop i es) ≡ over_entries es i k
+  unfolding over_entries
+  entries_any i zero h = rw (drop_of_length-le es {i = i} (omega arith))
+  entries_any i (suc k) h =
+      let here : i < length es = omega arith in
+      let rest = rw add-one at (entries_any (i + 1) k (omega arith)) in
+      rw (drop-cons es i none here, rest, add-one) (by (ltb 65535 (get_or es i none).number) (λ e. rw e) (λ e. rw e))
+
+-- of a number in 32 bits
+pub saturated : {E : Type 0} (r : Result ℕ E) (n : ℕ) → OkIff r (n < 4294967296) n → result_unwrap_or r 4294967295 ≡ narrowed n
+unfolding narrowed
+saturated (Ok v) n h =
+    by (ltb 4294967295 n) (λ e. absurd (omega (arith, h.0, ltb-true 4294967295 n e))) (λ e. rw e h.1)
+saturated (Err x) n h =
+    by (ltb 4294967295 n) (λ e. rw e) (λ e. absurd (h (omega (arith, ltb-false 4294967295 n e))))
+
+-- ---- walks
 
 module _ (r : Row) (c rs : List ℕ) (n i : ℕ) where
   pub lines_turn : i < n → with_lines r c rs i (n - i) ≡ with_lines (with_line r c rs i) c rs (i + 1) (n - (i + 1))

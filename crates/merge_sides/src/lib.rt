@@ -1,12 +1,12 @@
 // One side of a merge: what an accepted card's copy and records say of its lines, its own row of sources, and its marks.
 #![tactic(auto)]
 
-ghost use Rattle.std.specs.Prelude.{◌≡◌, ◌+◌, ◌<◌, ◌≤◌, eqb, length};
+ghost use Rattle.std.specs.Prelude.{◌≡◌, ◌+◌, ◌<◌, ◌≤◌, length};
 ghost use Rattle.numbers.specs.Limits as limit;
 ghost use Rattle.numbers.specs.Fields as field;
 ghost use Rattle.octets.specs.Classes.{Classes};
 ghost use Rattle.merge_pids.specs.Marks.{marked, put_all};
-ghost use Rattle.merge_sides.specs.Lines.{field_at, name_start_at, value_at, same_octets, same_property, first_line, one, count_lines};
+ghost use Rattle.merge_sides.specs.Lines.{field_at, name_start_at, value_at, same_octets, same_property, first_line, count_lines};
 ghost use Rattle.merge_sides.specs.Sources.{narrowed, source_at, with_source, with_line, own_row, over_entries};
 ghost use Rattle.merge_sides.specs.Marks.{line_marks, marks_from, over_marks};
 
@@ -49,17 +49,7 @@ pub fn name_start(rs: &[u32], i: usize) -> usize
 pub fn same_octets(a: &[u8], b: &[u8]) -> bool
     ensures { result ≡ same_octets a.now b.now }
 {
-    if a.len() != b.len() {
-        return false;
-    }
-    let mut i: usize = 0;
-    while i < a.len() {
-        if a[i] != b[i] {
-            return false;
-        }
-        i += 1;
-    }
-    true
+    a == b
 }
 
 // Whether line i of the first card and line j of the second have one property: the same number, and for number 0 the same name without case.
@@ -85,38 +75,21 @@ pub fn find_line(rs: &[u32], n: usize, row: usize) -> usize
     ensures value { result ≡ first_line rs.now row 0 n }
     ensures upper_bound { result ≤ n }
 {
-    let mut i: usize = 0;
-    while i < n {
+    for i in 0..n {
         if field_at(rs, i, field::PROPERTY) == row {
             return i;
         }
-        i += 1;
     }
     n
-}
-
-// 1 where line i has the property number, else 0.
-fn one_at(rs: &[u32], i: usize, row: usize) -> usize
-    ensures value { result ≡ one (eqb (field_at rs.now i field.property) row) }
-    ensures upper_bound { result ≤ 1 }
-{
-    if field_at(rs, i, field::PROPERTY) == row {
-        return 1;
-    }
-    0
 }
 
 // How many of n lines have the property number.
 pub fn count_lines(rs: &[u32], n: usize, row: usize) -> usize
     ensures { result ≡ count_lines rs.now row 0 n }
 {
-    let mut count: usize = 0;
-    let mut i: usize = 0;
-    while i < n {
-        count += one_at(rs, i, row);
-        i += 1;
-    }
-    count
+    (0..n)
+        .filter(|i| field_at(rs, *i, field::PROPERTY) == row)
+        .count()
 }
 
 // The value of line i in the copy.
@@ -133,10 +106,7 @@ pub fn value_of<'a>(c: &'a [u8], rs: &[u32], i: usize) -> &'a [u8]
 fn narrow(n: usize) -> u32
     ensures { result ≡ narrowed n }
 {
-    if limit::LARGEST < n {
-        return 4294967295;
-    }
-    n as u32
+    u32::try_from(n).unwrap_or(u32::MAX)
 }
 
 // The source that the value of line i, a CLIENTPIDMAP line, has: its number, and its URI's place and length.
@@ -196,10 +166,8 @@ pub fn own_row(c: &[u8], rs: &[u32], n: usize) -> Row
     ensures { result ≡ own_row c.now rs.now n }
 {
     let mut r = merge_sources::empty(0);
-    let mut i: usize = 0;
-    while i < n {
+    for i in 0..n {
         r = add_line(r, c, rs, i);
-        i += 1;
     }
     r
 }
@@ -208,15 +176,9 @@ pub fn own_row(c: &[u8], rs: &[u32], n: usize) -> Row
 pub fn over_entries(r: Row) -> bool
     ensures { result ≡ over_entries r.entries 0 limit.sources }
 {
-    let mut i: usize = 0;
-    while i < limit::SOURCES {
-        let e = r.entries[i];
-        if limit::SOURCE_NUMBER < wide_number(e.number) {
-            return true;
-        }
-        i += 1;
-    }
-    false
+    r.entries
+        .iter()
+        .any(|e| limit::SOURCE_NUMBER < wide_number(e.number))
 }
 
 // Writes the marks of line i.
@@ -239,10 +201,8 @@ pub fn put_marks(t: &ClassTable, c: &[u8], rs: &[u32], n: usize, out: &mut [u32]
     ensures { marked result out.new ≡ put_all (marked 0 out.old) (marks_from c.now rs.now 0 n) }
 {
     let mut next: usize = 0;
-    let mut i: usize = 0;
-    while i < n {
+    for i in 0..n {
         next = put_line(t, c, rs, i, out, next);
-        i += 1;
     }
     next
 }
@@ -251,13 +211,8 @@ pub fn put_marks(t: &ClassTable, c: &[u8], rs: &[u32], n: usize, out: &mut [u32]
 pub fn over_marks(marks: &[u32], n: usize) -> bool
     ensures { result ≡ over_marks marks.now n }
 {
-    let end = octets::slices::least(n, marks.len());
-    let mut i: usize = 0;
-    while i < end {
-        if limit::SOURCE_NUMBER < wide_number(marks[i]) {
-            return true;
-        }
-        i += 1;
-    }
-    false
+    let end = n.min(marks.len());
+    marks[..end]
+        .iter()
+        .any(|x| limit::SOURCE_NUMBER < wide_number(*x))
 }

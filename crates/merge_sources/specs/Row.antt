@@ -1,11 +1,9 @@
 -- A row of a source map as a value, its first entry of a number, and when two rows are the same. Assumes nothing.
-use Rattle.std.specs.Prelude.{ℕ, zero, suc, ◌+◌, List, [], ◌∷◌, Bool, true, false, eqb, ltb, length, get_or, set, replicate}
+use Rattle.std.specs.Prelude.{ℕ, zero, suc, ◌+◌, List, [], ◌∷◌, Option, Some, None, Bool, true, false, eqb, ltb, length, get_or, set, replicate}
 use Rattle.numbers.specs.Limits as limit
 use Rattle.octets.specs.Pick.{pick}
 use Rattle.merge_sources.specs.declared.Source.{Source}
 use Rattle.merge_sources.specs.declared.Row.{Row}
-use Rattle.merge_sources.specs.declared.Found.{Found}
-use Rattle.merge_sources.specs.declared.Found.TheVariants.{At, Nothing}
 
 -- the entry past the end of a row
 abbrev pub none : Source
@@ -34,9 +32,9 @@ unfoldable pub least : ℕ → ℕ
 least n = pick (ltb n limit.sources) n limit.sources
 
 -- the first of k entries from i on that has the number
-unfoldable pub first_in : List Source → ℕ → ℕ → ℕ → Found
-first_in es i zero number = Nothing
-first_in es i (suc k) number = pick (eqb (get_or es i none).number number) (At i) (first_in es (i + 1) k number)
+unfoldable pub first_in : List Source → ℕ → ℕ → ℕ → Option ℕ
+first_in es i zero number = None
+first_in es i (suc k) number = pick (eqb (get_or es i none).number number) (Some i) (first_in es (i + 1) k number)
 
 -- the same number, place and length
 unfoldable pub same_entry : Source → Source → Bool

@@ -3,12 +3,12 @@
 
 ghost use Rattle.std.specs.Prelude.{◌≡◌, [], ◌+◌, ◌<◌, ◌≤◌, min, get_or, take};
 ghost use Rattle.numbers.specs.Limits as limit;
-ghost use Rattle.merge_sources.specs.Row.{none, filled, put, row_of, least, first_in, same_entry, same_row};
+ghost use Rattle.merge_sources.specs.Row.{none, filled, put, row_of, least, first_in, same_row};
 
 use numbers::limit;
 
 // An entry of a source map: a source's number, and where its URI stands in the card's copy.
-#[derive(Clone, Copy)]
+#[derive(Clone, Copy, Debug, PartialEq, Eq)]
 pub struct Source {
     pub number: u32,
     pub place: u32,
@@ -16,7 +16,7 @@ pub struct Source {
 }
 
 // A row by value: how many entries it has, and the first sixteen of them, zeros past the end.
-#[derive(Clone, Copy)]
+#[derive(Clone, Copy, Debug, PartialEq, Eq)]
 pub struct Row {
     pub count: usize,
     pub entries: [Source; limit::SOURCES],
@@ -27,13 +27,6 @@ pub const LENT: usize = limit::SOURCES + 1;
 
 // The entries of a row as a program holds them.
 pub type Entries = [Source; LENT];
-
-// Where an entry stands in a row.
-#[derive(Clone, Copy)]
-pub enum Found {
-    At(usize),
-    Nothing,
-}
 
 // One entry of a lent row, or zeros past the end.
 pub fn at(m: &[Source], i: usize) -> Source
@@ -73,89 +66,36 @@ pub fn with_entry(r: Row, i: usize, e: Source) -> Row
     next
 }
 
-// A lent row as a value, for functions that take no reference to structs.
+// A lent row as a value.
 pub fn row_of(m: &[Source]) -> Row
     ensures { result ≡ row_of m.now }
 {
     let mut r = empty(m.len());
-    let mut i: usize = 0;
-    while i < limit::SOURCES {
+    for i in 0..limit::SOURCES {
         r = with_entry(r, i, at(m, i));
-        i = i + 1;
     }
     r
-}
-
-// The first n entries of a local array as a row: they are lent for the call of `row_of`, as a host lends its own.
-fn lent_row(a: Entries, n: usize) -> Row
-    requires { n ≤ limit.sources + 1 }
-    ensures { result ≡ row_of (take n a) }
-{
-    row_of(&a[..n])
 }
 
 // The row of the first n entries of an array, at most seventeen, for programs that hold the entries.
 pub fn lend_row(a: Entries, n: usize) -> Row
     ensures { result ≡ row_of (take (min n (limit.sources + 1)) a) }
 {
-    let k = octets::slices::least(n, LENT);
-    lent_row(a, k)
+    let k = n.min(LENT);
+    row_of(&a[..k])
 }
 
-// How many entries of a row are looked at: at most sixteen.
-fn limit(count: usize) -> usize
-    ensures { result ≡ least count }
-{
-    if count < limit::SOURCES {
-        return count;
-    }
-    limit::SOURCES
-}
-
-// The first entry of a number.
-pub fn search(r: Row, number: u32) -> Found
+// Where the first entry of a number stands.
+pub fn search(r: Row, number: u32) -> Option<usize>
     ensures { result ≡ first_in r.entries 0 (least r.count) number }
 {
-    let end = limit(r.count);
-    let mut i: usize = 0;
-    while i < end {
-        let e = r.entries[i];
-        if e.number == number {
-            return Found::At(i);
-        }
-        i += 1;
-    }
-    Found::Nothing
-}
-
-// Whether two entries have the same numbers.
-fn same_entry(a: Source, b: Source) -> bool
-    ensures { result ≡ same_entry a b }
-{
-    if a.number != b.number {
-        return false;
-    }
-    if a.place != b.place {
-        return false;
-    }
-    a.length == b.length
+    let end = r.count.min(limit::SOURCES);
+    r.entries[..end].iter().position(|e| e.number == number)
 }
 
 // Whether two rows have as many entries, and the same.
 pub fn same_row(a: Row, b: Row) -> bool
     ensures { result ≡ same_row a b }
 {
-    if a.count != b.count {
-        return false;
-    }
-    let mut i: usize = 0;
-    while i < limit::SOURCES {
-        let x = a.entries[i];
-        let y = b.entries[i];
-        if !same_entry(x, y) {
-            return false;
-        }
-        i += 1;
-    }
-    true
+    a == b
 }

@@ -1,5 +1,7 @@
 -- Refusals: the number of each, in the order of the table in docs/REFERENCE.md. Assumes nothing.
 use Rattle.std.specs.Prelude.{ℕ, List, [], ◌∷◌, ◌++◌}
+use Rattle.numbers.specs.declared.refusal.Reason.{Reason}
+use Rattle.numbers.specs.declared.refusal.Reason.TheVariants.{TooLong, Empty, LoneCrOrLf, NoEnd, BadOctet, Value, Laden, Order, Second, NoFn, Member, CopyRoom, RecordRoom, Room, FormTooLong, NoFreeSlot, TicketsUsedUp, NotOpen, SlotFull, PoolLength, Unsound, SlotCount, Escape, TextOctet, Name, Parameter, Quote, NoColon, NoLabel, BufferLength, Claim, NotTakenIn, NotGivenOut, NoPlan, MergeLimit, SourceRow, Plan, ReportFull, ReplayCall, ReplayPool, ReplayLog}
 
 -- an input, a text, a value or a label of over 16,384 octets; at 16,384
 abbrev pub too_long : ℕ
@@ -180,3 +182,47 @@ refusals =
     ++ no_plan ∷ merge_limit ∷ source_row ∷ plan ∷ []
     ++ report_full ∷ []
     ++ replay_call ∷ replay_pool ∷ replay_log ∷ []
+
+-- the number of each reason
+abbrev pub number : Reason → ℕ
+number TooLong = too_long
+number Empty = empty
+number LoneCrOrLf = lone_cr_or_lf
+number NoEnd = no_end
+number BadOctet = bad_octet
+number Value = value
+number Laden = laden
+number Order = order
+number Second = second
+number NoFn = no_fn
+number Member = member
+number CopyRoom = copy_room
+number RecordRoom = record_room
+number Room = room
+number FormTooLong = form_too_long
+number NoFreeSlot = no_free_slot
+number TicketsUsedUp = tickets_used_up
+number NotOpen = not_open
+number SlotFull = slot_full
+number PoolLength = pool_length
+number Unsound = unsound
+number SlotCount = slot_count
+number Escape = escape
+number TextOctet = text_octet
+number Name = name
+number Parameter = parameter
+number Quote = quote
+number NoColon = no_colon
+number NoLabel = no_label
+number BufferLength = buffer_length
+number Claim = claim
+number NotTakenIn = not_taken_in
+number NotGivenOut = not_given_out
+number NoPlan = no_plan
+number MergeLimit = merge_limit
+number SourceRow = source_row
+number Plan = plan
+number ReportFull = report_full
+number ReplayCall = replay_call
+number ReplayPool = replay_pool
+number ReplayLog = replay_log

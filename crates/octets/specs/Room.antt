@@ -2,6 +2,7 @@
 use Rattle.std.specs.Prelude.{ℕ, List, ◌++◌, Result, Ok, Err, ltb, length, drop}
 use Rattle.numbers.specs.Limits as limit
 use Rattle.numbers.specs.Refusals as refusal
+use Rattle.numbers.specs.Refusals.{number}
 use Rattle.numbers.specs.declared.refusal.Refusal.{Refusal}
 use Rattle.octets.specs.Pick.{pick}
 
@@ -17,7 +18,7 @@ pub data Written : Type 0 where
 -- the same of a result
 abbrev pub written : Result ℕ Refusal → Written
 written (Ok n) = Wrote n
-written (Err r) = Refused r.0 r.1
+written (Err r) = Refused (number r.0) r.1
 
 -- an answer, and what the room holds then
 pub record Filled : Type 0 where

@@ -1,7 +1,11 @@
 -- The numbers of files that are open. Assumes nothing.
-use Rattle.std.specs.Prelude.{◌≤◌, ◌<◌, ◌≡◌, ℤ, pos, negsuc}
+use Rattle.std.specs.Prelude.{◌≤◌, ◌<◌, ℤ, pos, negsuc, Option, IfSome}
 
--- a file that is opened has a number from 3 on, as many as are open at a time, and the one other answer is -1
-abbrev pub Opened : ℤ → Type 0
-Opened (pos n) = (3 ≤ n) × (n < 67)
-Opened (negsuc n) = n ≡ 0
+-- from 3 on, as many as are open at a time
+abbrev pub IsNumber : ℤ → Type 0
+IsNumber (pos n) = (3 ≤ n) × (n < 67)
+IsNumber (negsuc n) = ⊥
+
+-- a file that is opened has such a number
+abbrev pub Opened : Option ℤ → Type 0
+Opened r = IfSome r IsNumber

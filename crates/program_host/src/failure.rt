@@ -29,14 +29,9 @@ const NUMBER: &[u8] = b" (os error ";
 fn words_end(text: &[u8]) -> usize
     ensures { result ≤ length text.now }
 {
-    let mut i: usize = 0;
-    while i < text.len() {
-        if text[i..].starts_with(NUMBER) {
-            return i;
-        }
-        i += 1;
-    }
-    i
+    text.windows(NUMBER.len())
+        .position(|words| words == NUMBER)
+        .unwrap_or(text.len())
 }
 
 // Writes an error to the start of the room, and answers how many octets that takes.

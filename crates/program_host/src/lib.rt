@@ -4,7 +4,7 @@
 mod failure;
 mod odd;
 
-ghost use Rattle.std.specs.Prelude.{◌≤◌, ◌≡◌, length, IfSome};
+ghost use Rattle.std.specs.Prelude.{◌≤◌, ◌≡◌, ◌<◌, length, IfSome};
 ghost use Rattle.program_host.specs.Numbers.{Opened};
 ghost use Rattle.std.specs.Io.{ReadsAtMost};
 
@@ -54,11 +54,11 @@ pub fn large_buffer() -> [u8; 65536]
 }
 
 // The place in the table of a number that is not that of a standard stream.
-fn place_of(fd: i32) -> usize {
+fn place_of(fd: i32) -> Option<usize> {
     if fd < FIRST {
-        return FILES;
+        return None;
     }
-    (fd - FIRST) as usize
+    Some((fd - FIRST) as usize)
 }
 
 impl Host {
@@ -75,10 +75,7 @@ impl Host {
     pub fn arg(&self, i: usize, room: &mut [u8]) -> usize
         ensures { result ≤ length room.new }
     {
-        match self.rt.arg(i, room) {
-            Ok(n) => n,
-            Err(_) => 0,
-        }
+        self.rt.arg(i, room).unwrap_or(0)
     }
 
     // Whether argument i is there.
@@ -89,14 +86,12 @@ impl Host {
 
     // How many arguments there are, the program's own name among them.
     pub fn arg_count(&self) -> usize {
-        let mut n: usize = 0;
-        while n < usize::MAX {
+        for n in 0..usize::MAX {
             if !self.has_arg(n) {
                 return n;
             }
-            n += 1;
         }
-        n
+        usize::MAX
     }
 
     // Puts argument i at the start of the room, and answers its length, or that it is missing or longer than the room.
@@ -116,42 +111,43 @@ impl Host {
         }
     }
 
-    // The first place of the table that has no file, or its length.
-    fn free_place(&self) -> usize {
-        let mut k: usize = 0;
-        while k < FILES {
-            if self.files[k].is_none() {
-                return k;
-            }
-            k += 1;
-        }
-        k
+    // The first place of the table that has no file.
+    fn free_place(&self) -> Option<usize>
+        ensures { IfSome result (λ k. k < 64) }
+    {
+        self.files.iter().position(|file| file.is_none())
     }
 
-    // Opens the file of that name for reading, and answers its number, or -1.
-    pub fn open_read(&mut self, path: &[u8]) -> i32
+    // Opens the file of that name for reading, and answers its number.
+    pub fn open_read(&mut self, path: &[u8]) -> Option<i32>
         ensures { Opened result }
     {
-        let k = self.free_place();
-        if k >= FILES {
+        let Some(k) = self.free_place() else {
             self.error = io::Error::from_raw_os_error(failure::TOO_MANY);
-            return -1;
-        }
+            return None;
+        };
         match odd::open(self.rt, path) {
             Ok(file) => {
                 self.files[k] = Some(file);
-                FIRST + k as i32
+                Some(FIRST + k as i32)
             }
             Err(e) => {
                 self.error = e;
-                -1
+                None
             }
         }
+    }
+
+    // The file of that number, if it is open.
+    fn file(&mut self, fd: i32) -> Option<&mut File> {
+        self.files.get_mut(place_of(fd)?)?.as_mut()
     }
 
     // Closes a file.
     pub fn close(&mut self, fd: i32) {
-        let k = place_of(fd);
+        let Some(k) = place_of(fd) else {
+            return;
+        };
         if k < FILES {
             self.files[k] = None;
         }
@@ -164,13 +160,10 @@ impl Host {
         if fd == STDIN {
             return self.rt.stdin().read(room);
         }
-        let k = place_of(fd);
-        if k < FILES {
-            if let Some(file) = &mut self.files[k] {
-                return file.read(room);
-            }
+        match self.file(fd) {
+            Some(file) => file.read(room),
+            None => Err(io::Error::from_raw_os_error(failure::NOT_OPEN)),
         }
-        Err(io::Error::from_raw_os_error(failure::NOT_OPEN))
     }
 
     // Reads once, from standard input or a file that is open, and answers how many octets, or that this failed.
@@ -188,16 +181,10 @@ impl Host {
 
     // Goes to a place of a file that is open, and answers how far that is from its start; 0 where there is no going.
     fn seek(&mut self, fd: i32, to: SeekFrom) -> u64 {
-        let k = place_of(fd);
-        if k < FILES {
-            if let Some(file) = &mut self.files[k] {
-                return match file.seek(to) {
-                    Ok(n) => n,
-                    Err(_) => 0,
-                };
-            }
+        match self.file(fd) {
+            Some(file) => file.seek(to).unwrap_or(0),
+            None => 0,
         }
-        0
     }
 
     // Goes back to the start of a file that is open, where it can be read again.

@@ -16,16 +16,8 @@ const NAME: usize = 4096;
 // More octets than the name of an open file has.
 const LINK: usize = 64;
 
-// A hexadecimal digit.
-fn digit(n: u8) -> u8 {
-    if n < 10 {
-        return b'0' + n;
-    }
-    if n < 16 {
-        return b'a' - 10 + n;
-    }
-    b'0'
-}
+// The hexadecimal digits.
+const DIGITS: [u8; 16] = *b"0123456789abcdef";
 
 // Writes the start and the digits to the start of the room, as far as there is room, and answers how many octets that takes.
 fn put_name(path: &[u8], room: &mut [u8]) -> usize
@@ -40,8 +32,8 @@ fn put_name(path: &[u8], room: &mut [u8]) -> usize
     }
     for octet in path {
         if n < room.len() && room.len() - n > 1 {
-            room[n] = digit(*octet / 16);
-            room[n + 1] = digit(*octet % 16);
+            room[n] = DIGITS[usize::from(*octet / 16)];
+            room[n + 1] = DIGITS[usize::from(*octet % 16)];
             n += 2;
         }
     }

@@ -1,5 +1,5 @@
 -- The laws of `all_in` and `alike`, and of a span of octets. Assumes nothing.
-use mathlib.Core.Path.{◌≡◌, refl, sym}
+use mathlib.Core.Path.{◌≡◌, refl, sym, ◌∙◌}
 use mathlib.Core.Bool.{Bool, true, false, ◌&&◌, and-false}
 use mathlib.Core.List.{List, [], ◌∷◌}
 use Prim.Native.Nat.{ℕ, zero, suc, ◌+◌, ◌≤◌, ◌<◌}
@@ -10,6 +10,8 @@ use lib.Dec.{leb, eqb}
 use lib.ListN.{length, get_or, drop, drop_of_length-le}
 use lib.Seq.{drop-cons}
 use borrow.Author.Tests.{eq-eqb, eqb-true, le-leb, lt-leb}
+use Rattle.std.specs.Bool.{MatchBool}
+use Rattle.std.specs.List.{AllWithin, HoldsAt}
 use Rattle.octets.specs.Classes.{within}
 use Rattle.octets.proofs.Bools.{and_both}
 use Rattle.octets.specs.Counts.{all_in}
@@ -46,6 +48,23 @@ unfolding all_in
 each p [] i e h = absurd (not-suc-le-zero h)
 each p (x ∷ xs) zero e h = (and_both (p x) (all_in p xs) e).0
 each p (x ∷ xs) (suc i) e h = each p xs i (and_both (p x) (all_in p xs) e).1 (le_of_suc-le-suc h)
+
+-- and where each does, all pass
+every : (p : ℕ → Bool) (s : List ℕ) → ((i : ℕ) → i < length s → p (get_or s i 0) ≡ true) → all_in p s ≡ true
+unfolding all_in
+every p [] h = refl
+every p (x ∷ xs) h = rw (h 0 (omega arith)) (every p xs (λ i g. h (suc i) (omega arith)))
+
+-- the answer of an iterator's `all`
+pub told_all : (p : ℕ → Bool) (s : List ℕ) (r : Bool)
+    → MatchBool r (AllWithin (λ x. p x ≡ true) s 0 (length s)) ((k : ℕ) × (k < length s) × HoldsAt (λ x. p x ≡ false) s k)
+    → r ≡ all_in p s
+told_all p s true h = sym (every p s (λ i g. h i 0 (omega arith) g))
+told_all p s false (k, g, h) = missed (all_in p s) (λ e. each p s k e g)
+  where
+    missed : (t : Bool) → (t ≡ true → p (get_or s k 0) ≡ true) → false ≡ t
+    missed true f = sym (h 0) ∙ f refl
+    missed false f = refl
 
 pub alike_self : (a : List ℕ) → alike a a ≡ true
 unfolding alike

@@ -8,6 +8,7 @@ use native.Mathlib.Omega.{arith}
 use lib.Dec.{ltb, eqb}
 use lib.ListN.{length, length-append}
 use borrow.Author.Tests.{ltb-true, ltb-false, lt-ltb, le-leb, ne_eqb}
+use Rattle.std.specs.Prelude.{Some}
 use Rattle.numbers.specs.Limits as limit
 use Rattle.octets.specs.Pick.{pick}
 use Rattle.octets.specs.Ascii.{octets}
@@ -15,7 +16,6 @@ use Rattle.octets.specs.Counts.{all_in}
 use Rattle.program_numbers.specs.Alike.{alike}
 use Rattle.program_numbers.specs.Decimal.{ones, digit, value_from, number_from, number_of}
 use Rattle.program_numbers.specs.Hex.{value, hexed, paired, decoded, stored, octets_of}
-use Rattle.program_numbers.specs.declared.decimal.Number.TheVariants.{Is}
 use Rattle.octets.proofs.Bools.{and_both}
 use Rattle.program_numbers.proofs.ListLaws.{above, inside}
 use Rattle.program_numbers.proofs.NumberLaws.{value_join}
@@ -51,7 +51,7 @@ unfolding digits_of
 digits_some k n e = omega (arith, length-append (digits_of k (n / 10)) ((48 + n % 10) ∷ []))
 
 -- as many digits as a number needs, or more, are that number
-pub number_back : (k n : ℕ) → n < 10 ^ suc k → n ≤ limit.largest64 → number_of (digits_of (suc k) n) ≡ Is n
+pub number_back : (k n : ℕ) → n < 10 ^ suc k → n ≤ limit.largest64 → number_of (digits_of (suc k) n) ≡ Some n
 unfolding number_of number_from
 number_back k n h g =
     rw (ne_eqb (length (digits_of (suc k) n)) 0 (digits_some k n), digits_are (suc k) n, digits_value (suc k) n h, le-leb n limit.largest64 g)

@@ -1,49 +1,29 @@
 // Numbers in decimal digits.
 ghost use Rattle.std.specs.Prelude.{◌≡◌};
-ghost use Rattle.program_numbers.specs.Decimal.{ones, number_of};
+ghost use Rattle.program_numbers.specs.Decimal.{digit_of, number_of};
 
-// What a digit is never worth: the answer for an octet that is no digit.
-const NO_DIGIT: usize = 10;
-
-// The number that a word stands for, or that it stands for none.
-#[derive(Clone, Copy)]
-pub enum Number {
-    Is(usize),
-    Bad,
-}
-
-// What a decimal digit stands for, or 10.
-fn ones(octet: u8) -> usize
-    ensures { result ≡ ones octet }
+// What a decimal digit stands for.
+#[tactic(auto, unfolding(crate::specs::Decimal::digit_of, crate::specs::Decimal::digit, crate::specs::Decimal::ones))]
+fn digit_of(octet: u8) -> Option<usize>
+    ensures { result ≡ digit_of octet }
 {
-    if octet < b'0' {
-        return NO_DIGIT;
+    match octet {
+        b'0'..=b'9' => Some(usize::from(octet - b'0')),
+        _ => None,
     }
-    if octet <= b'9' {
-        return (octet - b'0') as usize;
-    }
-    NO_DIGIT
 }
 
 // The number that a word has in decimal digits, where it is one that fits.
-pub fn number_of(word: &[u8]) -> Number
+pub fn number_of(word: &[u8]) -> Option<usize>
     ensures { result ≡ number_of word.now }
 {
-    if word.len() == 0 {
-        return Number::Bad;
+    if word.is_empty() {
+        return None;
     }
     let mut n: usize = 0;
-    let mut i: usize = 0;
-    while i < word.len() {
-        let one = ones(word[i]);
-        if one >= NO_DIGIT {
-            return Number::Bad;
-        }
-        if n > (usize::MAX - one) / 10 {
-            return Number::Bad;
-        }
-        n = 10 * n + one;
-        i += 1;
+    for octet in word {
+        let one = digit_of(*octet)?;
+        n = n.checked_mul(10)?.checked_add(one)?;
     }
-    Number::Is(n)
+    Some(n)
 }

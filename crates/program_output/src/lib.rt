@@ -23,10 +23,8 @@ pub fn put_all(room: &mut [u8], at: usize, text: &[u8]) -> usize
     ensures { page result room.new ≡ added text.now (page at room.old) }
 {
     let mut next = at;
-    let mut i: usize = 0;
-    while i < text.len() {
-        next = put(room, next, text[i]);
-        i += 1;
+    for octet in text {
+        next = put(room, next, *octet);
     }
     next
 }
@@ -46,10 +44,8 @@ pub fn put_spaces(room: &mut [u8], at: usize, n: usize) -> usize
     ensures { page result room.new ≡ added (replicate n 32) (page at room.old) }
 {
     let mut next = at;
-    let mut left = n;
-    while left > 0 {
+    for _ in 0..n {
         next = put(room, next, b' ');
-        left -= 1;
     }
     next
 }

@@ -2,103 +2,65 @@
 #![tactic(auto)]
 
 ghost use Rattle.std.specs.Prelude.{◌≡◌, ◌<◌, length, get_or, drop};
-ghost use Rattle.octets.specs.Classes.{Classes, within};
+ghost use Rattle.octets.specs.Classes.{Classes};
 ghost use Rattle.program_output.specs.Pages.{page, added};
 ghost use Rattle.program_visible.specs.Visible.{hidden_control, hidden_space, hidden_mark, hidden_tag, hidden, character, in_hex, visible};
 
 use octets::classes::ClassTable;
-use octets::indices::wide;
 
 // An octet of a text; 0 past its end.
 pub fn octet_at(s: &[u8], i: usize) -> usize
     ensures { result ≡ get_or s.now i 0 }
 {
-    if i < s.len() {
-        return wide(s[i]);
-    }
-    0
-}
-
-// Whether a number is from first to last.
-fn is_within(first: usize, last: usize, n: usize) -> bool
-    ensures { result ≡ within first last n }
-{
-    if n < first {
-        return false;
-    }
-    n <= last
+    s.get(i).map_or(0, |octet| usize::from(*octet))
 }
 
 // Whether C2 and this octet are a control from U+0080 to U+009F, or the soft hyphen.
+#[tactic(auto, unfolding(crate::specs::Visible::hidden_control))]
 fn is_hidden_control(b: usize) -> bool
     ensures { result ≡ hidden_control b }
 {
-    if b == 0xad {
-        return true;
-    }
-    is_within(0x80, 0x9f, b)
+    matches!(b, 0xad | 0x80..=0x9f)
 }
 
 // Whether E2 and these octets are a character without width, a separator of lines, or a mark of direction: U+200B to U+200F, U+2028 to U+202E, U+2060 to
 // U+206F.
+#[tactic(auto, unfolding(crate::specs::Visible::hidden_space))]
 fn is_hidden_space(b: usize, c: usize) -> bool
     ensures { result ≡ hidden_space b c }
 {
-    if b == 0x81 {
-        return is_within(0xa0, 0xaf, c);
-    }
-    if b != 0x80 {
-        return false;
-    }
-    if is_within(0x8b, 0x8f, c) {
-        return true;
-    }
-    is_within(0xa8, 0xae, c)
+    matches!((b, c), (0x81, 0xa0..=0xaf) | (0x80, 0x8b..=0x8f | 0xa8..=0xae))
 }
 
 // Whether EF and these octets are the mark of byte order, U+FEFF, or an anchor of annotations, U+FFF9 to U+FFFB.
+#[tactic(auto, unfolding(crate::specs::Visible::hidden_mark))]
 fn is_hidden_mark(b: usize, c: usize) -> bool
     ensures { result ≡ hidden_mark b c }
 {
-    if b == 0xbb {
-        return c == 0xbf;
-    }
-    if b != 0xbf {
-        return false;
-    }
-    is_within(0xb9, 0xbb, c)
+    matches!((b, c), (0xbb, 0xbf) | (0xbf, 0xb9..=0xbb))
 }
 
 // Whether F3 and these octets start a tag, U+E0000 to U+E007F.
+#[tactic(auto, unfolding(crate::specs::Visible::hidden_tag))]
 fn is_hidden_tag(b: usize, c: usize) -> bool
     ensures { result ≡ hidden_tag b c }
 {
-    if b != 0xa0 {
-        return false;
-    }
-    is_within(0x80, 0x81, c)
+    matches!((b, c), (0xa0, 0x80..=0x81))
 }
 
 // Whether a character that starts with these octets is hidden.
+#[tactic(auto, unfolding(crate::specs::Visible::hidden))]
 fn is_hidden(a: usize, b: usize, c: usize) -> bool
     ensures { result ≡ hidden a b c }
 {
-    if a == 0xc2 {
-        return is_hidden_control(b);
+    match a {
+        0xc2 => is_hidden_control(b),
+        0xd8 => b == 0x9c,
+        0xe2 => is_hidden_space(b, c),
+        0xef => is_hidden_mark(b, c),
+        0xf3 => is_hidden_tag(b, c),
+        _ => false,
     }
-    if a == 0xd8 {
-        return b == 0x9c;
-    }
-    if a == 0xe2 {
-        return is_hidden_space(b, c);
-    }
-    if a == 0xef {
-        return is_hidden_mark(b, c);
-    }
-    if a == 0xf3 {
-        return is_hidden_tag(b, c);
-    }
-    false
 }
 
 // The length of the character at i that is shown as it is; 0 where none, a control or a hidden one starts there.

@@ -17,7 +17,7 @@ use octets::indices::wide;
 use rows::PropertyTable;
 
 // RFC 6350, or RFC 9554, which adds names and lets N and ADR have more components.
-#[derive(Clone, Copy)]
+#[derive(Clone, Copy, Debug, PartialEq, Eq)]
 pub enum Edition {
     First,
     Second,
@@ -79,7 +79,7 @@ fn first_chosen(rows: &PropertyTable, name: &[u8]) -> usize
     requires { Lists rows.now }
     ensures { result ≡ first_of (length name.now) (initial name.now) }
 {
-    if name.len() == 0 {
+    if name.is_empty() {
         return 0;
     }
     if LONGEST < name.len() {
@@ -113,12 +113,10 @@ fn spells(rows: &PropertyTable, row: usize, name: &[u8]) -> bool
     ensures { result ≡ same name.now (row_at row).name }
 {
     let base = row * ROW;
-    let mut i: usize = 1;
-    while i < name.len() {
+    for i in 1..name.len() {
         if name[i] | 32 != rows[base + i] | 32 {
             return false;
         }
-        i += 1;
     }
     true
 }
@@ -207,16 +205,11 @@ pub fn kind_named(value: &[u8]) -> usize
 }
 
 // Whether lines of the row frame a card: BEGIN, VERSION and END.
+#[tactic(auto, unfolding(crate::specs::Rows::framing))]
 pub fn is_framing(row: usize) -> bool
     ensures { result ≡ framing row }
 {
-    if row == property::BEGIN {
-        return true;
-    }
-    if row == property::VERSION {
-        return true;
-    }
-    row == property::END
+    matches!(row, property::BEGIN | property::VERSION | property::END)
 }
 
 // Whether a KIND line's value lets MEMBER stand in the card.

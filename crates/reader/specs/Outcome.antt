@@ -11,6 +11,7 @@ use Rattle.reader_walk.specs.Walk.{judge_lines}
 use Rattle.reader_records.specs.Records.{records_from}
 use Rattle.card_state.specs.State.{Step, Next, Refused as Halted, Flawed, before_begin, fresh_card}
 use Rattle.line_breaks.specs.Lone.{first_lone, ends_cr_lf}
+use Rattle.numbers.specs.Refusals.{number}
 use Rattle.numbers.specs.declared.refusal.Refusal.{Refusal}
 use Rattle.reader.specs.declared.Counts.{Counts}
 
@@ -22,7 +23,7 @@ pub data Verdict : Type 0 where
 -- the same of a result
 abbrev pub verdict : Result Counts Refusal → Verdict
 verdict (Ok c) = Accepted c.cards c.lines
-verdict (Err r) = Refused r.0 r.1
+verdict (Err r) = Refused (number r.0) r.1
 
 -- after the last line of an input of n octets: 9 inside a card, else the counts of cards and lines; a walk leaves no octet of a line to be placed
 unfoldable pub verdict_of : ℕ → Step → Verdict

@@ -1,7 +1,7 @@
 // The reader: judges an input of cards, and writes its copy and its records.
 #![tactic(auto)]
 
-ghost use Rattle.std.specs.Prelude.{◌≡◌, List, ℕ, ◌≤◌, ltb, length};
+ghost use Rattle.std.specs.Prelude.{◌≡◌, List, ℕ, ◌<◌, ◌≤◌, length, MatchOption};
 ghost use Rattle.numbers.specs.Limits as limit;
 ghost use Rattle.line_folds.specs.Folds.{unfolded};
 ghost use Rattle.line_folds.specs.Logical.{raw_lines};
@@ -10,9 +10,9 @@ ghost use Rattle.card_state.specs.Kept.{step_of};
 ghost use Rattle.reader_walk.specs.Walk.{judge_lines};
 ghost use Rattle.reader.specs.Outcome.{verdict, verdict_of, judge_in, judge_of, took, read_in};
 
-use card_state::Step;
-use numbers::refusal::Refusal;
-use numbers::{limit, refusal};
+use card_state::{Flaw, Step};
+use numbers::limit;
+use numbers::refusal::{Reason, Refusal};
 use property_table::Edition;
 
 // How many cards and lines an accepted input has.
@@ -30,17 +30,19 @@ pub fn conclude(n: usize, last: Step) -> Verdict
     ensures { (store : List ℕ) → verdict result ≡ verdict_of n (step_of store last) }
 {
     match last {
-        Step::Next(c) => {
+        Ok(c) => {
             if c.phase == card_state::BEFORE_BEGIN {
                 return Ok(Counts {
                     cards: c.cards,
                     lines: c.lines,
                 });
             }
-            Err(Refusal(refusal::ORDER, n))
+            Err(Refusal(Reason::Order, n))
         }
-        Step::Refused(k, p) => Err(Refusal(k, p)),
-        Step::Flawed(k, o) => Err(Refusal(k, o)),
+        Err(flaw) => match flaw {
+            Flaw::Placed(reason, place) => Err(Refusal(reason, place)),
+            Flaw::Octet(reason, octet) => Err(Refusal(reason, octet)),
+        },
     }
 }
 
@@ -66,18 +68,17 @@ pub fn judge_as(edition: Edition, input: &[u8]) -> Verdict
     ensures { verdict result ≡ judge_in edition input.now }
 {
     if limit::OCTETS < input.len() {
-        return Err(Refusal(refusal::TOO_LONG, limit::OCTETS));
+        return Err(Refusal(Reason::TooLong, limit::OCTETS));
     }
-    if input.len() == 0 {
-        return Err(Refusal(refusal::EMPTY, 0));
+    if input.is_empty() {
+        return Err(Refusal(Reason::Empty, 0));
     }
     let lone = line_breaks::first_lone(input);
     if lone < input.len() {
-        return Err(Refusal(refusal::LONE_CR_OR_LF, lone));
+        return Err(Refusal(Reason::LoneCrOrLf, lone));
     }
-    let ended = line_breaks::ends_cr_lf(input);
-    if !ended {
-        return Err(Refusal(refusal::NO_END, input.len()));
+    if !line_breaks::ends_cr_lf(input) {
+        return Err(Refusal(Reason::NoEnd, input.len()));
     }
     let last = walk(edition, input);
     conclude(input.len(), last)
@@ -90,16 +91,16 @@ pub fn judge(input: &[u8]) -> Verdict
     judge_as(Edition::First, input)
 }
 
-// Whether a room of so many octets is too short for the copy of an input; one as long as the input is not, and no fold is counted then.
-fn is_copy_short(input: &[u8], room: usize) -> bool
+// How many octets the copy of an input has, where a room of so many is too short for it; one as long as the input is not, and no fold is counted then.
+fn copy_over(room: usize, input: &[u8]) -> Option<usize>
     requires { length input.now ≤ limit.octets }
-    ensures { result ≡ ltb room (length (unfolded input.now)) }
+    ensures { MatchOption result (length (unfolded input.now) ≤ room) (λ n. (room < n) × (n ≡ length (unfolded input.now))) }
 {
     if input.len() <= room {
-        return false;
+        return None;
     }
     let octets = line_unfolding::unfolded_length(input);
-    room < octets
+    (room < octets).then_some(octets)
 }
 
 // The verdict on an input in an edition, 1 to 14 or the counts; where it is accepted, its copy and its records are written to the start of their
@@ -108,14 +109,12 @@ pub fn read(edition: Edition, input: &[u8], copy: &mut [u8], records: &mut [u32]
     ensures { took (verdict result) copy.new records.new ≡ read_in edition input.now copy.old records.old }
 {
     let counts = judge_as(edition, input)?;
-    let short = is_copy_short(input, copy.len());
-    if short {
-        let octets = line_unfolding::unfolded_length(input);
-        return Err(Refusal(refusal::COPY_ROOM, octets));
+    if let Some(octets) = copy_over(copy.len(), input) {
+        return Err(Refusal(Reason::CopyRoom, octets));
     }
     let numbers = counts.lines * limit::RECORD_LENGTH;
     if records.len() < numbers {
-        return Err(Refusal(refusal::RECORD_ROOM, numbers));
+        return Err(Refusal(Reason::RecordRoom, numbers));
     }
     let t = octets::classes::table();
     let rows = property_table::table();

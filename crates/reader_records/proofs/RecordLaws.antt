@@ -13,8 +13,8 @@ use Rattle.line_folds.specs.Folds.{fold_at, line_step, line_length, not_cr}
 use Rattle.line_folds.specs.Logical.{raw_lines}
 use Rattle.line_folds.proofs.SpanLaws.{lines_turn, part_length}
 use Rattle.card_line.specs.Parts.{line_parts_of}
-use Rattle.card_line.specs.declared.LineParts.{LineParts}
-use Rattle.card_line.specs.declared.LineParts.TheVariants.{Line, Fault}
+use Rattle.card_line.specs.Parts.{LineParts}
+use Rattle.card_line.specs.Parts.{line as Line, fault as Fault}
 use Rattle.reader_records.specs.Records.{record_by, record_of, records_from}
 use Rattle.property_table.specs.declared.Edition.{Edition}
 

@@ -3,8 +3,8 @@ use Rattle.std.specs.Prelude.{ℕ, ◌+◌, ◌-◌, List, [], ◌∷◌, ◌++�
 use Rattle.line_parser.specs.Places.{name_start}
 use Rattle.property_table.specs.declared.Edition.{Edition}
 use Rattle.card_line.specs.Parts.{line_parts_of}
-use Rattle.card_line.specs.declared.LineParts.{LineParts}
-use Rattle.card_line.specs.declared.LineParts.TheVariants.{Line, Fault}
+use Rattle.card_line.specs.Parts.{LineParts}
+use Rattle.card_line.specs.Parts.{line as Line, fault as Fault}
 use Rattle.reader_records.specs.declared.Record.{Record}
 
 -- property number, line start in the copy, line length, group length, name length, parameter count, value start in the copy, kind;

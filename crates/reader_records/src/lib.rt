@@ -10,14 +10,13 @@ ghost use Rattle.line_folds.specs.Logical.{raw_lines};
 ghost use Rattle.property_table.specs.Rows.{Lists};
 ghost use Rattle.reader_records.specs.Records.{numbers, record_of, records_from};
 
-use card_line::LineParts;
 use numbers::limit;
 use octets::classes::ClassTable;
 use property_table::Edition;
 use property_table::rows::PropertyTable;
 
 // One record: eight numbers.
-#[derive(Clone, Copy)]
+#[derive(Clone, Copy, Debug, PartialEq, Eq)]
 pub struct Record {
     pub property: u32,
     pub start: u32,
@@ -36,8 +35,7 @@ fn record_of(t: &ClassTable, rows: &PropertyTable, edition: Edition, l: &[u8], w
     requires l_bound { w + length l.now ≤ limit.octets }
     ensures { numbers result ≡ record_of edition w l.now }
 {
-    let parsed = card_line::parts_of(t, rows, edition, l);
-    let LineParts::Line(x) = parsed else {
+    let Ok(x) = card_line::parts_of(t, rows, edition, l) else {
         return Record {
             property: 0,
             start: 0,
@@ -77,11 +75,7 @@ fn put_record(out: &mut [u32], at: usize, r: Record)
         r.value_start,
         r.kind,
     ];
-    let mut i: usize = 0;
-    while i < limit::RECORD_LENGTH {
-        out[at + i] = row[i];
-        i += 1;
-    }
+    out[at..at + limit::RECORD_LENGTH].copy_from_slice(&row);
 }
 
 // Writes the records of the lines of s, which has no folds, to the start of out.

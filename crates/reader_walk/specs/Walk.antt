@@ -8,8 +8,8 @@ use Rattle.property_table.specs.declared.Edition.{Edition}
 use Rattle.card_judge.specs.Judge.{judge_line, added_by, KeepsOn}
 use Rattle.card_state.specs.Kept.{Lies}
 use Rattle.card_state.specs.declared.Card.{Card as Kept}
-use Rattle.card_state.specs.declared.Step.{Step as KeptStep}
-use Rattle.card_state.specs.declared.Step.TheVariants.{Next as next_kept}
+use Rattle.card_state.specs.Kept.{KeptStep}
+use Rattle.card_state.specs.Kept.{next as next_kept}
 use Rattle.card_state.specs.State.{Card, Step, Next, Refused as Halted, Flawed}
 
 -- a refusal is handed up unchanged

@@ -25,9 +25,5 @@ pub fn move_down(scratch: &mut [u8], to: usize, from: usize, n: usize)
     requires { (to ≤ from) × (from + n ≤ length scratch.old) }
     ensures { scratch.new ≡ behind to (take n (drop from scratch.old)) scratch.old }
 {
-    let mut i: usize = 0;
-    while i < n {
-        scratch[to + i] = scratch[from + i];
-        i += 1;
-    }
+    scratch.copy_within(from..from + n, to);
 }

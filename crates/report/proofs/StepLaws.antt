@@ -17,8 +17,7 @@ use Rattle.report_weights.specs.Parts.{weights}
 use Rattle.report_lines.proofs.CountLaws.{from_length, from_at, map_length}
 use Rattle.report.specs.Steps.{sum_at, over, sums, take_step}
 use Rattle.report.specs.declared.Report.{Report}
-use Rattle.report.specs.declared.Answer.TheVariants.{Counted, Refused}
-use Rattle.report.specs.declared.Taken.{Taken}
+use Rattle.report.specs.Answer.{Counted, Refused, Taken}
 
 neither : (a b : Bool) → a || b ≡ false → (a ≡ false) × (b ≡ false)
 neither true b e = clash cc

@@ -8,8 +8,7 @@ use Rattle.octets.specs.Pick.{pick}
 use Rattle.report_lines.specs.Rows.{numbers_from}
 use Rattle.report_weights.specs.Parts.{weights}
 use Rattle.report.specs.declared.Report.{Report}
-use Rattle.report.specs.declared.Answer.TheVariants.{Counted, Refused}
-use Rattle.report.specs.declared.Taken.{Taken}
+use Rattle.report.specs.Answer.{Counted, Refused, Taken}
 
 -- every count is 0
 abbrev pub fresh_report : Report

@@ -5,35 +5,29 @@ pub mod rows;
 
 ghost use Rattle.std.specs.Prelude.{◌≡◌, false, length};
 ghost use Rattle.numbers.specs.Counts as places;
-ghost use Rattle.octets.specs.Room.{filled, fill};
+ghost use Rattle.octets.specs.Room.{written, filled, fill};
+ghost use Rattle.report.specs.Answer.{taken};
 ghost use Rattle.report.specs.Steps.{over, sums, fresh_report, take_step};
 ghost use Rattle.report.specs.Text.{report_text};
 
-use numbers::{count, limit, refusal};
+use numbers::refusal::{Reason, Refusal};
+use numbers::{count, limit};
 use octets::indices::wide_number;
-use octets::rooms::Written;
 use report_weights::Weights;
 
 // The counts of a report, by place.
 pub type Counts = [u32; count::ALL];
 
 // A report: its counts.
-#[derive(Clone, Copy)]
+#[derive(Clone, Copy, Debug, PartialEq, Eq)]
 pub struct Report {
     pub counts: Counts,
 }
 
-// What taking a judgement answers: it is counted, or a refusal's number and place.
-#[derive(Clone, Copy)]
-pub enum Answer {
-    Counted,
-    Refused(u32, usize),
-}
-
-// An answer and the next report.
-#[derive(Clone, Copy)]
+// What taking a judgement gives: whether it is counted, or the refusal, and the next report.
+#[derive(Clone, Copy, Debug, PartialEq, Eq)]
 pub struct Taken {
-    pub answer: Answer,
+    pub answer: Result<(), Refusal>,
     pub report: Report,
 }
 
@@ -41,12 +35,10 @@ pub struct Taken {
 fn is_over(counts: &Counts, w: &Weights) -> bool
     ensures { result ≡ over counts.now w.now }
 {
-    let mut place: usize = 0;
-    while place < count::ALL {
-        if limit::LARGEST - wide_number(counts[place]) < w[place] {
+    for (place, n) in counts.iter().enumerate() {
+        if limit::LARGEST - wide_number(*n) < w[place] {
             return true;
         }
-        place += 1;
     }
     false
 }
@@ -57,10 +49,8 @@ fn add(counts: &Counts, w: &Weights) -> Counts
     ensures { result ≡ sums counts.now w.now }
 {
     let mut next = [0u32; count::ALL];
-    let mut place: usize = 0;
-    while place < count::ALL {
-        next[place] = (wide_number(counts[place]) + w[place]) as u32;
-        place += 1;
+    for (place, n) in counts.iter().enumerate() {
+        next[place] = (wide_number(*n) + w[place]) as u32;
     }
     next
 }
@@ -77,34 +67,34 @@ impl Report {
 
     // Judges an input and counts the judgement, or refuses it with REPORT_FULL and leaves every count as it is.
     pub fn take(self, input: &[u8]) -> Taken
-        ensures { result ≡ take_step self input.now }
+        ensures { taken result ≡ take_step self input.now }
     {
         let counts = self.counts;
         let w = report_weights::weigh(input);
         if is_over(&counts, &w) {
             return Taken {
-                answer: Answer::Refused(refusal::REPORT_FULL, 0),
+                answer: Err(Refusal(Reason::ReportFull, 0)),
                 report: self,
             };
         }
         let next = add(&counts, &w);
         Taken {
-            answer: Answer::Counted,
+            answer: Ok(()),
             report: Report { counts: next },
         }
     }
 
     // Writes the report's rows to the start of the room and answers their octets, or refuses with ROOM.
-    pub fn print(self, out: &mut [u8]) -> Written
-        ensures { filled result out.new ≡ fill (report_text self) out.old }
+    pub fn print(self, out: &mut [u8]) -> Result<usize, Refusal>
+        ensures { filled (written result) out.new ≡ fill (report_text self) out.old }
     {
         let counts = self.counts;
         let mut page = [0u8; rows::PAGE];
         let n = rows::put_rows(&mut page, &counts);
         if out.len() < n {
-            return Written::Refused(refusal::ROOM, n);
+            return Err(Refusal(Reason::Room, n));
         }
         octets::copying::copy_in(out, &page[..n]);
-        Written::Wrote(n)
+        Ok(n)
     }
 }

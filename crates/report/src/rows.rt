@@ -79,10 +79,8 @@ pub fn put_rows(room: &mut [u8], values: &Counts) -> usize
     ensures { page result room.new ≡ added (rows_of counts values.now) (page 0 room.old) }
 {
     let mut at: usize = 0;
-    let mut place: usize = 0;
-    while place < count::ALL {
-        at = put_row(room, at, place, wide_number(values[place]));
-        place += 1;
+    for (place, n) in values.iter().enumerate() {
+        at = put_row(room, at, place, wide_number(*n));
     }
     at
 }

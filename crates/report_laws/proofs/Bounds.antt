@@ -20,7 +20,7 @@ use Rattle.report_lines.proofs.CountLaws.{counts_at}
 use Rattle.report_weights.specs.Counts.{Count, uploads, accepted, cards, lines, octets, refused_with, lines_of}
 use Rattle.report_weights.specs.Parts.{refused_part, accepted_part, part}
 use Rattle.report.specs.Steps.{fresh_report, take_step}
-use Rattle.report.specs.declared.Answer.TheVariants.{Refused as Full}
+use Rattle.report.specs.Answer.{Refused as Full}
 use Rattle.report_laws.specs.Totals.{total, after, taken}
 use Rattle.report_laws.proofs.Parts.{by_verdict, counts_past}
 use Rattle.report_laws.proofs.Sums.{logical_length}

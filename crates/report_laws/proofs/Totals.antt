@@ -14,8 +14,7 @@ use Rattle.report_weights.specs.Parts.{part, weights}
 use Rattle.report_weights.proofs.PlaceLaws.{each_at}
 use Rattle.report.specs.Steps.{over, sums, fresh_report, take_step}
 use Rattle.report.specs.declared.Report.{Report}
-use Rattle.report.specs.declared.Answer.TheVariants.{Counted, Refused}
-use Rattle.report.specs.declared.Taken.{Taken}
+use Rattle.report.specs.Answer.{Counted, Refused, Taken}
 use Rattle.report.proofs.StepLaws.{sum_fits, passing, sums_length, sums_at, refused_take, counted_take}
 use Rattle.report_laws.specs.Totals.{total, after, kept, taken, place_of, count_in}
 use Rattle.report_laws.proofs.Places.{placed, back, no_other}

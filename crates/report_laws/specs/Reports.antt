@@ -13,7 +13,7 @@ use Rattle.report_weights.specs.Parts.{part}
 use Rattle.report.specs.Steps.{fresh_report, take_step}
 use Rattle.report.specs.Text.{report_text}
 use Rattle.report.specs.declared.Report.{Report}
-use Rattle.report.specs.declared.Answer.TheVariants.{Refused}
+use Rattle.report.specs.Answer.{Refused}
 use Rattle.report_laws.specs.Totals.{total, after, taken, place_of, count_in, sum_over}
 use Rattle.property_table.specs.declared.Edition.TheVariants.{First}
 

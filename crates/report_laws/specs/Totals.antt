@@ -7,8 +7,7 @@ use Rattle.report_weights.specs.Counts.{Count, uploads, accepted, cards, lines, 
 use Rattle.report_weights.specs.Parts.{part}
 use Rattle.report.specs.Steps.{take_step}
 use Rattle.report.specs.declared.Report.{Report}
-use Rattle.report.specs.declared.Answer.{Answer}
-use Rattle.report.specs.declared.Answer.TheVariants.{Counted, Refused}
+use Rattle.report.specs.Answer.{Answer, Counted, Refused}
 
 -- the sum of what each judgement adds to a count
 unfoldable pub total : Count → List (List ℕ) → ℕ

@@ -12,8 +12,8 @@ use Rattle.octets.proofs.Bools.{clash}
 use Rattle.line_parser.specs.Parse.{Parse, got, bad}
 use Rattle.line_parser.specs.Rule.{Head, head}
 use Rattle.line_parser.specs.Places.{headed, name_start}
-use Rattle.line_parser.specs.declared.rule.Part.{Part}
-use Rattle.line_parser.specs.declared.rule.Part.TheVariants.{Named}
+use Rattle.line_parser.specs.Places.{Part}
+use Rattle.line_parser.specs.Places.{Named}
 use Rattle.line_parser.proofs.PartLaws.{Taken, run_le, head_parts}
 use Rattle.property_table.specs.declared.Edition.TheVariants.{First}
 use Rattle.property_table.specs.Rows.{row_of}

@@ -1,12 +1,16 @@
 -- Which count stands at which place: by one computed test of all places. Assumes nothing.
-use mathlib.Core.Path.{◌≡◌, refl, sym, ap, ◌∙◌}
-use mathlib.Core.List.{List, [], ◌∷◌, ◌++◌, map, append-nil}
+use mathlib.Core.Path.{◌≡◌, refl, sym, ap, subst, ◌∙◌}
+use mathlib.Core.List.{List, [], ◌∷◌, map}
 use Prim.Native.Nat.{ℕ, zero, suc, ◌+◌, ◌-◌, ◌<◌, ◌≤◌}
 use native.Mathlib.Omega.{arith}
-use lib.ListN.{length, get_or, take, drop, set, replicate, length-replicate, drop_of_length-le}
-use lib.Seq.{take_all}
-use borrow.Author.Tests.{lt-ltb, le-ltb}
-use Rattle.octets.proofs.Copies.{copy_step}
+use lib.ListN.{length, get_or}
+use lib.Dec.{ltb}
+use lib.Seq.{ext_get_or}
+use denote.Param.Members.{Mut}
+use borrow.Author.Tests.{ltb-true, ltb-false, lt-ltb, le-ltb}
+use Rattle.std.specs.Fn.{Called}
+use Rattle.std.specs.Array.{IsFromFnResultFrom}
+use Rattle.octets.proofs.Bools.{by}
 use Rattle.octets.proofs.Upto.{upto, alike}
 use Rattle.report_lines.specs.Rows.{numbers_from}
 use Rattle.report_weights.specs.Counts.{Count, uploads, refused_with, lines_of, counts, refusal_at, total_at, count_at}
@@ -39,18 +43,18 @@ module _ (f : Count → ℕ) where
   pub each_at : (p : ℕ) → p < 59 → get_or (map f counts) p 0 ≡ f (count_at p)
   each_at p h = map_at f counts p (omega (arith, counts_length)) ∙ ap f (count_at_lem p h)
 
-  -- the numbers of the first p counts, and then zeros
-  abbrev pub up_to : ℕ → List ℕ
-  up_to p = take p (map f counts) ++ drop p (replicate 59 0)
+  pub each_all : (w : List ℕ) → length w ≡ 59 → ((p : ℕ) → p < 59 → get_or w p 0 ≡ f (count_at p)) → w ≡ map f counts
+  each_all w n h = ext_get_or 0 w (map f counts) (n ∙ sym each_length) (λ p lt. let low : p < 59 = omega arith in h p low ∙ sym (each_at p low))
 
-  pub each_next : (w : List ℕ) (p v : ℕ) → p < 59 → v ≡ f (count_at p) → w ≡ up_to p → set w p v ≡ up_to (p + 1)
-  each_next w p v h e q =
-      ap (set w p) (e ∙ sym (each_at p h))
-      ∙ copy_step (replicate 59 0) (map f counts) w p (rw (length-replicate {A = ℕ} 59 0) h) (rw each_length h) q
-
-  pub each_done : (w : List ℕ) (p : ℕ) → 59 ≤ p → w ≡ up_to p → w ≡ map f counts
-  each_done w p h q =
-      q ∙ rw (take_all p (map f counts) (rw each_length h), drop_of_length-le {A = ℕ} (replicate 59 0) {i = p} (omega (arith, length-replicate {A = ℕ} 59 0))) (append-nil (map f counts))
+-- calls of a closure that answers v at each place, one after the other
+module _ {F : Type 0} (g : Mut F (ℕ × Unit {0}) ℕ) (f : F) (v : ℕ → ℕ) (n : ℕ) (call : (p y : ℕ) (q : F) → p < n → Called g f (p, tt) y q → (q ≡ f) × (y ≡ v p)) where
+  pub each_call : (w : List ℕ) (i k : ℕ) → i + k ≤ n → IsFromFnResultFrom g f w i k → (p : ℕ) → i ≤ p → p < i + k → get_or w p 0 ≡ v p
+  each_call w i zero h r p le lt = absurd (omega arith)
+  each_call w i (suc k) h (q, y, at, made, rest) p le lt =
+      let one = call i y q (omega arith) made in
+      by (ltb i p)
+      (λ t. each_call w (i + 1) k (omega arith) (subst (λ (e : F). IsFromFnResultFrom g e w (i + 1) k) one.0 rest) p (omega (arith, ltb-true i p t)) (omega arith))
+      (λ t. let same : i ≡ p = omega (arith, ltb-false i p t) in rw (← same) (at.1 0 ∙ one.1))
 
 pub at_total : (p : ℕ) → p < 5 → count_at p ≡ total_at p
 unfolding count_at

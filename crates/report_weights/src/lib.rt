@@ -3,12 +3,14 @@
 
 ghost use Rattle.std.specs.Prelude.{◌≡◌, map, ◌<◌, ◌≤◌};
 ghost use Rattle.numbers.specs.Counts as places;
-ghost use Rattle.report_weights.specs.Counts.{refusal_at, count_at, counts};
+ghost use Rattle.report_weights.specs.Counts.{refusal_at, count_at, counts as all_counts};
 ghost use Rattle.report_weights.specs.Parts.{refused_part, accepted_part, weights};
 
-use numbers::{count, refusal};
-use reader::Verdict;
+use numbers::refusal::{Reason, Refusal};
+use numbers::count;
+use reader::Counts;
 use report_lines::LineCounts;
+use std::array::from_fn;
 
 // What a judgement adds to each count, by its place.
 pub type Weights = [usize; count::ALL];
@@ -18,21 +20,21 @@ const REFUSALS: usize = count::PROPERTIES - count::REFUSALS;
 
 // The refusals of a judgement, by number.
 const NUMBERS: [u32; REFUSALS] = [
-    refusal::TOO_LONG,
-    refusal::EMPTY,
-    refusal::LONE_CR_OR_LF,
-    refusal::NO_END,
-    refusal::BAD_OCTET,
-    refusal::VALUE,
-    refusal::LADEN,
-    refusal::ORDER,
-    refusal::SECOND,
-    refusal::NO_FN,
-    refusal::MEMBER,
-    refusal::NAME,
-    refusal::PARAMETER,
-    refusal::QUOTE,
-    refusal::NO_COLON,
+    Reason::TooLong,
+    Reason::Empty,
+    Reason::LoneCrOrLf,
+    Reason::NoEnd,
+    Reason::BadOctet,
+    Reason::Value,
+    Reason::Laden,
+    Reason::Order,
+    Reason::Second,
+    Reason::NoFn,
+    Reason::Member,
+    Reason::Name,
+    Reason::Parameter,
+    Reason::Quote,
+    Reason::NoColon,
 ];
 
 // The refusal that is counted at a place.
@@ -65,15 +67,9 @@ fn refused_part(n: u32, place: usize) -> usize
 }
 
 // What an accepted upload with these cards, lines and octets, and these lines of each property, adds at a place.
-fn accepted_part(
-    cards: usize,
-    lines: usize,
-    octets: usize,
-    rows: &LineCounts,
-    place: usize,
-) -> usize
+fn accepted_part(counts: Counts, octets: usize, rows: &LineCounts, place: usize) -> usize
     requires { place < places.all }
-    ensures { result ≡ accepted_part cards lines octets rows.now (count_at place) }
+    ensures { result ≡ accepted_part counts.cards counts.lines octets rows.now (count_at place) }
 {
     if count::PROPERTIES <= place {
         return rows[place - count::PROPERTIES];
@@ -82,10 +78,10 @@ fn accepted_part(
         return 0;
     }
     if place == count::CARDS {
-        return cards;
+        return counts.cards;
     }
     if place == count::LINES {
-        return lines;
+        return counts.lines;
     }
     if place == count::OCTETS {
         return octets;
@@ -95,42 +91,29 @@ fn accepted_part(
 
 // What a refused upload adds to each count.
 fn weigh_refused(n: u32) -> Weights
-    ensures { result ≡ map (refused_part n) counts }
+    ensures { result ≡ map (refused_part n) all_counts }
 {
-    let mut w = [0usize; count::ALL];
-    let mut place: usize = 0;
-    while place < count::ALL {
-        w[place] = refused_part(n, place);
-        place += 1;
-    }
-    w
+    from_fn(|place| refused_part(n, place))
 }
 
 // What an accepted upload adds to each count.
-fn weigh_accepted(cards: usize, lines: usize, octets: usize, rows: &LineCounts) -> Weights
-    ensures { result ≡ map (accepted_part cards lines octets rows.now) counts }
+fn weigh_accepted(counts: Counts, octets: usize, rows: &LineCounts) -> Weights
+    ensures { result ≡ map (accepted_part counts.cards counts.lines octets rows.now) all_counts }
 {
-    let mut w = [0usize; count::ALL];
-    let mut place: usize = 0;
-    while place < count::ALL {
-        w[place] = accepted_part(cards, lines, octets, rows, place);
-        place += 1;
-    }
-    w
+    from_fn(|place| accepted_part(counts, octets, rows, place))
 }
 
 // Judges an input and answers what this adds to each count.
 pub fn weigh(input: &[u8]) -> Weights
     ensures { result ≡ weights input.now }
 {
-    let v = reader::judge(input);
-    match v {
-        Verdict::Refused(n, p) => weigh_refused(n),
-        Verdict::Accepted(cards, lines) => {
+    match reader::judge(input) {
+        Err(Refusal(n, _)) => weigh_refused(n),
+        Ok(counts) => {
             let t = octets::classes::table();
             let rows = property_table::table();
             let by_row = report_lines::count_lines(&t, &rows, input);
-            weigh_accepted(cards, lines, input.len(), &by_row)
+            weigh_accepted(counts, input.len(), &by_row)
         }
     }
 }

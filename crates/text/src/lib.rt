@@ -1,42 +1,42 @@
 // Text: escaping, and unescaping, which gives back what was escaped.
 #![tactic(auto)]
 
-ghost use Rattle.std.specs.Prelude.{◌≡◌, false, ◌≤◌, length};
+ghost use Rattle.std.specs.Prelude.{◌≡◌, ◌+◌, ◌≤◌, length};
+ghost use Rattle.std.specs.Fn.{FnOnceReturnsAt};
 ghost use Rattle.numbers.specs.Limits as limit;
-ghost use Rattle.utf8.specs.Characters.{allowed, first_bad};
-ghost use Rattle.utf8_screening.specs.Plain.{odd};
 ghost use Rattle.octets.specs.Room.{filled, written, fill, fill_bounded};
+ghost use Rattle.text_escaping.specs.Coded.{coded};
 ghost use Rattle.text_escaping.specs.Escaped.{escaped};
 ghost use Rattle.text_unescaping.specs.Unescaped.{unescaped};
-ghost use Rattle.octets.specs.Counts.{any};
-ghost use Rattle.text.specs.Screened.{screened};
+ghost use Rattle.text.specs.Screened.{Screens};
 ghost use Rattle.text.specs.Outcomes.{faultless, escape_outcome, unescape_outcome};
 
 use numbers::limit;
-use numbers::refusal::{self, Refusal};
+use numbers::refusal::{Reason, Refusal};
+use text_escaping::LetterTable;
+use utf8_screening::texts;
 
-// The first bad octet, or the length; where only plain octets were seen there is none.
-fn bad_octet(text: &[u8], seen: u8, lf: bool) -> usize
-    requires { (seen ≡ 0 → any odd text.now ≡ false) × (seen ≡ 2 → any odd text.now ≡ false) }
-    ensures { result ≡ first_bad (allowed lf) text.now }
-{
-    if seen == 0 || seen == 2 {
-        return text.len();
-    }
-    utf8_screening::texts::first_bad(text, lf)
-}
-
-// Refuses a text with TOO_LONG or TEXT_OCTET, else answers what is seen in it: octets that are not plain, and a backslash, a comma, x or y.
-fn screen(text: &[u8], x: u8, y: u8, lf: bool) -> Result<u8, Refusal>
-    ensures { result ≡ screened lf x y text.now }
+// Refuses a text with TOO_LONG or TEXT_OCTET, else answers what `see` sees in it: 1 where an octet may be bad, 2 where one is a mark, 3
+// where both, else 0. `first_bad` finds the first bad octet, and is asked only where one may be bad.
+pub fn screen<S: FnOnce(&[u8]) -> u8, B: FnOnce(&[u8]) -> usize>(
+    text: &[u8],
+    see: S,
+    first_bad: B,
+) -> Result<u8, Refusal>
+    requires see { S.IsAlwaysCallable see }
+    requires first_bad { B.IsAlwaysCallable first_bad }
+    ensures { Screens (FnOnceReturnsAt S.FnOnce see text.now) (FnOnceReturnsAt B.FnOnce first_bad text.now) text.now result }
 {
     if limit::OCTETS < text.len() {
-        return Err(Refusal(refusal::TOO_LONG, limit::OCTETS));
+        return Err(Refusal(Reason::TooLong, limit::OCTETS));
     }
-    let seen = text_marks::see(text, x, y);
-    let bad = bad_octet(text, seen, lf);
+    let seen = see(text);
+    if seen == 0 || seen == 2 {
+        return Ok(seen);
+    }
+    let bad = first_bad(text);
     if bad < text.len() {
-        return Err(Refusal(refusal::TEXT_OCTET, bad));
+        return Err(Refusal(Reason::TextOctet, bad));
     }
     Ok(seen)
 }
@@ -46,10 +46,35 @@ pub fn put(text: &[u8], out: &mut [u8]) -> Result<usize, Refusal>
     ensures { filled (written result) out.new ≡ fill text.now out.old }
 {
     if out.len() < text.len() {
-        return Err(Refusal(refusal::ROOM, text.len()));
+        return Err(Refusal(Reason::Room, text.len()));
     }
     octets::copying::copy_in(out, text);
     Ok(text.len())
+}
+
+// Writes a text in which each octet with a letter, of which there are `pairs`, is written as the lead and its letter, or refuses with
+// FORM_TOO_LONG or ROOM.
+pub fn put_coded(
+    t: &LetterTable,
+    lead: u8,
+    text: &[u8],
+    pairs: usize,
+    out: &mut [u8],
+) -> Result<usize, Refusal>
+    requires text_len_bound { length text.now ≤ limit.octets }
+    requires pairs_counted { length text.now + pairs ≡ length (coded lead t.now text.now) }
+    requires pairs_bound { pairs ≤ length text.now }
+    ensures { filled (written result) out.new ≡ fill_bounded (coded lead t.now text.now) out.old }
+{
+    let n = text.len() + pairs;
+    if limit::OCTETS < n {
+        return Err(Refusal(Reason::FormTooLong, limit::OCTETS));
+    }
+    if out.len() < n {
+        return Err(Refusal(Reason::Room, n));
+    }
+    text_escaping::write(t, lead, text, out);
+    Ok(n)
 }
 
 // Escapes octet by octet, or refuses with FORM_TOO_LONG or ROOM.
@@ -57,23 +82,19 @@ fn escape_each(text: &[u8], out: &mut [u8]) -> Result<usize, Refusal>
     requires { length text.now ≤ limit.octets }
     ensures { filled (written result) out.new ≡ fill_bounded (escaped text.now) out.old }
 {
-    let n = text.len() + text_marks::counts::marks(text);
-    if limit::OCTETS < n {
-        return Err(Refusal(refusal::FORM_TOO_LONG, limit::OCTETS));
-    }
-    if out.len() < n {
-        return Err(Refusal(refusal::ROOM, n));
-    }
-    let t = text_escaping::letters();
-    text_escaping::write(&t, b'\\', text, out);
-    Ok(n)
+    let pairs = text_marks::counts::marks(text);
+    put_coded(&text_escaping::letters(), b'\\', text, pairs, out)
 }
 
 // Writes the text with its escapes, or refuses with TOO_LONG, TEXT_OCTET, FORM_TOO_LONG or ROOM.
 pub fn escape(text: &[u8], out: &mut [u8]) -> Result<usize, Refusal>
     ensures { filled (written result) out.new ≡ escape_outcome text.now out.old }
 {
-    let seen = screen(text, b';', b'\n', true)?;
+    let seen = screen(
+        text,
+        |s| text_marks::see(s, b';', b'\n'),
+        |s| texts::first_bad(s, true),
+    )?;
     if seen < 2 {
         return put(text, out);
     }
@@ -85,9 +106,9 @@ fn unescape_each(text: &[u8], out: &mut [u8]) -> Result<usize, Refusal>
     requires { length text.now ≤ limit.octets }
     ensures { filled (written result) out.new ≡ faultless text.now out.old (fill (unescaped text.now) out.old) }
 {
-    let kept = text_unescaping::measure(text).map_err(|place| Refusal(refusal::ESCAPE, place))?;
+    let kept = text_unescaping::measure(text).map_err(|place| Refusal(Reason::Escape, place))?;
     if out.len() < kept {
-        return Err(Refusal(refusal::ROOM, kept));
+        return Err(Refusal(Reason::Room, kept));
     }
     text_unescaping::write(text, out);
     Ok(kept)
@@ -97,7 +118,11 @@ fn unescape_each(text: &[u8], out: &mut [u8]) -> Result<usize, Refusal>
 pub fn unescape(text: &[u8], out: &mut [u8]) -> Result<usize, Refusal>
     ensures { filled (written result) out.new ≡ unescape_outcome text.now out.old }
 {
-    let seen = screen(text, b',', b',', false)?;
+    let seen = screen(
+        text,
+        |s| text_marks::see(s, b',', b','),
+        |s| texts::first_bad(s, false),
+    )?;
     if seen < 2 {
         return put(text, out);
     }

@@ -1,7 +1,7 @@
 -- A URI whose scheme has letters alone. Assumes nothing.
-use mathlib.Core.Path.{◌≡◌, refl, sym, ap, subst, ◌∙◌}
-use mathlib.Core.Bool.{Bool, true, ◌||◌}
-use mathlib.Core.List.{List, [], ◌∷◌, ◌++◌}
+use mathlib.Core.Path.{◌≡◌, refl, ap, subst}
+use mathlib.Core.Bool.{true}
+use mathlib.Core.List.{List, [], ◌∷◌}
 use Prim.Native.Nat.{ℕ, zero, suc, ◌+◌, ◌<◌, ◌≤◌}
 use native.Mathlib.Nat.{add-zero}
 use native.Mathlib.Numerals.{add-one}
@@ -9,7 +9,6 @@ use native.Mathlib.Omega.{arith}
 use lib.ListN.{length, get_or, drop}
 use lib.Seq.{drop-cons}
 use Rattle.octets.specs.Counts.{all_in}
-use Rattle.octets.specs.Classes.{letter as is_letter}
 use Rattle.value_kinds.specs.Octets.{Octets, letter, scheme, colon, graphic, holds}
 use Rattle.value_kinds.specs.Shapes.{Shape, one, ◌then◌, many, joined, Every, Matches}
 use Rattle.value_kinds.specs.Kinds.{uri}

@@ -8,30 +8,17 @@ ghost use Rattle.value_kinds.specs.Kinds.{uri};
 fn is_letter(b: u8) -> bool
     ensures { result ≡ true → holds letter b ≡ true }
 {
-    if b < b'A' {
-        return false;
-    }
-    if b <= b'Z' {
-        return true;
-    }
-    if b < b'a' {
-        return false;
-    }
-    b <= b'z'
+    b.is_ascii_alphabetic()
 }
 
 // A place up to which all octets are letters.
 fn scheme_end(s: &[u8]) -> usize
     ensures { (result ≤ length s.now) × ((k : ℕ) → k < result → holds letter (get_or s.now k 0) ≡ true) }
 {
-    let mut i: usize = 0;
-    while i < s.len() {
-        if !is_letter(s[i]) {
-            return i;
-        }
-        i += 1;
+    match s.iter().position(|&b| !is_letter(b)) {
+        Some(n) => n,
+        None => s.len(),
     }
-    i
 }
 
 // True only where s is a URI.

@@ -1,8 +1,8 @@
 -- A settled value matches its kind. Assumes nothing.
 use mathlib.Core.Path.{◌≡◌, refl, sym, ap, ◌∙◌}
-use mathlib.Core.Bool.{Bool, true, false, not, ◌&&◌, false≢true, and-true}
+use mathlib.Core.Bool.{true, false, not, ◌&&◌, false≢true, and-true}
 use mathlib.Core.List.{List, [], ◌∷◌}
-use mathlib.Core.Logic.{◌⊎◌, inl, inr, ⊎_elim}
+use mathlib.Core.Logic.{inr, ⊎_elim}
 use Prim.Native.Nat.{ℕ}
 use lib.Dec.{eqb}
 use Rattle.text_marks.specs.Marks.{backslash as is_backslash}
@@ -10,7 +10,7 @@ use Rattle.text_marks.specs.Pairs.{coded, settled}
 use Rattle.text_marks.proofs.PairLaws.{coded_is, settled_all}
 use Rattle.property_table.specs.declared.Edition.{Edition}
 use Rattle.value_kinds.specs.Octets.{Octets, plain, inner, comma, semicolon, backslash, escapee, neither, holds}
-use Rattle.value_kinds.specs.Shapes.{Shape, one, ◌then◌, ◌or◌, many, joined, Every, Matches}
+use Rattle.value_kinds.specs.Shapes.{one, ◌then◌, ◌or◌, joined, Every, Matches}
 use Rattle.value_kinds.specs.Kinds.{text_of, text, texts, components, split, shape_in, kind_in}
 use Rattle.value_kinds.specs.ByPairs.{fits_by_pairs}
 use Rattle.value_kinds.specs.declared.Fault.TheVariants.{Fits}

@@ -10,7 +10,7 @@ use borrow.Author.Tests.{ne_eqb, eqb-true, ltb-false, leb-false}
 use Rattle.octets.specs.Classes.{bit}
 use Rattle.value_kinds.specs.Octets.{Octets, any, plain, inner, comma, semicolon, backslash, escapee, neither, holds}
 use Rattle.value_kinds.specs.Shapes.{Shape, one, ◌then◌, ◌or◌, many, joined, Every, Matches, fault_from}
-use Rattle.value_kinds.specs.Kinds.{text_of, text, texts, component, parts, up_to, spread, between, most_of_name, most_of_address, components, split, shape_in, kind_in}
+use Rattle.value_kinds.specs.Kinds.{text_of, text, texts, component, parts, up_to, spread, most_of_name, most_of_address, components, split, shape_in, kind_in}
 use Rattle.value_kinds.specs.AtOnce.{lacking, divided, fits_at_once}
 use Rattle.octets.specs.Counts.{all_in, count}
 use Rattle.octets.specs.Pick.{pick}

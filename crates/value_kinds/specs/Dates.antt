@@ -1,7 +1,7 @@
 -- Dates, times and offsets as regular expressions, by REFERENCE, The kinds of value: which digits may follow which. What comes after a part
 -- stands in its last arguments. Assumes nothing.
 use Rattle.std.specs.Prelude.{ℕ, List, [], ◌∷◌}
-use Rattle.value_kinds.specs.Octets.{Octets, digit, the_t, the_z, minus, sign, figures}
+use Rattle.value_kinds.specs.Octets.{digit, the_t, the_z, minus, sign, figures}
 use Rattle.value_kinds.specs.Shapes.{Shape, empty, one, ◌then◌, ◌or◌}
 
 -- one of these digits

@@ -14,7 +14,7 @@ use numbers::kind;
 use property_table::Edition;
 
 // A value fits, or the first octet from which nothing could, or the end.
-#[derive(Clone, Copy)]
+#[derive(Clone, Copy, Debug, PartialEq, Eq)]
 pub enum Fault {
     Fits,
     Breaks(usize),
@@ -32,10 +32,8 @@ fn lacks(a: u8, b: u8, s: &[u8]) -> bool
     ensures { result ≡ lacking a b s.now }
 {
     let mut marks: u8 = 0;
-    let mut i: usize = 0;
-    while i < s.len() {
-        marks = marks | mark_bit(a, b, s[i]);
-        i += 1;
+    for &x in s {
+        marks |= mark_bit(a, b, x);
     }
     marks == 0
 }
@@ -52,10 +50,8 @@ pub fn is_printing(s: &[u8]) -> bool
     ensures { result ≡ all_in (holds graphic) s.now }
 {
     let mut hidden: u8 = 0;
-    let mut i: usize = 0;
-    while i < s.len() {
-        hidden = hidden | hidden_bit(s[i]);
-        i += 1;
+    for &x in s {
+        hidden |= hidden_bit(x);
     }
     hidden == 0
 }
@@ -65,10 +61,8 @@ fn count_semicolons(s: &[u8]) -> usize
     ensures { result ≡ count (holds semicolon) s.now }
 {
     let mut n: usize = 0;
-    let mut i: usize = 0;
-    while i < s.len() {
-        n += (s[i] == b';') as usize;
-        i += 1;
+    for &x in s {
+        n += (x == b';') as usize;
     }
     n
 }

@@ -4,12 +4,13 @@
 ghost use Rattle.std.specs.Prelude.{◌≡◌, ◌≤◌};
 ghost use Rattle.value_offsets.specs.Minutes.{digit_at, pair_at, time_of, is_behind, signed, most_minutes, Bounded, minutes_of};
 
-use numbers::{kind, refusal};
+use numbers::kind;
+use numbers::refusal::Reason;
 use property_table::Edition;
 use value_kinds::Fault;
 
 // The minutes that an offset is ahead of UTC, below 0 where it is behind; or the refusal, with its place in the value.
-#[derive(Clone, Copy)]
+#[derive(Clone, Copy, Debug, PartialEq, Eq)]
 pub enum Offset {
     Minutes(i32),
     Refused(u32, usize),
@@ -55,10 +56,7 @@ fn time_of(s: &[u8]) -> u32
 fn is_behind(s: &[u8]) -> bool
     ensures { result ≡ is_behind s.now }
 {
-    if s.len() == 0 {
-        return false;
-    }
-    s[0] == b'-'
+    s.starts_with(b"-")
 }
 
 // A number of minutes, below 0 where it is behind.
@@ -82,7 +80,7 @@ pub fn minutes(value: &[u8]) -> Offset
     let steps = value_automaton::scanner::table();
     let f = value_automaton::value_fault(&steps, Edition::First, kind::OFFSET, value);
     if let Fault::Breaks(octet) = f {
-        return Offset::Refused(refusal::VALUE, octet);
+        return Offset::Refused(Reason::Value.number(), octet);
     }
     Offset::Minutes(signed(is_behind(value), time_of(value)))
 }

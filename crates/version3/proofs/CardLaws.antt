@@ -22,7 +22,7 @@ use Rattle.line_parser.specs.Rule.{parse_line}
 use Rattle.property_table.specs.declared.Edition.TheVariants.{First}
 use Rattle.card_line.specs.Parts.{line_parts_by, line_parts_of}
 use Rattle.card_line.specs.declared.Parts.{Parts}
-use Rattle.card_line.specs.declared.LineParts.TheVariants.{Fault as fault}
+use Rattle.card_line.specs.Parts.{fault}
 use Rattle.card_line.proofs.PartLaws.{Read}
 use Rattle.folder_line.specs.Pieces.{first, later, joined, pieces, folded, folded_lines, Clean}
 use Rattle.folder_line.proofs.PieceLaws.{rejoin}

@@ -9,8 +9,8 @@ ghost use Rattle.version3.specs.Outcome.{concluded, convert_outcome, take_outcom
 
 mod sheet;
 
-use numbers::refusal::Refusal;
-use numbers::{limit, refusal};
+use numbers::refusal::{Reason, Refusal};
+use numbers::limit;
 use version3_judge::{Phase, Set};
 use version3_parameters::Way;
 
@@ -21,7 +21,7 @@ fn conclude(way: Way, input: &[u8], last: Set, out: &mut [u8]) -> Result<usize, 
 {
     match last.phase {
         Phase::Ended => sheet::write_card(way, input, out),
-        Phase::BeforeBegin | Phase::Inside => Err(Refusal(refusal::ORDER, input.len())),
+        Phase::BeforeBegin | Phase::Inside => Err(Refusal(Reason::Order, input.len())),
     }
 }
 
@@ -30,18 +30,18 @@ fn convert(way: Way, input: &[u8], out: &mut [u8]) -> Result<usize, Refusal>
     ensures { filled (written result) out.new ≡ convert_outcome way input.now out.old }
 {
     if limit::OCTETS < input.len() {
-        return Err(Refusal(refusal::TOO_LONG, limit::OCTETS));
+        return Err(Refusal(Reason::TooLong, limit::OCTETS));
     }
     if input.len() == 0 {
-        return Err(Refusal(refusal::EMPTY, 0));
+        return Err(Refusal(Reason::Empty, 0));
     }
     let lone = line_breaks::first_lone(input);
     if lone < input.len() {
-        return Err(Refusal(refusal::LONE_CR_OR_LF, lone));
+        return Err(Refusal(Reason::LoneCrOrLf, lone));
     }
     let ended = line_breaks::ends_cr_lf(input);
     if !ended {
-        return Err(Refusal(refusal::NO_END, input.len()));
+        return Err(Refusal(Reason::NoEnd, input.len()));
     }
     let t = octets::classes::table();
     let rows = property_table::table();

@@ -10,8 +10,8 @@ ghost use Rattle.version3.specs.Card.{turn_number, turn_of_row, clear, card_text
 ghost use Rattle.version3.specs.Places.{Within, Lent, joined_by, AddedBy, PlacedBy, Halfway, SheetBy, ReachedBy, TriedBy, Attempt};
 
 use card_line::LineParts;
-use numbers::refusal::Refusal;
-use numbers::{limit, property, refusal};
+use numbers::refusal::{Reason, Refusal};
+use numbers::{limit, property};
 use octets::classes::ClassTable;
 use property_table::Edition;
 use property_table::rows::PropertyTable;
@@ -369,10 +369,10 @@ fn join(
     let start = a + b;
     let n = start + c;
     if limit::OCTETS < n {
-        return Err(Refusal(refusal::FORM_TOO_LONG, limit::OCTETS));
+        return Err(Refusal(Reason::FormTooLong, limit::OCTETS));
     }
     if out.len() < n {
-        return Err(Refusal(refusal::ROOM, n));
+        return Err(Refusal(Reason::Room, n));
     }
     octets::copying::copy_in(out, &first[..a]);
     octets::copying::copy_in(&mut out[a..], &second[..b]);
@@ -450,7 +450,7 @@ fn write_all(way: Way, s: &[u8], out: &mut [u8]) -> Result<usize, Refusal>
 {
     match write_with::<LINE, FORM, CARD, CARD>(way, s, out) {
         Some(answer) => answer,
-        None => Err(Refusal(refusal::FORM_TOO_LONG, limit::OCTETS)),
+        None => Err(Refusal(Reason::FormTooLong, limit::OCTETS)),
     }
 }
 

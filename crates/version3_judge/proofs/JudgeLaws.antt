@@ -18,7 +18,7 @@ use Rattle.property_table.specs.declared.Edition.TheVariants.{First}
 use Rattle.property_table.specs.Rows.{framing}
 use Rattle.card_line.specs.Parts.{line_parts_by, line_parts_of}
 use Rattle.card_line.specs.declared.Parts.{Parts}
-use Rattle.card_line.specs.declared.LineParts.TheVariants.{Fault as fault}
+use Rattle.card_line.specs.Parts.{fault}
 use Rattle.card_line.proofs.PartLaws.{Read}
 use Rattle.card_judge.specs.Judge.{laden}
 use Rattle.version3_text.specs.Renewed.{semicolons}

@@ -3,6 +3,7 @@ use Rattle.std.specs.Prelude.{ℕ, ◌+◌, Bool, true, false, not, ◌&&◌, �
 use Rattle.numbers.specs.Kinds as kinds
 use Rattle.numbers.specs.Properties as property
 use Rattle.numbers.specs.Refusals as refusal
+use Rattle.numbers.specs.Refusals.{number}
 use Rattle.numbers.specs.declared.refusal.Refusal.{Refusal}
 use Rattle.octets.specs.Ascii.{octets}
 use Rattle.octets.specs.Pick.{pick}
@@ -39,7 +40,7 @@ pub data Step : Type 0 where
 
 -- the same of a refused line
 abbrev pub stopped : Flaw → Step
-stopped (Placed r) = Refused r.0 r.1
+stopped (Placed r) = Refused (number r.0) r.1
 stopped (Octet n o) = Flawed n o
 
 -- and of a line's result
@@ -50,7 +51,7 @@ step (Err f) = stopped f
 -- and of the result of all lines
 abbrev pub walked : Result Set Refusal → Step
 walked (Ok c) = Next c
-walked (Err r) = Refused r.0 r.1
+walked (Err r) = Refused (number r.0) r.1
 
 -- BEGIN has not come
 abbrev pub before_begin : Phase → Bool

@@ -13,7 +13,7 @@ ghost use Rattle.line_folds.specs.Logical.{raw_lines};
 ghost use Rattle.property_table.specs.declared.Edition.TheVariants.{First};
 ghost use Rattle.value_automaton.specs.States.{Scanner};
 ghost use Rattle.card_line.specs.Parts.{Accepted, line_parts_of};
-ghost use Rattle.card_line.specs.declared.LineParts.TheVariants.{Line as line};
+ghost use Rattle.card_line.specs.Parts.{line};
 ghost use Rattle.card_judge.specs.Judge.{Tables, laden};
 ghost use Rattle.version3_geo.specs.Floats.{old_geo};
 ghost use Rattle.version3_parameters.specs.Places.{params_of};
@@ -21,8 +21,8 @@ ghost use Rattle.version3_judge.specs.declared.Phase.TheVariants.{Inside, Ended}
 ghost use Rattle.version3_judge.specs.Judge.{fresh_set, number_of, in_place, common, of_kind, short, fills, goes_over, version_read, whole, frames, goes, good, noted, judge_parts, judge_line, settled, judge_lines, Refused, step, stopped, walked};
 
 use card_line::{LineParts, Parts};
-use numbers::refusal::Refusal;
-use numbers::{kind, limit, property, refusal};
+use numbers::refusal::{Reason, Refusal};
+use numbers::{kind, limit, property};
 use octets::cases::same_name;
 use octets::classes::ClassTable;
 use property_table::Edition;
@@ -73,8 +73,8 @@ fn number_of(way: Way) -> u32
     ensures { result ≡ number_of way }
 {
     match way {
-        Way::Inward => refusal::NOT_TAKEN_IN,
-        Way::Outward => refusal::NOT_GIVEN_OUT,
+        Way::Inward => Reason::NotTakenIn,
+        Way::Outward => Reason::NotGivenOut,
     }
 }
 
@@ -328,10 +328,10 @@ fn judge_parts(
     ensures { step result ≡ judge_parts way c at x.row x.group_length x.param_count x.kind (params_of s.now) value.now }
 {
     if !in_order(c.phase, x.row) {
-        return Err(Flaw::Placed(Refusal(refusal::ORDER, at)));
+        return Err(Flaw::Placed(Refusal(Reason::Order, at)));
     }
     if is_laden(x) {
-        return Err(Flaw::Placed(Refusal(refusal::LADEN, at)));
+        return Err(Flaw::Placed(Refusal(Reason::Laden, at)));
     }
     if !is_good(way, t, steps, c, s, x, value) {
         return Err(Flaw::Placed(Refusal(number_of(way), at)));
@@ -355,7 +355,7 @@ fn judge_line(
 {
     let bad = utf8_screening::units::first_bad(t, s, false);
     if bad < s.len() {
-        return Err(Flaw::Octet(refusal::BAD_OCTET, bad));
+        return Err(Flaw::Octet(Reason::BadOctet, bad));
     }
     match card_line::parts_of(t, rows, Edition::First, s) {
         LineParts::Fault(e) => Err(Flaw::Placed(Refusal(e, at))),

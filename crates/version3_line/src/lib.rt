@@ -7,7 +7,7 @@ ghost use Rattle.octets.specs.Classes.{Classes};
 ghost use Rattle.line_parser.specs.Rule.{parse_line};
 ghost use Rattle.property_table.specs.declared.Edition.TheVariants.{First};
 ghost use Rattle.card_line.specs.Parts.{line_parts_of};
-ghost use Rattle.card_line.specs.declared.LineParts.TheVariants.{Line as line};
+ghost use Rattle.card_line.specs.Parts.{line};
 ghost use Rattle.version3_line.specs.Lines.{needed, parted, anew_by, lacking, filled_by, version_text, geo_by, text_by, new_value, written_by};
 
 use card_line::Parts;

@@ -11,8 +11,8 @@ use lib.Seq.{take_at, length-take-le, drop-drop, drop-append_seam}
 use Rattle.line_parser.specs.Parse.{Parse, got, bad, hd}
 use Rattle.line_parser.specs.Grammar.{Value, Param, Each, GoodValue, GoodParam, led, value_text, param_text, group_text, front, render, name_end}
 use Rattle.line_parser.specs.Rule.{value, param, parse_line}
-use Rattle.line_parser.specs.declared.rule.Part.{Part}
-use Rattle.line_parser.specs.declared.rule.Part.TheVariants.{Upto}
+use Rattle.line_parser.specs.Places.{Part}
+use Rattle.line_parser.specs.Places.{Upto}
 use Rattle.line_parser.specs.Places.{place}
 use Rattle.line_parser.proofs.Steps.{look, place_upto}
 use Rattle.line_parameters.proofs.Sound.{line_sound, param_sound}

@@ -11,8 +11,8 @@ use Rattle.property_table.specs.declared.Edition.TheVariants.{First}
 use Rattle.card_state.specs.State.{Card, Step, Next}
 use Rattle.card_state.specs.Kept.{places_of, tag_at, Lies, card_of, step_of}
 use Rattle.card_state.specs.declared.Card.{Card as Kept}
-use Rattle.card_state.specs.declared.Step.{Step as KeptStep}
-use Rattle.card_state.specs.declared.Step.TheVariants.{Next as next, Refused as refused, Flawed as flawed}
+use Rattle.card_state.specs.Kept.{KeptStep}
+use Rattle.card_state.specs.Kept.{next, refused, flawed}
 use Rattle.card_state.proofs.KeptLaws.{card_front, none_lie}
 use Rattle.desk_pool.specs.Pools.{patch}
 use Rattle.reader.specs.Outcome.{verdict_of}

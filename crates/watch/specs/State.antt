@@ -4,8 +4,8 @@ use Rattle.numbers.specs.Limits as limit
 use Rattle.card_state.specs.State.{Step, Next}
 use Rattle.card_state.specs.Kept.{fresh_kept, card_of}
 use Rattle.card_state.specs.declared.Card.{Card as Kept}
-use Rattle.card_state.specs.declared.Step.{Step as KeptStep}
-use Rattle.card_state.specs.declared.Step.TheVariants.{Next as next_kept, Refused as refused_kept, Flawed as flawed_kept}
+use Rattle.card_state.specs.Kept.{KeptStep}
+use Rattle.card_state.specs.Kept.{next as next_kept, refused as refused_kept, flawed as flawed_kept}
 use Rattle.reader.specs.Outcome.{verdict_of}
 use Rattle.reader.specs.Outcome.{Refused as Judged}
 use Rattle.watch_arrivals.specs.Arrivals.{after_other, tail_from, lone_from}

@@ -17,8 +17,8 @@ ghost use Rattle.watch.specs.Outcome.{Comes, lines_came, octets_came, chunk_came
 
 use card_state::tags::Tags;
 use card_state::{Card, Step};
-use numbers::refusal::Refusal;
-use numbers::{limit, refusal};
+use numbers::refusal::{Reason, Refusal};
+use numbers::limit;
 use reader::Verdict;
 use watch_arrivals::{AFTER_CR, AFTER_CR_LF, AFTER_OTHER};
 
@@ -77,7 +77,7 @@ fn too_long() -> Watch
 {
     faulty(
         TOO_LONG,
-        refusal::TOO_LONG,
+        Reason::TooLong,
         limit::OCTETS,
         limit::OCTETS,
         AFTER_OTHER,
@@ -304,14 +304,14 @@ fn arrive(w: Watch, buffer: &mut [u8], chunk: &[u8]) -> Watch
     }
     let n = before + chunk.len();
     if w.known == LONE_BREAK {
-        return faulty(LONE_BREAK, refusal::LONE_CR_OR_LF, w.place, n, AFTER_OTHER);
+        return faulty(LONE_BREAK, Reason::LoneCrOrLf, w.place, n, AFTER_OTHER);
     }
     let lone = watch_arrivals::first_break(w.tail, chunk);
     if lone <= chunk.len() {
         watch_buffer::clear(buffer, 0, claimed);
         return faulty(
             LONE_BREAK,
-            refusal::LONE_CR_OR_LF,
+            Reason::LoneCrOrLf,
             before + lone - 1,
             n,
             AFTER_OTHER,
@@ -347,19 +347,19 @@ fn conclude(w: Watch, buffer: &[u8]) -> Verdict
 {
     let n = w.start + w.open;
     if w.known == TOO_LONG {
-        return Err(Refusal(refusal::TOO_LONG, limit::OCTETS));
+        return Err(Refusal(Reason::TooLong, limit::OCTETS));
     }
     if n == 0 {
-        return Err(Refusal(refusal::EMPTY, 0));
+        return Err(Refusal(Reason::Empty, 0));
     }
     if w.known == LONE_BREAK {
-        return Err(Refusal(refusal::LONE_CR_OR_LF, w.place));
+        return Err(Refusal(Reason::LoneCrOrLf, w.place));
     }
     if w.tail == AFTER_CR {
-        return Err(Refusal(refusal::LONE_CR_OR_LF, n - 1));
+        return Err(Refusal(Reason::LoneCrOrLf, n - 1));
     }
     if w.tail != AFTER_CR_LF {
-        return Err(Refusal(refusal::NO_END, n));
+        return Err(Refusal(Reason::NoEnd, n));
     }
     if w.known == LINE_FAULT {
         return Err(Refusal(w.fault, w.place));
@@ -381,11 +381,11 @@ impl Watch {
         ensures { ChunkOf self buffer.old chunk.now result buffer.new }
     {
         if buffer.len() != limit::OCTETS {
-            return Arrived::Refused(refusal::BUFFER_LENGTH, 0);
+            return Arrived::Refused(Reason::BufferLength, 0);
         }
         let over = is_over(self);
         if over {
-            return Arrived::Refused(refusal::CLAIM, 0);
+            return Arrived::Refused(Reason::Claim, 0);
         }
         let sound = is_sound(self);
         if !sound {
@@ -403,15 +403,15 @@ impl Watch {
         ensures { EndOf self buffer.now (verdict result) }
     {
         if buffer.len() != limit::OCTETS {
-            return Err(Refusal(refusal::BUFFER_LENGTH, 0));
+            return Err(Refusal(Reason::BufferLength, 0));
         }
         let over = is_over(self);
         if over {
-            return Err(Refusal(refusal::CLAIM, 0));
+            return Err(Refusal(Reason::Claim, 0));
         }
         let sound = is_sound(self);
         if !sound {
-            return Err(Refusal(refusal::ORDER, 0));
+            return Err(Refusal(Reason::Order, 0));
         }
         conclude(self, buffer)
     }

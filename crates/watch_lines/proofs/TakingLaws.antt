@@ -19,8 +19,8 @@ use Rattle.property_table.specs.declared.Edition.TheVariants.{First}
 use Rattle.card_state.specs.State.{Card, Step, Next, Refused, Flawed}
 use Rattle.card_state.specs.Kept.{card_of, step_of, Holds}
 use Rattle.card_state.specs.declared.Card.{Card as Kept}
-use Rattle.card_state.specs.declared.Step.{Step as KeptStep}
-use Rattle.card_state.specs.declared.Step.TheVariants.{Next as next, Refused as refused, Flawed as flawed}
+use Rattle.card_state.specs.Kept.{KeptStep}
+use Rattle.card_state.specs.Kept.{next, refused, flawed}
 use Rattle.card_state.proofs.KeptLaws.{card_front}
 use Rattle.card_judge.specs.Judge.{judge_line}
 use Rattle.card_judge.proofs.CardLaws.{one_more}

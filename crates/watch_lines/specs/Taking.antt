@@ -6,8 +6,8 @@ use Rattle.property_table.specs.declared.Edition.TheVariants.{First}
 use Rattle.card_state.specs.State.{Step}
 use Rattle.card_state.specs.Kept.{Lies, card_of, step_of, Holds}
 use Rattle.card_state.specs.declared.Card.{Card as Kept}
-use Rattle.card_state.specs.declared.Step.{Step as KeptStep}
-use Rattle.card_state.specs.declared.Step.TheVariants.{Next as next_kept}
+use Rattle.card_state.specs.Kept.{KeptStep}
+use Rattle.card_state.specs.Kept.{next as next_kept}
 use Rattle.card_judge.specs.Judge.{judge_line}
 use Rattle.reader_walk.specs.Walk.{settled, judge_lines}
 use Rattle.watch_buffer.specs.Buffer.{padded}

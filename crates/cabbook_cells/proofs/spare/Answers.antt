@@ -29,7 +29,7 @@ loop-i-preserved c =
     let n = c.shown_length-n in
     let e : length (blanks (drop l.i s)) ≡ length (blank (drop l.i s)) + length (blanks (drop (l.i + step_of n.result) s)) =
     ap length (blanks_step s l.i n.result c.loop-i-test.true n.ensures) ∙ length-append (blank (drop l.i s)) (blanks (drop (l.i + step_of n.result) s)) in
-    (rw c.step_of-i.ensures (step_inside c.args.text.now c.loop-i.i c.shown_length-n.result c.loop-i-test.true c.shown_length-n.ensures), rw (c.step_of-i.ensures, c.less-left.ensures, c.cells_at.ensures) (omega (arith, e, l.invariant.1)))
+    (rw c.step_of-i.ensures (step_inside c.args.text.now c.loop-i.i c.shown_length-n.result c.loop-i-test.true c.shown_length-n.ensures), rw c.step_of-i.ensures (omega (arith, e, l.invariant.1, c.saturating_sub-left.ensures, c.cells_at.ensures)))
 
 pub returns : goal.returns
 returns c =

@@ -2,13 +2,12 @@
 use borrow.Author.Tests.{not-true, not-false}
 use mathlib.Core.Path.{◌≡◌}
 use native.Mathlib.Omega.{arith}
-use mathlib.Core.Logic.{⊎_elim}
 use mathlib.Core.Bool.{not, false, ◌&&◌, and-false}
 use Rattle.card_state.specs.State.{closed}
 use Rattle.card_state.specs.Kept.{places_of, end_of, tag_at, Inside, card_of, step_of, Holds}
 use Rattle.card_state.proofs.KeptLaws.{none_lie}
 use Rattle.card_state.proofs.close.Goals as goal
-use Rattle.card_state.proofs.close.Goals.{then-c+else-not-c-2, else-c}
+use Rattle.card_state.proofs.close.Goals.{else-c-via-then-c+else-not-c-2, else-c-via-else-c}
 
 pub returns-then-not-c : goal.returns-then-not-c
 unfolding closed card_of step_of Holds
@@ -25,9 +24,9 @@ unfolding closed card_of step_of places_of tag_at Holds Inside end_of
 returns c =
     let k = c.args.c in
     let kept : (k.has_member && not k.is_group) ≡ false =
-    elim c.if-c.branch [
-      | then-c+else-not-c-2 w ↦ simp (not-false k.is_group w.if-not-c-2.false, and-false)
-      | else-c w ↦ simp w.if-c.false
+    elim c.else-c.branch [
+      | else-c-via-then-c+else-not-c-2 w ↦ simp (not-false k.is_group w.if-not-c-2.false, and-false)
+      | else-c-via-else-c w ↦ simp w.if-c.false
     ] in
     record {
       by_index = λ store.

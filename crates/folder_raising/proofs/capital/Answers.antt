@@ -1,16 +1,12 @@
 -- `folder_raising::capital` meets its contract. Assumes nothing.
-use borrow.Author.Tests.{le-leb, lt-leb}
+use Rattle.std.proofs.Common.{◌≡◌, ◌∙◌, ℕ, arith}
+use Rattle.std.specs.Char.{to_ascii_uppercase}
 use Rattle.folder_raising.specs.Letters.{upper}
 use Rattle.folder_raising.proofs.capital.Goals as goal
 
-pub returns-then-b-lt97 : goal.returns-then-b-lt97
+upper_is : (b : ℕ) → to_ascii_uppercase b ≡ upper b
 unfolding upper
-returns-then-b-lt97 c = simp (lt-leb 97 _ c.if-b-lt97.true)
-
-pub returns-then-b-gt122 : goal.returns-then-b-gt122
-unfolding upper
-returns-then-b-gt122 c = simp (le-leb 97 _ c.if-b-lt97.false, lt-leb _ 122 c.if-b-gt122.true)
+upper_is b = grind arith
 
 pub returns : goal.returns
-unfolding upper
-returns c = simp (le-leb 97 _ c.if-b-lt97.false, le-leb _ 122 c.if-b-gt122.false)
+returns c = c.to_ascii_uppercase.ensures.value ∙ upper_is c.args.b

@@ -1,7 +1,5 @@
 -- `folder_raising::is_raised` meets its contract. Assumes nothing.
-use mathlib.Core.Path.{sym}
 use native.Mathlib.Omega.{arith}
-use Rattle.utf8.proofs.Chains.{nope}
 use Rattle.folder_raising.specs.Walk.{raised}
 use Rattle.folder_raising.proofs.KeptLaws.{kept_end, kept_colon, kept_equals, kept_name}
 use Rattle.folder_raising.proofs.is_raised.Goals as goal
@@ -9,9 +7,6 @@ use Rattle.folder_raising.proofs.is_raised.Goals as goal
 pub loop-i-init : goal.loop-i-init
 unfolding raised
 loop-i-init c = (omega arith, λ q. q)
-
-pub returns-then-b-gt90 : goal.returns-then-b-gt90
-returns-then-b-gt90 c = λ e. absurd (nope (sym e))
 
 pub returns-then-b-eq58 : goal.returns-then-b-eq58
 returns-then-b-eq58 c =

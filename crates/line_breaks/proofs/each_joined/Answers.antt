@@ -1,8 +1,7 @@
 -- `line_breaks::each_joined` meets its contract. Assumes nothing.
-use borrow.Author.Rules.{rules}
 use mathlib.Core.Path.{◌≡◌, sym, ◌∙◌}
 use mathlib.Core.Bool.{false, false≢true}
-use Prim.Native.Nat.{ℕ, ◌-◌}
+use Prim.Native.Nat.{ℕ}
 use native.Mathlib.Omega.{arith}
 use borrow.Author.Count.{below_none, below_more}
 use Rattle.octets.proofs.BitLaws.{bit_no}
@@ -10,7 +9,7 @@ use Rattle.line_breaks.specs.Lone.{split_at}
 use Rattle.line_breaks.proofs.each_joined.Goals as goal
 
 pub loop-i-init : goal.loop-i-init
-loop-i-init c = (search rules, omega arith, below_none _)
+loop-i-init c = below_none _
 
 pub returns-then-split_bit-ne0 : goal.returns-then-split_bit-ne0
 returns-then-split_bit-ne0 c = λ e. absurd (false≢true e)
@@ -20,7 +19,7 @@ unfolding split_at
 loop-i-preserved c =
     let s = c.args.s.now in
     let none : c.split_bit.result ≡ 0 = omega arith in
-    (omega arith, c.loop-i.invariant.1, below_more (λ (m : ℕ). split_at s m ≡ false) c.loop-i.i c.loop-i.invariant.2 (bit_no _ (sym c.split_bit.ensures ∙ none)))
+    below_more (λ (m : ℕ). split_at s m ≡ false) c.loop-i.i c.loop-i.invariant (bit_no _ (sym c.split_bit.ensures ∙ none))
 
 pub returns : goal.returns
-returns c = λ e k h. c.loop-i.invariant.2 k (omega arith)
+returns c = λ e k h. c.loop-i.invariant k (omega arith)

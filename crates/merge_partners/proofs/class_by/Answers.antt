@@ -6,12 +6,12 @@ use Rattle.merge_partners.proofs.class_by.Goals as goal
 
 pub returns-in_default : goal.returns-in_default
 unfolding class_by
-returns-in_default c = rw (sym c.search-f.ensures ∙ c.in_default.is)
+returns-in_default c = rw (sym c.search.ensures ∙ c.in_default.is)
 
 pub returns-then-i-ge-SOURCES : goal.returns-then-i-ge-SOURCES
 unfolding class_by
-returns-then-i-ge-SOURCES c = rw (sym c.search-f.ensures ∙ c.in-At.is, le-ltb _ 16 c.if-i-ge-SOURCES.true)
+returns-then-i-ge-SOURCES c = rw (sym c.search.ensures ∙ c.in-Some.is, le-ltb _ 16 c.if-i-ge-SOURCES.true)
 
 pub returns : goal.returns
 unfolding class_by
-returns c = rw (sym c.search-f.ensures ∙ c.in-At.is, lt-ltb _ 16 c.if-i-ge-SOURCES.false)
+returns c = rw (sym c.search.ensures ∙ c.in-Some.is, lt-ltb _ 16 c.if-i-ge-SOURCES.false)

@@ -6,7 +6,4 @@ use Rattle.merge_partners.specs.Heads.{count_new}
 use Rattle.merge_partners.proofs.count_new.Given as goal
 
 abbrev pub invariant-loop-k : goal.invariant-loop-k
-invariant-loop-k l = (l.k ≤ length l.tags) × (l.hits ≤ l.k) × (count_new l.tags l.seats l.own l.partner 0 (length l.tags) ≡ l.hits + count_new l.tags l.seats l.own l.partner l.k (length l.tags - l.k))
-
-abbrev pub decreases-loop-k : goal.decreases-loop-k
-decreases-loop-k l = length l.tags - l.k
+invariant-loop-k l = (l.hits ≤ l.k) × (count_new l.tags l.seats l.own l.partner 0 (length l.tags) ≡ l.hits + count_new l.tags l.seats l.own l.partner l.k (length l.tags - l.k))

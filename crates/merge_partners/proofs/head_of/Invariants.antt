@@ -1,12 +1,9 @@
 -- `merge_partners::head_of` meets its contract. Assumes nothing.
 use mathlib.Core.Path.{◌≡◌}
-use Prim.Native.Nat.{◌-◌, ◌≤◌}
+use Prim.Native.Nat.{◌-◌}
 use lib.ListN.{length}
 use Rattle.merge_partners.specs.Heads.{head_from}
 use Rattle.merge_partners.proofs.head_of.Given as goal
 
 abbrev pub invariant-loop-i : goal.invariant-loop-i
-invariant-loop-i l = (l.i ≤ length l.digests) × (head_from l.ca l.ra l.c l.rs l.j 0 (length l.digests) ≡ head_from l.ca l.ra l.c l.rs l.j l.i (length l.digests - l.i))
-
-abbrev pub decreases-loop-i : goal.decreases-loop-i
-decreases-loop-i l = length l.digests - l.i
+invariant-loop-i l = head_from l.ca l.ra l.c l.rs l.j 0 (length l.digests) ≡ head_from l.ca l.ra l.c l.rs l.j l.i (length l.digests - l.i)

@@ -4,7 +4,6 @@ use mathlib.Core.Path.{sym, ap, ◌∙◌}
 use mathlib.Core.Bool.{true}
 use Prim.Native.Nat.{ℕ}
 use native.Mathlib.Nat.{sub-zero}
-use native.Mathlib.Omega.{arith}
 use lib.ListN.{length}
 use Rattle.merge_partners.specs.Pairs.{joined, join_all, hit_pairs}
 use Rattle.merge_partners.proofs.JoinLaws.{join_on, join_off}
@@ -14,7 +13,7 @@ use Rattle.merge_partners.proofs.join_hits.Goals as goal
 pub loop-k-init : goal.loop-k-init
 loop-k-init c =
     let a = c.args in
-    (omega arith, ap (λ (n : ℕ). join_all (joined true a.p.now a.t.now) (hit_pairs a.ca.now a.ra.now a.i a.key a.cb.now a.rb.now a.marks.now a.keys.now 0 n)) (sym (sub-zero (length a.keys.now))))
+    (ap (λ (n : ℕ). join_all (joined true a.p.now a.t.now) (hit_pairs a.ca.now a.ra.now a.i a.key a.cb.now a.rb.now a.marks.now a.keys.now 0 n)) (sym (sub-zero (length a.keys.now))))
 
 pub join_at-requires : goal.join_at-requires
 join_at-requires c = record { k_in_bounds = c.loop-k-test.true; sifts = c.requires }
@@ -24,18 +23,18 @@ returns-then-not-join_at c =
     let a = c.args in
     let l = c.loop-k in
     let s = joined true l.p l.t in
-    sym (l.invariant.1 ∙ ap (join_all s) (hits_turn a.ca.now a.ra.now a.i a.key a.cb.now a.rb.now a.marks.now a.keys.now (length a.keys.now) l.k c.loop-k-test.true) ∙ join_off s _ _ _ _ c.join_at.ensures _ (not-true _ c.if-not-join_at.true-raw))
+    sym (l.invariant ∙ ap (join_all s) (hits_turn a.ca.now a.ra.now a.i a.key a.cb.now a.rb.now a.marks.now a.keys.now (length a.keys.now) l.k c.loop-k-test.true) ∙ join_off s _ _ _ _ c.join_at.ensures _ c.if-not-join_at.true)
 
 pub loop-k-preserved : goal.loop-k-preserved
 loop-k-preserved c =
     let a = c.args in
     let l = c.loop-k in
     let s = joined true l.p l.t in
-    (omega arith, l.invariant.1 ∙ ap (join_all s) (hits_turn a.ca.now a.ra.now a.i a.key a.cb.now a.rb.now a.marks.now a.keys.now (length a.keys.now) l.k c.loop-k-test.true) ∙ join_on s _ _ _ _ c.join_at.ensures _ (not-false _ c.if-not-join_at.false-raw))
+    (l.invariant ∙ ap (join_all s) (hits_turn a.ca.now a.ra.now a.i a.key a.cb.now a.rb.now a.marks.now a.keys.now (length a.keys.now) l.k c.loop-k-test.true) ∙ join_on s _ _ _ _ c.join_at.ensures _ c.if-not-join_at.false)
 
 pub returns : goal.returns
 unfolding join_all
 returns c =
     let a = c.args in
     let l = c.loop-k in
-    sym (l.invariant.1 ∙ rw (hits_over a.ca.now a.ra.now a.i a.key a.cb.now a.rb.now a.marks.now a.keys.now (length a.keys.now) l.k c.loop-k-test.false))
+    sym (l.invariant ∙ rw (hits_over a.ca.now a.ra.now a.i a.key a.cb.now a.rb.now a.marks.now a.keys.now (length a.keys.now) l.k c.loop-k-test.false))

@@ -1,12 +1,9 @@
 -- `merge_partners::join_singles` meets its contract. Assumes nothing.
 use mathlib.Core.Path.{◌≡◌}
 use mathlib.Core.Bool.{true}
-use Prim.Native.Nat.{◌-◌, ◌≤◌}
+use Prim.Native.Nat.{◌-◌}
 use Rattle.merge_partners.specs.Pairs.{joined, join_all, single_pairs}
 use Rattle.merge_partners.proofs.join_singles.Given as goal
 
 abbrev pub invariant-loop-row : goal.invariant-loop-row
-invariant-loop-row l = (l.row ≤ 39) × (join_all (joined true l.initial.p l.initial.t) (single_pairs l.ra l.na l.rb l.nb 0 39) ≡ join_all (joined true l.p l.t) (single_pairs l.ra l.na l.rb l.nb l.row (39 - l.row)))
-
-abbrev pub decreases-loop-row : goal.decreases-loop-row
-decreases-loop-row l = 39 - l.row
+invariant-loop-row l = join_all (joined true l.initial.p l.initial.t) (single_pairs l.ra l.na l.rb l.nb 0 39) ≡ join_all (joined true l.p l.t) (single_pairs l.ra l.na l.rb l.nb l.row (39 - l.row))

@@ -1,10 +1,8 @@
 -- `merge_partners::put_tags` meets its contract. Assumes nothing.
-use borrow.Author.Rules.{rules}
 use mathlib.Core.Path.{◌≡◌, refl, sym, ap, ◌∙◌}
 use mathlib.Core.List.{List}
 use Prim.Native.Nat.{ℕ, ◌-◌, ◌+◌}
 use native.Mathlib.Nat.{sub-zero}
-use native.Mathlib.Omega.{arith}
 use lib.ListN.{length, get_or, set}
 use Rattle.merge_partners.specs.Keys.{sets_from}
 use Rattle.merge_partners.specs.Heads.{head_from, tag_of, tag_at}
@@ -15,13 +13,10 @@ use Rattle.merge_partners.proofs.put_tags.Goals as goal
 pub loop-k-init : goal.loop-k-init
 loop-k-init c =
     let a = c.args in
-    (omega arith, refl, ap (sets_from (tag_at a.ca.now a.ra.now (length a.digests.now) a.cb.now a.rb.now a.marks.now a.keys.now) a.tags.now 0) (sym (sub-zero (length a.keys.now))), λ z. absurd (z refl))
+    (refl, ap (sets_from (tag_at a.ca.now a.ra.now (length a.digests.now) a.cb.now a.rb.now a.marks.now a.keys.now) a.tags.now 0) (sym (sub-zero (length a.keys.now))), λ z. absurd (z refl))
 
 pub look-last-requires : goal.look-last-requires
-look-last-requires c = record { j_lt_word = c.wide_number-j.ensures.1; digests = c.requires.digests; known = c.loop-k.invariant.3 }
-
-pub overflow_add-k : goal.overflow_add-k
-overflow_add-k c = search (rules, c.loop-k-test.true, c.requires.keys_len_bound)
+look-last-requires c = record { j_lt_word = c.wide_number-j.ensures.1; digests = c.requires.digests; known = c.loop-k.invariant.2 }
 
 pub loop-k-preserved : goal.loop-k-preserved
 unfolding tag_at
@@ -32,12 +27,12 @@ loop-k-preserved c =
     let f = tag_at a.ca.now a.ra.now n a.cb.now a.rb.now a.marks.now a.keys.now in
     let h = c.look-last.ensures.head_value ∙ ap (λ (j : ℕ). head_from a.ca.now a.ra.now a.cb.now a.rb.now j 0 n) (c.wide_number-j.ensures.0 ∙ c.number_of.ensures) in
     let e : c.put_number.new.xs ≡ set l.tags l.k (f l.k) = c.put_number.ensures ∙ ap (set l.tags l.k) (c.tag_of.ensures ∙ ap (λ (m : ℕ). tag_of m (get_or a.keys.now l.k 0)) h) in
-    (omega arith, c.put_number.auto.xs ∙ l.invariant.1, l.invariant.2 ∙ sets_turn f l.tags (length a.keys.now) l.k c.loop-k-test.true ∙ ap (λ (xs : List ℕ). sets_from f xs (l.k + 1) (length a.keys.now - (l.k + 1))) (sym e), known_of a.ca.now a.ra.now n a.cb.now a.rb.now c.look-last.result c.wide_number-j.result c.look-last.ensures.line_value c.look-last.ensures.head_value)
+    (c.put_number.auto.xs ∙ l.invariant.0, l.invariant.1 ∙ sets_turn f l.tags (length a.keys.now) l.k c.loop-k-test.true ∙ ap (λ (xs : List ℕ). sets_from f xs (l.k + 1) (length a.keys.now - (l.k + 1))) (sym e), known_of a.ca.now a.ra.now n a.cb.now a.rb.now c.look-last.result c.wide_number-j.result c.look-last.ensures.line_value c.look-last.ensures.head_value)
 
 pub shape_of-tags : goal.shape_of-tags
-shape_of-tags c = c.loop-k.invariant.1
+shape_of-tags c = c.loop-k.invariant.0
 
 pub returns : goal.returns
 returns c =
     let a = c.args in
-    sym (c.loop-k.invariant.2 ∙ sets_over (tag_at a.ca.now a.ra.now (length a.digests.now) a.cb.now a.rb.now a.marks.now a.keys.now) c.loop-k.tags (length a.keys.now) c.loop-k.k c.loop-k-test.false)
+    sym (c.loop-k.invariant.1 ∙ sets_over (tag_at a.ca.now a.ra.now (length a.digests.now) a.cb.now a.rb.now a.marks.now a.keys.now) c.loop-k.tags (length a.keys.now) c.loop-k.k c.loop-k-test.false)

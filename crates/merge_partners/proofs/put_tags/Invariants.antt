@@ -1,13 +1,10 @@
 -- `merge_partners::put_tags` meets its contract. Assumes nothing.
 use mathlib.Core.Path.{◌≡◌}
-use Prim.Native.Nat.{◌-◌, ◌≤◌}
+use Prim.Native.Nat.{◌-◌}
 use lib.ListN.{length}
 use Rattle.merge_partners.specs.Keys.{sets_from}
 use Rattle.merge_partners.specs.Heads.{Known, tag_at}
 use Rattle.merge_partners.proofs.put_tags.Given as goal
 
 abbrev pub invariant-loop-k : goal.invariant-loop-k
-invariant-loop-k l = (l.k ≤ length l.keys) × (length l.tags ≡ length l.initial.tags) × (sets_from (tag_at l.ca l.ra (length l.digests) l.cb l.rb l.marks l.keys) l.initial.tags 0 (length l.keys) ≡ sets_from (tag_at l.ca l.ra (length l.digests) l.cb l.rb l.marks l.keys) l.tags l.k (length l.keys - l.k)) × Known l.ca l.ra (length l.digests) l.cb l.rb l.last
-
-abbrev pub decreases-loop-k : goal.decreases-loop-k
-decreases-loop-k l = length l.keys - l.k
+invariant-loop-k l = (length l.tags ≡ length l.initial.tags) × (sets_from (tag_at l.ca l.ra (length l.digests) l.cb l.rb l.marks l.keys) l.initial.tags 0 (length l.keys) ≡ sets_from (tag_at l.ca l.ra (length l.digests) l.cb l.rb l.marks l.keys) l.tags l.k (length l.keys - l.k)) × Known l.ca l.ra (length l.digests) l.cb l.rb l.last

@@ -1,15 +1,16 @@
 -- `merge_pids::append_digit` meets its contract. Assumes nothing.
-use mathlib.Core.Path.{ap}
-use Prim.Native.Nat.{ℕ, ◌-◌, ◌+◌, ◌*◌}
-use native.Mathlib.Omega.{arith}
-use borrow.Author.Tests.{lt-ltb, le-ltb}
+use Rattle.std.proofs.Common.{◌≡◌, ◌+◌, ◌-◌, ◌*◌, min, arith}
+use lib.Dec.{ltb}
+use borrow.Author.Tests.{ltb-true, ltb-false}
+use Rattle.octets.proofs.Bools.{by}
 use Rattle.merge_pids.specs.Numbers.{with_digit}
 use Rattle.merge_pids.proofs.append_digit.Goals as goal
 
-pub returns-then-next-gt-SOURCE_NUMBER : goal.returns-then-next-gt-SOURCE_NUMBER
+pub returns-clause-value : goal.returns-clause-value
 unfolding with_digit
-returns-then-next-gt-SOURCE_NUMBER c = record { value = rw (lt-ltb 65535 (c.args.n * 10 + (c.args.b - 48)) (omega (arith, c.if-next-gt-SOURCE_NUMBER.true, c.ones.ensures))); upper_bound = omega arith }
-
-pub returns : goal.returns
-unfolding with_digit
-returns c = record { value = rw (le-ltb 65535 (c.args.n * 10 + (c.args.b - 48)) (omega (arith, c.if-next-gt-SOURCE_NUMBER.false, c.ones.ensures))) (ap (λ (k : ℕ). c.args.n * 10 + k) c.ones.ensures); upper_bound = omega (arith, c.if-next-gt-SOURCE_NUMBER.false) }
+returns-clause-value c =
+    let n = c.args.n * 10 + (c.args.b - 48) in
+    let e : c.min.result ≡ min n 65536 = omega (arith, c.min.ensures, c.ones.ensures) in
+    by (ltb 65535 n)
+    (λ t. let h = ltb-true 65535 n t in rw t (omega arith))
+    (λ t. let h = ltb-false 65535 n t in rw t (omega arith))

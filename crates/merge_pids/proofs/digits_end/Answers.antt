@@ -1,21 +1,20 @@
 -- `merge_pids::digits_end` meets its contract. Assumes nothing.
-use mathlib.Core.Path.{refl, sym, ◌∙◌}
-use Rattle.octets.specs.Classes.{digit}
-use Rattle.octets.proofs.Runs.{run_stop, run_step, run_end}
-use Rattle.merge_pids.proofs.NumberLaws.{digit_low, digit_high, digit_in}
+use Rattle.std.proofs.Common.{◌+◌, ◌∙◌, ap, ℕ, drop, rules}
+use borrow.Author.Tests.{tests}
+use Rattle.std.specs.Char.{is_ascii_digit}
+use Rattle.std.proofs.lemmas.Iterator.{YieldsList-from_slice}
+use Rattle.std.proofs.lemmas.Iterator.Adapters.{YieldsList-from_skip}
+use Rattle.std.proofs.lemmas.Iterator.Consumers.{YieldsList-at, count_from_yields_List}
+use Rattle.std.proofs.lemmas.Iterator.Search.{YieldsList-from_take_while}
+use Rattle.merge_pids.proofs.NumberLaws.{run_is}
 use Rattle.merge_pids.proofs.digits_end.Goals as goal
 
-pub loop-i-init : goal.loop-i-init
-loop-i-init c = refl
-
-pub returns-then-s-i-lt48 : goal.returns-then-s-i-lt48
-returns-then-s-i-lt48 c = sym (c.loop-i.invariant ∙ run_stop digit _ _ c.loop-i-test.true (digit_low _ c.if-s-i-lt48.true))
-
-pub returns-then-s-i-gt57 : goal.returns-then-s-i-gt57
-returns-then-s-i-gt57 c = sym (c.loop-i.invariant ∙ run_stop digit _ _ c.loop-i-test.true (digit_high _ c.if-s-i-gt57.true))
-
-pub loop-i-preserved : goal.loop-i-preserved
-loop-i-preserved c = c.loop-i.invariant ∙ run_step digit _ _ c.loop-i-test.true (digit_in _ c.if-s-i-lt48.false c.if-s-i-gt57.false)
-
 pub returns : goal.returns
-returns c = sym (c.loop-i.invariant ∙ run_end digit _ _ c.loop-i-test.false)
+returns c =
+    let s = c.args.s.now in
+    let rest = YieldsList-from_skip c.args.from (YieldsList-at c.skip.ensures.source (YieldsList-from_slice s (cc))) c.skip.ensures.count in
+    ap (λ (k : ℕ). c.args.from + k)
+    (count_from_yields_List _ _ c.count.ensures.ran
+    (YieldsList-from_take_while _ is_ascii_digit (YieldsList-at c.take_while.ensures.source rest) c.take_while.ensures.closure c.take_while.ensures.done
+    (λ x b q k. search (rules, tests)))
+    ∙ run_is (drop c.args.from s))

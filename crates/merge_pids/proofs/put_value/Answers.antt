@@ -5,8 +5,8 @@ use Rattle.merge_pids.proofs.put_value.Goals as goal
 
 pub returns-in_default : goal.returns-in_default
 unfolding put_all
-returns-in_default c = rw (sym c.read_pid-p.ensures ∙ c.in_default.is)
+returns-in_default c = rw (sym c.read_pid.ensures ∙ c.in_default.is)
 
 pub returns : goal.returns
 unfolding put_all
-returns c = rw (sym c.read_pid-p.ensures ∙ c.in-Marks.is) c.put_mark.ensures
+returns c = rw (sym c.read_pid.ensures ∙ c.in-Some.is) c.put_mark.ensures

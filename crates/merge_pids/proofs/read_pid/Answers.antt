@@ -5,8 +5,8 @@ use native.Mathlib.Omega.{arith}
 use lib.ListN.{length, take, drop, length-take, length-drop, get_or-eq_default}
 use lib.Seq.{take_all}
 use Rattle.octets.specs.Classes.{run, digit}
-use Rattle.merge_pids.specs.Numbers.{digits}
-use Rattle.merge_pids.specs.declared.Pid.TheVariants.{Marks}
+use Rattle.merge_pids.specs.Numbers.{digits, pid}
+use Rattle.std.specs.Prelude.{Some}
 use Rattle.merge_pids.proofs.NumberLaws.{pid_none, pid_no_dot, pid_dot, after_none, after_more, after_all}
 use Rattle.merge_pids.proofs.read_pid.Goals as goal
 
@@ -58,4 +58,4 @@ returns c =
     let whole : take (length s - (k + 1)) (drop (k + 1) s) ≡ drop (k + 1) s = take_all (length s - (k + 1)) (drop (k + 1) s) (omega (arith, m)) in
     let a : c.read_number.result ≡ digits 0 (take k s) = c.read_number.ensures.value in
     let b : c.read_number-2.result ≡ digits 0 (drop (k + 1) s) = c.read_number-2.ensures.value ∙ ap (digits 0) whole in
-    sym (pid_dot s k d c.if-dot-eq0.false c.if-s-dot-ne46.false ∙ after_all (take k s) (drop (k + 1) s) (λ z. c.if-end-dot.false (omega (arith, e, z))) (omega (arith, e, more, m)) ∙ ap (λ (n : ℕ). Marks n (digits 0 (drop (k + 1) s))) (sym a) ∙ ap (λ (n : ℕ). Marks c.read_number.result n) (sym b))
+    sym (pid_dot s k d c.if-dot-eq0.false c.if-s-dot-ne46.false ∙ after_all (take k s) (drop (k + 1) s) (λ z. c.if-end-dot.false (omega (arith, e, z))) (omega (arith, e, more, m)) ∙ ap (λ (n : ℕ). Some (pid n (digits 0 (drop (k + 1) s)))) (sym a) ∙ ap (λ (n : ℕ). Some (pid c.read_number.result n)) (sym b))

@@ -1,20 +1,17 @@
 -- `merge_sides::count_lines` meets its contract. Assumes nothing.
-use mathlib.Core.Path.{sym, ap, ◌∙◌}
-use Prim.Native.Nat.{◌-◌}
-use native.Mathlib.Nat.{sub-zero, zero-add}
-use native.Mathlib.Omega.{arith}
-use Rattle.merge_sides.specs.Lines.{count_lines}
-use Rattle.merge_sides.proofs.Walks.{count_turn, count_over}
+use Rattle.std.proofs.Common.{◌∙◌, refl, nat_eq, rules, arith}
+use borrow.Author.Tests.{tests}
+use Rattle.std.proofs.lemmas.Iterator.{YieldsList-from_range}
+use Rattle.std.proofs.lemmas.Iterator.Consumers.{YieldsList-from_filter, YieldsList-at, count_from_yields_List}
+use Rattle.merge_sides.specs.Lines.{field_at}
+use Rattle.merge_sides.proofs.Walks.{lines_counted}
 use Rattle.merge_sides.proofs.count_lines.Goals as goal
 
-pub loop-i-init : goal.loop-i-init
-loop-i-init c = (omega arith, omega arith, ap (count_lines c.args.rs.now c.args.row 0) (sym (sub-zero c.args.n)) ∙ sym (zero-add (count_lines c.args.rs.now c.args.row 0 (c.args.n - 0))))
-
-pub overflow_add-count : goal.overflow_add-count
-overflow_add-count c = omega (arith, c.loop-i.invariant.1, c.one_at-count.ensures.upper_bound, c.loop-i-test.true)
-
-pub loop-i-preserved : goal.loop-i-preserved
-loop-i-preserved c = (omega arith, omega (arith, c.loop-i.invariant.1, c.one_at-count.ensures.upper_bound), omega (arith, c.loop-i.invariant.2, c.one_at-count.ensures.value, count_turn c.args.rs.now c.args.row c.args.n c.loop-i.i c.loop-i-test.true))
-
 pub returns : goal.returns
-returns c = omega (arith, c.loop-i.invariant.2, count_over c.args.rs.now c.args.row c.args.n c.loop-i.i c.loop-i-test.false)
+returns c =
+    let rs = c.args.rs.now in
+    let n = c.args.n in
+    count_from_yields_List _ _ c.count.ensures.ran
+    (YieldsList-from_filter _ (λ j. nat_eq (field_at rs j 0) c.args.row) (YieldsList-at c.filter.ensures.source (YieldsList-from_range 0 n n refl (omega arith))) c.filter.ensures.closure
+    (λ x b q k. search (rules, tests)))
+    ∙ lines_counted rs c.args.row 0 n

@@ -5,7 +5,4 @@ use Rattle.merge_sides.specs.Sources.{with_lines, own_row}
 use Rattle.merge_sides.proofs.own_row.Given as goal
 
 abbrev pub invariant-loop-i : goal.invariant-loop-i
-invariant-loop-i l = (l.i ≤ l.n) × (l.r.count ≤ l.i) × (own_row l.c l.rs l.n ≡ with_lines l.r l.c l.rs l.i (l.n - l.i))
-
-abbrev pub decreases-loop-i : goal.decreases-loop-i
-decreases-loop-i l = l.n - l.i
+invariant-loop-i l = (l.r.count ≤ l.i) × (own_row l.c l.rs l.n ≡ with_lines l.r l.c l.rs l.i (l.n - l.i))

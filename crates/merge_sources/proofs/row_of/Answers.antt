@@ -17,10 +17,10 @@ unfolding filled
 none_filled n ys = refl
 
 pub loop-i-init : goal.loop-i-init
-loop-i-init c = (omega arith, rw (none_filled _ c.args.m.now) at c.empty-r.ensures)
+loop-i-init c = rw (none_filled _ c.args.m.now) at c.empty-r.ensures
 
 pub loop-i-preserved : goal.loop-i-preserved
-loop-i-preserved c = (omega arith, let e = next_filled (length c.args.m.now) c.args.m.now c.loop-i.i in cc)
+loop-i-preserved c = let e = next_filled (length c.args.m.now) c.args.m.now c.loop-i.i in cc
 
 pub returns : goal.returns
 returns c = let e : c.loop-i.i ≡ 16 = omega arith in let a = all_filled c.args.m.now in let b = ap (filled (length c.args.m.now) c.args.m.now) e in cc

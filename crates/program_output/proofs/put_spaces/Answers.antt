@@ -1,22 +1,22 @@
 -- `program_output::put_spaces` meets its contract. Assumes nothing.
-use mathlib.Core.Path.{refl, sym, ap, ◌∙◌}
-use Prim.Native.Nat.{◌-◌}
+use mathlib.Core.Path.{◌≡◌, sym, ap, ◌∙◌}
+use Prim.Native.Nat.{◌+◌, ◌-◌}
+use native.Mathlib.Omega.{arith}
 use lib.ListN.{replicate}
 use Rattle.program_output.specs.Pages.{page, added}
 use Rattle.program_output.proofs.PageLaws.{added_like, added_no_more}
 use borrow.Author.Rules.{rules}
 use Rattle.program_output.proofs.put_spaces.Goals as goal
 
-pub loop-left-init : goal.loop-left-init
-loop-left-init c = (refl, refl)
-
-pub loop-left-preserved : goal.loop-left-preserved
+pub loop-preserved : goal.loop-preserved
 unfolding added
-loop-left-preserved c =
-    let l = c.loop-left in
-    (search rules, ap (added (replicate (l.left - 1) 32)) c.put-next.ensures ∙ sym (added_like 32 l.left (page l.next l.room) c.loop-left-test.true) ∙ l.invariant.1)
+loop-preserved c =
+    let l = c.loop in
+    let left = c.args.n - l.counter in
+    let e : left - 1 ≡ c.args.n - (l.counter + 1) = omega arith in
+    (search rules, rw e at (ap (added (replicate (left - 1) 32)) c.put-next.ensures ∙ sym (added_like 32 left (page l.next l.room) (omega arith)) ∙ l.invariant.1))
 
 pub returns : goal.returns
 returns c =
-    let l = c.loop-left in
-    sym (added_no_more 32 l.left (page l.next l.room) c.loop-left-test.false) ∙ l.invariant.1
+    let l = c.loop in
+    sym (added_no_more 32 (c.args.n - l.counter) (page l.next l.room) (omega arith)) ∙ l.invariant.1

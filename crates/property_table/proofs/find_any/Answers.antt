@@ -1,7 +1,6 @@
 -- `property_table::find_any` meets its contract. Assumes nothing.
 use borrow.Author.Rules.{rules}
 use mathlib.Core.Path.{◌≡◌, sym, ◌∙◌}
-use mathlib.Core.List.{List}
 use Prim.Native.Nat.{ℕ, zero, suc, ◌-◌, ◌%◌, ◌<◌}
 use native.Mathlib.Omega.{arith}
 use Rattle.property_table.specs.Rows.{next_of}

@@ -4,6 +4,7 @@ use mathlib.Core.List.{List}
 use Prim.Native.Nat.{ℕ, ◌+◌, ◌*◌, ◌-◌, ◌<◌, ◌≤◌}
 use native.Mathlib.Omega.{arith}
 use lib.Bits.{bit_or}
+use borrow.Author.Tests.{eqb-true}
 use lib.ListN.{length, get_or}
 use Rattle.property_table.specs.Rows.{initial, first_of, Lists}
 use Rattle.property_table.proofs.RowLaws.{first_none, index_at}
@@ -18,9 +19,10 @@ found t v w r table octet e low high short q =
     let there : 97 + (w - 97) ≡ bit_or (get_or v 0 0) 32 = omega arith in
     q ∙ index_at t table (w - 97) (length v) (omega arith) short ∙ ap (λ (n : ℕ). first_of (length v) n + length v) (there ∙ small)
 
-pub returns-then-name-eq0 : goal.returns-then-name-eq0
-returns-then-name-eq0 c =
+pub returns-then-is_empty : goal.returns-then-is_empty
+returns-then-is_empty c =
     let v = c.args.name.now in
+    let none : length v ≡ 0 = eqb-true (length v) 0 (sym c.is_empty.ensures ∙ c.if-is_empty.true) in
     sym (first_none (length v) (initial v) (λ g h l. omega arith))
 
 pub returns-then-name-gt-LONGEST : goal.returns-then-name-gt-LONGEST

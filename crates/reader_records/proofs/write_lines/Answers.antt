@@ -3,7 +3,7 @@ use mathlib.Core.Path.{◌≡◌, sym, ap, ◌∙◌}
 use mathlib.Core.List.{List, ◌++◌}
 use Prim.Native.Nat.{ℕ}
 use native.Mathlib.Omega.{arith}
-use lib.ListN.{take, drop, length-take}
+use lib.ListN.{take, drop}
 use lib.Seq.{take_at}
 use Rattle.octets.specs.Room.{overlay}
 use Rattle.line_folds.specs.Folds.{unfolded}
@@ -11,11 +11,6 @@ use Rattle.line_folds.specs.Logical.{raw_lines}
 use Rattle.line_folds.proofs.FoldLaws.{unfold_shorter}
 use Rattle.reader_records.specs.Records.{records_from}
 use Rattle.reader_records.proofs.write_lines.Goals as goal
-
-pub slice_bounds-write_records-end-2 : goal.slice_bounds-write_records-end-2
-slice_bounds-write_records-end-2 c =
-    let u = c.unfold_text-n in
-    simp length-take (omega (arith, u.ensures.0, u.auto.d, c.requires.s_in_bounds.0))
 
 pub write_records-requires : goal.write_records-requires
 write_records-requires c =

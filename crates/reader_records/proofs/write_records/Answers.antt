@@ -4,7 +4,7 @@ use mathlib.Core.List.{List, ◌++◌}
 use Prim.Native.Nat.{ℕ, ◌+◌, ◌-◌, ◌≤◌}
 use native.Mathlib.Omega.{arith}
 use lib.ListN.{length, take, drop, length-append}
-use Rattle.octets.proofs.Writes.{start, room, put, finish}
+use Rattle.octets.proofs.Writes.{room, put, finish}
 use Rattle.line_folds.specs.Folds.{line_length}
 use Rattle.line_folds.specs.Logical.{raw_lines}
 use Rattle.line_folds.proofs.LineLaws.{lines_end}
@@ -12,33 +12,6 @@ use Rattle.line_folds.proofs.SpanLaws.{part_length}
 use Rattle.reader_records.specs.Records.{record_of, records_from}
 use Rattle.reader_records.proofs.RecordLaws.{ends_at_cr, record_length, records_turn}
 use Rattle.reader_records.proofs.write_records.Goals as goal
-
-pub loop-at-init : goal.loop-at-init
-loop-at-init c = start _ _
-
-pub slice_bounds-record_of-count : goal.slice_bounds-record_of-count
-slice_bounds-record_of-count c =
-    let s = c.args.s.now in
-    let l = c.loop-at in
-    let e = c.next_cr-end.result in
-    let he : e ≡ l.at + line_length (drop l.at s) = ends_at_cr s l.at e c.requires.by_index c.next_cr-end.ensures.1 in
-    omega (arith, he, c.next_cr-end.ensures.0, c.requires.s_len_bound)
-
-pub slice_bounds-record_of-start : goal.slice_bounds-record_of-start
-slice_bounds-record_of-start c =
-    let s = c.args.s.now in
-    let l = c.loop-at in
-    let e = c.next_cr-end.result in
-    let he : e ≡ l.at + line_length (drop l.at s) = ends_at_cr s l.at e c.requires.by_index c.next_cr-end.ensures.1 in
-    omega (arith, he, c.next_cr-end.ensures.0, c.requires.s_len_bound)
-
-pub slice_bounds-record_of-end : goal.slice_bounds-record_of-end
-slice_bounds-record_of-end c =
-    let s = c.args.s.now in
-    let l = c.loop-at in
-    let e = c.next_cr-end.result in
-    let he : e ≡ l.at + line_length (drop l.at s) = ends_at_cr s l.at e c.requires.by_index c.next_cr-end.ensures.1 in
-    omega (arith, he, c.next_cr-end.ensures.0, c.requires.s_len_bound)
 
 pub record_of-r-requires : goal.record_of-r-requires
 record_of-r-requires c =
@@ -73,22 +46,6 @@ overflow_add-k c =
     let fits : l.k + 8 ≤ length l.out = omega (arith, room l.invariant c.requires.s_in_bounds, ap length turn ∙ length-append (record_of d l.at x) (records_from d (e + 2) (raw_lines (drop (e + 2) s))), record_length d l.at x) in
     omega (arith, fits, l.invariant.same)
 
-pub overflow_add-at : goal.overflow_add-at
-overflow_add-at c =
-    let s = c.args.s.now in
-    let l = c.loop-at in
-    let e = c.next_cr-end.result in
-    let he : e ≡ l.at + line_length (drop l.at s) = ends_at_cr s l.at e c.requires.by_index c.next_cr-end.ensures.1 in
-    omega (arith, he, c.next_cr-end.ensures.0, c.requires.s_len_bound)
-
-pub loop-at-smaller : goal.loop-at-smaller
-loop-at-smaller c =
-    let s = c.args.s.now in
-    let l = c.loop-at in
-    let e = c.next_cr-end.result in
-    let he : e ≡ l.at + line_length (drop l.at s) = ends_at_cr s l.at e c.requires.by_index c.next_cr-end.ensures.1 in
-    omega (arith, he, c.next_cr-end.ensures.0)
-
 pub loop-at-preserved : goal.loop-at-preserved
 loop-at-preserved c =
     let s = c.args.s.now in
@@ -103,9 +60,6 @@ loop-at-preserved c =
     rw eight at (put l.invariant (record_of d l.at x) _ _ turn (rw eight fits)
     (c.put_record.ensures ∙ ap (λ (r : List ℕ). take l.k l.out ++ r ++ drop (l.k + 8) l.out) c.record_of-r.ensures
     ∙ ap (λ (n : ℕ). take l.k l.out ++ record_of d l.at x ++ drop (l.k + n) l.out) (sym eight)))
-
-pub shape_of-out : goal.shape_of-out
-shape_of-out c = c.loop-at.invariant.same
 
 pub returns : goal.returns
 unfolding records_from

@@ -3,21 +3,12 @@ use mathlib.Core.Path.{◌≡◌}
 use mathlib.Core.List.{List}
 use Prim.Native.Nat.{ℕ, ◌-◌}
 use native.Mathlib.Omega.{arith}
-use lib.ListN.{length, take, drop, length-take, length-drop}
+use lib.ListN.{length, take, drop, length-drop}
 use lib.Seq.{length-take-le, take_all}
 use Rattle.reader_walk.proofs.judge_at_hand.Goals as goal
 
 rest : (a : ℕ) (l : List ℕ) → take (length l - a) (drop a l) ≡ drop a l
 rest a l = take_all (length l - a) (drop a l) (rw length-drop (omega arith))
-
-pub slice_bounds-store-end : goal.slice_bounds-store-end
-slice_bounds-store-end c = simp length-take (omega (arith, c.requires.roomy.0.room))
-
-pub slice_bounds-judge_line-count : goal.slice_bounds-judge_line-count
-slice_bounds-judge_line-count c = omega (arith, c.requires.roomy.0.room)
-
-pub slice_bounds-judge_line-start : goal.slice_bounds-judge_line-start
-slice_bounds-judge_line-start c = omega (arith, c.requires.roomy.0.room)
 
 pub judge_line-requires : goal.judge_line-requires
 judge_line-requires c =
@@ -26,17 +17,3 @@ judge_line-requires c =
     let b = c.args.buffer.now in
     let u = c.args.c.used in
     record { tables = c.requires.tables; counted = c.requires.counted; stored = record { lies = r.lies; all = all; short = rw (rest u b, length-drop) (omega (arith, r.room, r.short)) } }
-
-pub returns-then-folded : goal.returns-then-folded
-returns-then-folded c =
-    let a = c.args in
-    let x = rest a.c.used a.buffer.now in
-    record { s_value = rw c.if-folded.true (rw x at c.judge_line.ensures.s_value); keeping = rw c.if-folded.true (rw x at c.judge_line.ensures.keeping) }
-
-pub judge_line-requires-2 : goal.judge_line-requires-2
-judge_line-requires-2 c =
-    let all : length (take c.args.c.used c.args.buffer.now) ≡ c.args.c.used = length-take-le c.args.c.used c.args.buffer.now (omega (arith, c.requires.roomy.0.room)) in
-    record { tables = c.requires.tables; counted = c.requires.counted; stored = record { lies = c.requires.roomy.0.lies; all = all; short = c.requires.roomy.1 } }
-
-pub returns : goal.returns
-returns c = record { s_value = rw c.if-folded.false c.judge_line-2.ensures.s_value; keeping = rw c.if-folded.false c.judge_line-2.ensures.keeping }

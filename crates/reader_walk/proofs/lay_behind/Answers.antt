@@ -3,10 +3,5 @@ use mathlib.Core.Path.{refl, sym}
 use Rattle.reader_walk.proofs.ScratchLaws.{behind_none}
 use Rattle.reader_walk.proofs.lay_behind.Goals as goal
 
-pub returns-then-folded : goal.returns-then-folded
-returns-then-folded c =
-    let u = c.unfold_behind in
-    record { value = rw c.if-folded.true u.ensures.value; scratch_after = rw c.if-folded.true u.ensures.scratch_after }
-
 pub returns : goal.returns
 returns c = record { value = rw c.if-folded.false refl; scratch_after = rw c.if-folded.false (sym (behind_none c.args.used c.args.scratch.now)) }

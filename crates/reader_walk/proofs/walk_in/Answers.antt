@@ -4,7 +4,6 @@ use mathlib.Core.List.{List}
 use Prim.Native.Nat.{ℕ, ◌+◌, ◌-◌}
 use native.Mathlib.Omega.{arith}
 use lib.ListN.{length, take, drop}
-use Rattle.property_table.specs.declared.Edition.{Edition}
 use Rattle.line_folds.specs.Logical.{raw_lines}
 use Rattle.line_folds.proofs.LineLaws.{lines_end}
 use Rattle.card_state.specs.State.{Step, fresh_card}
@@ -43,13 +42,6 @@ judge_span-j-requires c =
       s_value = whole a.s.now l.at v.result.cr v.result.end v.ensures.0;
     }
 
-pub settle-requires : goal.settle-requires
-settle-requires c =
-    let l = c.loop-at in
-    let v = c.line_at-span in
-    let n = part_length c.args.s.now l.at v.result.end c.loop-at-test.true v.ensures.1 v.ensures.2 in
-    omega (arith, n, c.loop-at-test.true, v.ensures.1, v.ensures.2, c.requires.s_len_bound)
-
 pub returns-in_default : goal.returns-in_default
 returns-in_default c =
     let j = c.judge_span-j in
@@ -61,18 +53,13 @@ returns-in_default c =
     ≡ onward (settled l.at (take (v.result.end - l.at) (drop l.at a.s.now)) (step_of j.new.scratch j.result)) (judge_lines a.edition (raw_lines (drop (v.result.end + 2) a.s.now)) (v.result.end + 2)) =
     l.invariant.5 ∙ judged a.edition a.s.now l.at v.result.end c.loop-at-test.true v.ensures.1 v.ensures.2 (card_of l.c l.scratch) (step_of j.new.scratch j.result) j.ensures.result_after in
     let store = j.new.scratch in
-    (store, c.settle.ensures store ∙ sym (turn ∙ stopped_step store _ line _ j.result c.in_default.not-Next))
-
-pub overflow_add-at : goal.overflow_add-at
-overflow_add-at c =
-    let v = c.line_at-span in
-    omega (arith, v.ensures.2, c.requires.s_len_bound)
+    (store, c.settle.ensures store ∙ sym (turn ∙ stopped_step store _ line _ j.result c.in_default.not-Ok))
 
 pub loop-at-preserved : goal.loop-at-preserved
 unfolding step_of card_of Holds
 loop-at-preserved c =
-    let e = c.in-Next.is in
-    let next = c.in-Next.next in
+    let e = c.in-Ok.is in
+    let next = c.in-Ok.next in
     let l = c.loop-at in
     let v = c.line_at-span in
     let a = c.args in

@@ -1,5 +1,4 @@
 -- `report::add` meets its contract. Assumes nothing.
-use borrow.Author.Rules.{rules}
 use mathlib.Core.Path.{refl}
 use native.Mathlib.Omega.{arith}
 use lib.ListN.{length-replicate, length-set}
@@ -7,7 +6,7 @@ use Rattle.report.proofs.StepLaws.{sum_fits, sums_next, sums_done}
 use Rattle.report.proofs.add.Goals as goal
 
 pub loop-place-init : goal.loop-place-init
-loop-place-init c = (search rules, simp length-replicate, refl)
+loop-place-init c = (simp length-replicate, refl)
 
 pub overflow_add-next : goal.overflow_add-next
 overflow_add-next c =
@@ -25,10 +24,10 @@ pub loop-place-preserved : goal.loop-place-preserved
 loop-place-preserved c =
     let l = c.loop-place in
     let a = c.args in
-    (search rules, simp length-set l.invariant.1, sums_next a.counts.now a.w.now l.next l.place _ c.loop-place-test.true (omega (arith, c.wide_number.ensures.0)) l.invariant.2)
+    (simp length-set l.invariant.0, sums_next a.counts.now a.w.now l.next l.place _ c.loop-place-test.true (omega (arith, c.wide_number.ensures.0)) l.invariant.1)
 
 pub returns : goal.returns
 returns c =
     let l = c.loop-place in
     let a = c.args in
-    sums_done a.counts.now a.w.now l.next l.place c.loop-place-test.false l.invariant.2
+    sums_done a.counts.now a.w.now l.next l.place c.loop-place-test.false l.invariant.1

@@ -1,25 +1,13 @@
 -- `report_weights::weigh_refused` meets its contract. Assumes nothing.
-use borrow.Author.Rules.{rules}
-use mathlib.Core.Path.{refl}
-use lib.ListN.{length-replicate, length-set}
+use Rattle.std.proofs.Common.{rules, arith}
+use borrow.Author.Tests.{tests}
+use Rattle.report_weights.specs.Counts.{count_at}
 use Rattle.report_weights.specs.Parts.{refused_part}
-use Rattle.report_weights.proofs.PlaceLaws.{each_next, each_done}
+use Rattle.report_weights.proofs.PlaceLaws.{each_all, each_call}
 use Rattle.report_weights.proofs.weigh_refused.Goals as goal
-
-pub loop-place-init : goal.loop-place-init
-loop-place-init c = (search rules, simp length-replicate, refl)
-
-pub loop-place-preserved : goal.loop-place-preserved
-loop-place-preserved c =
-    let l = c.loop-place in
-    let a = c.args in (
-      search rules,
-      simp length-set l.invariant.1,
-      each_next (refused_part a.n) l.w l.place _ c.loop-place-test.true c.refused_part.ensures l.invariant.2,
-    )
 
 pub returns : goal.returns
 returns c =
-    let l = c.loop-place in
-    let a = c.args in
-    each_done (refused_part a.n) l.w l.place c.loop-place-test.false l.invariant.2
+    let h = c.from_fn.ensures.items in
+    each_all (refused_part c.args.n) _ h.long (λ p lt.
+    each_call _ _ (λ p. refused_part c.args.n (count_at p)) 59 (λ p y q b k. search (rules, tests)) _ 0 59 (omega arith) h.each p (omega arith) lt)

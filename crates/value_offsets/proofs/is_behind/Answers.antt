@@ -1,18 +1,24 @@
 -- `value_offsets::is_behind` meets its contract. Assumes nothing.
-use borrow.Author.Rules.{rules}
+use mathlib.Core.Path.{◌≡◌, refl, ◌∙◌}
+use mathlib.Core.Bool.{and-true}
+use mathlib.Core.List.{List, [], ◌∷◌}
+use Prim.Native.Nat.{ℕ}
 use native.Mathlib.Omega.{arith}
-use Prim.Native.Nat.{◌≤◌}
-use lib.ListN.{length, get_or-eq_default}
+use lib.Dec.{eqb}
+use lib.ListN.{take}
+use lib.Pointwise.{pointwise}
+use Rattle.std.proofs.lemmas.Bool.Decides.{nat_tests}
 use Rattle.value_offsets.specs.Minutes.{is_behind}
 use Rattle.value_offsets.proofs.is_behind.Goals as goal
 
-pub returns-then-s-eq0 : goal.returns-then-s-eq0
+turned : (a b : ℕ) → eqb a b ≡ eqb b a
+turned a b = grind (arith, nat_tests)
+
+-- what the library says of the first octet
+starts : (s : List ℕ) → pointwise eqb (45 ∷ []) (take 1 s) ≡ is_behind s
 unfolding is_behind
-returns-then-s-eq0 c =
-    let s = c.args.s.now in
-    let none : length s ≤ 0 = omega (arith, c.if-s-eq0.true) in
-    rw (get_or-eq_default s 0 none)
+starts [] = refl
+starts (x ∷ xs) = simp (turned 45 x, and-true)
 
 pub returns : goal.returns
-unfolding is_behind
-returns c = search rules
+returns c = c.starts_with.ensures.value ∙ starts c.args.s.now

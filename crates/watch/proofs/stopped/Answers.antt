@@ -1,5 +1,5 @@
 -- `watch::stopped` meets its contract. Assumes nothing.
-use Rattle.card_state.specs.declared.Step.{Step as KeptStep}
+use Rattle.card_state.specs.Kept.{KeptStep}
 use mathlib.Core.Path.{sym, ap, ◌∙◌}
 use Rattle.watch.specs.State.{stopped_state}
 use Rattle.watch.proofs.stopped.Goals as goal

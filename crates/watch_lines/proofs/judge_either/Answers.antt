@@ -9,7 +9,7 @@ use Rattle.line_folds.specs.Folds.{unfolded}
 use Rattle.property_table.specs.declared.Edition.TheVariants.{First}
 use Rattle.card_state.specs.Kept.{step_of, Holds}
 use Rattle.card_state.specs.declared.Card.{Card as Kept}
-use Rattle.card_state.specs.declared.Step.{Step as KeptStep}
+use Rattle.card_state.specs.Kept.{KeptStep}
 use Rattle.reader_walk.specs.Walk.{Roomy, Left}
 use Rattle.watch_lines.specs.Taking.{judgement}
 use Rattle.watch_lines.proofs.judge_either.Goals as goal

@@ -3,7 +3,7 @@ use native.Mathlib.Omega.{arith}
 use mathlib.Core.Path.{◌≡◌, refl, sym, subst}
 use Prim.Native.Nat.{◌+◌, ◌-◌}
 use lib.ListN.{length, take, drop, length-drop}
-use Rattle.card_state.specs.declared.Step.{Step as KeptStep}
+use Rattle.card_state.specs.Kept.{KeptStep}
 use Rattle.line_folds.proofs.SpanLaws.{whole, part_length}
 use Rattle.watch_lines.specs.Taking.{Took, Within}
 use Rattle.watch_lines.proofs.TakingLaws.{Hand, hand_line, hand_start, hand_refused, hand_next, rest_hand, rest_open, within_next, turn_last, turn_next, turn_fine, turn_size, whole_line}

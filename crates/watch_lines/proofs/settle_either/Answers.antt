@@ -6,7 +6,7 @@ use Prim.Native.Nat.{ℕ, ◌+◌, ◌≤◌}
 use lib.ListN.{length}
 use Rattle.octets.specs.Pick.{pick}
 use Rattle.card_state.specs.Kept.{step_of}
-use Rattle.card_state.specs.declared.Step.{Step as KeptStep}
+use Rattle.card_state.specs.Kept.{KeptStep}
 use Rattle.reader_walk.specs.Walk.{settled}
 use Rattle.watch_lines.proofs.settle_either.Goals as goal
 

@@ -17,4 +17,4 @@ unfolding octets
 returns c =
     let l = c.args.s.now in
     rw (looked_for c.args.once (first_value altid_name l) c.if-once-eq0.false)
-    (found_spans l c.args.x.name_end (read_accepted c.requires.parted.0 l c.args.x (read c.requires.parted.0 l c.args.x c.requires.parted.1)) altid_name c.param_first.result c.param_first.ensures)
+    (found_spans l c.args.x.name_end (read_accepted c.requires.parted.0 l c.args.x (read c.requires.parted.0 l c.args.x c.requires.parted.1)) altid_name _ c.param_first.ensures)

@@ -36,7 +36,7 @@ returns-then-misplaced c =
     tests a.edition (card_of a.c a.store.now) a.at a.x.row a.x.group_length a.x.param_count a.x.kind (first_value altid_name a.s.now) a.x.value_start a.value.now
     c.in_order-misplaced.ensures c.is_laden-laden.ensures c.judge_value-fault.ensures in
     let w : Told a.edition a.c a.store.now a.at a.x a.s.now a.value.now c.unkept.result =
-    stopped a.c a.store.now a.s.now c.unkept.result 9 a.at _ c.unkept.ensures (simp (found, c.if-misplaced.true-raw)) in
+    stopped a.c a.store.now a.s.now c.unkept.result _ a.at _ c.unkept.ensures (simp (found, c.if-misplaced.true-raw)) in
     record { s_value = w.0; keeping = w.1 }
 
 pub returns-then-laden : goal.returns-then-laden
@@ -49,7 +49,7 @@ returns-then-laden c =
     tests a.edition (card_of a.c a.store.now) a.at a.x.row a.x.group_length a.x.param_count a.x.kind (first_value altid_name a.s.now) a.x.value_start a.value.now
     c.in_order-misplaced.ensures c.is_laden-laden.ensures c.judge_value-fault.ensures in
     let w : Told a.edition a.c a.store.now a.at a.x a.s.now a.value.now c.unkept-then-laden.result =
-    stopped a.c a.store.now a.s.now c.unkept-then-laden.result 8 a.at _ c.unkept-then-laden.ensures (simp (found, c.if-misplaced.false-raw, c.if-laden.true)) in
+    stopped a.c a.store.now a.s.now c.unkept-then-laden.result _ a.at _ c.unkept-then-laden.ensures (simp (found, c.if-misplaced.false-raw, c.if-laden.true)) in
     record { s_value = w.0; keeping = w.1 }
 
 -- the octet lies within the value
@@ -66,7 +66,7 @@ returns-in-Breaks c =
     tests a.edition (card_of a.c a.store.now) a.at a.x.row a.x.group_length a.x.param_count a.x.kind (first_value altid_name a.s.now) a.x.value_start a.value.now
     c.in_order-misplaced.ensures c.is_laden-laden.ensures c.judge_value-fault.ensures in
     let w : Told a.edition a.c a.store.now a.at a.x a.s.now a.value.now c.unkept-in-Breaks.result =
-    flawed_stop a.c a.store.now a.s.now c.unkept-in-Breaks.result 7 _ _ c.unkept-in-Breaks.ensures (simp (found, c.if-misplaced.false-raw, c.if-laden.false, c.in-Breaks.is)) in
+    flawed_stop a.c a.store.now a.s.now c.unkept-in-Breaks.result _ _ _ c.unkept-in-Breaks.ensures (simp (found, c.if-misplaced.false-raw, c.if-laden.false, c.in-Breaks.is)) in
     record { s_value = w.0; keeping = w.1 }
 
 pub settle-requires : goal.settle-requires

@@ -8,7 +8,7 @@ use native.Mathlib.Omega.{arith}
 use lib.ListN.{length, get_or, take, drop, get_or-map}
 use Rattle.card_state.specs.State.{equal, same_tag, tag_of}
 use Rattle.card_state.specs.Kept.{places_of, end_of, tag_at}
-use Rattle.card_state.proofs.KeptLaws.{inside_at}
+use Rattle.card_state.proofs.KeptLaws.{equal_is, inside_at}
 use Rattle.card_state.proofs.tags.is_kept.Goals as goal
 
 tag_there : (store ps : List ℕ) (k : ℕ) → tag_of (map (tag_at store) ps) k ≡ tag_at store (get_or ps (k - 1) 0)
@@ -37,8 +37,8 @@ returns-then-place-eq0 c =
     let a = c.args in
     no_tag a.store.now (places_of a.t) a.value.now a.k (sym c.place_at-place.ensures ∙ c.if-place-eq0.true)
 
-pub slice_bounds-same_octets-end : goal.slice_bounds-same_octets-end
-slice_bounds-same_octets-end c =
+pub slice_bounds-eq-end : goal.slice_bounds-eq-end
+slice_bounds-eq-end c =
     let within : (c.place_at-place.result - 1) / 32768 + (c.place_at-place.result - 1) % 32768 ≤ length c.args.store.now = let p = c.place_at-place in
     rw (← end_there p.result c.if-place-eq0.false, p.ensures) (inside_at (places_of c.args.t) (length c.args.store.now) (c.args.k - 1) c.requires.inside) in
     within
@@ -50,6 +50,7 @@ returns c =
     let from = (p.result - 1) / 32768 in
     let n = (p.result - 1) % 32768 in
     let size : from + n - from ≡ n = omega arith in
-    c.same_octets.ensures
+    c.eq.ensures
+    ∙ equal_is _ a.value.now
     ∙ ap (λ (m : ℕ). equal (take m (drop from a.store.now)) a.value.now) size
     ∙ some_tag a.store.now (places_of a.t) a.value.now a.k p.result (sym p.ensures) c.if-place-eq0.false

@@ -1,7 +1,6 @@
 -- `crate::text::fold_buffered` meets its contract. Assumes nothing.
 use mathlib.Core.Path.{refl, ap, ◌∙◌}
 use native.Mathlib.Omega.{arith}
-use lib.ListN.{length-take}
 use Rattle.std.proofs.lemmas.Result.{err_from_is_err_and}
 use Rattle.octets.specs.Room.{filled}
 use Rattle.octets.specs.Room.{Written}
@@ -19,21 +18,6 @@ pub returns-then-out-n : goal.returns-then-out-n
 returns-then-out-n c =
     let w = poured_wrote c.in_ok-n.ensures in
     fill_short _ _ _ w.0 c.if-out-n.true ∙ within_bound _ _ _ w.0 (omega (arith, w.0, w.2))
-
-pub slice_bounds-buffer-end : goal.slice_bounds-buffer-end
-slice_bounds-buffer-end c =
-    let w = poured_wrote c.in_ok-n.ensures in
-    omega (arith, w.0, w.2, c.pour.auto)
-
-pub slice_bounds-copy_in-end : goal.slice_bounds-copy_in-end
-slice_bounds-copy_in-end c =
-    let w = poured_wrote c.in_ok-n.ensures in
-    simp length-take (omega (arith, w.0, w.2, c.pour.auto))
-
-pub copy_in-requires : goal.copy_in-requires
-copy_in-requires c =
-    let w = poured_wrote c.in_ok-n.ensures in
-    simp length-take (omega (arith, c.if-out-n.false))
 
 pub returns : goal.returns
 returns c =

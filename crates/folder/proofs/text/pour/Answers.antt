@@ -5,7 +5,6 @@ use Prim.Native.Nat.{ℕ, ◌+◌, ◌-◌, ◌≤◌}
 use native.Mathlib.Omega.{arith}
 use lib.ListN.{length, take, drop, length-append, length-take, length-drop}
 use borrow.Rule.Slice.PartMut.{same_len_mid}
-use Rattle.octets.proofs.Writes.{start}
 use Rattle.line_folds.specs.Folds.{unfolded}
 use Rattle.line_folds.specs.Logical.{logical_lines}
 use Rattle.line_folds.proofs.SpanLaws.{whole}
@@ -37,23 +36,11 @@ turn f s from p e h = ap (λ (r : List ℕ). R s from p ++ r) h ∙ sym (append_
 tail_length : (d : List ℕ) (w : ℕ) → w ≤ length d → length (take (length d - w) (drop w d)) ≡ length d - w
 tail_length d w h = simp (length-take, length-drop) (omega arith)
 
-pub loop-at-init : goal.loop-at-init
-loop-at-init c = (omega arith, λ _. omega arith, c.requires.0, start _ _)
-
-pub line_at-span-requires : goal.line_at-span-requires
-line_at-span-requires c = omega arith
-
 pub stays-same-requires : goal.stays-same-requires
 stays-same-requires c =
     let v = c.line_at-span in
     let clean = clean_turn c.args.s.now c.loop-at.at c.line_at-span.result.end c.loop-at-test.true c.line_at-span.ensures.1 c.line_at-span.ensures.2 c.loop-at.invariant.2 in
     record { at_le_end = (omega arith, omega arith, clean.0); s_value = whole c.args.s.now c.loop-at.at v.result.cr v.result.end v.ensures.0 }
-
-pub overflow_add-at : goal.overflow_add-at
-overflow_add-at c = omega (arith, (c.stays-same.ensures c.if-same.true).0)
-
-pub loop-at-smaller-then-same : goal.loop-at-smaller-then-same
-loop-at-smaller-then-same c = omega arith
 
 pub loop-at-preserved-then-same : goal.loop-at-preserved-then-same
 loop-at-preserved-then-same c =
@@ -66,33 +53,6 @@ loop-at-preserved-then-same c =
     let e = fold_turn c.args.s.now c.loop-at.at c.line_at-span.result.end c.loop-at-test.true c.line_at-span.ensures.1 c.line_at-span.ensures.2 (written c.args.style) ∙ ap (λ (r : List ℕ). r ++ N f s end) k.1 in
     (omega arith, λ _. k.0, clean.1, left_as (run_on f s l.from l.at (end + 2) l.invariant.0 (omega arith) e) l.invariant.3)
 
-pub slice_bounds-put_behind-count : goal.slice_bounds-put_behind-count
-slice_bounds-put_behind-count c = omega (arith, c.loop-at.invariant.0)
-
-pub slice_bounds-put_behind-start : goal.slice_bounds-put_behind-start
-slice_bounds-put_behind-start c = omega (arith, c.loop-at.invariant.0)
-
-pub slice_bounds-put_behind-end : goal.slice_bounds-put_behind-end
-slice_bounds-put_behind-end c = omega (arith, c.loop-at.invariant.0, c.loop-at-test.true)
-
-pub slice_bounds-put_behind-count-else-same : goal.slice_bounds-put_behind-count-else-same
-slice_bounds-put_behind-count-else-same c = omega arith
-
-pub slice_bounds-put_behind-start-else-same : goal.slice_bounds-put_behind-start-else-same
-slice_bounds-put_behind-start-else-same c = omega arith
-
-pub slice_bounds-put_behind-end-else-same : goal.slice_bounds-put_behind-end-else-same
-slice_bounds-put_behind-end-else-same c = omega arith
-
-pub slice_bounds-put_behind-count-else-same-2 : goal.slice_bounds-put_behind-count-else-same-2
-slice_bounds-put_behind-count-else-same-2 c = c.loop-at.invariant.3.inside
-
-pub slice_bounds-put_behind-start-else-same-2 : goal.slice_bounds-put_behind-start-else-same-2
-slice_bounds-put_behind-start-else-same-2 c = omega (arith, c.loop-at.invariant.3.inside)
-
-pub slice_bounds-put_behind-end-else-same-2 : goal.slice_bounds-put_behind-end-else-same-2
-slice_bounds-put_behind-end-else-same-2 c = omega (arith, c.loop-at.invariant.3.inside)
-
 pub put_behind-n-requires : goal.put_behind-n-requires
 put_behind-n-requires c =
     let v = c.line_at-span in
@@ -101,12 +61,6 @@ put_behind-n-requires c =
       clean = (clean.0, simp (length-take, length-drop) (omega arith), simp (length-take, length-drop) (omega arith));
       s_value = whole c.args.s.now c.loop-at.at v.result.cr v.result.end v.ensures.0;
     }
-
-pub overflow_sub-d : goal.overflow_sub-d
-overflow_sub-d c = rw (same_len_mid c.loop-at.w (length c.loop-at.d - c.loop-at.w) c.loop-at.d c.put_behind-n.new.d c.put_behind-n.auto.d) c.loop-at.invariant.3.inside
-
-pub shape_of-d-then-d-w : goal.shape_of-d-then-d-w
-shape_of-d-then-d-w c = same_len_mid c.loop-at.w (length c.loop-at.d - c.loop-at.w) c.loop-at.d c.put_behind-n.new.d c.put_behind-n.auto.d ∙ c.loop-at.invariant.3.same
 
 pub returns-then-d-w : goal.returns-then-d-w
 returns-then-d-w c =
@@ -119,15 +73,6 @@ returns-then-d-w c =
     let tail = tail_length c.loop-at.d c.loop-at.w (omega arith) in
     let m = missed c.put_behind-n.ensures (rw tail (rw room at c.if-d-w.true)) in
     over_poured _ _ _ (omega (arith, m, tail, h.same, whole_length _ h, ap length (turn f s l.from l.at end (fold_turn c.args.s.now c.loop-at.at c.line_at-span.result.end c.loop-at-test.true c.line_at-span.ensures.1 c.line_at-span.ensures.2 (written c.args.style))) ∙ length-append (X f s l.from l.at end) (N f s end)))
-
-pub overflow_add-w : goal.overflow_add-w
-overflow_add-w c = omega arith
-
-pub overflow_add-at-else-same : goal.overflow_add-at-else-same
-overflow_add-at-else-same c = omega arith
-
-pub loop-at-smaller : goal.loop-at-smaller
-loop-at-smaller c = omega arith
 
 pub loop-at-preserved : goal.loop-at-preserved
 loop-at-preserved c =
@@ -145,12 +90,6 @@ loop-at-preserved c =
       clean.1,
       rw q.0 (left_as (run_none f s (end + 2)) (put_part l.invariant.3 (X f s l.from l.at end) (N f s end) _ (turn f s l.from l.at end (fold_turn c.args.s.now c.loop-at.at c.line_at-span.result.end c.loop-at-test.true c.line_at-span.ensures.1 c.line_at-span.ensures.2 (written c.args.style))) fits q.1)),
     )
-
-pub put_run-requires : goal.put_run-requires
-put_run-requires c = c.loop-at.invariant.3.inside
-
-pub shape_of-d : goal.shape_of-d
-shape_of-d c = c.put_run.auto.d ∙ c.loop-at.invariant.3.same
 
 pub returns : goal.returns
 returns c =

@@ -1,11 +1,7 @@
 -- `crate::text::put_behind` meets its contract. Assumes nothing.
 use native.Mathlib.Omega.{arith}
-use lib.ListN.{length-append}
-use Rattle.folder.proofs.FitLaws.{too_long, behind_run}
+use Rattle.folder.proofs.FitLaws.{behind_run}
 use Rattle.folder.proofs.text.put_behind.Goals as goal
-
-pub returns-then-d-k : goal.returns-then-d-k
-returns-then-d-k c = too_long _ _ _ _ c.if-d-k.true (simp length-append (omega arith))
 
 pub returns : goal.returns
 returns c =

@@ -11,12 +11,6 @@ returns-then-d-n c =
     let m = c.measure-n in
     (too_long _ _ _ m.result c.if-d-n.true (omega (arith, m.ensures.0, styled_folded a.style a.s.now)), m.ensures.1)
 
-pub returns-in-AsRead : goal.returns-in-AsRead
-returns-in-AsRead c =
-    let m = c.measure-n in
-    let f = c.fold_line in
-    (rw c.in-AsRead.is (placed _ _ _ m.result m.ensures.0 (omega arith) f.ensures.1), m.ensures.1)
-
 pub returns-in-Raised : goal.returns-in-Raised
 returns-in-Raised c =
     let a = c.args in

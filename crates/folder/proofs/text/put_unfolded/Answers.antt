@@ -1,7 +1,7 @@
 -- `crate::text::put_unfolded` meets its contract. Assumes nothing.
 use mathlib.Core.Path.{◌≡◌, sym, ap, ◌∙◌}
 use native.Mathlib.Omega.{arith}
-use lib.ListN.{take, length-take}
+use lib.ListN.{take}
 use lib.Seq.{take_at}
 use Rattle.line_folds.specs.Folds.{unfolded}
 use Rattle.line_folds.proofs.FoldLaws.{unfold_shorter}
@@ -9,12 +9,6 @@ use Rattle.folder.proofs.text.put_unfolded.Goals as goal
 
 pub unfold-n-requires : goal.unfold-n-requires
 unfold-n-requires c = omega (arith, unfold_shorter c.args.s.now, c.requires)
-
-pub slice_bounds-put_line-end : goal.slice_bounds-put_line-end
-slice_bounds-put_line-end c = omega (arith, unfold_shorter c.args.s.now, c.requires)
-
-pub slice_bounds-put_line-end-2 : goal.slice_bounds-put_line-end-2
-slice_bounds-put_line-end-2 c = simp length-take (omega (arith, c.unfold-n.ensures.0, c.unfold-n.auto.d, unfold_shorter c.args.s.now, c.requires))
 
 pub put_line-requires : goal.put_line-requires
 put_line-requires c =

@@ -8,15 +8,6 @@ use Rattle.utf8.specs.Characters.{tail}
 use Rattle.folder_line.proofs.Turns.{inside, cut_place, one_more}
 use Rattle.folder_line.proofs.cutting.cut.Goals as goal
 
-pub overflow_add-e : goal.overflow_add-e
-overflow_add-e c = omega arith
-
-pub loop-e-init : goal.loop-e-init
-loop-e-init c = (omega arith, omega arith, λ i p q. absurd (omega arith))
-
-pub bounds-s-e : goal.bounds-s-e
-bounds-s-e c = omega arith
-
 pub overflow_sub-e : goal.overflow_sub-e
 overflow_sub-e c =
     -- the octet at e is no first one, so that e lies behind the start

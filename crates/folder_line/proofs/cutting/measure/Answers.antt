@@ -5,21 +5,6 @@ use Rattle.folder_line.specs.Pieces.{pieces, folded}
 use Rattle.folder_line.proofs.Turns.{turn_fits, turn_clean, turn_length, last_length}
 use Rattle.folder_line.proofs.cutting.measure.Goals as goal
 
-pub loop-room-init : goal.loop-room-init
-loop-room-init c = (omega arith, c.requires.0, omega arith, omega arith, omega arith, omega arith)
-
-pub overflow_sub-s : goal.overflow_sub-s
-overflow_sub-s c = omega arith
-
-pub cut-a-requires : goal.cut-a-requires
-cut-a-requires c = (c.loop-room.invariant.1, omega arith)
-
-pub overflow_add-n : goal.overflow_add-n
-overflow_add-n c =
-    let l = c.loop-room in
-    let f = turn_fits c.args.s.now l.a l.room c.cut-a.result l.invariant.1 (omega arith) c.loop-room-test.true c.cut-a.ensures in
-    omega arith
-
 pub loop-room-smaller : goal.loop-room-smaller
 loop-room-smaller c =
     let l = c.loop-room in
@@ -33,12 +18,6 @@ loop-room-preserved c =
     let g : 4 ≤ c.loop-room.room = omega arith in
     let t = turn_length s c.loop-room.a c.loop-room.room c.cut-a.result c.loop-room.invariant.1 g c.loop-room-test.true c.cut-a.ensures in
     (omega arith, turn_clean s c.loop-room.a c.loop-room.room c.cut-a.result c.loop-room.invariant.1 g c.loop-room-test.true c.cut-a.ensures, omega arith, omega arith, omega arith, omega arith)
-
-pub overflow_add-result : goal.overflow_add-result
-overflow_add-result c = omega arith
-
-pub overflow_add-result-2 : goal.overflow_add-result-2
-overflow_add-result-2 c = omega arith
 
 pub returns : goal.returns
 unfolding folded pieces

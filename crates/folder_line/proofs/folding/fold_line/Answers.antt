@@ -49,30 +49,6 @@ pub loop-room-init : goal.loop-room-init
 unfolding folded pieces
 loop-room-init c = (omega arith, c.requires.0, omega arith, omega arith, start _ _)
 
-pub overflow_sub-s : goal.overflow_sub-s
-overflow_sub-s c = omega arith
-
-pub cut-e-requires : goal.cut-e-requires
-cut-e-requires c = (c.loop-room.invariant.1, omega arith)
-
-pub slice_bounds-put_cut-count : goal.slice_bounds-put_cut-count
-slice_bounds-put_cut-count c =
-    let s = c.args.s.now in
-    let l = c.loop-room in
-    let e = c.cut-e.result in
-    let four : 4 ≤ l.room = omega arith in
-    let f = turn_fits s l.a l.room e l.invariant.1 four c.loop-room-test.true c.cut-e.ensures in
-    omega arith
-
-pub slice_bounds-put_cut-start : goal.slice_bounds-put_cut-start
-slice_bounds-put_cut-start c =
-    let s = c.args.s.now in
-    let l = c.loop-room in
-    let e = c.cut-e.result in
-    let four : 4 ≤ l.room = omega arith in
-    let f = turn_fits s l.a l.room e l.invariant.1 four c.loop-room-test.true c.cut-e.ensures in
-    omega arith
-
 pub slice_bounds-put_cut-end : goal.slice_bounds-put_cut-end
 slice_bounds-put_cut-end c =
     let s = c.args.s.now in
@@ -80,33 +56,6 @@ slice_bounds-put_cut-end c =
     let e = c.cut-e.result in
     let four : 4 ≤ l.room = omega arith in
     let f = turn_fits s l.a l.room e l.invariant.1 four c.loop-room-test.true c.cut-e.ensures in
-    omega arith
-
-pub slice_bounds-put_cut-count-in-loop-room : goal.slice_bounds-put_cut-count-in-loop-room
-slice_bounds-put_cut-count-in-loop-room c =
-    let s = c.args.s.now in
-    let l = c.loop-room in
-    let e = c.cut-e.result in
-    let four : 4 ≤ l.room = omega arith in
-    let r = roomy s c.args.d.now l.d l.a l.w l.room e l.invariant.1 four c.loop-room-test.true c.cut-e.ensures l.invariant.4 c.requires.1 in
-    omega arith
-
-pub slice_bounds-put_cut-start-in-loop-room : goal.slice_bounds-put_cut-start-in-loop-room
-slice_bounds-put_cut-start-in-loop-room c =
-    let s = c.args.s.now in
-    let l = c.loop-room in
-    let e = c.cut-e.result in
-    let four : 4 ≤ l.room = omega arith in
-    let r = roomy s c.args.d.now l.d l.a l.w l.room e l.invariant.1 four c.loop-room-test.true c.cut-e.ensures l.invariant.4 c.requires.1 in
-    omega arith
-
-pub slice_bounds-put_cut-end-in-loop-room : goal.slice_bounds-put_cut-end-in-loop-room
-slice_bounds-put_cut-end-in-loop-room c =
-    let s = c.args.s.now in
-    let l = c.loop-room in
-    let e = c.cut-e.result in
-    let four : 4 ≤ l.room = omega arith in
-    let r = roomy s c.args.d.now l.d l.a l.w l.room e l.invariant.1 four c.loop-room-test.true c.cut-e.ensures l.invariant.4 c.requires.1 in
     omega arith
 
 pub put_cut-n-requires : goal.put_cut-n-requires
@@ -117,15 +66,6 @@ put_cut-n-requires c =
     let four : 4 ≤ l.room = omega arith in
     let r = roomy s c.args.d.now l.d l.a l.w l.room e l.invariant.1 four c.loop-room-test.true c.cut-e.ensures l.invariant.4 c.requires.1 in
     simp (length-take, length-drop) (omega (arith, r, len s l.a e))
-
-pub overflow_add-w : goal.overflow_add-w
-overflow_add-w c =
-    let s = c.args.s.now in
-    let l = c.loop-room in
-    let e = c.cut-e.result in
-    let four : 4 ≤ l.room = omega arith in
-    let r = roomy s c.args.d.now l.d l.a l.w l.room e l.invariant.1 four c.loop-room-test.true c.cut-e.ensures l.invariant.4 c.requires.1 in
-    omega (arith, len s l.a e)
 
 pub loop-room-smaller : goal.loop-room-smaller
 loop-room-smaller c =
@@ -153,49 +93,12 @@ loop-room-preserved c =
       rw same (put_part l.invariant.4 (P s l.a e) (folded_from (drop e s) 74) _ (turn s l.a l.room e l.invariant.1 four c.loop-room-test.true c.cut-e.ensures) r p.ensures.1),
     )
 
-pub slice_bounds-put_last-count : goal.slice_bounds-put_last-count
-slice_bounds-put_last-count c = omega arith
-
-pub slice_bounds-put_last-start : goal.slice_bounds-put_last-start
-slice_bounds-put_last-start c = omega arith
-
-pub slice_bounds-put_last-end : goal.slice_bounds-put_last-end
-slice_bounds-put_last-end c = omega arith
-
-pub slice_bounds-put_last-count-2 : goal.slice_bounds-put_last-count-2
-slice_bounds-put_last-count-2 c =
-    let s = c.args.s.now in
-    let l = c.loop-room in
-    let r = last_roomy s l.a l.room l.invariant.1 c.loop-room-test.false c.args.d.now l.d l.w l.invariant.4 c.requires.1 in
-    omega arith
-
-pub slice_bounds-put_last-start-2 : goal.slice_bounds-put_last-start-2
-slice_bounds-put_last-start-2 c =
-    let s = c.args.s.now in
-    let l = c.loop-room in
-    let r = last_roomy s l.a l.room l.invariant.1 c.loop-room-test.false c.args.d.now l.d l.w l.invariant.4 c.requires.1 in
-    omega arith
-
-pub slice_bounds-put_last-end-2 : goal.slice_bounds-put_last-end-2
-slice_bounds-put_last-end-2 c =
-    let s = c.args.s.now in
-    let l = c.loop-room in
-    let r = last_roomy s l.a l.room l.invariant.1 c.loop-room-test.false c.args.d.now l.d l.w l.invariant.4 c.requires.1 in
-    omega arith
-
 pub put_last-n-requires : goal.put_last-n-requires
 put_last-n-requires c =
     let s = c.args.s.now in
     let l = c.loop-room in
     let r = last_roomy s l.a l.room l.invariant.1 c.loop-room-test.false c.args.d.now l.d l.w l.invariant.4 c.requires.1 in
     simp (length-take, length-drop) (omega (arith, r, last_len s l.a))
-
-pub overflow_add-result : goal.overflow_add-result
-overflow_add-result c =
-    let s = c.args.s.now in
-    let l = c.loop-room in
-    let r = last_roomy s l.a l.room l.invariant.1 c.loop-room-test.false c.args.d.now l.d l.w l.invariant.4 c.requires.1 in
-    omega (arith, last_len s l.a)
 
 pub shape_of-d : goal.shape_of-d
 shape_of-d c =

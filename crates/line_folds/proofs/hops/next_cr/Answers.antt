@@ -1,6 +1,5 @@
 -- `line_folds::hops::next_cr` meets its contract. Assumes nothing.
 use mathlib.Core.Path.{sym, ◌∙◌}
-use Prim.Native.Nat.{◌-◌}
 use native.Mathlib.Omega.{arith}
 use Rattle.line_folds.specs.Folds.{not_cr}
 use Rattle.octets.proofs.Runs.{run_stop, run_step, run_end}
@@ -22,5 +21,5 @@ loop-i-preserved c =
 
 pub returns : goal.returns
 returns c =
-    let s = c.args.s.now in
-    (c.loop-i.invariant.0, sym (c.loop-i.invariant.1 ∙ run_end not_cr s c.loop-i.i c.loop-i-test.false))
+    let e = c.loop-i.invariant.1 ∙ run_end not_cr c.args.s.now c.loop-i.i c.loop-i-test.false in
+    (omega arith, omega arith)

@@ -5,7 +5,7 @@ use Prim.Native.Nat.{ℕ, suc, ◌+◌, ◌-◌, ◌<◌}
 use lib.ListN.{length, drop}
 use Rattle.line_parser.specs.Rule.{param}
 use Rattle.line_parser.specs.AtFault.{param_from}
-use Rattle.line_parser.proofs.Steps.{place_upto, place_fault}
+use Rattle.line_parser.proofs.Steps.{not_upto, ok_upto, place_fault}
 use Rattle.line_parser.proofs.FaultSteps.{param_over, param_bad, param_on}
 use Rattle.line_parser.proofs.at_fault.param_from.Goals as goal
 
@@ -17,7 +17,7 @@ returns-in_default c =
     let s = c.args.s.now in
     let l = c.loop-at in
     let pos : 0 < l.invariant.0 = omega arith in
-    place_fault (l.at + 1) (param (drop (l.at + 1) s)) c.read_param-p.ensures c.in_default.not-Upto (λ x q.
+    place_fault (l.at + 1) (param (drop (l.at + 1) s)) c.read_param.ensures (not_upto c.read_param.result c.in_default.not-Ok) (λ x q.
     sym (l.invariant.2 ∙ param_bad s l.at l.invariant.0 pos c.loop-at-test.true x q))
 
 pub loop-at-smaller : goal.loop-at-smaller
@@ -25,7 +25,7 @@ loop-at-smaller c =
     let s = c.args.s.now in
     let l = c.loop-at in
     let lt = c.loop-at-test.true in
-    place_upto (l.at + 1) (param (drop (l.at + 1) s)) c.read_param-p.ensures c.in-Upto.is (λ p k q h. omega arith)
+    ok_upto (l.at + 1) (param (drop (l.at + 1) s)) c.read_param.ensures c.in-Ok.is (λ p k q h. omega arith)
 
 pub loop-at-preserved : goal.loop-at-preserved
 loop-at-preserved c =
@@ -33,7 +33,7 @@ loop-at-preserved c =
     let l = c.loop-at in
     let pos : 0 < l.invariant.0 = omega arith in
     let lt = c.loop-at-test.true in
-    place_upto (l.at + 1) (param (drop (l.at + 1) s)) c.read_param-p.ensures c.in-Upto.is (λ p k q h. (
+    ok_upto (l.at + 1) (param (drop (l.at + 1) s)) c.read_param.ensures c.in-Ok.is (λ p k q h. (
       l.invariant.0 - 1,
       omega arith,
       l.invariant.2 ∙ param_on s l.at l.invariant.0 pos lt p k q ∙ ap (λ (i : ℕ). param_from (l.invariant.0 - 1) i s) (sym h),

@@ -1,5 +1,6 @@
 -- `line_parser::rule::read_params` meets its contract. Assumes nothing.
-use Rattle.line_parser.proofs.Steps.{place_upto, hand_up, params_bad, params_on, params_colon, params_else, params_end}
+use Rattle.std.proofs.lemmas.Result.{err_from_is_err_and}
+use Rattle.line_parser.proofs.Steps.{ok_upto, err_up, params_bad, params_on, params_colon, params_else, params_end}
 use Rattle.line_parser.specs.Places.{listed}
 use Rattle.line_parser.specs.Rule.{param, params}
 use lib.ListN.{length, drop, length-drop}
@@ -28,20 +29,21 @@ returns-then-b-ne59 c =
     let pos : 0 < l.invariant.0 = omega arith in
     sym (l.invariant.3 ∙ params_else s l.at l.count l.invariant.0 pos c.loop-at-test.true c.if-b-ne59.true c.if-b-eq58.false)
 
-pub returns-in_default : goal.returns-in_default
-returns-in_default c =
+pub returns-in_err-at : goal.returns-in_err-at
+returns-in_err-at c =
     let s = c.args.s.now in
     let l = c.loop-at in
     let pos : 0 < l.invariant.0 = omega arith in
-    hand_up (l.at + 1) (param (drop (l.at + 1) s)) c.read_param-p.ensures c.in_default.not-Upto (λ x q.
-    l.invariant.3 ∙ params_bad s l.at l.count l.invariant.0 pos x c.if-b-ne59.false q)
+    let p = err_from_is_err_and c.from_residual.result c.from_residual.ensures.1 in
+    rw (p.1, p.2) (err_up (l.at + 1) (param (drop (l.at + 1) s)) c.read_param.ensures c.in_err-at.was (λ x q.
+    l.invariant.3 ∙ params_bad s l.at l.count l.invariant.0 pos x c.if-b-ne59.false q))
 
 pub loop-at-smaller : goal.loop-at-smaller
 loop-at-smaller c =
     let s = c.args.s.now in
     let l = c.loop-at in
     let lt = c.loop-at-test.true in
-    place_upto (l.at + 1) (param (drop (l.at + 1) s)) c.read_param-p.ensures c.in-Upto.is (λ p k q h. omega arith)
+    ok_upto (l.at + 1) (param (drop (l.at + 1) s)) c.read_param.ensures c.in_ok-at.was (λ p k q h. omega arith)
 
 pub loop-at-preserved : goal.loop-at-preserved
 loop-at-preserved c =
@@ -49,7 +51,7 @@ loop-at-preserved c =
     let l = c.loop-at in
     let pos : 0 < l.invariant.0 = omega arith in
     let lt = c.loop-at-test.true in
-    place_upto (l.at + 1) (param (drop (l.at + 1) s)) c.read_param-p.ensures c.in-Upto.is (λ p k q h. (
+    ok_upto (l.at + 1) (param (drop (l.at + 1) s)) c.read_param.ensures c.in_ok-at.was (λ p k q h. (
       l.invariant.0 - 1,
       omega arith,
       omega arith,

@@ -8,19 +8,19 @@ use Rattle.report.proofs.TextLaws.{as_text, rows_turn, rows_done}
 use Rattle.report.proofs.rows.put_rows.Goals as goal
 
 pub loop-place-init : goal.loop-place-init
-loop-place-init c = (search rules, refl, refl)
+loop-place-init c = (refl, refl)
 
 pub loop-place-preserved : goal.loop-place-preserved
 loop-place-preserved c =
     let l = c.loop-place in
     let p = c.loop-place-test.true in
     let row = as_text _ _ _ c.put_row-at.ensures (ap (shown (count_at l.place)) c.wide_number.ensures.0) in
-    (search rules, search rules, l.invariant.2 ∙ sym (added_piece _ _ _ _ _ (rows_turn _ l.place p) row))
+    (search rules, l.invariant.1 ∙ sym (added_piece _ _ _ _ _ (rows_turn _ l.place p) row))
 
 pub shape_of-room : goal.shape_of-room
-shape_of-room c = c.loop-place.invariant.1
+shape_of-room c = c.loop-place.invariant.0
 
 pub returns : goal.returns
 returns c =
     let l = c.loop-place in
-    sym (l.invariant.2 ∙ rows_done _ l.place _ c.loop-place-test.false)
+    sym (l.invariant.1 ∙ rows_done _ l.place _ c.loop-place-test.false)

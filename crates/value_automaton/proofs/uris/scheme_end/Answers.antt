@@ -1,25 +1,34 @@
 -- `value_automaton::uris::scheme_end` meets its contract. Assumes nothing.
-use borrow.Author.Rules.{rules}
-use borrow.Author.Tests.{not-false}
-use borrow.Author.Count.{below_none, below_more}
-use mathlib.Core.Path.{◌≡◌}
-use mathlib.Core.Bool.{true}
-use Prim.Native.Nat.{ℕ, ◌-◌}
-use native.Mathlib.Omega.{arith}
-use lib.ListN.{get_or}
+use Rattle.std.proofs.Common.{rules, tests, ◌≡◌, true, ℕ, ◌<◌, ◌≤◌, List, Option, Some, None, length, get_or, arith, subst}
+use Rattle.std.specs.Bool.{⊤}
+use Rattle.std.specs.List.{AllWithin, HoldsAt}
+use Rattle.std.specs.Option.{MatchOption}
+use Rattle.std.proofs.lemmas.Iterator.{YieldsList-from_slice, IsFirst-from_position}
 use Rattle.value_kinds.specs.Octets.{letter, holds}
 use Rattle.value_automaton.proofs.uris.scheme_end.Goals as goal
 
-pub loop-i-init : goal.loop-i-init
-loop-i-init c = (search rules, below_none _)
+abbrev Letter : ℕ → Type 0
+Letter b = holds letter b ≡ true
 
-pub returns-then-not-is_letter : goal.returns-then-not-is_letter
-returns-then-not-is_letter c = c.loop-i.invariant
+abbrev Ends : List ℕ → Option ℕ → Type 0
+Ends s r = MatchOption r (AllWithin Letter s 0 (length s)) (λ i. (i < length s) × HoldsAt (λ (b : ℕ). ⊤) s i × AllWithin Letter s 0 i)
 
-pub loop-i-preserved : goal.loop-i-preserved
-loop-i-preserved c =
-    let s = c.args.s.now in
-    (omega arith, below_more (λ (k : ℕ). holds letter (get_or s k 0) ≡ true) c.loop-i.i c.loop-i.invariant.1 (c.is_letter.ensures (not-false _ c.if-not-is_letter.false-raw)))
+at_some : (s : List ℕ) (r : Option ℕ) (n : ℕ) → Ends s r → r ≡ Some n → (n ≤ length s) × ((k : ℕ) → k < n → holds letter (get_or s k 0) ≡ true)
+at_some s r n h e = let g : Ends s (Some n) = subst (Ends s) e h in (omega (arith, g.0), λ k l. g.2 k 0 (omega arith) l)
 
-pub returns : goal.returns
-returns c = c.loop-i.invariant
+at_none : (s : List ℕ) (r : Option ℕ) → Ends s r → r ≡ None → (k : ℕ) → k < length s → holds letter (get_or s k 0) ≡ true
+at_none s r h e k l = let g : Ends s None = subst (Ends s) e h in g k 0 (omega arith) l
+
+pub returns-in-Some : goal.returns-in-Some
+returns-in-Some c =
+    at_some c.args.s.now c.position.result c.in-Some.n
+    (IsFirst-from_position _ _ c.position.result (λ b. ⊤) Letter c.position.ensures.ran (YieldsList-from_slice c.args.s.now c.iter.ensures.rest) (λ x q k. tt) (λ x q k. search (rules, tests)))
+    c.in-Some.is
+
+pub returns-in-None : goal.returns-in-None
+returns-in-None c = (
+  omega arith,
+  at_none c.args.s.now c.position.result
+      (IsFirst-from_position _ _ c.position.result (λ b. ⊤) Letter c.position.ensures.ran (YieldsList-from_slice c.args.s.now c.iter.ensures.rest) (λ x q k. tt) (λ x q k. search (rules, tests)))
+      c.in-None.is,
+)
