@@ -4,6 +4,7 @@
 ghost use Rattle.std.specs.Prelude.{◌≤◌};
 ghost use Rattle.cabbook_tables.specs.Statuses as status;
 
+use cabbook_output::Unwritten;
 use cabbook_tables::status;
 use program_host::Host;
 use std::process::ExitCode;
@@ -12,12 +13,13 @@ use std::process::ExitCode;
 pub fn cabbook_run(host: &mut Host) -> u8
     ensures { result ≤ status.failed }
 {
-    let status = cabbook_commands::start(host);
-    if status < cabbook_output::UNWRITTEN {
-        return status;
+    match cabbook_commands::start(host) {
+        Ok(status) => status,
+        Err(Unwritten) => {
+            host.fail(b"cabbook: standard output");
+            status::FAILED
+        }
     }
-    host.fail(b"cabbook: standard output");
-    status::FAILED
 }
 
 // Ends with the exit status.

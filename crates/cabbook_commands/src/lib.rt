@@ -6,24 +6,27 @@ mod usage;
 mod writing;
 mod wrong;
 
+ghost use Rattle.std.specs.Prelude.{IfOk};
 ghost use Rattle.cabbook_output.specs.Ends.{Status};
 
 use cabbook_check::Manner;
+use cabbook_options::arguments;
+use cabbook_options::command::Command;
+use cabbook_options::names::Switch;
 use cabbook_options::words::Words;
-use cabbook_options::{arguments, command, names};
+use cabbook_output::{Ended, File};
 use cabbook_tables::status;
 use folder_raising::Style;
 use label_carets::Rule;
 use numbers::limit;
-use program_files::Input;
 use program_host::Host;
 use property_table::Edition;
 use version3_parameters::Way;
 use writing::Form;
 
 // What is done with the octets of a file.
-#[derive(Clone, Copy)]
-enum Command {
+#[derive(Clone, Copy, Debug, PartialEq, Eq)]
+enum Task {
     Check(Edition, Manner),
     CheckAll(Edition, Manner),
     Show(Edition),
@@ -31,86 +34,81 @@ enum Command {
     Convert(Way),
 }
 
-// Does the command with a file's octets, and answers the exit status.
-fn apply(host: &mut Host, command: Command, path: &[u8], s: &[u8]) -> u8
-    ensures { Status result }
+// Does the task with a file, and answers the exit status.
+fn apply(host: &mut Host, task: Task, file: File) -> Ended
+    ensures { IfOk result Status }
 {
-    match command {
-        Command::Check(edition, manner) => cabbook_check::check(host, edition, manner, path, s),
-        Command::CheckAll(edition, manner) => cabbook_check::check_all(
-            host, edition, manner, path, s,
-        ),
-        Command::Show(edition) => cabbook_show::show(host, edition, path, s),
-        Command::Write(form) => writing::deliver(host, form, path, s),
-        Command::Convert(way) => cabbook_version3::convert(host, way, path, s),
+    match task {
+        Task::Check(edition, manner) => cabbook_check::check(host, edition, manner, file),
+        Task::CheckAll(edition, manner) => cabbook_check::check_all(host, edition, manner, file),
+        Task::Show(edition) => cabbook_show::show(host, edition, file),
+        Task::Write(form) => writing::deliver(host, form, file),
+        Task::Convert(way) => cabbook_version3::convert(host, way, file),
     }
 }
 
-// Does the command with the file of that name.
-fn apply_to_file(host: &mut Host, command: Command, path: &[u8]) -> u8
-    ensures { Status result }
+// Does the task with the file of that name.
+fn apply_to_file(host: &mut Host, task: Task, path: &[u8]) -> Ended
+    ensures { IfOk result Status }
 {
     let mut octets = [0u8; limit::READ_ROOM];
-    let got = program_files::read(host, path, &mut octets);
-    let Input::Octets(n) = got else {
-        return status::FAILED;
+    let Some(n) = program_files::read(host, path, &mut octets) else {
+        return Ok(status::FAILED);
     };
-    let count = octets::slices::least(n, limit::READ_ROOM);
-    apply(host, command, path, &octets[0..count])
+    let count = n.min(limit::READ_ROOM);
+    let file = File {
+        path,
+        octets: &octets[..count],
+    };
+    apply(host, task, file)
 }
 
-// Does the command with the file that argument i names.
-fn apply_to_argument(host: &mut Host, command: Command, i: usize) -> u8
-    ensures { Status result }
+// Does the task with the file that argument i names.
+fn apply_to_argument(host: &mut Host, task: Task, i: usize) -> Ended
+    ensures { IfOk result Status }
 {
     let mut path = program_host::large_buffer();
     let Some(n) = host.whole_arg(i, &mut path) else {
         host.fail(b"cabbook: a file's name");
-        return status::FAILED;
+        return Ok(status::FAILED);
     };
-    apply_to_file(host, command, &path[..n])
+    apply_to_file(host, task, &path[..n])
 }
 
-// Does the command with each file that is named, as long as output can be written, and answers the highest status.
-fn apply_to_all(host: &mut Host, command: Command, w: Words, count: usize) -> u8
-    ensures { Status result }
+// Does the task with each file that is named, as long as output can be written, and answers the highest status.
+fn apply_to_all(host: &mut Host, task: Task, w: Words, count: usize) -> Ended
+    ensures { IfOk result Status }
 {
     let mut status: u8 = status::ACCEPTED;
-    let mut i = arguments::first_file(host, w, count);
-    while i < count {
-        let one = apply_to_argument(host, command, i);
-        if one == cabbook_output::UNWRITTEN {
-            return one;
-        }
-        if status < one {
-            status = one;
-        }
-        i = arguments::next_file(host, i + 1, w.dashes, count);
+    let mut next = arguments::first_file(host, w, count);
+    while let Some(i) = next {
+        status = status.max(apply_to_argument(host, task, i)?);
+        next = arguments::next_file(host, i + 1, w.dashes, count);
     }
-    status
+    Ok(status)
 }
 
-// Does the command with the files that are named, or with standard input where none is.
-fn apply_or_input(host: &mut Host, command: Command, w: Words, count: usize) -> u8
-    ensures { Status result }
+// Does the task with the files that are named, or with standard input where none is.
+fn apply_or_input(host: &mut Host, task: Task, w: Words, count: usize) -> Ended
+    ensures { IfOk result Status }
 {
     if w.files == 0 {
-        return apply_to_file(host, command, b"-");
+        return apply_to_file(host, task, b"-");
     }
-    apply_to_all(host, command, w, count)
+    apply_to_all(host, task, w, count)
 }
 
 // The edition that is chosen, edition one where none is.
 fn edition_of(w: Words) -> Edition {
-    if w.values[names::EDITION] == 2 {
-        return Edition::Second;
+    match w.value(Switch::Edition) {
+        Some(2) => Edition::Second,
+        _ => Edition::First,
     }
-    Edition::First
 }
 
 // The rule for labels that is chosen, that of RFC 6868 where none is.
 fn rule_of(w: Words) -> Rule {
-    if w.values[names::RFC6350] == 1 {
+    if w.has(Switch::Rfc6350) {
         return Rule::Rfc6350;
     }
     Rule::Rfc6868
@@ -118,7 +116,7 @@ fn rule_of(w: Words) -> Rule {
 
 // The style of folding that is chosen, names in capitals where none is.
 fn style_of(w: Words) -> Style {
-    if w.values[names::AS_READ] == 1 {
+    if w.has(Switch::AsRead) {
         return Style::AsRead;
     }
     Style::Raised
@@ -126,136 +124,88 @@ fn style_of(w: Words) -> Style {
 
 // What `check` prints, rows where nothing else is asked for.
 fn manner_of(w: Words) -> Manner {
-    if w.values[names::QUIET] == 1 {
+    if w.has(Switch::Quiet) {
         return Manner::Quiet;
     }
-    if w.values[names::JSON] == 1 {
+    if w.has(Switch::Json) {
         return Manner::Json;
     }
     Manner::Rows
 }
 
-// Judges the files that are named, all their cards where that is asked for.
-fn check_files(host: &mut Host, w: Words, count: usize) -> u8
-    ensures { Status result }
-{
-    if w.values[names::ALL] == 1 {
-        return apply_to_all(
-            host,
-            Command::CheckAll(edition_of(w), manner_of(w)),
-            w,
-            count,
-        );
+// How files are judged: all their cards where that is asked for.
+fn check_of(w: Words) -> Task {
+    if w.has(Switch::All) {
+        return Task::CheckAll(edition_of(w), manner_of(w));
     }
-    apply_to_all(host, Command::Check(edition_of(w), manner_of(w)), w, count)
+    Task::Check(edition_of(w), manner_of(w))
 }
 
 // Runs a morning of uploads, and then prints the report of its files.
-fn run_morning(host: &mut Host, w: Words, count: usize) -> u8
-    ensures { Status result }
+fn run_morning(host: &mut Host, w: Words, count: usize) -> Ended
+    ensures { IfOk result Status }
 {
-    let first = arguments::first_file(host, w, count);
-    let status = cabbook_morning::play(
-        host,
-        first,
-        w.dashes,
-        count,
-        w.values[names::CHUNK],
-        w.values[names::TICK],
-        w.values[names::SLOTS],
-    );
+    let status = cabbook_morning::play(host, w, count);
     reporting::print_after(host, w, count, status)
 }
 
-// Judges the files that are named while they arrive.
-fn run_watch(host: &mut Host, w: Words, count: usize) -> u8
-    ensures { Status result }
-{
-    let first = arguments::first_file(host, w, count);
-    cabbook_watch::watch_files(host, first, w.dashes, count, w.values[names::CHUNK])
-}
-
 // Merges the two files that are named.
-fn run_merge(host: &mut Host, w: Words, count: usize) -> u8
-    ensures { Status result }
+fn run_merge(host: &mut Host, w: Words, count: usize) -> Ended
+    ensures { IfOk result Status }
 {
-    let i = arguments::first_file(host, w, count);
-    if i >= count {
-        return status::FAILED;
-    }
-    let j = arguments::next_file(host, i + 1, w.dashes, count);
+    let Some(i) = arguments::first_file(host, w, count) else {
+        return Ok(status::FAILED);
+    };
+    let j = arguments::next_file(host, i + 1, w.dashes, count).unwrap_or(count);
     cabbook_merge::merge_arguments(host, i, j)
 }
 
-// Runs the command on texts that is named, or the help.
-fn run_on_text(host: &mut Host, w: Words, count: usize) -> u8
-    ensures { Status result }
-{
-    let command = w.command;
-    match command {
-        command::ESCAPE => apply_or_input(host, Command::Write(Form::Escaped), w, count),
-        command::UNESCAPE => apply_or_input(host, Command::Write(Form::Unescaped), w, count),
-        command::ENCODE => apply_or_input(
-            host,
-            Command::Write(Form::Encoded(rule_of(w))),
-            w,
-            count,
-        ),
-        command::DECODE => apply_or_input(
-            host,
-            Command::Write(Form::Decoded(rule_of(w))),
-            w,
-            count,
-        ),
-        _ => usage::print_help(host, 0),
-    }
-}
-
 // Runs the command that is named, with its options and files.
-fn run(host: &mut Host, w: Words, count: usize) -> u8
-    ensures { Status result }
+fn run(host: &mut Host, command: Command, w: Words, count: usize) -> Ended
+    ensures { IfOk result Status }
 {
-    let command = w.command;
     match command {
-        command::CHECK => check_files(host, w, count),
-        command::SHOW => apply_to_all(host, Command::Show(edition_of(w)), w, count),
-        command::FOLD => apply_to_all(
-            host,
-            Command::Write(Form::Folded(edition_of(w), style_of(w))),
-            w,
-            count,
-        ),
-        command::V3IN => apply_to_all(host, Command::Convert(Way::Inward), w, count),
-        command::V3OUT => apply_to_all(host, Command::Convert(Way::Outward), w, count),
-        command::MORNING => run_morning(host, w, count),
-        command::WATCH => run_watch(host, w, count),
-        command::MERGE => run_merge(host, w, count),
-        command::REPORT => reporting::report_files(host, w, count),
-        _ => run_on_text(host, w, count),
+        Command::Check => apply_to_all(host, check_of(w), w, count),
+        Command::Show => apply_to_all(host, Task::Show(edition_of(w)), w, count),
+        Command::Fold => {
+            let form = Form::Folded(edition_of(w), style_of(w));
+            apply_to_all(host, Task::Write(form), w, count)
+        }
+        Command::Escape => apply_or_input(host, Task::Write(Form::Escaped), w, count),
+        Command::Unescape => apply_or_input(host, Task::Write(Form::Unescaped), w, count),
+        Command::Encode => apply_or_input(host, Task::Write(Form::Encoded(rule_of(w))), w, count),
+        Command::Decode => apply_or_input(host, Task::Write(Form::Decoded(rule_of(w))), w, count),
+        Command::V3in => apply_to_all(host, Task::Convert(Way::Inward), w, count),
+        Command::V3out => apply_to_all(host, Task::Convert(Way::Outward), w, count),
+        Command::Morning => run_morning(host, w, count),
+        Command::Watch => cabbook_watch::watch_files(host, w, count, w.value(Switch::Chunk)),
+        Command::Merge => run_merge(host, w, count),
+        Command::Report => reporting::report_files(host, w, count),
+        Command::Help => usage::print_help(host, None),
     }
 }
 
 // Runs the command that the arguments name, and answers the exit status, or that standard output can't be written.
-pub fn start(host: &mut Host) -> u8
-    ensures { Status result }
+pub fn start(host: &mut Host) -> Ended
+    ensures { IfOk result Status }
 {
     let count = host.arg_count();
     let w = arguments::read(host, count);
-    if w.fault == 0 && w.values[names::HELP] == 1 {
+    if w.wrong.is_none() && w.has(Switch::Help) {
         return usage::print_help(host, w.command);
     }
-    if w.fault == 0 && w.values[names::VERSION] == 1 {
+    if w.wrong.is_none() && w.has(Switch::Version) {
         return usage::print_version(host);
     }
-    if wrong::print_wrong(host, w) {
-        return status::FAILED;
-    }
+    let Some(command) = wrong::right_command(host, w) else {
+        return Ok(status::FAILED);
+    };
     if arguments::names_input_twice(host, w, count) {
-        return usage::print_usage(
+        return Ok(usage::print_usage(
             host,
             b"- stands twice, and standard input is read once",
-            w.command,
-        );
+            Some(command),
+        ));
     }
-    run(host, w, count)
+    run(host, command, w, count)
 }

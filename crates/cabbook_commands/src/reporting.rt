@@ -1,15 +1,16 @@
 // `report`: the counts of the files' judgements, a row a count, and a bar before each where that is asked for.
+ghost use Rattle.std.specs.Prelude.{IfOk};
 ghost use Rattle.cabbook_output.specs.Ends.{Status};
 
+use cabbook_options::arguments;
+use cabbook_options::names::Switch;
 use cabbook_options::words::Words;
-use cabbook_options::{arguments, names};
+use cabbook_output::{Ended, Unwritten};
 use cabbook_tables::status;
 use numbers::{count, limit};
 use octets::indices::wide_number;
-use octets::rooms::Written;
-use program_files::Input;
 use program_host::{Host, STDERR, STDOUT};
-use report::{Answer, Report};
+use report::Report;
 
 // More octets than the rows of a report have with their bars.
 const PAGE: usize = 8192;
@@ -22,20 +23,17 @@ struct Gathered {
 }
 
 // Reads the file that argument i names, and says where that fails.
-fn read_argument(host: &mut Host, i: usize, room: &mut [u8]) -> Input {
+fn read_argument(host: &mut Host, i: usize, room: &mut [u8]) -> Option<usize> {
     let mut path = program_host::large_buffer();
     let n = host.arg(i, &mut path);
     program_files::read(host, &path[..n], room)
 }
 
 // Reads the file that argument i names; one that can't be opened was told before.
-fn read_again(host: &mut Host, i: usize, room: &mut [u8]) -> Input {
+fn read_again(host: &mut Host, i: usize, room: &mut [u8]) -> Option<usize> {
     let mut path = program_host::large_buffer();
     let n = host.arg(i, &mut path);
-    let fd = host.open_read(&path[..n]);
-    if fd < 0 {
-        return Input::Unread;
-    }
+    let fd = host.open_read(&path[..n])?;
     let got = program_files::fetch(host, fd, &path[..n], room);
     host.close(fd);
     got
@@ -43,19 +41,16 @@ fn read_again(host: &mut Host, i: usize, room: &mut [u8]) -> Input {
 
 // Takes the judgement of a file's octets.
 fn take(host: &mut Host, g: Gathered, s: &[u8]) -> Gathered {
-    let r = g.report;
-    let t = r.take(s);
-    let a = t.answer;
-    let next = t.report;
-    match a {
-        Answer::Counted => Gathered {
-            report: next,
+    let t = g.report.take(s);
+    match t.answer {
+        Ok(()) => Gathered {
+            report: t.report,
             status: g.status,
         },
-        Answer::Refused(_, _) => {
+        Err(_) => {
             host.write_all(STDERR, b"cabbook: the report is full\n");
             Gathered {
-                report: next,
+                report: t.report,
                 status: status::FAILED,
             }
         }
@@ -63,19 +58,14 @@ fn take(host: &mut Host, g: Gathered, s: &[u8]) -> Gathered {
 }
 
 // Takes the judgement of what was read of a file; one that was not read is not counted.
-fn take_read(host: &mut Host, g: Gathered, got: Input, room: &[u8]) -> Gathered {
-    let Input::Octets(n) = got else {
-        let r = g.report;
+fn take_read(host: &mut Host, g: Gathered, got: Option<usize>, room: &[u8]) -> Gathered {
+    let Some(n) = got else {
         return Gathered {
-            report: r,
+            report: g.report,
             status: status::FAILED,
         };
     };
-    take(
-        host,
-        g,
-        octets::slices::part(room, 0, octets::slices::least(n, room.len())),
-    )
+    take(host, g, octets::slices::part(room, 0, n.min(room.len())))
 }
 
 // Takes the judgement of the file that argument i names.
@@ -95,26 +85,26 @@ fn gather(host: &mut Host, w: Words, count: usize, again: bool) -> Gathered {
         report: Report::new(),
         status: status::ACCEPTED,
     };
-    let mut i = arguments::first_file(host, w, count);
-    while i < count {
+    let mut next = arguments::first_file(host, w, count);
+    while let Some(i) = next {
         g = take_argument(host, g, i, again);
-        i = arguments::next_file(host, i + 1, w.dashes, count);
+        next = arguments::next_file(host, i + 1, w.dashes, count);
     }
     g
 }
 
-// Prints a report, with bars where they are asked for, and answers whether it was written.
-fn print_rows(host: &mut Host, r: Report, bars: bool) -> bool {
-    let counts = r.counts;
-    let mut room = [0u8; PAGE];
+// Adds the rows of a report, with bars where they are asked for.
+fn put_rows(room: &mut [u8], r: Report, bars: bool) -> Result<usize, Unwritten> {
     if bars {
-        let n = cabbook_report::put_bars(&mut room, &counts);
-        return cabbook_output::send(host, STDOUT, &room, n);
+        return Ok(cabbook_report::put_bars(room, &r.counts));
     }
-    let w = r.print(&mut room);
-    let Written::Wrote(n) = w else {
-        return false;
-    };
+    r.print(room).map_err(|_| Unwritten)
+}
+
+// Prints a report, with bars where they are asked for.
+fn print_rows(host: &mut Host, r: Report, bars: bool) -> Result<(), Unwritten> {
+    let mut room = [0u8; PAGE];
+    let n = put_rows(&mut room, r, bars)?;
     cabbook_output::send(host, STDOUT, &room, n)
 }
 
@@ -125,8 +115,7 @@ fn status_of(g: Gathered) -> u8
     if g.status != status::ACCEPTED {
         return status::FAILED;
     }
-    let r = g.report;
-    let counts = r.counts;
+    let counts = g.report.counts;
     if wide_number(counts[count::ACCEPTED]) < wide_number(counts[count::UPLOADS]) {
         return status::REFUSED;
     }
@@ -134,22 +123,21 @@ fn status_of(g: Gathered) -> u8
 }
 
 // Prints the report of the files that the arguments name, and answers the exit status.
-pub(crate) fn report_files(host: &mut Host, w: Words, count: usize) -> u8
-    ensures { Status result }
+pub(crate) fn report_files(host: &mut Host, w: Words, count: usize) -> Ended
+    ensures { IfOk result Status }
 {
     let g = gather(host, w, count, false);
-    let bars = w.values[names::BARS] == 1;
-    cabbook_output::status_if(print_rows(host, g.report, bars), status_of(g))
+    print_rows(host, g.report, w.has(Switch::Bars))?;
+    Ok(status_of(g))
 }
 
 // Prints the report of files that were uploaded, behind an empty line, and answers the exit status; that of the uploads where it is written.
-pub(crate) fn print_after(host: &mut Host, w: Words, count: usize, status: u8) -> u8
+pub(crate) fn print_after(host: &mut Host, w: Words, count: usize, status: u8) -> Ended
     requires { Status status }
-    ensures { Status result }
+    ensures { IfOk result Status }
 {
-    if !host.write_all(STDOUT, b"\n") {
-        return cabbook_output::UNWRITTEN;
-    }
+    cabbook_output::written(host.write_all(STDOUT, b"\n"))?;
     let g = gather(host, w, count, true);
-    cabbook_output::status_if(print_rows(host, g.report, false), status)
+    print_rows(host, g.report, false)?;
+    Ok(status)
 }

@@ -1,9 +1,10 @@
 // What to do: the help, and the few lines after a wrong use.
-ghost use Rattle.std.specs.Prelude.{◌≡◌};
+ghost use Rattle.std.specs.Prelude.{◌≤◌, IfOk};
 ghost use Rattle.cabbook_output.specs.Ends.{Status};
 ghost use Rattle.cabbook_tables.specs.Statuses as status;
 
-use cabbook_options::command;
+use cabbook_options::command::{COMMANDS, Command};
+use cabbook_output::Ended;
 use cabbook_tables::status;
 use program_host::{Host, STDERR, STDOUT};
 use program_output::put_all;
@@ -27,57 +28,57 @@ fn put_command(room: &mut [u8], at: usize, call: &[u8], words: &[u8]) -> usize {
 }
 
 // Adds the line on a command on texts, or on many files.
-fn put_other_line(room: &mut [u8], at: usize, command: usize) -> usize {
+fn put_other_line(room: &mut [u8], at: usize, command: Command) -> usize {
     match command {
-        command::ESCAPE => put_command(
+        Command::Escape => put_command(
             room,
             at,
             b"cabbook escape [FILE]",
             b"text with its escapes",
         ),
-        command::UNESCAPE => put_command(
+        Command::Unescape => put_command(
             room,
             at,
             b"cabbook unescape [FILE]",
             b"the text that escapes stand for",
         ),
-        command::ENCODE => put_command(
+        Command::Encode => put_command(
             room,
             at,
             b"cabbook encode [--rfc6350] [FILE]",
             b"a value as a label, by RFC 6868 or RFC 6350",
         ),
-        command::DECODE => put_command(
+        Command::Decode => put_command(
             room,
             at,
             b"cabbook decode [--rfc6350] [FILE]",
             b"the value that a label stands for",
         ),
-        command::REPORT => put_command(
+        Command::Report => put_command(
             room,
             at,
             b"cabbook report [--bars] FILE..",
             b"the counts of the files' judgements",
         ),
-        command::V3IN => put_command(
+        Command::V3in => put_command(
             room,
             at,
             b"cabbook v3in FILE",
             b"a card of version 3.0 as one of version 4.0",
         ),
-        command::V3OUT => put_command(
+        Command::V3out => put_command(
             room,
             at,
             b"cabbook v3out FILE",
             b"a card as one of version 3.0, for the older sets",
         ),
-        command::WATCH => put_command(
+        Command::Watch => put_command(
             room,
             at,
             b"cabbook watch [--chunk N] FILE..",
             b"judge each file while it arrives, N octets at a time",
         ),
-        command::MERGE => put_command(
+        Command::Merge => put_command(
             room,
             at,
             b"cabbook merge FILE FILE",
@@ -88,27 +89,27 @@ fn put_other_line(room: &mut [u8], at: usize, command: usize) -> usize {
 }
 
 // Adds the line on a command.
-fn put_line(room: &mut [u8], at: usize, command: usize) -> usize {
+fn put_line(room: &mut [u8], at: usize, command: Command) -> usize {
     match command {
-        command::CHECK => put_command(
+        Command::Check => put_command(
             room,
             at,
             b"cabbook check [--edition N] [--all] [--quiet] [--json] FILE..",
             b"judge each file, or with --all each card; a caret shows the octet",
         ),
-        command::SHOW => put_command(
+        Command::Show => put_command(
             room,
             at,
             b"cabbook show [--edition N] FILE",
             b"the cards as a table",
         ),
-        command::FOLD => put_command(
+        Command::Fold => put_command(
             room,
             at,
             b"cabbook fold [--edition N] [--as-read] FILE",
             b"the cards folded, names in capitals or as read",
         ),
-        command::MORNING => put_command(
+        Command::Morning => put_command(
             room,
             at,
             b"cabbook morning [--chunk N] [--tick N] [--slots N] FILE..",
@@ -121,10 +122,8 @@ fn put_line(room: &mut [u8], at: usize, command: usize) -> usize {
 // Adds the lines on all commands.
 fn put_lines(room: &mut [u8], at: usize) -> usize {
     let mut next = at;
-    let mut command: usize = command::FIRST;
-    while command <= command::LAST {
+    for command in COMMANDS {
         next = put_line(room, next, command);
-        command += 1;
     }
     next
 }
@@ -159,37 +158,34 @@ fn put_help(room: &mut [u8]) -> usize {
     )
 }
 
-// Prints the help on standard output: of a command where one is named.
-pub(crate) fn print_help(host: &mut Host, command: usize) -> u8
-    ensures { Status result }
+// Adds the help: on a command where one is named.
+fn put_help_on(room: &mut [u8], command: Option<Command>) -> usize {
+    match command {
+        None | Some(Command::Help) => put_help(room),
+        Some(one) => put_line(room, 0, one),
+    }
+}
+
+// Prints the help on standard output: on a command where one is named.
+pub(crate) fn print_help(host: &mut Host, command: Option<Command>) -> Ended
+    ensures { IfOk result Status }
 {
     let mut room = program_host::buffer();
-    if command == 0 || command == command::HELP {
-        let n = put_help(&mut room);
-        return cabbook_output::status_if(
-            cabbook_output::send(host, STDOUT, &room, n),
-            status::ACCEPTED,
-        );
-    }
-    let n = put_line(&mut room, 0, command);
-    cabbook_output::status_if(
-        cabbook_output::send(host, STDOUT, &room, n),
-        status::ACCEPTED,
-    )
+    let n = put_help_on(&mut room, command);
+    cabbook_output::send(host, STDOUT, &room, n)?;
+    Ok(status::ACCEPTED)
 }
 
 // Prints the tool's name and version.
-pub(crate) fn print_version(host: &mut Host) -> u8
-    ensures { Status result }
+pub(crate) fn print_version(host: &mut Host) -> Ended
+    ensures { IfOk result Status }
 {
-    cabbook_output::status_if(
-        host.write_all(STDOUT, b"cabbook 2, of Gerstebolk\n"),
-        status::ACCEPTED,
-    )
+    cabbook_output::written(host.write_all(STDOUT, b"cabbook 2, of Gerstebolk\n"))?;
+    Ok(status::ACCEPTED)
 }
 
 // Prints what was wrong and what to do on standard error: how the command is called, or all where none is named.
-pub(crate) fn print_usage(host: &mut Host, what: &[u8], command: usize) -> u8
+pub(crate) fn print_usage(host: &mut Host, what: &[u8], command: Option<Command>) -> u8
     ensures { result ≡ status.failed }
 {
     let mut room = program_host::large_buffer();
@@ -197,20 +193,20 @@ pub(crate) fn print_usage(host: &mut Host, what: &[u8], command: usize) -> u8
     let what_end = put_all(&mut room, start, what);
     let use_end = put_all(&mut room, what_end, b"; use it as\n");
     let n = put_use(&mut room, use_end, command);
-    cabbook_output::send(host, STDERR, &room, n);
+    let _ = cabbook_output::send(host, STDERR, &room, n);
     status::FAILED
 }
 
 // Adds how a command is called, or all where none is named.
-fn put_use(room: &mut [u8], at: usize, command: usize) -> usize {
-    if command == 0 {
-        return put_lines(room, at);
+fn put_use(room: &mut [u8], at: usize, command: Option<Command>) -> usize {
+    match command {
+        Some(one) => put_line(room, at, one),
+        None => put_lines(room, at),
     }
-    put_line(room, at, command)
 }
 
 // Prints on standard error that a word is wrong, why, and what to do.
-pub(crate) fn print_wrong(host: &mut Host, word: &[u8], why: &[u8], command: usize) -> u8
+pub(crate) fn print_wrong(host: &mut Host, word: &[u8], why: &[u8], command: Option<Command>) -> u8
     ensures { result ≡ status.failed }
 {
     let mut room = program_host::large_buffer();
@@ -219,6 +215,6 @@ pub(crate) fn print_wrong(host: &mut Host, word: &[u8], why: &[u8], command: usi
     let why_end = put_all(&mut room, word_end, why);
     let use_end = put_all(&mut room, why_end, b"; use it as\n");
     let n = put_use(&mut room, use_end, command);
-    cabbook_output::send(host, STDERR, &room, n);
+    let _ = cabbook_output::send(host, STDERR, &room, n);
     status::FAILED
 }

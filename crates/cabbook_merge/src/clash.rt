@@ -1,27 +1,45 @@
 // Which line of one edit is asked for by two lines of the other, by their PIDs.
-use merge_sources::{Found, Row, Source};
+use crate::side::{Edit, Side};
+use merge_sources::{Row, Source};
 use numbers::limit;
 use octets::classes::ClassTable;
 use octets::indices::wide_number;
-use octets::slices::part;
+use octets::slices::{numbers, part};
 
 // How many numbers the marks of a card may take.
 const MARKS: usize = limit::LINES * merge_pids::MARK;
 
-// A line of the first edit and two lines of the second that ask for it, or of the second and two of the first.
-#[derive(Clone, Copy)]
-pub enum Clash {
-    First(usize, usize, usize),
-    Second(usize, usize, usize),
-    Nothing,
+// A line of one side, and two lines of the other that ask for it.
+#[derive(Clone, Copy, Debug, PartialEq, Eq)]
+pub(crate) struct Clash {
+    pub(crate) side: Side,
+    pub(crate) line: usize,
+    pub(crate) one: usize,
+    pub(crate) other: usize,
 }
 
-// A number of the marks, 0 where there is none.
-fn number_at(marks: &[u32], at: usize) -> u32 {
-    if at < marks.len() {
-        return marks[at];
+// A PID of a line: its number, and that of its source.
+#[derive(Clone, Copy, Debug, PartialEq, Eq)]
+struct Mark {
+    line: usize,
+    number: u32,
+    source: u32,
+}
+
+// With which line of the other side each line was asked for last.
+#[derive(Clone, Copy)]
+struct Asked {
+    first: [Option<usize>; limit::LINES],
+    second: [Option<usize>; limit::LINES],
+}
+
+// A mark of three numbers.
+fn mark_of(line: u32, number: u32, source: u32) -> Mark {
+    Mark {
+        line: wide_number(line),
+        number,
+        source,
     }
-    0
 }
 
 // The octets of a source's URI.
@@ -30,177 +48,113 @@ fn uri_of(copy: &[u8], e: Source) -> &[u8] {
     part(copy, start, start + wide_number(e.length))
 }
 
-// The first entry of a number, zeros where there is none.
-fn entry_of(r: Row, number: u32) -> Source {
-    let f = merge_sources::search(r, number);
-    let none = Source {
-        number: 0,
-        place: 0,
-        length: 0,
-    };
-    let Found::At(i) = f else {
-        return none;
-    };
+// The first entry of a number.
+fn entry_of(r: Row, number: u32) -> Option<Source> {
+    let i = merge_sources::search(r, number)?;
     if limit::SOURCES <= i {
-        return none;
+        return None;
     }
-    r.entries[i]
+    Some(r.entries[i])
 }
 
 // Whether two source numbers lead to one URI.
-fn leads_alike(ca: &[u8], a: Row, m: u32, cb: &[u8], b: Row, n: u32) -> bool {
-    let x = entry_of(a, m);
-    let y = entry_of(b, n);
+fn leads_alike(a: &Edit, m: u32, b: &Edit, n: u32) -> bool {
+    let (Some(x), Some(y)) = (entry_of(a.sources, m), entry_of(b.sources, n)) else {
+        return false;
+    };
     if x.length == 0 || y.length == 0 {
         return false;
     }
-    merge_sides::same_octets(uri_of(ca, x), uri_of(cb, y))
+    merge_sides::same_octets(uri_of(a.copy, x), uri_of(b.copy, y))
 }
 
-// Notes that y is asked for with x, and answers the one that was before and 1 more, 0 where there was none or this one.
-fn note(asked: &mut [u32; limit::LINES], x: usize, y: usize) -> usize {
-    if limit::LINES <= x {
-        return 0;
+// Notes that y is asked for with x, and answers another line that was so before.
+fn note(asked: &mut [Option<usize>; limit::LINES], x: usize, y: usize) -> Option<usize> {
+    if limit::LINES <= x || limit::LINES <= y {
+        return None;
     }
-    if limit::LINES <= y {
-        return 0;
-    }
-    let before = wide_number(asked[x]);
-    asked[x] = (y + 1) as u32;
-    if before == y + 1 {
-        return 0;
-    }
-    before
+    let before = asked[x];
+    asked[x] = Some(y);
+    before.filter(|line| *line != y)
 }
 
 // The clash of a pair that is asked for.
-fn enter(i: usize, j: usize, p: &mut [u32; limit::LINES], q: &mut [u32; limit::LINES]) -> Clash {
-    let before = note(p, i, j);
-    if before > 0 {
-        return Clash::First(i, before - 1, j);
+fn enter(i: usize, j: usize, asked: &mut Asked) -> Option<Clash> {
+    if let Some(before) = note(&mut asked.first, i, j) {
+        return Some(Clash {
+            side: Side::First,
+            line: i,
+            one: before,
+            other: j,
+        });
     }
-    let other = note(q, j, i);
-    if other > 0 {
-        return Clash::Second(j, other - 1, i);
-    }
-    Clash::Nothing
+    let before = note(&mut asked.second, j, i)?;
+    Some(Clash {
+        side: Side::Second,
+        line: j,
+        one: before,
+        other: i,
+    })
 }
 
-// The clash of two marks of three numbers each: where they share a global value, their lines are asked for together.
-fn meet(
-    ca: &[u8],
-    ra: &[u32],
-    a: Row,
-    m: &[u32],
-    cb: &[u8],
-    rb: &[u32],
-    b: Row,
-    n: &[u32],
-    p: &mut [u32; limit::LINES],
-    q: &mut [u32; limit::LINES],
-) -> Clash {
-    if number_at(m, 1) != number_at(n, 1) {
-        return Clash::Nothing;
+// The clash of two marks: where they share a global value, their lines are asked for together.
+fn meet(a: &Edit, m: Mark, b: &Edit, n: Mark, asked: &mut Asked) -> Option<Clash> {
+    if m.number != n.number {
+        return None;
     }
-    let i = wide_number(number_at(m, 0));
-    let j = wide_number(number_at(n, 0));
-    if !merge_sides::same_property(ca, ra, i, cb, rb, j) {
-        return Clash::Nothing;
+    if !merge_sides::same_property(a.copy, a.records, m.line, b.copy, b.records, n.line) {
+        return None;
     }
-    if !leads_alike(ca, a, number_at(m, 2), cb, b, number_at(n, 2)) {
-        return Clash::Nothing;
+    if !leads_alike(a, m.source, b, n.source) {
+        return None;
     }
-    enter(i, j, p, q)
+    enter(m.line, n.line, asked)
 }
 
 // The first clash of a mark with the marks of the second edit.
-fn meet_all(
-    ca: &[u8],
-    ra: &[u32],
-    a: Row,
-    m: &[u32],
-    cb: &[u8],
-    rb: &[u32],
-    b: Row,
-    marks: &[u32],
-    p: &mut [u32; limit::LINES],
-    q: &mut [u32; limit::LINES],
-) -> Clash {
-    let mut at: usize = 0;
-    while at < marks.len() {
-        let k = meet(ca, ra, a, m, cb, rb, b, &marks[at..], p, q);
-        match k {
-            Clash::Nothing => {}
-            _ => {
-                return k;
-            }
+fn meet_all(a: &Edit, m: Mark, b: &Edit, marks: &[u32], asked: &mut Asked) -> Option<Clash> {
+    let mut left = marks;
+    while let [line, number, source, rest @ ..] = left {
+        let n = mark_of(*line, *number, *source);
+        if let Some(clash) = meet(a, m, b, n, asked) {
+            return Some(clash);
         }
-        if marks.len() - at < merge_pids::MARK {
-            return Clash::Nothing;
-        }
-        at += merge_pids::MARK;
+        left = rest;
     }
-    Clash::Nothing
+    None
 }
 
 // The first clash of the marks of two edits.
-fn meet_marks(
-    ca: &[u8],
-    ra: &[u32],
-    a: Row,
-    ma: &[u32],
-    cb: &[u8],
-    rb: &[u32],
-    b: Row,
-    mb: &[u32],
-) -> Clash {
-    let mut p = [0u32; limit::LINES];
-    let mut q = [0u32; limit::LINES];
-    let mut at: usize = 0;
-    while at < ma.len() {
-        let k = meet_all(ca, ra, a, &ma[at..], cb, rb, b, mb, &mut p, &mut q);
-        match k {
-            Clash::Nothing => {}
-            _ => {
-                return k;
-            }
+fn meet_marks(a: &Edit, first: &[u32], b: &Edit, second: &[u32]) -> Option<Clash> {
+    let mut asked = Asked {
+        first: [None; limit::LINES],
+        second: [None; limit::LINES],
+    };
+    let mut left = first;
+    while let [line, number, source, rest @ ..] = left {
+        let m = mark_of(*line, *number, *source);
+        if let Some(clash) = meet_all(a, m, b, second, &mut asked) {
+            return Some(clash);
         }
-        if ma.len() - at < merge_pids::MARK {
-            return Clash::Nothing;
-        }
-        at += merge_pids::MARK;
+        left = rest;
     }
-    Clash::Nothing
+    None
 }
 
-// The first n numbers, or none where there are fewer.
-fn front(marks: &[u32], n: usize) -> &[u32] {
-    octets::slices::numbers(marks, n)
-}
-
-// The first clash of two edits with these rows of sources.
-pub(crate) fn find(
-    ca: &[u8],
-    ra: &[u32],
-    na: usize,
-    a: Row,
-    cb: &[u8],
-    rb: &[u32],
-    nb: usize,
-    b: Row,
-) -> Clash {
+// The first clash of two edits.
+pub(crate) fn find(a: &Edit, b: &Edit) -> Option<Clash> {
     let t: ClassTable = octets::classes::table();
     let mut ma = [0u32; MARKS];
     let mut mb = [0u32; MARKS];
-    let ea = merge_sides::put_marks(&t, ca, ra, na, &mut ma);
-    let eb = merge_sides::put_marks(&t, cb, rb, nb, &mut mb);
-    meet_marks(ca, ra, a, front(&ma, ea), cb, rb, b, front(&mb, eb))
+    let ea = merge_sides::put_marks(&t, a.copy, a.records, a.lines, &mut ma);
+    let eb = merge_sides::put_marks(&t, b.copy, b.records, b.lines, &mut mb);
+    meet_marks(a, numbers(&ma, ea), b, numbers(&mb, eb))
 }
 
 // Whether a PID of an edit has a number over 65,535.
-pub(crate) fn is_over(copy: &[u8], records: &[u32], lines: usize) -> bool {
+pub(crate) fn is_over(e: &Edit) -> bool {
     let t: ClassTable = octets::classes::table();
     let mut marks = [0u32; MARKS];
-    let end = merge_sides::put_marks(&t, copy, records, lines, &mut marks);
+    let end = merge_sides::put_marks(&t, e.copy, e.records, e.lines, &mut marks);
     merge_sides::over_marks(&marks, end)
 }

@@ -1,5 +1,6 @@
 // The sheet on two edits: a row a pair or line, a mark before it, and the line under it with the counts.
 use cabbook_messages::sentences;
+use cabbook_output::Unwritten;
 use program_host::{Host, STDOUT};
 use program_output::put_all;
 
@@ -9,41 +10,20 @@ const WIDTH: usize = 38;
 // The cells of the mark and its space.
 const MARK: usize = 2;
 
-// What was shown so far: pairs of one value and of two, lines that stand on both sides alike, lines on one side alone, and whether all was written.
-#[derive(Clone, Copy)]
-pub struct Tally {
-    pub same: usize,
-    pub other: usize,
-    pub alike: usize,
-    pub first: usize,
-    pub second: usize,
-    pub sent: bool,
-}
-
-// One more, as far as numbers go.
-pub(crate) fn more(n: usize) -> usize {
-    if n == usize::MAX {
-        return n;
-    }
-    n + 1
-}
-
-// Before the first row.
-pub(crate) fn begin(sent: bool) -> Tally {
-    Tally {
-        same: 0,
-        other: 0,
-        alike: 0,
-        first: 0,
-        second: 0,
-        sent: sent,
-    }
+// What was shown so far: pairs of one value and of two, lines that stand on both sides alike, lines on one side alone.
+#[derive(Clone, Copy, Debug, Default, PartialEq, Eq)]
+pub(crate) struct Tally {
+    pub(crate) same: usize,
+    pub(crate) other: usize,
+    pub(crate) alike: usize,
+    pub(crate) first: usize,
+    pub(crate) second: usize,
 }
 
 // Adds two texts side by side behind a mark; the second in a row of its own where the first is wider than its column.
 pub(crate) fn put_row(room: &mut [u8], at: usize, mark: &[u8], left: &[u8], right: &[u8]) -> usize {
     let start = put_all(room, at, mark);
-    if right.len() == 0 {
+    if right.is_empty() {
         let left_end = program_visible::put_visible(room, start, left);
         return put_all(room, left_end, b"\n");
     }
@@ -59,8 +39,13 @@ pub(crate) fn put_row(room: &mut [u8], at: usize, mark: &[u8], left: &[u8], righ
     put_all(room, right_end, b"\n")
 }
 
-// Prints two texts side by side behind a mark, and answers whether that was written.
-pub(crate) fn print_row(host: &mut Host, mark: &[u8], left: &[u8], right: &[u8]) -> bool {
+// Prints two texts side by side behind a mark.
+pub(crate) fn print_row(
+    host: &mut Host,
+    mark: &[u8],
+    left: &[u8],
+    right: &[u8],
+) -> Result<(), Unwritten> {
     let mut room = [0u8; PAGE];
     let n = put_row(&mut room, 0, mark, left, right);
     cabbook_output::send(host, STDOUT, &room, n)
@@ -83,12 +68,9 @@ fn put_counts(room: &mut [u8], at: usize, t: Tally) -> usize {
     sentences::put_amount(room, first_end, t.second, b" > in the second alone\n")
 }
 
-// Prints the counts, and answers whether all was written.
-pub(crate) fn print_counts(host: &mut Host, t: Tally) -> bool {
+// Prints the counts.
+pub(crate) fn print_counts(host: &mut Host, t: Tally) -> Result<(), Unwritten> {
     let mut room = program_host::buffer();
     let n = put_counts(&mut room, 0, t);
-    if !t.sent {
-        return false;
-    }
     cabbook_output::send(host, STDOUT, &room, n)
 }

@@ -1,8 +1,10 @@
 // The words of a refusal, searched in a table: of each message its number, the length of its words, and the words.
 ghost use Rattle.std.specs.Prelude.{◌≡◌};
+ghost use Rattle.numbers.specs.Refusals.{number};
 ghost use Rattle.program_output.specs.Pages.{page, added};
 ghost use Rattle.cabbook_messages.specs.Words.{messages, words_of, table_of};
 
+use numbers::refusal::Reason;
 use octets::indices::wide;
 
 // The octets before a message's words: its number and their length.
@@ -76,9 +78,9 @@ fn words_of(t: &[u8], number: u32) -> &[u8]
 }
 
 // Adds the words of a refusal; none where there is no such refusal.
-pub fn put_words(room: &mut [u8], at: usize, number: u32) -> usize
-    ensures { page result room.new ≡ added (words_of number) (page at room.old) }
+pub fn put_words(room: &mut [u8], at: usize, reason: Reason) -> usize
+    ensures { page result room.new ≡ added (words_of (number reason)) (page at room.old) }
 {
     let t = table();
-    program_output::put_all(room, at, words_of(&t, number))
+    program_output::put_all(room, at, words_of(&t, reason.number()))
 }

@@ -12,11 +12,10 @@ use lib.Seq.{length-take-le}
 use borrow.Author.Tests.{le-ltb, eq-eqb, ne_eqb}
 use Rattle.octets.specs.Slices.{part}
 use Rattle.desk.specs.Steps.{Turned}
-use Rattle.desk.specs.declared.Answer.TheVariants.{Done, Refused}
+use Rattle.std.specs.Prelude.{Option, Some, None}
+use Rattle.desk.specs.Answer.{Done, Refused}
 use Rattle.reader.specs.Outcome.{Refused as NotAdded}
 use Rattle.program_files.specs.Inputs.{Fetched}
-use Rattle.program_files.specs.declared.Input.{Input}
-use Rattle.program_files.specs.declared.Input.TheVariants.{Octets, Unread}
 use Rattle.cabbook_morning.specs.Depot.{as_ticket, at_desk, counted, from, started_at}
 use Rattle.cabbook_morning.specs.Turns.{Opened, Finished, Added, Taken, FedWith, Fed, unread, judged, added}
 use Rattle.cabbook_morning.specs.declared.depot.Morning.{Morning}
@@ -46,11 +45,11 @@ pub open_refused : (k i : ℕ) (m : Morning) (t s : Turned) → t ≡ s → (n a
 open_refused k i m t s e n at a z r h = subst (λ (x : Turned). Opened k i m x x.answer r) e (rw (a, ne_eqb n 20 z) h)
 
 -- a chunk is read to the first octets of the room
-pub taken : (g : Input) (size n : ℕ) (room left after : List ℕ) → Fetched g (take n room) left → n ≤ size → n ≤ length room → length after ≡ length room → Taken g size after
-taken (Octets k) size n room left after f a b e =
+pub taken : (g : Option ℕ) (size n : ℕ) (room left after : List ℕ) → Fetched g (take n room) left → n ≤ size → n ≤ length room → length after ≡ length room → Taken g size after
+taken (Some k) size n room left after f a b e =
     let h : k ≤ n = omega (arith, f.0, length-take n room) in
     (omega arith, omega arith)
-taken Unread size n room left after f a b e = tt
+taken None size n room left after f a b e = tt
 
 -- the first octets of a room that has them
 pub part_length : (room : List ℕ) (n : ℕ) → n ≤ length room → length (part room 0 n) ≡ n
@@ -64,9 +63,9 @@ zero_or_more zero = inl refl
 zero_or_more (suc n) = inr (omega arith)
 
 -- what was read is fed
-pub fed : (g : Input) (k : ℕ) (room : List ℕ) (m : Morning) (p : List ℕ) (r : Morning) (q : List ℕ) → Taken g m.chunk room → FedWith k g room m p r q → Fed k m p r q
-fed Unread k room m p r q t f = unread f
-fed (Octets n) k room m p r q t f = by_count (zero_or_more n)
+pub fed : (g : Option ℕ) (k : ℕ) (room : List ℕ) (m : Morning) (p : List ℕ) (r : Morning) (q : List ℕ) → Taken g m.chunk room → FedWith k g room m p r q → Fed k m p r q
+fed None k room m p r q t f = unread f
+fed (Some n) k room m p r q t f = by_count (zero_or_more n)
   where
     by_count : (n ≡ 0) ⊎ (0 < n) → Fed k m p r q
     by_count (inl e) = judged (f.0 e)

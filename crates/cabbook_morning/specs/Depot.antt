@@ -1,5 +1,5 @@
 -- The depot: its numbers, its uploads, and the depot after an upload ends. Assumes nothing.
-use Rattle.std.specs.Prelude.{ℕ, ◌+◌, ◌-◌, eqb, ltb, pos, Bool, set, replicate, get_or}
+use Rattle.std.specs.Prelude.{ℕ, ◌+◌, ◌-◌, eqb, ltb, pos, Bool, Option, set, replicate, get_or}
 use Rattle.numbers.specs.Limits as limit
 use Rattle.numbers.specs.Refusals as refusal
 use Rattle.octets.specs.Pick.{pick}
@@ -23,7 +23,7 @@ abbrev pub no_upload : Upload
 no_upload = record { file = 0; fd = pos 0; ticket = 0 }
 
 -- before the first upload: a new desk, and nothing counted
-abbrev pub begun : ℕ → ℕ → ℕ → ℕ → ℕ → ℕ → ℕ → Morning
+abbrev pub begun : ℕ → ℕ → ℕ → ℕ → Option ℕ → ℕ → ℕ → Morning
 begun slots step next count dashes chunk width =
     record {
       desk = (new_step slots).desk;

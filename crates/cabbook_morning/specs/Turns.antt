@@ -1,15 +1,12 @@
 -- A turn of an upload: what is added to it, and how it ends. A morning m with its pool p becomes r with q. Assumes nothing.
-use Rattle.std.specs.Prelude.{ℕ, ◌+◌, ◌<◌, ◌≤◌, ◌≡◌, Bool, true, eqb, List, ℤ, length, get_or}
+use Rattle.std.specs.Prelude.{ℕ, ◌+◌, ◌<◌, ◌≤◌, ◌≡◌, Bool, true, Option, Some, None, eqb, List, ℤ, length, get_or}
 use Rattle.numbers.specs.Refusals as refusal
 use Rattle.octets.specs.Pick.{pick}
 use Rattle.octets.specs.Slices.{part}
 use Rattle.reader.specs.Outcome.{Verdict}
 use Rattle.reader.specs.Outcome.{Refused as Unread}
 use Rattle.desk.specs.Steps.{Turned, open_step, add_step, release_step, judge_step}
-use Rattle.desk.specs.declared.Answer.{Answer}
-use Rattle.desk.specs.declared.Answer.TheVariants.{Done, Refused}
-use Rattle.program_files.specs.declared.Input.{Input}
-use Rattle.program_files.specs.declared.Input.TheVariants.{Octets, Unread as NotRead}
+use Rattle.desk.specs.Answer.{Answer, Done, Refused}
 use Rattle.cabbook_morning.specs.Depot.{as_ticket, no_upload, ticket_at, at_desk, counted, unread_counted, released_at, from, started_at}
 use Rattle.cabbook_morning.specs.declared.depot.Morning.{Morning}
 
@@ -32,15 +29,15 @@ AddedTo k chunk m p r q = Added k m (add_step m.desk p (ticket_at m k) chunk m.t
 
 -- of a room, what was read: where it failed, the file is counted as unread; where there is none, what the desk holds is judged; else exactly the
 -- octets that were read are added to upload k
-abbrev pub FedWith : ℕ → Input → List ℕ → Morning → List ℕ → Morning → List ℕ → Type 0
-FedWith k NotRead room m p r q = Released k (unread_counted m) p r q
-FedWith k (Octets n) room m p r q =
+abbrev pub FedWith : ℕ → Option ℕ → List ℕ → Morning → List ℕ → Morning → List ℕ → Type 0
+FedWith k None room m p r q = Released k (unread_counted m) p r q
+FedWith k (Some n) room m p r q =
     (n ≡ 0 → Finished k (judge_step m.desk p (ticket_at m k)) m p r q) × ((n ≡ 0 → ⊥) → AddedTo k (part room 0 n) m p r q)
 
 -- how much of a file is read for a chunk
-abbrev pub Taken : Input → ℕ → List ℕ → Type 0
-Taken (Octets n) size room = (n ≤ size) × (n ≤ length room)
-Taken NotRead size room = Unit {0}
+abbrev pub Taken : Option ℕ → ℕ → List ℕ → Type 0
+Taken (Some n) size room = (n ≤ size) × (n ≤ length room)
+Taken None size room = Unit {0}
 
 -- upload k is fed: its file can't be read; or it ended, and what the desk holds is judged; or a chunk is added that has octets, as many as
 -- a chunk has at most

@@ -2,16 +2,18 @@
 ghost use Rattle.std.specs.Prelude.{◌≡◌, ◌<◌, get_or};
 ghost use Rattle.desk.specs.Steps.{release_step};
 ghost use Rattle.numbers.specs.Limits as limit;
+ghost use Rattle.numbers.specs.Refusals.{number};
+ghost use Rattle.reader.specs.Outcome.{verdict};
 ghost use Rattle.cabbook_morning.specs.Depot.{one_more, as_ticket, no_upload, begun, next_round, reclaimed_at, released_at, differed, counted, unread_counted};
 
 use desk::Desk;
-use numbers::refusal::Reason;
 use numbers::limit;
+use numbers::refusal::{Reason, Refusal};
 use program_host::Host;
 use reader::Verdict;
 
 // An upload: the argument that names its file, 0 where there is no upload, the file's descriptor, and the ticket.
-#[derive(Clone, Copy)]
+#[derive(Clone, Copy, Debug, PartialEq, Eq)]
 pub struct Upload {
     pub file: usize,
     pub fd: i32,
@@ -25,7 +27,7 @@ pub struct Morning {
     pub uploads: [Upload; limit::SLOTS],
     pub next: usize,
     pub count: usize,
-    pub dashes: usize,
+    pub dashes: Option<usize>,
     pub running: usize,
     pub chunk: usize,
     pub width: usize,
@@ -42,10 +44,7 @@ pub struct Morning {
 pub(crate) fn more(n: usize) -> usize
     ensures { result ≡ one_more n }
 {
-    if n == usize::MAX {
-        return n;
-    }
-    n + 1
+    n.saturating_add(1)
 }
 
 // A number as a ticket, 0 where it has more than 32 bits.
@@ -75,7 +74,7 @@ pub(crate) fn begin(
     step: u32,
     next: usize,
     count: usize,
-    dashes: usize,
+    dashes: Option<usize>,
     chunk: usize,
     width: usize,
 ) -> Morning
@@ -87,20 +86,20 @@ pub(crate) fn begin(
     let uploads = [none; limit::SLOTS];
     Morning {
         desk: d,
-        uploads: uploads,
-        next: next,
-        count: count,
-        dashes: dashes,
+        uploads,
+        next,
+        count,
+        dashes,
         running: 0,
-        chunk: chunk,
-        width: width,
+        chunk,
+        width,
         accepted: 0,
         refused: 0,
         unread: 0,
         differing: 0,
         reclaimed: 0,
         tick: 0,
-        step: step,
+        step,
     }
 }
 
@@ -108,13 +107,7 @@ pub(crate) fn begin(
 pub(crate) fn begin_round(mut m: Morning) -> Morning
     ensures { result ≡ next_round m }
 {
-    let tick = m.tick;
-    let step = m.step;
-    if tick > u32::MAX - step {
-        m.tick = u32::MAX;
-        return m;
-    }
-    m.tick = tick + step;
+    m.tick = m.tick.saturating_add(m.step);
     m
 }
 
@@ -147,28 +140,28 @@ fn count_difference(mut m: Morning, same: bool) -> Morning
 }
 
 // Counts an upload whose session was reclaimed: its ticket is not open.
-fn count_reclaimed(n: usize, number: u32) -> usize
-    ensures { result ≡ reclaimed_at number n }
+fn count_reclaimed(n: usize, reason: Reason) -> usize
+    ensures { result ≡ reclaimed_at (number reason) n }
 {
-    if number == Reason::NotOpen {
-        return more(n);
+    match reason {
+        Reason::NotOpen => more(n),
+        _ => n,
     }
-    n
 }
 
 // Counts a verdict, and whether the upload holds its file's octets.
 pub(crate) fn count_verdict(m: Morning, v: Verdict, same: bool) -> Morning
-    ensures { result ≡ counted v same m }
+    ensures { result ≡ counted (verdict v) same m }
 {
     let mut next = count_difference(m, same);
     match v {
-        Verdict::Accepted(_, _) => {
+        Ok(_) => {
             next.accepted = more(next.accepted);
             next
         }
-        Verdict::Refused(number, _) => {
+        Err(Refusal(reason, _)) => {
             next.refused = more(next.refused);
-            next.reclaimed = count_reclaimed(next.reclaimed, number);
+            next.reclaimed = count_reclaimed(next.reclaimed, reason);
             next
         }
     }

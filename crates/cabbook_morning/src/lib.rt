@@ -7,15 +7,17 @@ mod printing;
 
 ghost use Rattle.std.specs.Prelude.{◌<◌, ◌≤◌};
 ghost use Rattle.numbers.specs.Limits as limit;
+ghost use Rattle.reader.specs.Outcome.{verdict};
 ghost use Rattle.cabbook_tables.specs.Statuses as status;
 ghost use Rattle.cabbook_morning.specs.Turns.{Begun, Finished, AddedTo, Taken, FedWith, Fed, Turns};
 
 use cabbook_options::arguments;
+use cabbook_options::names::Switch;
+use cabbook_options::words::Words;
 use depot::{Morning, Upload};
-use desk::{Answer, Desk};
-use numbers::refusal::Reason;
+use desk::Desk;
 use numbers::limit;
-use program_files::Input;
+use numbers::refusal::{Reason, Refusal};
 use program_host::Host;
 use reader::Verdict;
 
@@ -24,8 +26,7 @@ fn compare(host: &mut Host, d: Desk, upload: Upload, whole: bool, pool: &[u8]) -
     let held = d.show(pool, upload.ticket);
     let mut room = [0u8; limit::READ_ROOM];
     host.rewind(upload.fd);
-    let got = program_files::fetch(host, upload.fd, b"cabbook: a file", &mut room);
-    let Input::Octets(n) = got else {
+    let Some(n) = program_files::fetch(host, upload.fd, b"cabbook: a file", &mut room) else {
         return false;
     };
     if n < held.len() {
@@ -47,7 +48,7 @@ fn finish(
     pool: &mut [u8],
 ) -> Morning
     requires { k < limit.slots }
-    ensures { Finished k v m pool.old result pool.new }
+    ensures { Finished k (verdict v) m pool.old result pool.new }
 {
     let upload = m.uploads[k];
     let d = m.desk;
@@ -70,40 +71,36 @@ fn take_file(host: &mut Host, mut m: Morning, k: usize, pool: &mut [u8]) -> Morn
     requires { k < limit.slots }
     ensures { Begun k m pool.old result pool.new }
 {
-    let i = arguments::next_file(host, m.next, m.dashes, m.count);
-    if i >= m.count {
-        m.next = i;
+    let Some(i) = arguments::next_file(host, m.next, m.dashes, m.count) else {
+        m.next = m.count;
         return m;
-    }
+    };
     m.next = i + 1;
-    let fd = program_files::open_argument(host, i);
-    if fd < 0 {
+    let Some(fd) = program_files::open_argument(host, i) else {
         return depot::count_unread(m);
-    }
+    };
     let d = m.desk;
     let t = d.open(pool, 0, m.tick);
-    let a = t.answer;
-    let next = t.desk;
-    m.desk = next;
-    match a {
-        Answer::Done(ticket) => {
+    m.desk = t.desk;
+    match t.answer {
+        Ok(ticket) => {
             m.uploads[k] = Upload {
                 file: i,
-                fd: fd,
+                fd,
                 ticket: depot::ticket_of(ticket),
             };
             m.running = depot::more(m.running);
             m
         }
-        Answer::Refused(number, place) => {
+        Err(Refusal(Reason::NoFreeSlot, _)) => {
             host.close(fd);
-            if number == Reason::NoFreeSlot {
-                m.next = i;
-                return m;
-            }
-            let v = Verdict::Refused(number, place);
-            printing::print_row(host, i, m.width, 0, 0, v, true);
-            depot::count_verdict(m, v, true)
+            m.next = i;
+            m
+        }
+        Err(r) => {
+            host.close(fd);
+            printing::print_row(host, i, m.width, 0, 0, Err(r), true);
+            depot::count_verdict(m, Err(r), true)
         }
     }
 }
@@ -116,22 +113,18 @@ fn add_chunk(host: &mut Host, mut m: Morning, k: usize, chunk: &[u8], pool: &mut
     let upload = m.uploads[k];
     let d = m.desk;
     let t = d.add(pool, upload.ticket, chunk, m.tick);
-    let a = t.answer;
-    let next = t.desk;
-    m.desk = next;
-    match a {
-        Answer::Done(_) => m,
-        Answer::Refused(number, place) => {
-            finish(host, m, k, Verdict::Refused(number, place), false, pool)
-        }
+    m.desk = t.desk;
+    match t.answer {
+        Ok(_) => m,
+        Err(r) => finish(host, m, k, Err(r), false, pool),
     }
 }
 
 // Reads a chunk of that size of an upload's file, as far as there is room.
-fn read_chunk(host: &mut Host, upload: Upload, size: usize, room: &mut [u8]) -> Input
+fn read_chunk(host: &mut Host, upload: Upload, size: usize, room: &mut [u8]) -> Option<usize>
     ensures { Taken result size room.new }
 {
-    let n = octets::slices::least(size, room.len());
+    let n = size.min(room.len());
     program_files::fetch_argument(host, upload.file, upload.fd, &mut room[..n])
 }
 
@@ -140,14 +133,14 @@ fn feed_with(
     host: &mut Host,
     m: Morning,
     k: usize,
-    got: Input,
+    got: Option<usize>,
     room: &[u8],
     pool: &mut [u8],
 ) -> Morning
     requires { k < limit.slots }
     ensures { FedWith k got room.now m pool.old result pool.new }
 {
-    let Input::Octets(n) = got else {
+    let Some(n) = got else {
         return depot::release(host, depot::count_unread(m), k, pool);
     };
     if n == 0 {
@@ -184,10 +177,8 @@ fn turn(host: &mut Host, m: Morning, k: usize, pool: &mut [u8]) -> Morning
 // One turn of each upload.
 fn run_round(host: &mut Host, m: Morning, pool: &mut [u8]) -> Morning {
     let mut now = depot::begin_round(m);
-    let mut k: usize = 0;
-    while k < limit::SLOTS {
+    for k in 0..limit::SLOTS {
         now = turn(host, now, k, pool);
-        k += 1;
     }
     now
 }
@@ -195,15 +186,11 @@ fn run_round(host: &mut Host, m: Morning, pool: &mut [u8]) -> Morning {
 // Runs round after round until no file is left; the count of rounds only shows that this ends.
 fn run_rounds(host: &mut Host, m: Morning, pool: &mut [u8]) -> Morning {
     let mut now = m;
-    let mut left = u64::MAX;
-    while left > 0 {
-        if now.next >= now.count {
-            if now.running == 0 {
-                return now;
-            }
+    for _ in 0..u64::MAX {
+        if now.next >= now.count && now.running == 0 {
+            return now;
         }
         now = run_round(host, now, pool);
-        left -= 1;
     }
     now
 }
@@ -212,33 +199,31 @@ fn run_rounds(host: &mut Host, m: Morning, pool: &mut [u8]) -> Morning {
 fn run_on(host: &mut Host, slots: usize, m: Morning, pool: &mut [u8]) -> Morning
     requires { slots ≤ limit.slots }
 {
-    let n = octets::slices::least(slots * limit::OCTETS, pool.len());
+    let n = (slots * limit::OCTETS).min(pool.len());
     run_rounds(host, m, &mut pool[..n])
 }
 
-// Plays a morning on a desk of so many slots with the files that the arguments from `first` on name, where options end at that argument; 0 for a number stands for
-// the usual one. Answers the exit status.
-pub fn play(
-    host: &mut Host,
-    first: usize,
-    dashes: usize,
-    count: usize,
-    chunk: usize,
-    tick: usize,
-    slots: usize,
-) -> u8
+// Plays a morning with the files that the arguments name, on a desk of as many slots and in chunks and ticks as the options tell. Answers the exit status.
+pub fn play(host: &mut Host, w: Words, count: usize) -> u8
     ensures { result ≤ status.failed }
 {
-    let width = options::widest(host, first, dashes, count);
+    let first = arguments::first_file(host, w, count);
+    let width = options::widest(host, first, w.dashes, count);
     printing::print_titles(host, width);
     let mut pool = [0u8; limit::POOL];
-    let size = options::or_usual(chunk, options::USUAL_CHUNK);
-    let step = depot::ticket_of(options::or_usual(tick, options::USUAL_TICK));
-    let places = octets::slices::least(
-        options::or_usual(slots, options::USUAL_SLOTS),
-        limit::SLOTS,
+    let places = w
+        .value(Switch::Slots)
+        .unwrap_or(options::USUAL_SLOTS)
+        .min(limit::SLOTS);
+    let begun = depot::begin(
+        places,
+        depot::ticket_of(w.value(Switch::Tick).unwrap_or(options::USUAL_TICK)),
+        first.unwrap_or(count),
+        count,
+        w.dashes,
+        w.value(Switch::Chunk).unwrap_or(options::USUAL_CHUNK),
+        width,
     );
-    let begun = depot::begin(places, step, first, count, dashes, size, width);
     let m = run_on(host, places, begun, &mut pool);
     printing::print_summary(
         host,

@@ -1,6 +1,6 @@
 // The numbers of `morning` that options set, and how wide the column of names has to be.
-ghost use Rattle.std.specs.Prelude.{◌≡◌, ◌≤◌};
-ghost use Rattle.cabbook_morning.specs.Options.{or_usual, narrowest_column, widest_column};
+ghost use Rattle.std.specs.Prelude.{◌≤◌, ◌<◌, IfSome};
+ghost use Rattle.cabbook_morning.specs.Options.{narrowest_column, widest_column};
 
 use cabbook_options::arguments;
 use program_host::Host;
@@ -20,16 +20,6 @@ pub(crate) const USUAL_TICK: usize = 1;
 // The slots of the desk where no others are named.
 pub(crate) const USUAL_SLOTS: usize = 40;
 
-// An option's number, or the usual one where it is 0.
-pub(crate) fn or_usual(n: usize, usual: usize) -> usize
-    ensures { result ≡ or_usual usual n }
-{
-    if n == 0 {
-        return usual;
-    }
-    n
-}
-
 // How many cells argument i takes, up to the widest.
 fn width_of(host: &Host, i: usize) -> usize {
     let mut path = program_host::buffer();
@@ -38,17 +28,20 @@ fn width_of(host: &Host, i: usize) -> usize {
 }
 
 // How wide the column of names is: the most cells that a file's name takes from argument `first` on, between the narrowest and the widest.
-pub(crate) fn widest(host: &Host, first: usize, dashes: usize, count: usize) -> usize
+pub(crate) fn widest(
+    host: &Host,
+    first: Option<usize>,
+    dashes: Option<usize>,
+    count: usize,
+) -> usize
+    requires { IfSome first (λ i. i < count) }
     ensures { (narrowest_column ≤ result) × (result ≤ widest_column) }
 {
     let mut width: usize = NARROWEST;
-    let mut i = first;
-    while i < count {
-        let one = octets::slices::least(width_of(host, i), WIDEST);
-        if width < one {
-            width = one;
-        }
-        i = arguments::next_file(host, i + 1, dashes, count);
+    let mut next = first;
+    while let Some(i) = next {
+        width = width.max(width_of(host, i).min(WIDEST));
+        next = arguments::next_file(host, i + 1, dashes, count);
     }
     width
 }

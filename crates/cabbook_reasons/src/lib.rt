@@ -2,10 +2,11 @@
 #![tactic(auto)]
 
 ghost use Rattle.std.specs.Prelude.{◌≡◌, length, ◌-◌};
+ghost use Rattle.numbers.specs.Refusals.{number};
 ghost use Rattle.program_output.specs.Pages.{page, added};
 ghost use Rattle.cabbook_reasons.specs.Reasons.{opening, closing, utf16, marking, mark_from, line_end_words, inner_words, found_words, version_words, between_words, order_words, reason};
 
-use numbers::refusal::Reason;
+use numbers::refusal::{Reason, Refusal};
 use octets::cases::same_name;
 use octets::slices::part;
 use program_output::put_all;
@@ -181,17 +182,15 @@ fn put_order(room: &mut [u8], at: usize, s: &[u8], place: usize) -> usize
 }
 
 // Adds why octets are refused at a place, by what stands there, or in the words of the refusal.
-pub fn put_reason(room: &mut [u8], at: usize, s: &[u8], number: u32, place: usize) -> usize
-    ensures { page result room.new ≡ added (reason s.now number place) (page at room.old) }
+#[tactic(auto, using(cabbook_messages::proofs::ReasonLaws::other_reason), unfolding(crate::specs::Reasons::reason, octets::specs::Ascii::octets))]
+pub fn put_reason(room: &mut [u8], at: usize, s: &[u8], r: Refusal) -> usize
+    ensures { page result room.new ≡ added (reason s.now (number r.0) r.1) (page at room.old) }
 {
-    if number == Reason::Order {
-        return put_order(room, at, s, place);
+    let Refusal(reason, place) = r;
+    match reason {
+        Reason::Order => put_order(room, at, s, place),
+        _ if is_utf16(s) => put_all(room, at, b"UTF-16 text, and a vCard is UTF-8"),
+        Reason::LoneCrOrLf => put_line_end(room, at, s, place),
+        _ => cabbook_messages::words::put_words(room, at, reason),
     }
-    if is_utf16(s) {
-        return put_all(room, at, b"UTF-16 text, and a vCard is UTF-8");
-    }
-    if number == Reason::LoneCrOrLf {
-        return put_line_end(room, at, s, place);
-    }
-    cabbook_messages::words::put_words(room, at, number)
 }

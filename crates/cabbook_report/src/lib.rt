@@ -80,12 +80,10 @@ pub fn put_bars(room: &mut [u8], values: &Counts) -> usize
     ensures { page result room.new ≡ added (bars values.now all_places) (page 0 room.old) }
 {
     let mut at: usize = 0;
-    let mut place: usize = 0;
-    while place < count::ALL {
+    for place in 0..count::ALL {
         let n = wide_number(values[place]);
         let whole = wide_number(values[whole_of(place)]);
         at = put_barred(room, at, place, n, bar_length(n, whole));
-        place += 1;
     }
     at
 }

@@ -1,13 +1,14 @@
 // What is wrong with a line that breaks the line rule, in words: what is missing, and at which name or parameter.
 ghost use Rattle.std.specs.Prelude.{◌≡◌};
+ghost use Rattle.numbers.specs.Refusals.{number};
 ghost use Rattle.program_output.specs.Pages.{page, added};
 ghost use Rattle.cabbook_rows.specs.Faults.{about, name_words, param_words, quote_words, colon_words, fault_words, is_fault, raw_words, why};
 
 use crate::{under, values};
 use line_parser::at_fault;
 use line_parser::at_fault::{AtFault, QuoteFault};
-use numbers::refusal::Reason;
 use numbers::limit;
+use numbers::refusal::{Reason, Refusal};
 use octets::slices::part;
 
 // Adds a name between two texts.
@@ -97,53 +98,53 @@ fn put_colon(room: &mut [u8], at: usize, line: &[u8], w: AtFault) -> usize
 }
 
 // Adds what is wrong with a logical line that is refused with 40 to 43.
-fn put_fault(room: &mut [u8], at: usize, line: &[u8], number: u32) -> usize
-    ensures { page result room.new ≡ added (fault_words number line.now) (page at room.old) }
+#[tactic(auto, using(cabbook_messages::proofs::ReasonLaws::other_reason), unfolding(crate::specs::Faults::fault_words))]
+fn put_fault(room: &mut [u8], at: usize, line: &[u8], reason: Reason) -> usize
+    ensures { page result room.new ≡ added (fault_words (number reason) line.now) (page at room.old) }
 {
     let w = at_fault::at_fault(line);
-    if number == Reason::Name {
-        return put_name(room, at, line, w);
+    match reason {
+        Reason::Name => put_name(room, at, line, w),
+        Reason::Parameter => put_param(room, at, line, w),
+        Reason::Quote => put_quote(room, at, line, w),
+        _ => put_colon(room, at, line, w),
     }
-    if number == Reason::Parameter {
-        return put_param(room, at, line, w);
-    }
-    if number == Reason::Quote {
-        return put_quote(room, at, line, w);
-    }
-    put_colon(room, at, line, w)
 }
 
 // Whether a refusal is of the line rule.
-fn is_fault(number: u32) -> bool
-    ensures { result ≡ is_fault number }
+#[tactic(auto, using(crate::proofs::FaultLaws::no_fault), unfolding(crate::specs::Faults::is_fault))]
+fn is_fault(reason: Reason) -> bool
+    ensures { result ≡ is_fault (number reason) }
 {
-    if number < Reason::Name {
-        return false;
-    }
-    number <= Reason::NoColon
+    matches!(
+        reason,
+        Reason::Name | Reason::Parameter | Reason::Quote | Reason::NoColon
+    )
 }
 
 // Adds what is wrong with a raw line that is refused with 40 to 43; the words of the refusal where it is longer than a text that was read.
-fn put_raw(room: &mut [u8], at: usize, line: &[u8], number: u32) -> usize
-    ensures { page result room.new ≡ added (raw_words number line.now) (page at room.old) }
+fn put_raw(room: &mut [u8], at: usize, line: &[u8], reason: Reason) -> usize
+    ensures { page result room.new ≡ added (raw_words (number reason) line.now) (page at room.old) }
 {
     if line.len() > limit::READ_ROOM {
-        return cabbook_messages::words::put_words(room, at, number);
+        return cabbook_messages::words::put_words(room, at, reason);
     }
     let mut text = [0u8; limit::READ_ROOM];
     let n = line_unfolding::unfold(line, &mut text);
-    put_fault(room, at, part(&text, 0, n), number)
+    put_fault(room, at, part(&text, 0, n), reason)
 }
 
 // Adds why octets are refused: what is wrong with the line in which the place lies, what its value should be, or by what stands there.
-pub fn put_why(room: &mut [u8], at: usize, s: &[u8], number: u32, place: usize) -> usize
-    ensures { page result room.new ≡ added (why s.now number place) (page at room.old) }
+#[tactic(auto, using(cabbook_messages::proofs::ReasonLaws::other_reason), unfolding(crate::specs::Faults::why))]
+pub fn put_why(room: &mut [u8], at: usize, s: &[u8], r: Refusal) -> usize
+    ensures { page result room.new ≡ added (why s.now (number r.0) r.1) (page at room.old) }
 {
-    if is_fault(number) {
-        return put_raw(room, at, under::offending(s, number, place), number);
+    let Refusal(reason, place) = r;
+    if is_fault(reason) {
+        return put_raw(room, at, under::offending(s, r), reason);
     }
-    if number == Reason::Value {
-        return values::put_wanted(room, at, s, place);
+    match reason {
+        Reason::Value => values::put_wanted(room, at, s, place),
+        _ => cabbook_reasons::put_reason(room, at, s, r),
     }
-    cabbook_reasons::put_reason(room, at, s, number, place)
 }

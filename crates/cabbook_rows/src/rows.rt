@@ -1,10 +1,12 @@
 // The row of a file: what it holds, or where and why it is refused.
 ghost use Rattle.std.specs.Prelude.{◌≡◌};
+ghost use Rattle.numbers.specs.Refusals.{number};
 ghost use Rattle.program_output.specs.Pages.{page, added};
 ghost use Rattle.cabbook_rows.specs.Rows.{named, accepted_row, line_of, column_of, location, refused_row};
 
 use crate::faults;
 use cabbook_messages::sentences;
+use numbers::refusal::Refusal;
 
 // Adds the start of a file's row, its name.
 fn put_name(room: &mut [u8], at: usize, path: &[u8]) -> usize
@@ -53,19 +55,13 @@ pub fn put_where(room: &mut [u8], at: usize, path: &[u8], s: &[u8], place: usize
 }
 
 // Adds the row of a file with these octets that is refused.
-pub fn put_refused(
-    room: &mut [u8],
-    at: usize,
-    path: &[u8],
-    s: &[u8],
-    number: u32,
-    place: usize,
-) -> usize
-    ensures { page result room.new ≡ added (refused_row path.now s.now number place) (page at room.old) }
+pub fn put_refused(room: &mut [u8], at: usize, path: &[u8], s: &[u8], r: Refusal) -> usize
+    ensures { page result room.new ≡ added (refused_row path.now s.now (number r.0) r.1) (page at room.old) }
 {
+    let Refusal(reason, place) = r;
     let where_end = put_where(room, at, path, s, place);
     let start = program_output::put_all(room, where_end, b"refused ");
-    let number_end = sentences::put_amount(room, start, number as usize, b": ");
-    let why_end = faults::put_why(room, number_end, s, number, place);
+    let number_end = sentences::put_amount(room, start, reason.number() as usize, b": ");
+    let why_end = faults::put_why(room, number_end, s, r);
     program_output::put_all(room, why_end, b"\n")
 }

@@ -1,11 +1,12 @@
 // What stands under a refusal: the logical line in which its place lies, cut around the place where it is long, and a caret under the place.
 ghost use Rattle.std.specs.Prelude.{◌≡◌, ◌≤◌, length};
 ghost use Rattle.numbers.specs.Limits as limit;
+ghost use Rattle.numbers.specs.Refusals.{number};
 ghost use Rattle.program_output.specs.Pages.{page, added};
 ghost use Rattle.cabbook_rows.specs.Under.{shown_end, offending, cut, tail_at, last_part, last_blanks, rest_line, marked, under_lines};
 
-use numbers::refusal::Reason;
 use numbers::limit;
+use numbers::refusal::{Reason, Refusal};
 
 // The most octets of a name that are shown.
 pub(crate) const NAME: usize = 120;
@@ -17,25 +18,23 @@ const BEFORE: usize = 72;
 const AFTER: usize = 48;
 
 // Where the part of a line that is shown ends: past a lone CR or LF where that is refused, else at the line's end.
-fn shown_end(s: &[u8], number: u32, place: usize, from: usize) -> usize
+#[tactic(auto, using(cabbook_messages::proofs::ReasonLaws::other_reason), unfolding(crate::specs::Under::shown_end))]
+fn shown_end(s: &[u8], r: Refusal, from: usize) -> usize
     requires { from ≤ length s.now }
-    ensures { result ≡ shown_end s.now number place from }
+    ensures { result ≡ shown_end s.now (number r.0) r.1 from }
 {
-    if number != Reason::LoneCrOrLf {
-        return line_folds::spans::line_end(s, from);
+    match r {
+        Refusal(Reason::LoneCrOrLf, place) if place < s.len() => place + 1,
+        _ => line_folds::spans::line_end(s, from),
     }
-    if place >= s.len() {
-        return line_folds::spans::line_end(s, from);
-    }
-    place + 1
 }
 
 // The part of a text that is shown under a refusal; empty at the end of the text.
-pub fn offending(s: &[u8], number: u32, place: usize) -> &[u8]
-    ensures { result.now ≡ offending s.now number place }
+pub fn offending(s: &[u8], r: Refusal) -> &[u8]
+    ensures { result.now ≡ offending s.now (number r.0) r.1 }
 {
-    let from = cabbook_positions::line_start(s, place);
-    let end = shown_end(s, number, place, from);
+    let from = cabbook_positions::line_start(s, r.1);
+    let end = shown_end(s, r, from);
     octets::slices::part(s, from, end)
 }
 
@@ -112,14 +111,15 @@ fn put_marked(room: &mut [u8], at: usize, before: &[u8], after: &[u8]) -> usize
 }
 
 // Adds the logical line in which a refusal's place lies, and a caret under the place; nothing where the text is longer than one that was read.
-pub fn put_under(room: &mut [u8], at: usize, s: &[u8], number: u32, place: usize) -> usize
-    ensures { page result room.new ≡ added (under_lines s.now number place) (page at room.old) }
+pub fn put_under(room: &mut [u8], at: usize, s: &[u8], r: Refusal) -> usize
+    ensures { page result room.new ≡ added (under_lines s.now (number r.0) r.1) (page at room.old) }
 {
+    let Refusal(_, place) = r;
     if s.len() > limit::READ_ROOM {
         return at;
     }
     let start = cabbook_positions::line_start(s, place);
-    let end = shown_end(s, number, place, start);
+    let end = shown_end(s, r, start);
     put_marked(
         room,
         at,

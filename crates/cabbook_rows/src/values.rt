@@ -5,9 +5,9 @@ ghost use Rattle.program_output.specs.Pages.{page, added};
 ghost use Rattle.cabbook_rows.specs.Values.{parts_words, line_words, raw_value_words, wanted_words};
 
 use crate::under;
-use card_line::{LineParts, Parts};
-use numbers::refusal::Reason;
+use card_line::Parts;
 use numbers::limit;
+use numbers::refusal::Reason;
 use octets::slices::part;
 use property_table::Edition;
 
@@ -22,16 +22,16 @@ fn put_parts(room: &mut [u8], at: usize, line: &[u8], p: Parts, octet: usize) ->
 }
 
 // Adds what the value of a logical line should be at an octet of the line: edition two has the rows of both; the words of the refusal where it breaks the line rule.
+#[tactic(auto, unfolding(crate::specs::Values::line_words))]
 fn put_line(room: &mut [u8], at: usize, line: &[u8], octet: usize) -> usize
     requires { length line.now ≤ limit.octets }
     ensures { page result room.new ≡ added (line_words line.now octet) (page at room.old) }
 {
     let t = octets::classes::table();
     let rows = property_table::table();
-    let parsed = card_line::parts_of(&t, &rows, Edition::Second, line);
-    match parsed {
-        LineParts::Line(p) => put_parts(room, at, line, p, octet),
-        LineParts::Fault(_) => cabbook_messages::words::put_words(room, at, Reason::Value),
+    match card_line::parts_of(&t, &rows, Edition::Second, line) {
+        Ok(p) => put_parts(room, at, line, p, octet),
+        Err(_) => cabbook_messages::words::put_words(room, at, Reason::Value),
     }
 }
 

@@ -3,14 +3,10 @@ ghost use Rattle.std.specs.Prelude.{◌≤◌};
 
 // Whether a digit stands at i.
 fn is_digit_at(s: &[u8], i: usize) -> bool {
-    if s.len() <= i {
-        return false;
+    match s.get(i) {
+        Some(x) => x.is_ascii_digit(),
+        None => false,
     }
-    let x = s[i];
-    if x < b'0' {
-        return false;
-    }
-    x <= b'9'
 }
 
 // Adds a mark and the two digits that stand at i, or nothing where none do.

@@ -4,18 +4,18 @@
 mod dates;
 mod values;
 
-ghost use Rattle.std.specs.Prelude.{length, ◌+◌, ◌≤◌, ◌<◌};
+ghost use Rattle.std.specs.Prelude.{length, ◌+◌, ◌≤◌, ◌<◌, IfOk};
 ghost use Rattle.numbers.specs.Limits as limit;
 ghost use Rattle.cabbook_output.specs.Ends.{Status};
 ghost use Rattle.cabbook_show.specs.Records.{most_numbers};
 
+use cabbook_output::{Ended, File, Unwritten};
 use cabbook_tables::{fields, status};
 use numbers::{field, limit, property};
 use octets::indices::wide_number;
 use octets::slices::part;
 use program_host::{Host, STDERR, STDOUT};
 use property_table::Edition;
-use reader::Verdict;
 
 // The most lines of an input: a line has at least four octets, as `A:` and CR LF.
 const LINES: usize = 4096;
@@ -86,90 +86,89 @@ fn put_row(room: &mut [u8], copy: &[u8], r: &[u32], again: bool) -> usize {
     program_output::put(room, remarks_end, b'\n')
 }
 
-// What came so far: the bits of the properties that this card has once, the cards, and whether all rows were written.
-#[derive(Clone, Copy)]
+// What came so far: the bits of the properties that this card has once, and the cards.
+#[derive(Clone, Copy, Debug, PartialEq, Eq)]
 struct Shown {
     seen: u64,
     cards: usize,
-    sent: bool,
 }
 
 // Prints the row of a record, or at a BEGIN the line above a card's rows.
-fn print_record(host: &mut Host, room: &mut [u8], copy: &[u8], r: &[u32], shown: Shown) -> Shown
+fn print_record(
+    host: &mut Host,
+    room: &mut [u8],
+    copy: &[u8],
+    r: &[u32],
+    shown: Shown,
+) -> Result<Shown, Unwritten>
     requires { shown.cards ≤ most_numbers }
-    ensures { result.cards ≤ shown.cards + 1 }
+    ensures { IfOk result (λ next. next.cards ≤ shown.cards + 1) }
 {
     if r.len() < limit::RECORD_LENGTH {
-        return shown;
+        return Ok(shown);
     }
     let number = wide_number(r[field::PROPERTY]);
     if number == property::BEGIN {
         let n = fields::put_card(room, 0, shown.cards + 1);
-        return Shown {
+        cabbook_output::send(host, STDOUT, room, n)?;
+        return Ok(Shown {
             seen: 0,
             cards: shown.cards + 1,
-            sent: cabbook_output::send(host, STDOUT, room, n),
-        };
+        });
     }
     if fields::is_frame(r[field::PROPERTY]) {
-        return shown;
+        return Ok(shown);
     }
     let bit = once_bit(number);
     let n = put_row(room, copy, r, shown.seen & bit != 0);
-    Shown {
+    cabbook_output::send(host, STDOUT, room, n)?;
+    Ok(Shown {
         seen: shown.seen | bit,
         cards: shown.cards,
-        sent: cabbook_output::send(host, STDOUT, room, n),
-    }
+    })
 }
 
-// Prints the rows of all records, as long as they can be written, and answers whether all were.
-fn print_rows(host: &mut Host, room: &mut [u8], copy: &[u8], records: &[u32]) -> bool
+// Prints the rows of all records, as long as they can be written.
+fn print_rows(
+    host: &mut Host,
+    room: &mut [u8],
+    copy: &[u8],
+    records: &[u32],
+) -> Result<(), Unwritten>
     requires { length records.now ≤ most_numbers }
 {
-    let mut shown = Shown {
-        seen: 0,
-        cards: 0,
-        sent: true,
-    };
+    let mut shown = Shown { seen: 0, cards: 0 };
     let mut at: usize = 0;
     while limit::RECORD_LENGTH <= records.len() - at {
         let end = at + limit::RECORD_LENGTH;
-        shown = print_record(host, room, copy, &records[at..end], shown);
-        if !shown.sent {
-            return false;
-        }
+        shown = print_record(host, room, copy, &records[at..end], shown)?;
         at = end;
     }
-    true
+    Ok(())
 }
 
-// Prints the names of the columns and the rows of all records, and answers whether all were written.
-fn print_table(host: &mut Host, copy: &[u8], records: &[u32]) -> bool
+// Prints the names of the columns and the rows of all records.
+fn print_table(host: &mut Host, copy: &[u8], records: &[u32]) -> Result<(), Unwritten>
     requires { length records.now ≤ most_numbers }
 {
     let mut room = [0u8; PAGE];
     let n = fields::put_titles(&mut room, 0);
-    if !cabbook_output::send(host, STDOUT, &room, n) {
-        return false;
-    }
+    cabbook_output::send(host, STDOUT, &room, n)?;
     print_rows(host, &mut room, copy, records)
 }
 
-// Prints the table of a file with these octets, read in an edition, or what is to be known of a refused one, and answers the exit status.
-pub fn show(host: &mut Host, edition: Edition, path: &[u8], s: &[u8]) -> u8
-    ensures { Status result }
+// Prints the table of a file, read in an edition, or what is to be known of a refused one, and answers the exit status.
+pub fn show(host: &mut Host, edition: Edition, file: File) -> Ended
+    ensures { IfOk result Status }
 {
     let mut copy = [0u8; limit::OCTETS];
     let mut records = [0u32; NUMBERS];
-    let v = reader::read(edition, s, &mut copy, &mut records);
-    match v {
-        Verdict::Accepted(_, lines) => {
-            let n = octets::slices::least(lines, LINES) * limit::RECORD_LENGTH;
-            cabbook_output::status_if(print_table(host, &copy, &records[0..n]), status::ACCEPTED)
+    match reader::read(edition, file.octets, &mut copy, &mut records) {
+        Ok(counts) => {
+            let n = counts.lines.min(LINES) * limit::RECORD_LENGTH;
+            print_table(host, &copy, &records[..n])?;
+            Ok(status::ACCEPTED)
         }
-        Verdict::Refused(number, place) => {
-            cabbook_output::print_refusal(host, STDERR, path, s, number, place)
-        }
+        Err(r) => cabbook_output::print_refusal(host, STDERR, file, r),
     }
 }

@@ -4,9 +4,8 @@ ghost use Rattle.std.specs.Prelude.{length, ◌≤◌};
 use crate::dates;
 use cabbook_tables::fields;
 use label_carets::Rule;
-use line_parameters::First;
+use numbers::refusal::Refusal;
 use numbers::{kind, limit};
-use octets::rooms::Written;
 use program_visible::put_visible;
 
 // Where the value's column starts: past three columns, each with a space after it.
@@ -23,20 +22,15 @@ fn put_indent(room: &mut [u8], at: usize, last: bool) -> usize {
 
 // Whether an octet is a space or a tab.
 fn is_blank(octet: u8) -> bool {
-    if octet == b' ' {
-        return true;
-    }
-    octet == b'\t'
+    matches!(octet, b' ' | b'\t')
 }
 
 // Where the blanks at the end of a line start.
 fn blank_start(s: &[u8]) -> usize {
-    let mut end = s.len();
-    while end > 0 {
-        if !is_blank(s[end - 1]) {
-            return end;
+    for end in (0..s.len()).rev() {
+        if !is_blank(s[end]) {
+            return end + 1;
         }
-        end -= 1;
     }
     0
 }
@@ -52,10 +46,8 @@ fn put_blank(room: &mut [u8], at: usize, blank: u8) -> usize {
 // Adds blanks in digits, since they could not be seen.
 fn put_blanks(room: &mut [u8], at: usize, blanks: &[u8]) -> usize {
     let mut next = at;
-    let mut i: usize = 0;
-    while i < blanks.len() {
-        next = put_blank(room, next, blanks[i]);
-        i += 1;
+    for blank in blanks {
+        next = put_blank(room, next, *blank);
     }
     next
 }
@@ -72,14 +64,12 @@ fn line_end(s: &[u8], from: usize) -> usize
     requires { from ≤ length s.now }
     ensures { (from ≤ result) × (result ≤ length s.now) }
 {
-    let mut i = from;
-    while i < s.len() {
+    for i in from..s.len() {
         if s[i] == b'\n' {
             return i;
         }
-        i += 1;
     }
-    i
+    s.len()
 }
 
 // Adds text, each of its lines in the value's column.
@@ -96,10 +86,16 @@ fn put_paragraphs(room: &mut [u8], at: usize, s: &[u8]) -> usize {
 }
 
 // Adds what was written to the start of a text, or where it was refused a text as it stands.
-fn put_meaning(room: &mut [u8], at: usize, w: Written, meant: &[u8], s: &[u8]) -> usize {
+fn put_meaning(
+    room: &mut [u8],
+    at: usize,
+    w: Result<usize, Refusal>,
+    meant: &[u8],
+    s: &[u8],
+) -> usize {
     match w {
-        Written::Wrote(n) => put_paragraphs(room, at, octets::slices::part(meant, 0, n)),
-        Written::Refused(_, _) => put_line(room, at, s),
+        Ok(n) => put_paragraphs(room, at, octets::slices::part(meant, 0, n)),
+        Err(_) => put_line(room, at, s),
     }
 }
 
@@ -116,10 +112,7 @@ fn component_end(s: &[u8], from: usize, semicolons: bool) -> usize
     ensures { (from ≤ result) × (result ≤ length s.now) }
 {
     let n = cabbook_positions::component(octets::slices::part(s, from, s.len()), semicolons);
-    if n > s.len() - from {
-        return s.len();
-    }
-    from + n
+    from + n.min(s.len() - from)
 }
 
 // Adds what stands at the end of a component: a comma, or a bar for a semicolon; nothing behind the last.
@@ -168,10 +161,13 @@ fn put_decoded(room: &mut [u8], at: usize, s: &[u8]) -> usize {
 // Adds the LABEL of a line whose name ends there, if it has one, each of its lines in the value's column.
 pub(crate) fn put_label(room: &mut [u8], at: usize, line: &[u8], name_end: usize) -> usize {
     let t = octets::classes::table();
-    let first = line_parameters::param_first(&t, line, name_end, b"LABEL");
-    let First::Between { start, end } = first else {
+    let Some(span) = line_parameters::param_first(&t, line, name_end, b"LABEL") else {
         return at;
     };
     let indent = put_indent(room, at, false);
-    put_decoded(room, indent, octets::slices::part(line, start, end))
+    put_decoded(
+        room,
+        indent,
+        octets::slices::part(line, span.start, span.end),
+    )
 }

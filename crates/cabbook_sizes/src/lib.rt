@@ -2,32 +2,22 @@
 #![tactic(auto)]
 
 use cabbook_messages::sentences;
+use cabbook_output::Unwritten;
 use numbers::limit;
 use octets::cases::same_name;
-use octets::indices::wide;
 use octets::slices::part;
-use program_files::Input;
 use program_host::{Host, STDOUT};
 use program_output::put_all;
 
 // The octets with which a card starts, behind the end of a line.
 const START: usize = 12;
 
-// What was counted so far: octets, cards, how many octets of a card's start came last, and whether more may come.
-#[derive(Clone, Copy)]
+// What was counted so far: octets, cards, and how many octets of a card's start came last.
+#[derive(Clone, Copy, Debug, PartialEq, Eq)]
 struct Size {
     octets: usize,
     cards: usize,
     met: usize,
-    more: bool,
-}
-
-// One more, as far as numbers go.
-fn more(n: usize) -> usize {
-    if n == usize::MAX {
-        return n;
-    }
-    n + 1
 }
 
 // The octet of a card's start that is looked for, a letter in capitals.
@@ -39,29 +29,18 @@ fn wanted(met: usize) -> u8 {
     0
 }
 
-// An octet, a small letter as its capital.
-fn raised(octet: u8) -> u8 {
-    if octet < b'a' {
-        return octet;
-    }
-    if b'z' < octet {
-        return octet;
-    }
-    octet - 32
-}
-
 // What is counted with one octet more.
 fn count_octet(s: Size, octet: u8) -> Size {
     let mut next = s;
-    next.octets = more(s.octets);
-    if raised(octet) != wanted(s.met) {
-        next.met = wide((octet == b'\n') as u8);
+    next.octets = s.octets.saturating_add(1);
+    if octet.to_ascii_uppercase() != wanted(s.met) {
+        next.met = usize::from(octet == b'\n');
         return next;
     }
-    next.met = more(s.met);
+    next.met = s.met.saturating_add(1);
     if next.met == START {
         next.met = 0;
-        next.cards = more(s.cards);
+        next.cards = s.cards.saturating_add(1);
     }
     next
 }
@@ -69,27 +48,20 @@ fn count_octet(s: Size, octet: u8) -> Size {
 // What is counted with some octets more.
 fn count_octets(s: Size, chunk: &[u8]) -> Size {
     let mut now = s;
-    let mut i: usize = 0;
-    while i < chunk.len() {
-        now = count_octet(now, chunk[i]);
-        i += 1;
+    for octet in chunk {
+        now = count_octet(now, *octet);
     }
     now
 }
 
-// What is counted with the next octets of a file that is open, and whether there were any.
-fn count_some(host: &mut Host, s: Size, fd: i32, path: &[u8]) -> Size {
+// What is counted with the next octets of a file that is open, if there are any.
+fn count_some(host: &mut Host, s: Size, fd: i32, path: &[u8]) -> Option<Size> {
     let mut room = program_host::large_buffer();
-    let got = program_files::fetch(host, fd, path, &mut room);
-    let mut next = s;
-    next.more = false;
-    let Input::Octets(n) = got else {
-        return next;
-    };
+    let n = program_files::fetch(host, fd, path, &mut room)?;
     if n == 0 {
-        return next;
+        return None;
     }
-    count_octets(s, part(&room, 0, n))
+    Some(count_octets(s, part(&room, 0, n)))
 }
 
 // Counts the octets of a file that is open, up to its end.
@@ -98,15 +70,12 @@ fn count_file(host: &mut Host, fd: i32, path: &[u8]) -> Size {
         octets: 0,
         cards: 0,
         met: 1,
-        more: true,
     };
-    let mut left = u64::MAX;
-    while left > 0 {
-        now = count_some(host, now, fd, path);
-        if !now.more {
+    for _ in 0..u64::MAX {
+        let Some(next) = count_some(host, now, fd, path) else {
             return now;
-        }
-        left -= 1;
+        };
+        now = next;
     }
     now
 }
@@ -149,18 +118,17 @@ fn put_size(room: &mut [u8], path: &[u8], s: Size) -> usize {
     put_all(room, cards_end, b": a book has at most 16,384 octets\n")
 }
 
-// Prints how large the file of that name is, where it can be read from its start again, and answers whether what there was to write was written.
-pub fn print_size(host: &mut Host, path: &[u8]) -> bool {
+// Prints how large the file of that name is, where it can be read from its start again.
+pub fn print_size(host: &mut Host, path: &[u8]) -> Result<(), Unwritten> {
     if same_name(path, b"-") {
-        return true;
+        return Ok(());
     }
-    let fd = host.open_read(path);
-    if fd < 0 {
-        return true;
-    }
+    let Some(fd) = host.open_read(path) else {
+        return Ok(());
+    };
     if host.size(fd) <= limit::OCTETS as u64 {
         host.close(fd);
-        return true;
+        return Ok(());
     }
     let s = count_file(host, fd, path);
     host.close(fd);

@@ -2,6 +2,7 @@
 ghost use Rattle.std.specs.Prelude.{◌≡◌, ◌+◌, ◌≤◌, min};
 ghost use Rattle.program_output.specs.Pages.{page, added};
 ghost use Rattle.cabbook_tables.specs.Uploads.{titles, verdict_text, same_text, counts_text, upload_row, note, totals, summary, status_of};
+ghost use Rattle.reader.specs.Outcome.{verdict};
 ghost use Rattle.cabbook_tables.specs.Statuses as status;
 ghost use Rattle.numbers.specs.Limits as limit;
 
@@ -25,18 +26,18 @@ pub fn put_titles(room: &mut [u8], at: usize, width: usize) -> usize
 
 // Adds the count of cards and the verdict.
 fn put_verdict(room: &mut [u8], at: usize, v: Verdict) -> usize
-    ensures { page result room.new ≡ added (verdict_text v) (page at room.old) }
+    ensures { page result room.new ≡ added (verdict_text (verdict v)) (page at room.old) }
 {
     match v {
-        Verdict::Accepted(cards, _) => {
-            let cards_end = cabbook_columns::put_right(room, at, cards, CARDS_WIDTH);
+        Ok(counts) => {
+            let cards_end = cabbook_columns::put_right(room, at, counts.cards, CARDS_WIDTH);
             program_output::put_all(room, cards_end, b"  accepted")
         }
-        Verdict::Refused(number, place) => {
+        Err(r) => {
             let start = program_output::put_all(room, at, b"    -  ");
-            let refusal_end = sentences::put_refusal(room, start, number, place);
+            let refusal_end = sentences::put_refusal(room, start, r);
             let colon_end = program_output::put_all(room, refusal_end, b": ");
-            cabbook_messages::words::put_words(room, colon_end, number)
+            cabbook_messages::words::put_words(room, colon_end, r.0)
         }
     }
 }
@@ -72,7 +73,7 @@ pub fn put_upload(
     v: Verdict,
     same: bool,
 ) -> usize
-    ensures { page result room.new ≡ added (upload_row path.now width ticket octets v same) (page at room.old) }
+    ensures { page result room.new ≡ added (upload_row path.now width ticket octets (verdict v) same) (page at room.old) }
 {
     let path_end = cabbook_columns::put_column(room, at, path, width);
     let counts_end = put_counts(room, path_end, ticket, octets);
@@ -96,10 +97,7 @@ fn put_note(room: &mut [u8], at: usize, n: usize, none: &[u8], thing: &[u8], end
 fn sum(a: usize, b: usize) -> usize
     ensures { result ≡ min (a + b) limit.largest64 }
 {
-    if a > usize::MAX - b {
-        return usize::MAX;
-    }
-    a + b
+    a.saturating_add(b)
 }
 
 // Adds how many uploads there are, and how many are accepted and refused.

@@ -5,8 +5,8 @@ ghost use Rattle.octets.specs.Classes.{Classes};
 ghost use Rattle.card_line.specs.Parts.{Accepted};
 
 use cabbook_messages::{sentences, wants, words};
-use card_line::{LineParts, Parts};
-use numbers::refusal::Reason;
+use card_line::Parts;
+use numbers::refusal::{Reason, Refusal};
 use numbers::{kind, limit, property};
 use octets::cases::same_name;
 use octets::classes::ClassTable;
@@ -14,7 +14,7 @@ use octets::slices::part;
 use program_output::put_all;
 use property_table::Edition;
 use value_kinds::Fault;
-use version3_judge::{Set, Step};
+use version3_judge::{Phase, Set};
 use version3_parameters::Way;
 
 // The most parts of N and of ADR.
@@ -33,7 +33,7 @@ fn put_by(room: &mut [u8], at: usize, way: Way, inward: &[u8], outward: &[u8]) -
 // Before the first line.
 fn nothing() -> Set {
     Set {
-        phase: version3_judge::BEFORE_BEGIN,
+        phase: Phase::BeforeBegin,
         has_fn: false,
         has_n: false,
         has_version: false,
@@ -48,11 +48,10 @@ fn known_after(way: Way, lines: &[u8]) -> Set {
     let t = octets::classes::table();
     let rows = property_table::table();
     let steps = value_automaton::scanner::table();
-    let last = version3_judge::walk(way, &t, &rows, &steps, lines);
-    let Step::Next(c) = last else {
-        return nothing();
-    };
-    c
+    match version3_judge::walk(way, &t, &rows, &steps, lines) {
+        Ok(c) => c,
+        Err(_) => nothing(),
+    }
 }
 
 // Adds why a line is out of order.
@@ -86,7 +85,7 @@ fn put_missing(room: &mut [u8], at: usize, way: Way, c: Set) -> usize {
 
 // Adds what is wrong with BEGIN, which stands first and once.
 fn put_begin(room: &mut [u8], at: usize, way: Way, c: Set) -> usize {
-    if c.phase == version3_judge::BEFORE_BEGIN {
+    if c.phase == Phase::BeforeBegin {
         return put_all(room, at, b"BEGIN wants VCARD");
     }
     put_by(
@@ -272,12 +271,12 @@ fn put_parts(
     t: &ClassTable,
     line: &[u8],
     x: Parts,
-    number: u32,
+    reason: Reason,
 ) -> usize
     requires classes { Classes t.now }
     requires accepted { Accepted line.now x.name_end × (x.kind < kinds.count) }
 {
-    if number == Reason::Order {
+    if reason == Reason::Order {
         return put_order(room, at, x.row);
     }
     if property_table::is_framing(x.row) {
@@ -289,40 +288,33 @@ fn put_parts(
 }
 
 // Adds what is wrong with a line, where so much is known of the card before it.
-fn put_line(room: &mut [u8], at: usize, way: Way, c: Set, line: &[u8], number: u32) -> usize {
+fn put_line(room: &mut [u8], at: usize, way: Way, c: Set, line: &[u8], reason: Reason) -> usize {
     if limit::OCTETS < line.len() {
-        return words::put_words(room, at, number);
+        return words::put_words(room, at, reason);
     }
     let t = octets::classes::table();
     let rows = property_table::table();
-    let parsed = card_line::parts_of(&t, &rows, Edition::First, line);
-    match parsed {
-        LineParts::Line(x) => put_parts(room, at, way, c, &t, line, x, number),
-        LineParts::Fault(_) => words::put_words(room, at, number),
+    match card_line::parts_of(&t, &rows, Edition::First, line) {
+        Ok(x) => put_parts(room, at, way, c, &t, line, x, reason),
+        Err(_) => words::put_words(room, at, reason),
     }
 }
 
 // Adds what is wrong with a raw line, where so much is known of the card before it.
-fn put_raw(room: &mut [u8], at: usize, way: Way, c: Set, raw: &[u8], number: u32) -> usize {
+fn put_raw(room: &mut [u8], at: usize, way: Way, c: Set, raw: &[u8], reason: Reason) -> usize {
     if limit::OCTETS < raw.len() {
-        return words::put_words(room, at, number);
+        return words::put_words(room, at, reason);
     }
     let mut text = [0u8; limit::OCTETS];
     let n = line_unfolding::unfold(raw, &mut text);
-    put_line(room, at, way, c, part(&text, 0, n), number)
+    put_line(room, at, way, c, part(&text, 0, n), reason)
 }
 
 // Adds why a card is not taken in or given out, at the start of one of its lines.
-pub(crate) fn put_why(
-    room: &mut [u8],
-    at: usize,
-    way: Way,
-    s: &[u8],
-    number: u32,
-    place: usize,
-) -> usize {
+pub(crate) fn put_why(room: &mut [u8], at: usize, way: Way, s: &[u8], r: Refusal) -> usize {
+    let Refusal(reason, place) = r;
     let start = cabbook_positions::line_start(s, place);
     let end = line_folds::spans::line_end(s, start);
     let c = known_after(way, part(s, 0, start));
-    put_raw(room, at, way, c, part(s, start, end), number)
+    put_raw(room, at, way, c, part(s, start, end), reason)
 }

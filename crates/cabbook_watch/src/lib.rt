@@ -1,14 +1,16 @@
 // `watch`: files that are judged while they arrive, so many octets at a time, with a line on a terminal that tells how far that is.
 #![tactic(auto)]
 
+ghost use Rattle.std.specs.Prelude.{IfOk};
 ghost use Rattle.cabbook_output.specs.Ends.{Status};
 
 use cabbook_messages::sentences;
 use cabbook_options::arguments;
+use cabbook_options::words::Words;
+use cabbook_output::{Ended, File};
 use cabbook_tables::status;
 use numbers::limit;
-use octets::slices::{least, part};
-use program_files::Input;
+use octets::slices::part;
 use program_host::{Host, STDERR};
 use program_output::put_all;
 use reader::Verdict;
@@ -20,20 +22,11 @@ const USUAL_CHUNK: usize = 4096;
 // The most turns of a file: each but the last brings an octet.
 const TURNS: usize = limit::READ_ROOM + 1;
 
-// What came of a file: the verdict, how many octets, and whether it could be read.
-#[derive(Clone, Copy)]
+// What came of a file: the verdict, and how many octets.
+#[derive(Clone, Copy, Debug, PartialEq, Eq)]
 pub struct Came {
     pub verdict: Verdict,
     pub octets: usize,
-    pub read: bool,
-}
-
-// The size of a chunk, the usual one where it is 0.
-fn size_of(chunk: usize) -> usize {
-    if chunk == 0 {
-        return USUAL_CHUNK;
-    }
-    chunk
 }
 
 // Adds what is known of the octets so far.
@@ -56,7 +49,7 @@ fn tell_progress(host: &mut Host, tells: bool, path: &[u8], w: Watch, octets: us
     let colon_end = put_all(&mut room, name_end, b": ");
     let count_end = sentences::put_count(&mut room, colon_end, octets, b" octet");
     let n = put_known(&mut room, count_end, w);
-    cabbook_output::send(host, STDERR, &room, n);
+    let _ = cabbook_output::send(host, STDERR, &room, n);
 }
 
 // Takes the line away again.
@@ -75,24 +68,6 @@ fn take_chunk(w: Watch, buffer: &mut [u8], chunk: &[u8]) -> Watch {
     next
 }
 
-// What came of a file, by the state after its last chunk.
-fn conclude(w: Watch, buffer: &[u8], octets: usize, read: bool) -> Came {
-    let v = w.end(buffer);
-    Came {
-        verdict: v,
-        octets: octets,
-        read: read,
-    }
-}
-
-// How many octets came with k more, where there is room for so many.
-fn further(n: usize, k: usize, most: usize) -> usize {
-    if n >= most {
-        return most;
-    }
-    n + least(k, most - n)
-}
-
 // Reads the next octets of a file behind the first n of the copy, so many as a chunk has, as far as there is room.
 fn read_chunk(
     host: &mut Host,
@@ -101,15 +76,16 @@ fn read_chunk(
     size: usize,
     n: usize,
     copy: &mut [u8],
-) -> Input {
+) -> Option<usize> {
     if n >= copy.len() {
-        return Input::Octets(0);
+        return Some(0);
     }
-    let end = n + least(size, copy.len() - n);
+    let end = n + size.min(copy.len() - n);
     program_files::fetch(host, fd, path, &mut copy[n..end])
 }
 
-// Reads a file to the start of the copy, so many octets at a time, and watches each chunk as it comes; each turn brings an octet or is the last.
+// Reads a file to the start of the copy, so many octets at a time, and watches each chunk as it comes; each turn brings an octet or is the last. Answers what
+// came, where the file could be read.
 fn watch_all(
     host: &mut Host,
     path: &[u8],
@@ -118,82 +94,75 @@ fn watch_all(
     tells: bool,
     copy: &mut [u8],
     buffer: &mut [u8],
-) -> Came {
+) -> Option<Came> {
     let mut w = Watch::new();
     let mut n: usize = 0;
-    let mut left: usize = TURNS;
-    while left > 0 {
-        let got = read_chunk(host, fd, path, size, n, copy);
-        let Input::Octets(k) = got else {
-            return conclude(w, buffer, n, false);
-        };
-        if k == 0 {
-            return conclude(w, buffer, n, true);
+    for _ in 0..TURNS {
+        let more = read_chunk(host, fd, path, size, n, copy)?;
+        if more == 0 {
+            break;
         }
-        let next = further(n, k, copy.len());
+        let next = n.saturating_add(more).min(copy.len());
         w = take_chunk(w, buffer, part(copy, n, next));
         tell_progress(host, tells, path, w, next);
         n = next;
-        left -= 1;
     }
-    conclude(w, buffer, n, true)
+    Some(Came {
+        verdict: w.end(buffer),
+        octets: n,
+    })
 }
 
 // Watches the octets of a file that is open, prints its row, and answers the exit status.
-fn watch_open(host: &mut Host, path: &[u8], fd: i32, size: usize) -> u8
-    ensures { Status result }
+fn watch_open(host: &mut Host, path: &[u8], fd: i32, size: usize) -> Ended
+    ensures { IfOk result Status }
 {
     let mut copy = [0u8; limit::READ_ROOM];
     let mut buffer = [0u8; limit::OCTETS];
     let tells = host.tells_terminal();
-    let c = watch_all(host, path, fd, size, tells, &mut copy, &mut buffer);
+    let came = watch_all(host, path, fd, size, tells, &mut copy, &mut buffer);
     clear_progress(host, tells);
-    if !c.read {
-        return status::FAILED;
-    }
-    let v = c.verdict;
-    cabbook_check::print_verdict(host, path, part(&copy, 0, c.octets), v)
+    let Some(c) = came else {
+        return Ok(status::FAILED);
+    };
+    let file = File {
+        path,
+        octets: part(&copy, 0, c.octets),
+    };
+    cabbook_check::print_verdict(host, file, c.verdict)
 }
 
 // Watches the file of that name, `-` for standard input.
-fn watch_file(host: &mut Host, path: &[u8], size: usize) -> u8
-    ensures { Status result }
+fn watch_file(host: &mut Host, path: &[u8], size: usize) -> Ended
+    ensures { IfOk result Status }
 {
-    let fd = program_files::open_named(host, path);
-    if fd < 0 {
-        return status::FAILED;
-    }
-    let status = watch_open(host, path, fd, size);
+    let Some(fd) = program_files::open_named(host, path) else {
+        return Ok(status::FAILED);
+    };
+    let ended = watch_open(host, path, fd, size);
     host.close(fd);
-    status
+    ended
 }
 
 // Watches the file that argument i names.
-fn watch_argument(host: &mut Host, i: usize, size: usize) -> u8
-    ensures { Status result }
+fn watch_argument(host: &mut Host, i: usize, size: usize) -> Ended
+    ensures { IfOk result Status }
 {
     let mut path = program_host::large_buffer();
     let n = host.arg(i, &mut path);
     watch_file(host, &path[..n], size)
 }
 
-// Watches each file that the arguments from `first` on name, as long as output can be written, where options end at that argument; a size of 0 stands for the
-// usual one. Answers the highest status.
-pub fn watch_files(host: &mut Host, first: usize, dashes: usize, count: usize, chunk: usize) -> u8
-    ensures { Status result }
+// Watches each file that the arguments name, as long as output can be written, in chunks of that size, if one is named. Answers the highest status.
+pub fn watch_files(host: &mut Host, w: Words, count: usize, chunk: Option<usize>) -> Ended
+    ensures { IfOk result Status }
 {
-    let size = size_of(chunk);
+    let size = chunk.unwrap_or(USUAL_CHUNK);
     let mut status: u8 = status::ACCEPTED;
-    let mut i = first;
-    while i < count {
-        let one = watch_argument(host, i, size);
-        if one == cabbook_output::UNWRITTEN {
-            return one;
-        }
-        if status < one {
-            status = one;
-        }
-        i = arguments::next_file(host, i + 1, dashes, count);
+    let mut next = arguments::first_file(host, w, count);
+    while let Some(i) = next {
+        status = status.max(watch_argument(host, i, size)?);
+        next = arguments::next_file(host, i + 1, w.dashes, count);
     }
-    status
+    Ok(status)
 }

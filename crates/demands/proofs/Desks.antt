@@ -16,17 +16,17 @@ use Rattle.desk_entries.specs.Search.{first_at, lowest_at}
 use Rattle.desk_slots.specs.Sound.{state_at, tick_at, bounds}
 use Rattle.desk_slots.specs.Slots.{open_at, free_at, idle_at, idle_of, at_position}
 use Rattle.desk.specs.Steps.{Sound, sound, Turned, refuse, refused, fresh_desk, new_step, slot_of, seen, reclaim_in, open_in, open_step, add_in, add_step, release_in, release_step, octets_in, show_step, held_in, held_step, judge_in, judge_step}
-use Rattle.desk_entries.specs.declared.tickets.Position.{Position}
-use Rattle.desk_entries.specs.declared.tickets.Position.TheVariants.{At, Nowhere, Barred}
+use Rattle.desk_entries.specs.Search.{Position}
+use Rattle.desk_entries.specs.Search.{At, Nowhere, Barred}
 use Rattle.desk_entries.specs.declared.Session.{Session}
 use Rattle.desk_entries.specs.declared.State.{State}
 use Rattle.desk_entries.specs.declared.State.TheVariants.{Free, Open}
-use Rattle.desk_slots.specs.declared.Slot.{Slot}
-use Rattle.desk_slots.specs.declared.Slot.TheVariants.{Held, No}
+use Rattle.desk_slots.specs.Slots.{Slot}
+use Rattle.desk_slots.specs.Slots.{Held, No}
 use Rattle.desk.specs.declared.Desk.{Desk}
 use Rattle.desk.specs.declared.Turn.{Turn}
-use Rattle.desk.specs.declared.Answer.{Answer}
-use Rattle.desk.specs.declared.Answer.TheVariants.{Done, Refused}
+use Rattle.desk.specs.Answer.{Answer}
+use Rattle.desk.specs.Answer.{Done, Refused}
 use Rattle.desk_entries.proofs.Searches.{first_at_is, first_at_not, unbarred, LowestIs, lowest_at_is, lowest_at_not, lowest_unbarred}
 use Rattle.desk_slots.proofs.SoundLaws.{bounds_are, in_bounds}
 use Rattle.desk_slots.proofs.SlotLaws.{free_is, session_at, slot_inside}

@@ -8,8 +8,8 @@ use Rattle.reader.specs.Outcome.{judge_of, Taken, took}
 use Rattle.reader.specs.Outcome.{Verdict}
 use Rattle.reader.specs.Outcome.{Refused as Unread}
 use Rattle.desk.specs.Steps.{Turned, refuse as refuse_new, fresh_desk}
-use Rattle.desk.specs.declared.Answer.{Answer}
-use Rattle.desk.specs.declared.Answer.TheVariants.{Refused}
+use Rattle.desk.specs.Answer.{Answer}
+use Rattle.desk.specs.Answer.{Refused}
 use Rattle.desk.specs.declared.Desk.{Desk}
 use Rattle.desk.specs.declared.Turn.{Turn}
 use Rattle.desk_ledger.specs.Answers.{refused, verdict, wrote, said}

@@ -8,6 +8,8 @@ use lib.Dec.{eqb}
 use lib.ListN.{length}
 use borrow.Author.Tests.{eqb-true, eqb-false, eq-eqb, ne_eqb}
 use Rattle.octets.specs.Pick.{pick}
+use Rattle.numbers.specs.Refusals.{number}
+use Rattle.numbers.specs.declared.refusal.Reason.TheVariants.{TicketsUsedUp}
 use Rattle.numbers.specs.declared.refusal.Refusal.{Refusal}
 use Rattle.std.specs.Prelude.{Option, Some, None, Result, Ok, Err}
 use Rattle.desk_entries.specs.Search.{Position, At, Nowhere, Barred, place, first_at, same_as}
@@ -66,18 +68,18 @@ open_position d p m tick x e =
     go false b = refl
 
 -- a refusal at 0 leaves all as it is
-turned_refuse : (d : Desk) (p : List ℕ) (n : Refusal) → n.1 ≡ 0 → (t : Turn) → t ≡ refuse d n.0 n.1 → turned t p ≡ refused d p 0 n.0
+turned_refuse : (d : Desk) (p : List ℕ) (n : Refusal) → n.1 ≡ 0 → (t : Turn) → t ≡ refuse d n.0 n.1 → turned t p ≡ refused d p 0 (number n.0)
 turned_refuse d p n z t g = ap (λ (r : Turn). turned r p) g ∙ ap (λ (a : ℕ). turned (refuse d n.0 a) p) z
 
 module _ (d : Desk) (p : List ℕ) (m tick : ℕ) (x : Result (Option ℕ) Refusal) (e : position x ≡ position_of d.entries d.slots d.next d.stamps d.tick (length p) 0) where
   pub open_barred : (n : Refusal) → x ≡ Err n → n.1 ≡ 0 → (t : Turn) → t ≡ refuse d n.0 n.1 → turned t p ≡ open_step d p m tick
-  open_barred n f z t g = turned_refuse d p n z t g ∙ open_position d p m tick (Barred n.0) (sym e ∙ ap position f)
+  open_barred n f z t g = turned_refuse d p n z t g ∙ open_position d p m tick (Barred (number n.0)) (sym e ∙ ap position f)
 
   open_found : (o : Option ℕ) → x ≡ Ok o → pick (eqb d.next 4294967295) (refused d p 0 21) (open_in d p m (seen d tick) (place o)) ≡ open_step d p m tick
   open_found None f = open_position d p m tick Nowhere (sym e ∙ ap position f)
   open_found (Some i) f = open_position d p m tick (At i) (sym e ∙ ap position f)
 
-  pub open_used : (o : Option ℕ) → x ≡ Ok o → d.next ≡ 4294967295 → (t : Turn) → t ≡ refuse d 21 0 → turned t p ≡ open_step d p m tick
+  pub open_used : (o : Option ℕ) → x ≡ Ok o → d.next ≡ 4294967295 → (t : Turn) → t ≡ refuse d TicketsUsedUp 0 → turned t p ≡ open_step d p m tick
   open_used o f n t g = ap (λ (r : Turn). turned r p) g ∙ (rw (eq-eqb d.next 4294967295 n) at (open_found o f))
 
   pub open_left : (o : Option ℕ) → x ≡ Ok o → (d.next ≡ 4294967295 → ⊥) → open_in d p m (seen d tick) (place o) ≡ open_step d p m tick

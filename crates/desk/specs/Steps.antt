@@ -2,6 +2,8 @@
 use Rattle.std.specs.Prelude.{ℕ, ◌+◌, ◌*◌, ◌<◌, ◌≤◌, Bool, List, [], Ok, Err, ltb, eqb, length, set, replicate}
 use Rattle.numbers.specs.Limits as limit
 use Rattle.numbers.specs.Refusals as refusal
+use Rattle.numbers.specs.declared.refusal.Reason.{Reason}
+use Rattle.numbers.specs.declared.refusal.Reason.TheVariants.{SlotCount}
 use Rattle.octets.specs.Pick.{pick}
 use Rattle.reader.specs.Outcome.{judge_of}
 use Rattle.reader.specs.Outcome.{Verdict}
@@ -13,12 +15,17 @@ use Rattle.desk_slots.specs.Slots.{Slot, Held, No, guarded as guarded_entries, f
 use Rattle.desk_entries.specs.declared.Session.{Session}
 use Rattle.desk_entries.specs.declared.State.{State}
 use Rattle.desk_entries.specs.declared.State.TheVariants.{Free, Open}
+use Rattle.desk_slots.specs.declared.Table.{Table}
 use Rattle.desk_pool.specs.Pools.{patch, zeros, Part, part_of}
 use Rattle.desk.specs.declared.Desk.{Desk}
 use Rattle.desk.specs.Answer.{Answer, Done, Refused, answer}
 use Rattle.desk.specs.declared.Turn.{Turn}
 
 -- ---- a sound desk, and the slot of a ticket
+
+-- what is known of its slots
+abbrev pub table : Desk → Table
+table d = record { entries = d.entries; stamps = d.stamps; slots = d.slots; next = d.next; tick = d.tick }
 
 abbrev pub Sound : Desk → Type 0
 Sound d = SoundAt d.entries d.slots d.next d.stamps d.tick
@@ -54,11 +61,11 @@ abbrev pub turned : Turn → List ℕ → Turned
 turned r p = record { answer = answer r.answer; desk = r.desk; pool = p }
 
 -- a refusal's number and place; it changes nothing
-abbrev pub refuse : Desk → ℕ → ℕ → Turn
+abbrev pub refuse : Desk → Reason → ℕ → Turn
 refuse d n at = record { answer = Err (record { 0 = n; 1 = at }); desk = d }
 
 abbrev pub refused : Desk → List ℕ → ℕ → ℕ → Turned
-refused d p at n = turned (refuse d n at) p
+refused d p at n = record { answer = Refused n at; desk = d; pool = p }
 
 -- ---- a new desk
 
@@ -66,7 +73,7 @@ abbrev pub fresh_desk : ℕ → Desk
 fresh_desk n = record { entries = replicate limit.slots none; slots = n; next = 1; tick = 0; stamps = replicate limit.slots 0 }
 
 unfoldable pub new_step : ℕ → Turn
-new_step n = pick (bounds n 1) (record { answer = Ok 0; desk = fresh_desk n }) (refuse (fresh_desk 0) refusal.slot_count 0)
+new_step n = pick (bounds n 1) (record { answer = Ok 0; desk = fresh_desk n }) (refuse (fresh_desk 0) SlotCount 0)
 
 -- ---- open
 

@@ -7,10 +7,10 @@ ghost use Rattle.reader.specs.Outcome.{verdict};
 ghost use Rattle.desk_pool.specs.Pools.{Lies};
 ghost use Rattle.desk_slots.specs.Slots.{found, Within};
 ghost use Rattle.desk.specs.Answer.{answer};
-ghost use Rattle.desk.specs.Steps.{refuse, grant, stamped, slot_of, idle_slot, turned, new_step, Takes, begun, reclaim_in, open_step, add_step, release_step, held_step, judge_step, show_step};
+ghost use Rattle.desk.specs.Steps.{table, refuse, grant, stamped, slot_of, idle_slot, turned, new_step, Takes, begun, reclaim_in, open_step, add_step, release_step, held_step, judge_step, show_step};
 
 use desk_entries::{Entry, Session, State, ticks};
-use desk_slots::Found;
+use desk_slots::{Found, Table};
 use numbers::refusal::{Reason, Refusal};
 use numbers::limit;
 use reader::Verdict;
@@ -96,15 +96,26 @@ impl Desk {
         self
     }
 
+    // Tells what is known of its slots.
+    fn table(self) -> Table
+        ensures { result ≡ table self }
+    {
+        Table {
+            entries: self.entries,
+            stamps: self.stamps,
+            slots: self.slots,
+            next: self.next,
+            tick: self.tick,
+        }
+    }
+
     // Finds the slot of a ticket in a pool of that size, or refuses with 25, 24 or 22.
     fn at_ticket(self, size: usize, t: u32) -> Result<Found, Refusal>
         ensures slot { found result ≡ slot_of self size t }
         ensures within { Within size (found result) }
         ensures start { IfErr result (λ r. r.1 ≡ 0) }
     {
-        let es = self.entries;
-        let stamps = self.stamps;
-        desk_slots::at_ticket(es, self.slots, self.next, &stamps, self.tick, size, t)
+        self.table().at_ticket(size, t)
     }
 
     // Opens an upload for a tram in slot i and answers its ticket.
@@ -127,9 +138,7 @@ impl Desk {
         requires { Takes self pool.old }
         ensures { turned result pool.new ≡ reclaim_in self pool.old tram tick (idle_slot self tick) }
     {
-        let es = self.entries;
-        let stamps = self.stamps;
-        let Some(slot) = desk_slots::find_idle(es, self.slots, &stamps, tick) else {
+        let Some(slot) = self.table().find_idle(tick) else {
             return self.refuse(Refusal(Reason::NoFreeSlot, 0));
         };
         desk_pool::clear(pool, slot);
@@ -140,9 +149,7 @@ impl Desk {
     pub fn open(self, pool: &mut [u8], tram: u32, tick: u32) -> Turn
         ensures { turned result pool.new ≡ open_step self pool.old tram tick }
     {
-        let es = self.entries;
-        let stamps = self.stamps;
-        match desk_slots::find_slot(es, self.slots, self.next, &stamps, self.tick, pool.len()) {
+        match self.table().find_slot(pool.len()) {
             Err(r) => self.refuse(r),
             Ok(free) => {
                 if self.next == limit::TICKETS {
@@ -164,12 +171,9 @@ impl Desk {
     {
         match self.at_ticket(pool.len(), t) {
             Err(r) => self.refuse(r),
-            Ok(
-                Found {
-                    slot: i,
-                    session: o,
-                },
-            ) => {
+            Ok(at) => {
+                let i = at.slot;
+                let o = at.session;
                 let h = o.held as usize;
                 if chunk.len() > limit::OCTETS - h {
                     return self.refuse(Refusal(Reason::SlotFull, h));

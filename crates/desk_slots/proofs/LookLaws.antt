@@ -11,11 +11,13 @@ use lib.Seq.{get_or-set_other}
 use borrow.Author.Tests.{eqb-true, eqb-false, eq-eqb, ne_eqb, le-ltb, lt-ltb}
 use Rattle.octets.specs.Pick.{pick}
 use Rattle.std.specs.Prelude.{Option, Some, None, Result, Ok, Err, ok_or}
+use Rattle.numbers.specs.Refusals.{number}
+use Rattle.numbers.specs.declared.refusal.Reason.TheVariants.{NotOpen, PoolLength, Unsound}
 use Rattle.numbers.specs.declared.refusal.Refusal.{Refusal}
 use Rattle.desk_entries.specs.Search.{Position, At, Nowhere, Barred, first_at, all_at, any_at, column, among, AtMost, longer, leading}
 use Rattle.desk_entries.specs.Ticks.{higher, ahead_by}
 use Rattle.desk_slots.specs.Sound.{state_at, Sound, ticket_at, fits_at, good_at, bounds, sound, ahead_in, sound_at}
-use Rattle.desk_slots.specs.Slots.{Slot, Held, No, found, free_at, open_at, at_position, position_of, slot_of, met, latest, look_in, look_of, barred, seen_of}
+use Rattle.desk_slots.specs.Slots.{Slot, Held, No, found, free_at, open_at, at_position, position_of, slot_of, met, latest, look_in, look_of, seen_of}
 use Rattle.desk_entries.proofs.Searches.{clash, first_at_is, first_at_not, unbarred, all_at_none, all_at_hit, all_at_miss, any_at_none, any_at_more, any_at_some, leading_none, leading_more, leading_there, leading_not}
 use Rattle.desk_slots.proofs.SoundLaws.{fits_fit, unfit, repeated, good, sound_at_lem}
 use Rattle.desk_slots.proofs.SlotLaws.{Begun, begun_none, begun_more, begun_among, most_more, session_at, free_position}
@@ -190,7 +192,7 @@ abbrev pub or_not_open : Option Found → Slot
 or_not_open None = No 22
 or_not_open (Some f) = Held f.slot f.session
 
-pub or_22 : (f : Option Found) → or_not_open f ≡ found (ok_or f (record { 0 = 22; 1 = 0 }))
+pub or_22 : (f : Option Found) → or_not_open f ≡ found (ok_or f (record { 0 = NotOpen; 1 = 0 }))
 or_22 None = refl
 or_22 (Some f) = refl
 
@@ -241,7 +243,7 @@ module _ (es : List Entry) (slots next : ℕ) (ks : List ℕ) (tick size t : ℕ
     pub seen_few : slots ≤ 40
     seen_few = few_slots es slots next ks tick (seen_sound es slots next ks tick t (Some r) e r refl).0
 
-    pub seen_unsized : (size ≡ slots * 16384 → ⊥) → ◌≡◌ {A = Result Look Refusal} (barred 24) (seen_of es slots next ks tick size t)
+    pub seen_unsized : (size ≡ slots * 16384 → ⊥) → ◌≡◌ {A = Result Look Refusal} (Err (record { 0 = PoolLength; 1 = 0 })) (seen_of es slots next ks tick size t)
     unfolding seen_of
     seen_unsized n = rw ((seen_sound es slots next ks tick t (Some r) e r refl).0, ne_eqb size (slots * 16384) n)
 
@@ -251,14 +253,14 @@ module _ (es : List Entry) (slots next : ℕ) (ks : List ℕ) (tick size t : ℕ
         let s = seen_sound es slots next ks tick t (Some r) e r refl in
         rw (s.0, eq-eqb size (slots * 16384) n, s.1)
 
-  pub unseen : None ≡ look_of es slots next ks tick t → ◌≡◌ {A = Result Look Refusal} (barred 25) (seen_of es slots next ks tick size t)
+  pub unseen : None ≡ look_of es slots next ks tick t → ◌≡◌ {A = Result Look Refusal} (Err (record { 0 = Unsound; 1 = 0 })) (seen_of es slots next ks tick size t)
   unfolding seen_of
   unseen e = rw (seen_unsound es slots next ks tick t None e refl)
 
   -- a look that is barred, or one along a sound desk
   module _ (x : Result Look Refusal) (e : x ≡ seen_of es slots next ks tick size t) where
     abbrev Sees : Bool → Bool → Type 0
-    Sees a b = pick {A = Result Look Refusal} a (pick b (Ok (look_in es t)) (barred 24)) (barred 25) ≡ x
+    Sees a b = pick {A = Result Look Refusal} a (pick b (Ok (look_in es t)) (Err (record { 0 = PoolLength; 1 = 0 }))) (Err (record { 0 = Unsound; 1 = 0 })) ≡ x
 
     sees : Sees (sound_at es slots next ks tick) (eqb size (slots * 16384))
     unfolding seen_of
@@ -269,17 +271,17 @@ module _ (es : List Entry) (slots next : ℕ) (ks : List ℕ) (tick size t : ℕ
       where
         go : (a b : Bool) → Sees a b → r.1 ≡ 0
         go true true q = clash cc
-        go true false q = cc
-        go false b q = cc
+        go true false q = let w : r ≡ record { 0 = PoolLength; 1 = 0 } = cc in rw w
+        go false b q = let w : r ≡ record { 0 = Unsound; 1 = 0 } = cc in rw w
 
-    pub slot_barred : (r : Refusal) → x ≡ Err r → No r.0 ≡ slot_of es slots next ks tick size t
+    pub slot_barred : (r : Refusal) → x ≡ Err r → No (number r.0) ≡ slot_of es slots next ks tick size t
     unfolding slot_of
     slot_barred r f = go (sound_at es slots next ks tick) (eqb size (slots * 16384)) sees
       where
-        go : (a b : Bool) → Sees a b → No r.0 ≡ pick a (pick b (at_position es (first_at (open_at es t) 0 40)) (No 24)) (No 25)
+        go : (a b : Bool) → Sees a b → No (number r.0) ≡ pick a (pick b (at_position es (first_at (open_at es t) 0 40)) (No 24)) (No 25)
         go true true q = clash cc
-        go true false q = cc
-        go false b q = cc
+        go true false q = let w : r ≡ record { 0 = PoolLength; 1 = 0 } = cc in rw w
+        go false b q = let w : r ≡ record { 0 = Unsound; 1 = 0 } = cc in rw w
 
     pub slot_seen : (r : Look) → x ≡ Ok r → or_not_open r.found ≡ slot_of es slots next ks tick size t
     unfolding slot_of
@@ -291,13 +293,13 @@ module _ (es : List Entry) (slots next : ℕ) (ks : List ℕ) (tick size t : ℕ
         go false p b q = clash cc
 
 module _ (es : List Entry) (slots next : ℕ) (ks : List ℕ) (tick size : ℕ) (x : Result Look Refusal) (e : x ≡ seen_of es slots next ks tick size 0) where
-  pub position_barred : (r : Refusal) → x ≡ Err r → Barred r.0 ≡ position_of es slots next ks tick size 0
+  pub position_barred : (r : Refusal) → x ≡ Err r → Barred (number r.0) ≡ position_of es slots next ks tick size 0
   position_barred r f = rw (free_position es slots next ks tick size) (go (sound_at es slots next ks tick) (eqb size (slots * 16384)) (sees es slots next ks tick size 0 x e))
     where
-      go : (a b : Bool) → Sees es slots next ks tick size 0 x e a b → Barred r.0 ≡ pick a (pick b (first_at (free_at es) 0 slots) (Barred 24)) (Barred 25)
+      go : (a b : Bool) → Sees es slots next ks tick size 0 x e a b → Barred (number r.0) ≡ pick a (pick b (first_at (free_at es) 0 slots) (Barred 24)) (Barred 25)
       go true true q = clash cc
-      go true false q = cc
-      go false b q = cc
+      go true false q = let w : r ≡ record { 0 = PoolLength; 1 = 0 } = cc in rw w
+      go false b q = let w : r ≡ record { 0 = Unsound; 1 = 0 } = cc in rw w
 
   module _ (r : Look) (f : x ≡ Ok r) where
     seen_free : (p : Position) → (slots ≤ 40 → r ≡ look_in es 0 → p ≡ first_at (free_at es) 0 slots) → p ≡ position_of es slots next ks tick size 0

@@ -7,6 +7,8 @@ use Rattle.octets.specs.Pick.{pick}
 use Rattle.desk_entries.specs.Search.{Position, At, Nowhere, Barred, place, first_at, same_as, lowest_at, leading}
 use Rattle.desk_entries.specs.Ticks.{idle_ticket}
 use Rattle.desk_slots.specs.Sound.{state_at, ticket_at, tick_at, sound_at}
+use Rattle.numbers.specs.Refusals.{number}
+use Rattle.numbers.specs.declared.refusal.Reason.TheVariants.{PoolLength, Unsound}
 use Rattle.numbers.specs.declared.refusal.Refusal.{Refusal}
 use Rattle.desk_entries.specs.declared.Session.{Session}
 use Rattle.desk_entries.specs.declared.State.{State}
@@ -23,12 +25,12 @@ pub data Slot : Type 0 where
 -- the same of a result
 abbrev pub found : Result Found Refusal → Slot
 found (Ok f) = Held f.slot f.session
-found (Err r) = No r.0
+found (Err r) = No (number r.0)
 
 -- a position, or the refusal that bars a call
 abbrev pub position : Result (Option ℕ) Refusal → Position
 position (Ok o) = place o
-position (Err r) = Barred r.0
+position (Err r) = Barred (number r.0)
 
 -- 25 where the desk is not sound, then 24 where the pool has another size, else a
 abbrev pub guarded : {A : Type 0} → List Entry → ℕ → ℕ → List ℕ → ℕ → ℕ → (ℕ → A) → A → A
@@ -93,13 +95,10 @@ look_in es t = record { found = latest es t limit.slots; run = leading (free_at 
 unfoldable pub look_of : List Entry → ℕ → ℕ → List ℕ → ℕ → ℕ → Option Look
 look_of es slots next stamps tick t = pick (sound_at es slots next stamps tick) (Some (look_in es t)) None
 
--- a refusal, at 0
-abbrev pub barred : {A : Type 0} → ℕ → Result A Refusal
-barred n = Err (record { 0 = n; 1 = 0 })
-
 -- 25, 24, or what a look tells
 unfoldable pub seen_of : List Entry → ℕ → ℕ → List ℕ → ℕ → ℕ → ℕ → Result Look Refusal
-seen_of es slots next stamps tick size t = guarded es slots next stamps tick size barred (Ok (look_in es t))
+seen_of es slots next stamps tick size t =
+    pick (sound_at es slots next stamps tick) (pick (eqb size (slots * limit.octets)) (Ok (look_in es t)) (Err (record { 0 = PoolLength; 1 = 0 }))) (Err (record { 0 = Unsound; 1 = 0 }))
 
 -- slot i lies within the desk and its pool of that size, and the octets held within the slot
 pub record Bounded (size i : ℕ) (s : Session) : Type 0 where

@@ -10,8 +10,18 @@ ghost use Rattle.desk_slots.specs.Slots.{position, position_of, idle_of, found, 
 
 use desk_entries::tickets::Lowest;
 use desk_entries::{Entry, Session, State, tickets, ticks};
-use numbers::refusal::{Reason, Refusal};
 use numbers::limit;
+use numbers::refusal::{Reason, Refusal};
+
+// What is known of a desk's slots: their entries with the tick of each, their count, the next ticket and the desk's tick.
+#[derive(Clone, Copy, Debug, PartialEq, Eq)]
+pub struct Table {
+    pub entries: [Entry; limit::SLOTS],
+    pub stamps: [u32; limit::SLOTS],
+    pub slots: usize,
+    pub next: u32,
+    pub tick: u32,
+}
 
 // The slot of a ticket, and its session.
 #[derive(Clone, Copy, Debug, PartialEq, Eq)]
@@ -45,117 +55,84 @@ fn met(found: Option<Found>, i: usize, session: Session, t: u32) -> Option<Found
     found
 }
 
-// Looks along the entries once, and tells what it sees of a sound desk.
-fn look_along(
-    entries: [Entry; limit::SLOTS],
-    slots: usize,
-    next: u32,
-    stamps: &[u32; limit::SLOTS],
-    tick: u32,
-    t: u32,
-) -> Option<Look>
-    ensures { result ≡ look_of entries slots next stamps.now tick t }
-{
-    if !in_bounds(slots, next) {
-        return None;
+impl Table {
+    // Looks along the entries once, and tells what it sees of a sound desk.
+    fn look_along(&self, t: u32) -> Option<Look>
+        ensures { result ≡ look_of self.now.entries self.now.slots self.now.next self.now.stamps self.now.tick t }
+    {
+        if !in_bounds(self.slots, self.next) {
+            return None;
+        }
+        let mut ts = [0u32; limit::SLOTS];
+        let mut highest: u32 = 0;
+        let mut found = None;
+        let mut run: usize = 0;
+        for i in 0..limit::SLOTS {
+            let State::Open(session) = self.entries[i].state else {
+                continue;
+            };
+            if !desk_entries::fits(self.entries[i], i, self.slots, self.next) {
+                return None;
+            }
+            if self.tick < self.stamps[i] {
+                return None;
+            }
+            if tickets::repeats(&ts, session.ticket, i, highest) {
+                return None;
+            }
+            ts[i] = session.ticket;
+            highest = ticks::higher(highest, session.ticket);
+            found = met(found, i, session, t);
+            run = tickets::longer(run, i);
+        }
+        Some(Look { found, run })
     }
-    let mut ts = [0u32; limit::SLOTS];
-    let mut highest: u32 = 0;
-    let mut found = None;
-    let mut run: usize = 0;
-    for i in 0..limit::SLOTS {
-        let State::Open(session) = entries[i].state else {
-            continue;
+
+    // Looks along the entries of a sound desk whose pool has its size, or refuses with 25 or 24.
+    fn checked_look(&self, size: usize, t: u32) -> Result<Look, Refusal>
+        ensures { result ≡ seen_of self.now.entries self.now.slots self.now.next self.now.stamps self.now.tick size t }
+    {
+        let Some(seen) = self.look_along(t) else {
+            return Err(Refusal(Reason::Unsound, 0));
         };
-        if !desk_entries::fits(entries[i], i, slots, next) {
-            return None;
+        if size != self.slots * limit::OCTETS {
+            return Err(Refusal(Reason::PoolLength, 0));
         }
-        if tick < stamps[i] {
-            return None;
+        Ok(seen)
+    }
+
+    // Finds the lowest free slot, or refuses with 25 or 24.
+    pub fn find_slot(&self, size: usize) -> Result<Option<usize>, Refusal>
+        ensures value { position result ≡ position_of self.now.entries self.now.slots self.now.next self.now.stamps self.now.tick size 0 }
+        ensures start { IfErr result (λ r. r.1 ≡ 0) }
+    {
+        let seen = self.checked_look(size, 0)?;
+        if seen.run < self.slots {
+            return Ok(Some(seen.run));
         }
-        if tickets::repeats(&ts, session.ticket, i, highest) {
-            return None;
+        Ok(None)
+    }
+
+    // Finds the idle slot with the lowest ticket, when the desk's tick is `now`.
+    pub fn find_idle(&self, now: u32) -> Option<usize>
+        requires { self.now.slots ≤ limit.slots }
+        ensures { place result ≡ idle_of self.now.entries self.now.slots self.now.stamps now }
+    {
+        let mut lowest: Option<Lowest> = None;
+        for i in 0..self.slots {
+            let ticket = desk_entries::idle_ticket(self.entries[i], self.stamps[i], now);
+            lowest = tickets::lower(lowest, ticket, i);
         }
-        ts[i] = session.ticket;
-        highest = ticks::higher(highest, session.ticket);
-        found = met(found, i, session, t);
-        run = tickets::longer(run, i);
+        lowest.map(|found| found.at)
     }
-    Some(Look { found, run })
-}
 
-// Looks along the entries of a sound desk whose pool has its size, or refuses with 25 or 24.
-fn checked_look(
-    entries: [Entry; limit::SLOTS],
-    slots: usize,
-    next: u32,
-    stamps: &[u32; limit::SLOTS],
-    tick: u32,
-    size: usize,
-    t: u32,
-) -> Result<Look, Refusal>
-    ensures { result ≡ seen_of entries slots next stamps.now tick size t }
-{
-    let Some(seen) = look_along(entries, slots, next, stamps, tick, t) else {
-        return Err(Refusal(Reason::Unsound, 0));
-    };
-    if size != slots * limit::OCTETS {
-        return Err(Refusal(Reason::PoolLength, 0));
+    // Finds the slot of a ticket, or refuses with 25, 24 or 22.
+    pub fn at_ticket(&self, size: usize, t: u32) -> Result<Found, Refusal>
+        ensures slot { found result ≡ slot_of self.now.entries self.now.slots self.now.next self.now.stamps self.now.tick size t }
+        ensures within { Within size (found result) }
+        ensures start { IfErr result (λ r. r.1 ≡ 0) }
+    {
+        let seen = self.checked_look(size, t)?;
+        seen.found.ok_or(Refusal(Reason::NotOpen, 0))
     }
-    Ok(seen)
-}
-
-// Finds the lowest free slot, or refuses with 25 or 24.
-pub fn find_slot(
-    entries: [Entry; limit::SLOTS],
-    slots: usize,
-    next: u32,
-    stamps: &[u32; limit::SLOTS],
-    tick: u32,
-    size: usize,
-) -> Result<Option<usize>, Refusal>
-    ensures value { position result ≡ position_of entries slots next stamps.now tick size 0 }
-    ensures start { IfErr result (λ r. r.1 ≡ 0) }
-{
-    let seen = checked_look(entries, slots, next, stamps, tick, size, 0)?;
-    if seen.run < slots {
-        return Ok(Some(seen.run));
-    }
-    Ok(None)
-}
-
-// Finds the idle slot with the lowest ticket.
-pub fn find_idle(
-    entries: [Entry; limit::SLOTS],
-    slots: usize,
-    stamps: &[u32; limit::SLOTS],
-    at: u32,
-) -> Option<usize>
-    requires { slots ≤ limit.slots }
-    ensures { place result ≡ idle_of entries slots stamps.now at }
-{
-    let mut lowest: Option<Lowest> = None;
-    for i in 0..slots {
-        let ticket = desk_entries::idle_ticket(entries[i], stamps[i], at);
-        lowest = tickets::lower(lowest, ticket, i);
-    }
-    lowest.map(|found| found.at)
-}
-
-// Finds the slot of a ticket, or refuses with 25, 24 or 22.
-pub fn at_ticket(
-    entries: [Entry; limit::SLOTS],
-    slots: usize,
-    next: u32,
-    stamps: &[u32; limit::SLOTS],
-    tick: u32,
-    size: usize,
-    t: u32,
-) -> Result<Found, Refusal>
-    ensures slot { found result ≡ slot_of entries slots next stamps.now tick size t }
-    ensures within { Within size (found result) }
-    ensures start { IfErr result (λ r. r.1 ≡ 0) }
-{
-    let seen = checked_look(entries, slots, next, stamps, tick, size, t)?;
-    seen.found.ok_or(Refusal(Reason::NotOpen, 0))
 }

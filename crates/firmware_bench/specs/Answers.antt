@@ -5,8 +5,7 @@ use Rattle.octets.specs.Room.{Written}
 use Rattle.octets.specs.Room.{Wrote, Refused as Unwritten}
 use Rattle.reader.specs.Outcome.{Verdict}
 use Rattle.reader.specs.Outcome.{Accepted, Refused as Unread}
-use Rattle.desk.specs.declared.Answer.{Answer}
-use Rattle.desk.specs.declared.Answer.TheVariants.{Done, Refused}
+use Rattle.desk.specs.Answer.{Answer, Done, Refused}
 
 abbrev pub number : ℕ → ℕ
 number n = n * limit.word

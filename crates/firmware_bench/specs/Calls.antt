@@ -5,8 +5,7 @@ use Rattle.octets.specs.Pick.{pick}
 use Rattle.reader.specs.Outcome.{Verdict}
 use Rattle.reader.specs.Outcome.{Accepted, Refused as Unread}
 use Rattle.desk.specs.Steps.{Turned, turned, new_step, open_step, add_step, release_step, held_step, judge_step}
-use Rattle.desk.specs.declared.Answer.{Answer}
-use Rattle.desk.specs.declared.Answer.TheVariants.{Done, Refused}
+use Rattle.desk.specs.Answer.{Answer, Done, Refused}
 use Rattle.desk.specs.declared.Desk.{Desk}
 
 -- the ticket after t, and 1 after the last

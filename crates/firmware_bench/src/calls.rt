@@ -1,9 +1,12 @@
 // Calls of one kind to a desk, one after the other, in turn over its tickets.
 ghost use Rattle.std.specs.Prelude.{◌≡◌};
+ghost use Rattle.desk.specs.Answer.{answer};
 ghost use Rattle.desk.specs.Steps.{turned};
+ghost use Rattle.reader.specs.Outcome.{verdict};
 ghost use Rattle.firmware_bench.specs.Calls.{next_ticket, verdict_answer, call_step, run};
 
-use desk::{Answer, Desk, Turn};
+use desk::{Desk, Turn};
+use numbers::refusal::Refusal;
 use reader::Verdict;
 
 // The kinds of calls, as C numbers them; any other number judges.
@@ -19,20 +22,14 @@ const HELD: u32 = 3;
 fn next_ticket(t: u32, last: u32) -> u32
     ensures { result ≡ next_ticket t last }
 {
-    if t < last {
-        return t + 1;
-    }
-    1
+    if t < last { t + 1 } else { 1 }
 }
 
 // Turns a verdict into an answer as the desk's others are: the count of cards, or the refusal.
-fn verdict_answer(v: Verdict) -> Answer
-    ensures { result ≡ verdict_answer v }
+fn verdict_answer(v: Verdict) -> Result<usize, Refusal>
+    ensures { answer result ≡ verdict_answer (verdict v) }
 {
-    match v {
-        Verdict::Accepted(cards, _) => Answer::Done(cards),
-        Verdict::Refused(n, p) => Answer::Refused(n, p),
-    }
+    v.map(|counts| counts.cards)
 }
 
 // Makes one call of a kind, at tick 0.
@@ -60,12 +57,9 @@ pub fn run(first: Turn, pool: &mut [u8], chunk: &[u8], kind: u32, last: u32, n: 
 {
     let mut turn = first;
     let mut t: u32 = 1;
-    let mut i: usize = 0;
-    while i < n {
-        let d = turn.desk;
-        turn = call(d, pool, chunk, kind, t);
+    for _ in 0..n {
+        turn = call(turn.desk, pool, chunk, kind, t);
         t = next_ticket(t, last);
-        i += 1;
     }
     turn
 }

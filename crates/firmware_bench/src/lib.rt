@@ -4,6 +4,7 @@
 ghost use Rattle.std.specs.Prelude.{◌≡◌, ◌+◌, get_or};
 ghost use Rattle.numbers.specs.Counts as places;
 ghost use Rattle.numbers.specs.Properties as property;
+ghost use Rattle.octets.specs.Room.{written};
 ghost use Rattle.reader.specs.Outcome.{read_in};
 ghost use Rattle.property_table.specs.declared.Edition.TheVariants.{First};
 ghost use Rattle.report.specs.Steps.{fresh_report, take_step};
@@ -13,12 +14,11 @@ ghost use Rattle.label_carets.specs.declared.Rule.TheVariants.{Rfc6868};
 ghost use Rattle.firmware_bench.specs.Answers.{number, written_number, verdict_number, answer_number};
 ghost use Rattle.firmware_bench.specs.Calls.{served};
 
-use desk::{Answer, Desk};
+use desk::Desk;
 use label_carets::Rule;
+use numbers::refusal::Refusal;
 use numbers::{count, limit, property};
-use octets::rooms::Written;
 use property_table::Edition;
-use reader::Verdict;
 use report::Report;
 
 mod calls;
@@ -30,17 +30,23 @@ fn pack_refusal(n: u32) -> u64
     (n as u64) * limit::WORD
 }
 
+// Packs what is answered: the count, or the refusal.
+fn pack_count(r: Result<usize, Refusal>) -> u64
+    ensures { result ≡ written_number (written r) }
+{
+    match r {
+        Ok(n) => n as u64,
+        Err(Refusal(n, _)) => pack_refusal(n),
+    }
+}
+
 // Escapes a text: the count of octets written, or the refusal; the room is as escaping leaves it.
 #[unsafe(no_mangle)]
 pub extern "C" fn timed_escape(text: &[u8], out: &mut [u8]) -> u64
     ensures value { result ≡ written_number (escape_outcome text.now out.old).answer }
     ensures out_after { out.new ≡ (escape_outcome text.now out.old).room }
 {
-    let w = text::escape(text, out);
-    match w {
-        Written::Wrote(n) => n as u64,
-        Written::Refused(n, _) => pack_refusal(n),
-    }
+    pack_count(text::escape(text, out))
 }
 
 // Encodes a value by RFC 6868: the count of octets written, or the refusal; the room is as encoding leaves it.
@@ -49,11 +55,7 @@ pub extern "C" fn timed_encode(value: &[u8], out: &mut [u8]) -> u64
     ensures value { result ≡ written_number (encode_outcome Rfc6868 value.now out.old).answer }
     ensures out_after { out.new ≡ (encode_outcome Rfc6868 value.now out.old).room }
 {
-    let w = label::encode(Rule::Rfc6868, value, out);
-    match w {
-        Written::Wrote(n) => n as u64,
-        Written::Refused(n, _) => pack_refusal(n),
-    }
+    pack_count(label::encode(Rule::Rfc6868, value, out))
 }
 
 // Decodes a label by RFC 6868: the count of octets written, or the refusal; the room is as decoding leaves it.
@@ -62,11 +64,7 @@ pub extern "C" fn timed_decode(label: &[u8], out: &mut [u8]) -> u64
     ensures value { result ≡ written_number (decode_outcome Rfc6868 label.now out.old).answer }
     ensures out_after { out.new ≡ (decode_outcome Rfc6868 label.now out.old).room }
 {
-    let w = label::decode(Rule::Rfc6868, label, out);
-    match w {
-        Written::Wrote(n) => n as u64,
-        Written::Refused(n, _) => pack_refusal(n),
-    }
+    pack_count(label::decode(Rule::Rfc6868, label, out))
 }
 
 // Reads an input: the count of cards, or the refusal; the rooms are as the reader leaves them.
@@ -76,10 +74,9 @@ pub extern "C" fn timed_read(input: &[u8], copy: &mut [u8], records: &mut [u32])
     ensures copy_after { copy.new ≡ (read_in First input.now copy.old records.old).copy }
     ensures records_after { records.new ≡ (read_in First input.now copy.old records.old).records }
 {
-    let v = reader::read(Edition::First, input, copy, records);
-    match v {
-        Verdict::Accepted(cards, _) => cards as u64,
-        Verdict::Refused(n, _) => pack_refusal(n),
+    match reader::read(Edition::First, input, copy, records) {
+        Ok(counts) => counts.cards as u64,
+        Err(Refusal(n, _)) => pack_refusal(n),
     }
 }
 
@@ -89,9 +86,8 @@ pub extern "C" fn timed_take(input: &[u8]) -> u64
     ensures { result ≡ get_or (take_step fresh_report input.now).report.counts (places.properties + property.begin) 0 }
 {
     let fresh = Report::new();
-    let t = fresh.take(input);
-    let next = t.report;
-    let counts = next.counts;
+    let taken = fresh.take(input);
+    let counts = taken.report.counts;
     counts[count::PROPERTIES + property::BEGIN] as u64
 }
 
@@ -112,9 +108,5 @@ pub extern "C" fn timed_desk(
     let opened = calls::run(fresh, pool, chunk, calls::OPEN, opens, opens as usize);
     let ready = calls::run(opened, pool, chunk, calls::ADD, opens, adds);
     let done = calls::run(ready, pool, chunk, kind, opens, n);
-    let a = done.answer;
-    match a {
-        Answer::Done(count) => count as u64,
-        Answer::Refused(number, _) => pack_refusal(number),
-    }
+    pack_count(done.answer)
 }

@@ -2,11 +2,12 @@
 #![tactic(auto)]
 
 ghost use Rattle.std.specs.Prelude.{◌≡◌};
+ghost use Rattle.octets.specs.Room.{written};
 ghost use Rattle.version3.specs.Outcome.{take_outcome, give_outcome};
 ghost use Rattle.firmware_version3.specs.Answers.{number, written_number};
 
 use numbers::limit;
-use octets::rooms::Written;
+use numbers::refusal::Refusal;
 
 // Packs a refusal's number above all counts.
 fn pack_refusal(n: u32) -> u64
@@ -15,17 +16,23 @@ fn pack_refusal(n: u32) -> u64
     (n as u64) * limit::WORD
 }
 
+// Packs what is answered: the count of octets written, or the refusal.
+fn pack_written(r: Result<usize, Refusal>) -> u64
+    ensures { result ≡ written_number (written r) }
+{
+    match r {
+        Ok(n) => n as u64,
+        Err(Refusal(n, _)) => pack_refusal(n),
+    }
+}
+
 // Takes in a card of version 3: the count of octets written, or the refusal; the room is as taking in leaves it.
 #[unsafe(no_mangle)]
 pub extern "C" fn timed_take_in(input: &[u8], out: &mut [u8]) -> u64
     ensures value { result ≡ written_number (take_outcome input.now out.old).answer }
     ensures out_after { out.new ≡ (take_outcome input.now out.old).room }
 {
-    let w = version3::take_in(input, out);
-    match w {
-        Written::Wrote(n) => n as u64,
-        Written::Refused(n, _) => pack_refusal(n),
-    }
+    pack_written(version3::take_in(input, out))
 }
 
 // Gives out a card as one of version 3: the count of octets written, or the refusal; the room is as giving out leaves it.
@@ -34,9 +41,5 @@ pub extern "C" fn timed_give_out(input: &[u8], out: &mut [u8]) -> u64
     ensures value { result ≡ written_number (give_outcome input.now out.old).answer }
     ensures out_after { out.new ≡ (give_outcome input.now out.old).room }
 {
-    let w = version3::give_out(input, out);
-    match w {
-        Written::Wrote(n) => n as u64,
-        Written::Refused(n, _) => pack_refusal(n),
-    }
+    pack_written(version3::give_out(input, out))
 }

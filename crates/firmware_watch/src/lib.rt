@@ -2,10 +2,11 @@
 #![tactic(auto)]
 
 ghost use Rattle.std.specs.Prelude.{◌≡◌};
-ghost use Rattle.reader.specs.Outcome.{judge_of};
+ghost use Rattle.reader.specs.Outcome.{judge_of, verdict};
 ghost use Rattle.firmware_watch.specs.Answers.{number, verdict_number};
 
 use numbers::limit;
+use numbers::refusal::Refusal;
 use reader::Verdict;
 
 mod chunks;
@@ -19,11 +20,11 @@ fn pack_refusal(n: u32) -> u64
 
 // Packs a verdict: the count of cards, or the refusal.
 fn pack_verdict(v: Verdict) -> u64
-    ensures { result ≡ verdict_number v }
+    ensures { result ≡ verdict_number (verdict v) }
 {
     match v {
-        Verdict::Accepted(cards, _) => cards as u64,
-        Verdict::Refused(n, _) => pack_refusal(n),
+        Ok(counts) => counts.cards as u64,
+        Err(Refusal(n, _)) => pack_refusal(n),
     }
 }
 

@@ -10,7 +10,6 @@ ghost use Rattle.label_carets.specs.declared.Rule.TheVariants.{Rfc6350, Rfc6868}
 ghost use Rattle.label.specs.Outcomes.{unwritable, sayable, encode_outcome, decode_outcome};
 
 use label_carets::Rule;
-use numbers::limit;
 use numbers::refusal::{Reason, Refusal};
 use utf8_screening::texts;
 
@@ -37,16 +36,8 @@ fn encode_each(value: &[u8], out: &mut [u8]) -> Result<usize, Refusal>
     requires { length value.now ≤ limit.octets }
     ensures { filled (written result) out.new ≡ fill_bounded (encoded Rfc6868 value.now) out.old }
 {
-    let n = value.len() + label_marks::count_marks(value, b'\n', b'"');
-    if limit::OCTETS < n {
-        return Err(Refusal(Reason::FormTooLong, limit::OCTETS));
-    }
-    if out.len() < n {
-        return Err(Refusal(Reason::Room, n));
-    }
-    let t = label_carets::letters();
-    text_escaping::write(&t, b'^', value, out);
-    Ok(n)
+    let pairs = label_marks::count_marks(value, b'\n', b'"');
+    text::put_coded(&label_carets::letters(), b'^', value, pairs, out)
 }
 
 // Writes a value as a label, or refuses with TOO_LONG, TEXT_OCTET, NO_LABEL, FORM_TOO_LONG or ROOM.

@@ -1,19 +1,16 @@
--- Octets that are no CR, one and sixteen at a time, and the library's search for a CR. Assumes nothing.
-use mathlib.Core.Path.{◌≡◌, refl, sym, ap, ◌∙◌}
-use mathlib.Core.Bool.{Bool, true, false, not, cond, true≢false}
-use mathlib.Core.List.{List, [], ◌∷◌}
+-- Octets that are no CR, one and sixteen at a time. Assumes nothing.
+use mathlib.Core.Path.{◌≡◌, sym, ap, ◌∙◌}
+use mathlib.Core.Bool.{Bool, true, false, not, true≢false}
+use mathlib.Core.List.{List}
 use Prim.Native.Nat.{ℕ, zero, suc, ◌+◌, ◌<◌, ◌≤◌}
 use native.Mathlib.Nat.{add-zero}
 use native.Mathlib.Omega.{arith}
-use lib.Dec.{eqb, ltb}
+use lib.Dec.{eqb}
 use lib.Bits.{bit_or}
 use lib.ListN.{length, get_or, drop}
 use borrow.Author.Tests.{eq-eqb, ne_eqb}
 use mir.Val.{bool_byte}
-use Rattle.std.proofs.Common.{Option, None, Some}
-use Rattle.std.specs.List.{position_or_len}
-use Rattle.std.proofs.lemmas.Grind.{common_steps}
-use Rattle.octets.specs.Classes.{run, more}
+use Rattle.octets.specs.Classes.{run}
 use Rattle.line_folds.specs.Folds.{not_cr}
 use Rattle.octets.proofs.BitLaws.{byte_no, or_zero_right}
 use Rattle.octets.proofs.Runs.{run_step}
@@ -38,32 +35,3 @@ run_many p s i (suc n) h all =
     run_many p s i n (omega arith) (λ k l. all k (omega arith))
     ∙ run_step p s (i + n) (omega arith) (all n (omega arith))
     ∙ ap (λ (m : ℕ). m + run p (drop m s)) e
-
--- the run before the first CR is what the library's search counts
-run_is : (l : List ℕ) → run not_cr l ≡ position_or_len (λ (b : ℕ). eqb b 13) l
-unfolding run not_cr
-run_is [] = refl
-run_is (x ∷ xs) = step (eqb x 13) (run_is xs)
-  where
-    step : (t : Bool) → {m n : ℕ} → m ≡ n → more (not t) m ≡ cond (not t) (1 + n) 0
-    step true e = refl
-    step false e = omega arith
-
-run_le : (l : List ℕ) → run not_cr l ≤ length l
-unfolding run not_cr
-run_le [] = omega arith
-run_le (x ∷ xs) = step (not (eqb x 13)) (run_le xs)
-  where
-    step : (t : Bool) → {m n : ℕ} → m ≤ n → more t m ≤ suc n
-    step true e = omega arith
-    step false e = omega arith
-
--- and its answer
-abbrev pub sought : List ℕ → Option ℕ
-sought l = cond (ltb (position_or_len (λ (b : ℕ). eqb b 13) l) (length l)) (Some (position_or_len (λ (b : ℕ). eqb b 13) l)) None
-
-pub cr_found : (l : List ℕ) (n : ℕ) → Some n ≡ sought l → (n ≡ run not_cr l) × (n < length l)
-cr_found l n e = grind (arith, common_steps, run_is l)
-
-pub cr_missed : (l : List ℕ) → None ≡ sought l → run not_cr l ≡ length l
-cr_missed l e = grind (arith, common_steps, run_is l, run_le l)

@@ -39,9 +39,10 @@ pub fn next_cr(s: &[u8], from: usize) -> usize
     requires { from ≤ length s.now }
     ensures { (result ≤ length s.now) × (result ≡ from + run not_cr (drop from s.now)) }
 {
-    let near = skip_to_cr(s, from);
-    match s[near..].iter().position(|&b| b == b'\r') {
-        Some(n) => near + n,
-        None => s.len(),
+    for i in skip_to_cr(s, from)..s.len() {
+        if s[i] == b'\r' {
+            return i;
+        }
     }
+    s.len()
 }

@@ -10,9 +10,9 @@ ghost use Rattle.card_state.specs.Kept.{step_of};
 ghost use Rattle.reader_walk.specs.Walk.{judge_lines};
 ghost use Rattle.reader.specs.Outcome.{verdict, verdict_of, judge_in, judge_of, took, read_in};
 
-use card_state::Step;
-use numbers::refusal::{Reason, Refusal};
+use card_state::{Flaw, Step};
 use numbers::limit;
+use numbers::refusal::{Reason, Refusal};
 use property_table::Edition;
 
 // How many cards and lines an accepted input has.
@@ -30,7 +30,7 @@ pub fn conclude(n: usize, last: Step) -> Verdict
     ensures { (store : List ℕ) → verdict result ≡ verdict_of n (step_of store last) }
 {
     match last {
-        Step::Next(c) => {
+        Ok(c) => {
             if c.phase == card_state::BEFORE_BEGIN {
                 return Ok(Counts {
                     cards: c.cards,
@@ -39,8 +39,10 @@ pub fn conclude(n: usize, last: Step) -> Verdict
             }
             Err(Refusal(Reason::Order, n))
         }
-        Step::Refused(k, p) => Err(Refusal(k, p)),
-        Step::Flawed(k, o) => Err(Refusal(k, o)),
+        Err(flaw) => match flaw {
+            Flaw::Placed(reason, place) => Err(Refusal(reason, place)),
+            Flaw::Octet(reason, octet) => Err(Refusal(reason, octet)),
+        },
     }
 }
 

@@ -10,7 +10,6 @@ ghost use Rattle.line_folds.specs.Logical.{raw_lines};
 ghost use Rattle.property_table.specs.Rows.{Lists};
 ghost use Rattle.reader_records.specs.Records.{numbers, record_of, records_from};
 
-use card_line::LineParts;
 use numbers::limit;
 use octets::classes::ClassTable;
 use property_table::Edition;
@@ -36,8 +35,7 @@ fn record_of(t: &ClassTable, rows: &PropertyTable, edition: Edition, l: &[u8], w
     requires l_bound { w + length l.now ≤ limit.octets }
     ensures { numbers result ≡ record_of edition w l.now }
 {
-    let parsed = card_line::parts_of(t, rows, edition, l);
-    let LineParts::Line(x) = parsed else {
+    let Ok(x) = card_line::parts_of(t, rows, edition, l) else {
         return Record {
             property: 0,
             start: 0,

@@ -1,30 +1,26 @@
 -- What a state keeps at the front of the scratch when a line was judged behind it, and octets moved down. Assumes nothing.
 use mathlib.Core.Path.{◌≡◌, refl, sym, ap, subst, ◌∙◌}
 use mathlib.Core.Bool.{Bool, true, false}
-use mathlib.Core.List.{List, [], ◌∷◌, ◌++◌, append-nil, append_assoc}
-use Prim.Native.Nat.{ℕ, suc, ◌+◌, ◌-◌, ◌<◌, ◌≤◌}
-use native.Mathlib.Numerals.{add-one}
+use mathlib.Core.List.{List, [], ◌++◌, append-nil, append_assoc}
+use Prim.Native.Nat.{ℕ, ◌+◌, ◌-◌, ◌≤◌}
 use native.Mathlib.Omega.{arith}
 use lib.Dec.{eqb}
-use lib.ListN.{length, get_or, take, drop, set, length-take, length-drop, length-append, take-append-drop, drop_of_length-le}
-use lib.Seq.{take-append-le, take-append_seam, drop-append_seam, drop-append-le, drop-append-add, length-take-le, take_all, drop-cons, take-suc, get_or-drop, drop-drop, take-length}
+use lib.ListN.{length, take, drop, length-drop, length-append, take-append-drop, drop_of_length-le}
+use lib.Seq.{take-append-le, take-append_seam, drop-append_seam, drop-append-le, drop-append-add, length-take-le, take_all, drop-drop}
 use borrow.Rule.Slice.PartMut.{put_mid}
 use Rattle.std.specs.List.{copy_within}
 use Rattle.octets.specs.Pick.{pick}
 use Rattle.octets.specs.Room.{overlay}
-use Rattle.octets.proofs.Writes.{Written, put, finish}
-use Rattle.octets.proofs.PieceLaws.{put_one}
 use Rattle.card_state.specs.State.{Card}
-use Rattle.card_state.specs.Kept.{Lies, card_of, step_of, Holds}
+use Rattle.card_state.specs.Kept.{Lies, card_of, step_of}
 use Rattle.card_state.specs.declared.Card.{Card as Kept}
 use Rattle.card_state.proofs.KeptLaws.{card_front, step_front}
 use Rattle.property_table.specs.declared.Edition.{Edition}
-use Rattle.card_judge.specs.Judge.{part, read_by, judge_line, added_by, KeepsOn, Keeping}
+use Rattle.card_judge.specs.Judge.{part, read_by, judge_line, Keeping}
 use Rattle.card_judge.specs.declared.judge.Judgement.{Judgement}
 use Rattle.card_judge.proofs.SettleLaws.{part_size}
 use Rattle.line_folds.specs.Folds.{unfolded}
 use Rattle.line_folds.proofs.FoldLaws.{unfold_shorter}
-use Rattle.card_state.specs.Kept.{next as next_kept}
 use Rattle.reader_walk.specs.Walk.{behind, added_of, Left}
 
 -- a part that was lent from a place on is back

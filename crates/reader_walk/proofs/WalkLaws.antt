@@ -4,8 +4,6 @@ use mathlib.Core.List.{List, [], ◌∷◌}
 use Prim.Native.Nat.{ℕ, ◌+◌, ◌-◌, ◌<◌, ◌≤◌}
 use native.Mathlib.Omega.{arith}
 use lib.ListN.{length, take, drop}
-use denote.Enum.Declared.{tag_of}
-use types.Run.{OneOf, miss}
 use Rattle.line_folds.specs.Folds.{line_length, unfolded}
 use Rattle.line_folds.specs.Logical.{raw_lines}
 use Rattle.line_folds.proofs.SpanLaws.{lines_turn, part_length}
@@ -17,7 +15,7 @@ use Rattle.card_state.specs.Kept.{step_of}
 use Rattle.card_state.specs.Kept.{KeptStep}
 use Rattle.card_state.specs.declared.Card.{Card as KeptCard}
 use Rattle.card_state.specs.Kept.{next, refused, flawed}
-use Rattle.card_state.specs.contracts.Step.{the_type}
+use Rattle.numbers.specs.declared.refusal.Reason.{Reason}
 use Rattle.reader_walk.specs.Walk.{onward, settled, judge_lines}
 
 -- the line from `at` to e is the first of those that are left; it was judged r
@@ -40,7 +38,7 @@ stopped_step store p l f (refused n q) h = refl
 stopped_step store p l f (flawed n o) h = refl
 
 -- a step that names no octet of the line is settled already
-pub settled_step : (store : List ℕ) (p : ℕ) (l : List ℕ) (r : KeptStep) → ((n o : ℕ) → r ≡ flawed n o → ⊥) → step_of store r ≡ settled p l (step_of store r)
+pub settled_step : (store : List ℕ) (p : ℕ) (l : List ℕ) (r : KeptStep) → ((n : Reason) (o : ℕ) → r ≡ flawed n o → ⊥) → step_of store r ≡ settled p l (step_of store r)
 unfolding step_of
 settled_step store p l (next c) h = refl
 settled_step store p l (refused n q) h = refl

@@ -1,7 +1,7 @@
 // The walk over the logical lines of an input, each judged in turn.
 #![tactic(auto)]
 
-ghost use Rattle.std.specs.Prelude.{◌≡◌, false, List, [], ℕ, ◌+◌, ◌≤◌, length, take, drop};
+ghost use Rattle.std.specs.Prelude.{◌≡◌, false, Err, List, [], ℕ, ◌+◌, ◌≤◌, length, take, drop};
 ghost use Rattle.numbers.specs.Limits as limit;
 ghost use Rattle.octets.specs.Pick.{pick};
 ghost use Rattle.line_folds.specs.Folds.{unfolded};
@@ -14,7 +14,7 @@ ghost use Rattle.reader_walk.specs.Walk.{settled, judge_lines, behind, Roomy, Le
 mod keeping;
 
 use card_judge::judge::Judgement;
-use card_state::{Card, Step};
+use card_state::{Card, Flaw, Step};
 use numbers::limit;
 use octets::classes::ClassTable;
 use property_table::Edition;
@@ -111,16 +111,29 @@ pub fn judge_span(
     j.step
 }
 
+// Why the line s is refused, which starts at `at` in the input, with the place in the input of an octet that is named.
+fn placed(flaw: Flaw, s: &[u8], at: usize) -> Flaw
+    requires { at + length s.now ≤ limit.octets }
+    ensures { (store : List ℕ) → step_of store (Err result) ≡ settled at s.now (step_of store (Err flaw)) }
+{
+    match flaw {
+        Flaw::Placed(..) => flaw,
+        Flaw::Octet(reason, octet) => {
+            let place = line_folds::places::place_of(s, octet);
+            Flaw::Placed(reason, at + place)
+        }
+    }
+}
+
 // The judgement of the line s, which starts at `at` in the input, with the place in the input of an octet that it names.
 pub fn settle(step: Step, s: &[u8], at: usize) -> Step
     requires { at + length s.now ≤ limit.octets }
     ensures { (store : List ℕ) → step_of store result ≡ settled at s.now (step_of store step) }
 {
-    let Step::Flawed(number, octet) = step else {
-        return step;
-    };
-    let place = line_folds::places::place_of(s, octet);
-    Step::Refused(number, at + place)
+    match step {
+        Ok(_) => step,
+        Err(flaw) => Err(placed(flaw, s, at)),
+    }
 }
 
 // An input of at most so many octets is judged with a scratch of as many, since the scratch is made at each call.
@@ -150,13 +163,13 @@ fn walk_in(
         let end = span.end;
         let folded = span.cr != end;
         let j = judge_span(t, rows, steps, edition, &s[at..end], folded, scratch, at, c);
-        let Step::Next(next) = j else {
+        let Ok(next) = j else {
             return settle(j, &s[at..end], at);
         };
         c = next;
         at = end + 2;
     }
-    Step::Next(c)
+    Ok(c)
 }
 
 // Judges the lines one after the other, up to the first refusal.

@@ -12,7 +12,10 @@ use Rattle.octets.specs.Scan.{scan}
 use Rattle.desk_slots.specs.Sound.{bounds}
 use Rattle.desk.specs.Steps.{refuse, fresh_desk, new_step}
 use Rattle.desk.specs.declared.Desk.{Desk}
-use Rattle.desk.specs.declared.Answer.TheVariants.{Done, Refused as No}
+use Rattle.std.specs.Prelude.{Result, Ok, Err}
+use Rattle.numbers.specs.Refusals.{number}
+use Rattle.numbers.specs.declared.refusal.Reason.TheVariants.{SlotCount, ReplayCall}
+use Rattle.numbers.specs.declared.refusal.Refusal.{Refusal}
 use Rattle.desk.specs.declared.Turn.{Turn}
 use Rattle.desk_ledger.specs.Ticks.{run_ticked, after_ticked}
 use Rattle.desk_ledger.specs.Desks.{World, desk_step}
@@ -21,8 +24,8 @@ use Rattle.replay_script.specs.Counts.{shown, counted}
 use Rattle.replay_log.specs.Logs.{written, Put, room_for}
 use Rattle.replay_call.specs.Stepped.{world_of}
 use Rattle.replay.specs.Outcome.{replayed, played, replay_outcome}
-use Rattle.replay_script.specs.declared.Counted.TheVariants.{Calls, Broken}
-use Rattle.replay.specs.declared.Replayed.TheVariants.{Ran, Refused}
+use Rattle.replay_script.specs.declared.Counted.{Counted}
+use Rattle.replay.specs.Outcome.{Ran, Refused}
 use Rattle.replay_log.proofs.LogLaws.{room_is}
 use Rattle.replay.proofs.RunLaws.{room_enough}
 
@@ -35,26 +38,25 @@ pub record Decodes (s : List ℕ) (n m : ℕ) : Type 0 where
   pub calls : n ≡ length (calls_in s 0)
   pub shows : m ≡ shown (calls_in s 0)
 
-pub decodes : (s : List ℕ) (n m : ℕ) → Calls n m ≡ counted (decode s) → Decodes s n m
+pub decodes : (s : List ℕ) (k : Counted) → Ok k ≡ counted (decode s) → Decodes s k.calls k.shows
 unfolding decode
-decodes s n m e = go (eqb (scan width s 0) (length s)) refl e
+decodes s k e = go (eqb (scan width s 0) (length s)) refl e
   where
-    go : (t : Bool) → eqb (scan width s 0) (length s) ≡ t → Calls n m ≡ counted (pick t (calls (calls_in s 0)) (broken (scan width s 0))) → Decodes s n m
-    go true q h = record { scans = eqb-true (scan width s 0) (length s) q; is = rw q; calls = cc; shows = cc }
+    go : (t : Bool) → eqb (scan width s 0) (length s) ≡ t → Ok k ≡ counted (pick t (calls (calls_in s 0)) (broken (scan width s 0))) → Decodes s k.calls k.shows
+    go true q h =
+        let w : k ≡ record { calls = length (calls_in s 0); shows = shown (calls_in s 0) } = cc in
+        record { scans = eqb-true (scan width s 0) (length s) q; is = rw q; calls = ap (λ (x : Counted). x.calls) w; shows = ap (λ (x : Counted). x.shows) w }
     go false q h = let z : ◌≡◌ {A = ℕ} 0 1 = cc in absurd (omega arith)
-
-breaks : (s : List ℕ) (at : ℕ) → Broken at ≡ counted (decode s) → decode s ≡ broken at
-breaks s at e = go (decode s) e
-  where
-    go : (x : Decoded) → Broken at ≡ counted x → x ≡ broken at
-    go (calls cs) h = let z : ◌≡◌ {A = ℕ} 0 1 = cc in absurd (omega arith)
-    go (broken p) h = let z : at ≡ p = cc in ap broken (sym z)
 
 -- ---- each answer
 
 module _ (n : ℕ) (s p l : List ℕ) where
-  pub played_broken : (at : ℕ) → Broken at ≡ counted (decode s) → replayed (Refused 90 at) p l ≡ played n p l (decode s)
-  played_broken at e = rw (breaks s at e)
+  pub played_broken : (r : Refusal) → Err r ≡ counted (decode s) → replayed (Refused (number r.0) r.1) p l ≡ played n p l (decode s)
+  played_broken r e = go (decode s) e
+    where
+      go : (x : Decoded) → Err r ≡ counted x → replayed (Refused (number r.0) r.1) p l ≡ played n p l x
+      go (calls cs) h = let z : ◌≡◌ {A = ℕ} 0 1 = cc in absurd (omega arith)
+      go (broken at) h = let w : r ≡ record { 0 = ReplayCall; 1 = at } = cc in rw w
 
   module _ (k m : ℕ) (d : Decodes s k m) where
     pub room_test : leb (9 * k + 16380 * m) (length l) ≡ leb (room_for (calls_in s 0)) (length l)
@@ -78,23 +80,23 @@ module _ (n : ℕ) (s p l : List ℕ) where
 
 -- ---- the slot count
 
-pub fresh_bounds : (n k : ℕ) → (new_step n).answer ≡ Done k → bounds n 1 ≡ true
+pub fresh_bounds : (n k : ℕ) → (new_step n).answer ≡ Ok k → bounds n 1 ≡ true
 unfolding new_step
 fresh_bounds n k e = go (bounds n 1) e
   where
-    go : (t : Bool) → (pick {A = Turn} t (record { answer = Done 0; desk = fresh_desk n }) (refuse (fresh_desk 0) 26 0)).answer ≡ Done k → t ≡ true
+    go : (t : Bool) → (pick {A = Turn} t (record { answer = Ok 0; desk = fresh_desk n }) (refuse (fresh_desk 0) SlotCount 0)).answer ≡ Ok k → t ≡ true
     go true h = refl
     go false h = let z : ◌≡◌ {A = ℕ} 0 1 = cc in absurd (omega arith)
 
 module _ (n : ℕ) (s p l : List ℕ) where
-  pub outcome_refused : (r at : ℕ) → (new_step n).answer ≡ No r at → replayed (Refused r at) p l ≡ replay_outcome n s p l
+  pub outcome_refused : (r : Refusal) → (new_step n).answer ≡ Err r → replayed (Refused (number r.0) r.1) p l ≡ replay_outcome n s p l
   unfolding new_step replay_outcome
-  outcome_refused r at e = go (bounds n 1) e
+  outcome_refused r e = go (bounds n 1) e
     where
-      go : (t : Bool) → (pick {A = Turn} t (record { answer = Done 0; desk = fresh_desk n }) (refuse (fresh_desk 0) 26 0)).answer ≡ No r at
-          → replayed (Refused r at) p l ≡ pick t (played n p l (decode s)) (replayed (Refused 26 0) p l)
+      go : (t : Bool) → (pick {A = Turn} t (record { answer = Ok 0; desk = fresh_desk n }) (refuse (fresh_desk 0) SlotCount 0)).answer ≡ Err r
+          → replayed (Refused (number r.0) r.1) p l ≡ pick t (played n p l (decode s)) (replayed (Refused 26 0) p l)
       go true h = let z : ◌≡◌ {A = ℕ} 0 1 = cc in absurd (omega arith)
-      go false h = let x : 26 ≡ r = cc in let y : 0 ≡ at = cc in rw (sym x, sym y)
+      go false h = let w : r ≡ record { 0 = SlotCount; 1 = 0 } = cc in rw w
 
   pub outcome_played : bounds n 1 ≡ true → played n p l (decode s) ≡ replay_outcome n s p l
   unfolding replay_outcome

@@ -9,8 +9,8 @@ use borrow.Rule.Slice.PartMut.{put_mid}
 use Rattle.octets.specs.Scan.{scan}
 use Rattle.octets.proofs.Scans.{scan_stop, scan_step}
 use Rattle.octets.proofs.Writes.{Written, start, room, put, finish}
-use Rattle.desk_slots.specs.declared.Slot.{Slot}
-use Rattle.desk_slots.specs.declared.Slot.TheVariants.{Held, No}
+use Rattle.desk_slots.specs.Slots.{Slot}
+use Rattle.desk_slots.specs.Slots.{Held, No}
 use Rattle.desk_pool.specs.Pools.{patch}
 use Rattle.desk_pool.proofs.Patches.{put_copied}
 use Rattle.desk.specs.Steps.{slot_of, open_step, add_step, release_step, show_in, show_step, held_step, judge_step}

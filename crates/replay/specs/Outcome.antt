@@ -1,5 +1,5 @@
 -- What a replay answers, and what the pool and the log hold then, for every slot count, script, pool and log. Assumes nothing.
-use Rattle.std.specs.Prelude.{ℕ, ◌*◌, List, leb, eqb, length}
+use Rattle.std.specs.Prelude.{ℕ, ◌*◌, List, Result, Ok, Err, leb, eqb, length}
 use Rattle.numbers.specs.Limits as limit
 use Rattle.numbers.specs.Refusals as refusal
 use Rattle.octets.specs.Pick.{pick}
@@ -9,8 +9,19 @@ use Rattle.desk_ledger.specs.Ticks.{Ticked}
 use Rattle.desk_ledger.specs.Desks.{answers, world}
 use Rattle.replay_script.specs.Scripts.{Decoded, calls, broken, decode}
 use Rattle.replay_log.specs.Logs.{written, room_for}
-use Rattle.replay.specs.declared.Replayed.{Replayed}
-use Rattle.replay.specs.declared.Replayed.TheVariants.{Ran, Refused}
+use Rattle.numbers.specs.Refusals.{number}
+use Rattle.numbers.specs.declared.refusal.Refusal.{Refusal}
+use Rattle.replay.specs.declared.Run.{Run}
+
+-- how many calls were run and how many octets of the log are written, or a refusal's number and place
+pub data Replayed : Type 0 where
+  Ran : ℕ → ℕ → Replayed
+  Refused : ℕ → ℕ → Replayed
+
+-- the same of a result
+abbrev pub answered : Result Run Refusal → Replayed
+answered (Ok r) = Ran r.calls r.wrote
+answered (Err r) = Refused (number r.0) r.1
 
 -- an answer, and what the pool and the log hold then
 pub record Replay : Type 0 where

@@ -10,18 +10,17 @@ ghost use Rattle.desk_ledger.specs.Desks.{desk_step};
 ghost use Rattle.replay_script.specs.Scripts.{width, calls_in, decode};
 ghost use Rattle.replay_log.specs.Logs.{written, Put};
 ghost use Rattle.replay_call.specs.Stepped.{world_of};
-ghost use Rattle.replay.specs.Outcome.{replayed, played, replay_outcome};
+ghost use Rattle.replay.specs.Outcome.{answered, replayed, played, replay_outcome};
 
-use desk::{Answer, Desk};
-use numbers::refusal::Reason;
+use desk::Desk;
 use numbers::limit;
-use replay_script::Counted;
+use numbers::refusal::{Reason, Refusal};
 
-// How many calls were run and how many octets of the log are written, or a refusal's number and place.
-#[derive(Clone, Copy)]
-pub enum Replayed {
-    Ran(usize, usize),
-    Refused(u32, usize),
+// How many calls were run, and how many octets of the log are written.
+#[derive(Clone, Copy, Debug, PartialEq, Eq)]
+pub struct Run {
+    pub calls: usize,
+    pub wrote: usize,
 }
 
 // Runs the calls of a script one after the other, and answers how many octets of the log are written.
@@ -46,39 +45,31 @@ fn run_all(desk: Desk, script: &[u8], pool: &mut [u8], log: &mut [u8]) -> usize
 }
 
 // Runs a script on a fresh desk, or refuses with 90, 91 or 92.
-fn play(slots: usize, desk: Desk, script: &[u8], pool: &mut [u8], log: &mut [u8]) -> Replayed
+fn play(slots: usize, desk: Desk, script: &[u8], pool: &mut [u8], log: &mut [u8]) -> Result<Run, Refusal>
     requires { (bounds slots 1 ≡ true) × (desk ≡ (new_step slots).desk) }
-    ensures { replayed result pool.new log.new ≡ played slots pool.old log.old (decode script.now) }
+    ensures { replayed (answered result) pool.new log.new ≡ played slots pool.old log.old (decode script.now) }
 {
-    let counted = replay_script::count(script);
-    match counted {
-        Counted::Broken(at) => Replayed::Refused(Reason::ReplayCall, at),
-        Counted::Calls(calls, shows) => {
-            let size = pool.len();
-            if size != slots * limit::OCTETS {
-                return Replayed::Refused(Reason::ReplayPool, size);
-            }
-            let room = log.len();
-            if !replay_log::has_room(calls, shows, room) {
-                return Replayed::Refused(Reason::ReplayLog, room);
-            }
-            let wrote = run_all(desk, script, pool, log);
-            Replayed::Ran(calls, wrote)
-        }
+    let counted = replay_script::count(script)?;
+    let size = pool.len();
+    if size != slots * limit::OCTETS {
+        return Err(Refusal(Reason::ReplayPool, size));
     }
+    let room = log.len();
+    if !replay_log::has_room(counted.calls, counted.shows, room) {
+        return Err(Refusal(Reason::ReplayLog, room));
+    }
+    let wrote = run_all(desk, script, pool, log);
+    Ok(Run {
+        calls: counted.calls,
+        wrote,
+    })
 }
 
 // Makes a desk and runs a script on it: the calls run and the octets written, or 26, 90, 91 or 92, which change nothing.
-pub fn replay(slots: usize, script: &[u8], pool: &mut [u8], log: &mut [u8]) -> Replayed
-    ensures { replayed result pool.new log.new ≡ replay_outcome slots script.now pool.old log.old }
+pub fn replay(slots: usize, script: &[u8], pool: &mut [u8], log: &mut [u8]) -> Result<Run, Refusal>
+    ensures { replayed (answered result) pool.new log.new ≡ replay_outcome slots script.now pool.old log.old }
 {
     let turn = Desk::new(slots);
-    let a = turn.answer;
-    match a {
-        Answer::Refused(n, p) => Replayed::Refused(n, p),
-        Answer::Done(_) => {
-            let d = turn.desk;
-            play(slots, d, script, pool, log)
-        }
-    }
+    turn.answer?;
+    play(slots, turn.desk, script, pool, log)
 }

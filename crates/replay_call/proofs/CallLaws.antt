@@ -7,6 +7,7 @@ use lib.Dec.{eqb}
 use lib.ListN.{get_or, take, drop}
 use borrow.Author.Tests.{ne_eqb}
 use Rattle.octets.specs.Pick.{pick}
+use Rattle.desk.specs.Answer.{answer}
 use Rattle.desk.specs.Steps.{Turned, turned, open_step, add_step, release_step, show_step, held_step, judge_step}
 use Rattle.desk.specs.declared.Desk.{Desk}
 use Rattle.desk.specs.declared.Turn.{Turn}
@@ -57,7 +58,7 @@ module _ (w : World) (s : List ℕ) (m : ℕ) (e : m ≡ four_at s 1) where
 
 -- a call that hands a turn back, with the pool p
 pub record Acts (w : World) (c : Ticked) (turn : Turn) (p : List ℕ) : Type 0 where
-  pub reply : (desk_step w c).reply ≡ said turn.answer
+  pub reply : (desk_step w c).reply ≡ said (answer turn.answer)
   pub world : world_of turn.desk p ≡ (desk_step w c).then
 
 acts : (w : World) (c : Ticked) (turn : Turn) (p : List ℕ) (x : Turned) → desk_step w c ≡ took x → turned turn p ≡ x → Acts w c turn p
@@ -78,7 +79,7 @@ module _ (w : World) (s : List ℕ) (m : ℕ) (e : m ≡ four_at s 1) (turn : Tu
   release_acts b f = acts w (call_of s) turn p (release_step w.desk w.pool m) (step_release w s m e b) f
 
 pub acts_steps : {w : World} {c : Ticked} {turn : Turn} {p : List ℕ} → Acts w c turn p → {d : Desk} {l l' : List ℕ} {n : ℕ} → d ≡ turn.desk
-    → Put (entry (said turn.answer)) l l' n → Stepped w c d p l l' n
+    → Put (entry (said (answer turn.answer))) l l' n → Stepped w c d p l l' n
 acts_steps {w} {c} {turn} {p} a q h = record { world = ap (λ (y : Desk). world_of y p) q ∙ a.world; put = rw a.reply h }
 
 -- a call that looks

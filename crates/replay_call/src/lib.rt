@@ -2,6 +2,7 @@
 #![tactic(auto)]
 
 ghost use Rattle.std.specs.Prelude.{◌≡◌, ◌≤◌, length};
+ghost use Rattle.desk.specs.Answer.{answer};
 ghost use Rattle.desk_ledger.specs.Desks.{said, ask_step, desk_step};
 ghost use Rattle.replay_script.specs.Scripts.{width, query_of, call_of};
 ghost use Rattle.replay_log.specs.Logs.{entry, Put};
@@ -11,7 +12,7 @@ use desk::{Desk, Turn};
 use replay_script::{call, numerals};
 
 // The next desk, and how many octets of the log were written.
-#[derive(Clone, Copy)]
+#[derive(Clone, Copy, Debug, PartialEq, Eq)]
 pub struct After {
     pub desk: Desk,
     pub wrote: usize,
@@ -19,14 +20,12 @@ pub struct After {
 
 // Writes what the desk answered, and hands the next desk on.
 fn put_turn(turn: Turn, log: &mut [u8]) -> After
-    requires { length (entry (said turn.answer)) ≤ length log.old }
-    ensures { (result.desk ≡ turn.desk) × Put (entry (said turn.answer)) log.old log.new result.wrote }
+    requires { length (entry (said (answer turn.answer))) ≤ length log.old }
+    ensures { (result.desk ≡ turn.desk) × Put (entry (said (answer turn.answer))) log.old log.new result.wrote }
 {
-    let d = turn.desk;
-    let a = turn.answer;
     After {
-        desk: d,
-        wrote: replay_log::put_answer(log, a),
+        desk: turn.desk,
+        wrote: replay_log::put_answer(log, turn.answer),
     }
 }
 

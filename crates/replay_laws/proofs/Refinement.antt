@@ -17,7 +17,7 @@ use Rattle.desk_laws.proofs.Demand.{demand3}
 use Rattle.replay_script.specs.Scripts.{Decoded, calls, broken, decode}
 use Rattle.replay_log.specs.Logs.{written, room_for}
 use Rattle.replay.specs.Outcome.{Replay, replayed, played, replay_outcome}
-use Rattle.replay.specs.declared.Replayed.TheVariants.{Ran, Refused}
+use Rattle.replay.specs.Outcome.{Ran, Refused}
 use Rattle.replay_laws.specs.Refinement.{ledger_played, ledger_outcome}
 
 module _ (n : ℕ) (p l : List ℕ) where

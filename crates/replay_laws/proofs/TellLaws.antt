@@ -15,7 +15,7 @@ use Rattle.desk_ledger.specs.Desks.{world}
 use Rattle.replay_script.specs.Scripts.{width, calls_in, calls, broken, decode}
 use Rattle.replay_log.specs.Logs.{written, room_for}
 use Rattle.replay.specs.Outcome.{Replay, replayed, replay_outcome}
-use Rattle.replay.specs.declared.Replayed.TheVariants.{Ran, Refused}
+use Rattle.replay.specs.Outcome.{Ran, Refused}
 use Rattle.replay_laws.specs.Refinement.{ledger_log, ledger_played, ledger_outcome}
 use Rattle.replay_laws.specs.Tells.{answers_to, Tells}
 use Rattle.replay_laws.proofs.Refinement.{replay_refines}

@@ -10,7 +10,7 @@ use Rattle.desk_ledger.specs.Desks.{world, ledger_answers}
 use Rattle.replay_script.specs.Scripts.{Decoded, calls, broken, decode}
 use Rattle.replay_log.specs.Logs.{written, room_for}
 use Rattle.replay.specs.Outcome.{Replay, replayed}
-use Rattle.replay.specs.declared.Replayed.TheVariants.{Ran, Refused}
+use Rattle.replay.specs.Outcome.{Ran, Refused}
 
 -- the answers of the ledger to the calls, as a log has them
 abbrev pub ledger_log : ℕ → List Ticked → List ℕ

@@ -8,7 +8,7 @@ use Rattle.desk_ledger.specs.Desks.{ledger_answers}
 use Rattle.replay_script.specs.Scripts.{calls_in}
 use Rattle.replay_log.specs.Logs.{written}
 use Rattle.replay.specs.Outcome.{replay_outcome}
-use Rattle.replay.specs.declared.Replayed.TheVariants.{Ran}
+use Rattle.replay.specs.Outcome.{Ran}
 
 -- each number of an answer has 32 bits
 abbrev pub Small : Reply → Type 0

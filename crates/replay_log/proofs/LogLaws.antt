@@ -10,8 +10,8 @@ use Rattle.octets.specs.Room.{overlay}
 use Rattle.reader.specs.Outcome.{Verdict}
 use Rattle.reader.specs.Outcome.{Accepted, Refused as Unread}
 use Rattle.desk_pool.specs.Pools.{patch}
-use Rattle.desk.specs.declared.Answer.{Answer}
-use Rattle.desk.specs.declared.Answer.TheVariants.{Done, Refused}
+use Rattle.desk.specs.Answer.{Answer}
+use Rattle.desk.specs.Answer.{Done, Refused}
 use Rattle.desk_ledger.specs.Ledger.{refused, told, counts, part, verdict}
 use Rattle.desk_ledger.specs.Ticks.{judging, showing, counting, releasing, Ticked, opens_at, adds_at, asks_of}
 use Rattle.desk_ledger.specs.Desks.{said}

@@ -4,12 +4,15 @@
 pub mod reply;
 
 ghost use Rattle.std.specs.Prelude.{◌∷◌, ◌++◌, ◌≡◌, ◌+◌, ◌*◌, ◌≤◌, leb, length};
-ghost use Rattle.desk_ledger.specs.Ledger.{part, verdict};
+ghost use Rattle.numbers.specs.Refusals.{number};
+ghost use Rattle.reader.specs.Outcome.{verdict as read};
+ghost use Rattle.desk.specs.Answer.{answer};
+ghost use Rattle.desk_ledger.specs.Ledger.{part, refused, verdict};
 ghost use Rattle.desk_ledger.specs.Desks.{said};
 ghost use Rattle.replay_script.specs.Numerals.{four_octets};
 ghost use Rattle.replay_log.specs.Logs.{entry, Put, answer_room, shown_more};
 
-use desk::Answer;
+use numbers::refusal::Refusal;
 use reader::Verdict;
 use replay_script::numerals;
 
@@ -44,25 +47,37 @@ pub fn put_part(d: &mut [u8], octets: &[u8]) -> usize
     n + octets.len()
 }
 
+// Writes a refusal's number and place, and answers how many octets these are.
+#[tactic(auto, using(crate::proofs::LogLaws::refused_length), unfolding(crate::specs::Logs::entry))]
+fn put_refusal(d: &mut [u8], r: Refusal) -> usize
+    requires { length (entry (refused (number r.0) r.1)) ≤ length d.old }
+    ensures { Put (entry (refused (number r.0) r.1)) d.old d.new result }
+{
+    let Refusal(reason, place) = r;
+    put_two(d, reply::REFUSED, reason.number() as usize, place)
+}
+
 // Writes an answer of the desk, and answers how many octets it has there.
-pub fn put_answer(d: &mut [u8], a: Answer) -> usize
-    requires { length (entry (said a)) ≤ length d.old }
-    ensures { Put (entry (said a)) d.old d.new result }
+#[tactic(auto, using(crate::proofs::LogLaws::told_length), unfolding(crate::specs::Logs::entry))]
+pub fn put_answer(d: &mut [u8], a: Result<usize, Refusal>) -> usize
+    requires { length (entry (said (answer a))) ≤ length d.old }
+    ensures { Put (entry (said (answer a))) d.old d.new result }
 {
     match a {
-        Answer::Done(n) => put_one(d, reply::TOLD, n),
-        Answer::Refused(n, p) => put_two(d, reply::REFUSED, n as usize, p),
+        Ok(n) => put_one(d, reply::TOLD, n),
+        Err(r) => put_refusal(d, r),
     }
 }
 
 // Writes an answer of the reader, and answers how many octets it has there.
+#[tactic(auto, using(crate::proofs::LogLaws::counts_length), unfolding(crate::specs::Logs::entry))]
 pub fn put_verdict(d: &mut [u8], v: Verdict) -> usize
-    requires { length (entry (verdict v)) ≤ length d.old }
-    ensures { Put (entry (verdict v)) d.old d.new result }
+    requires { length (entry (verdict (read v))) ≤ length d.old }
+    ensures { Put (entry (verdict (read v))) d.old d.new result }
 {
     match v {
-        Verdict::Accepted(k, n) => put_two(d, reply::COUNTS, k, n),
-        Verdict::Refused(n, p) => put_two(d, reply::REFUSED, n as usize, p),
+        Ok(counts) => put_two(d, reply::COUNTS, counts.cards, counts.lines),
+        Err(refusal) => put_refusal(d, refusal),
     }
 }
 

@@ -17,7 +17,10 @@ use Rattle.desk_ledger.specs.Ticks.{judging, showing, counting, releasing, Ticke
 use Rattle.replay_script.specs.Numerals.{two_at, four_at}
 use Rattle.replay_script.specs.Scripts.{needed, width, call_of, calls_in, decode}
 use Rattle.replay_script.specs.Counts.{shows, shown, counted}
-use Rattle.replay_script.specs.declared.Counted.TheVariants.{Calls, Broken}
+use Rattle.std.specs.Prelude.{Result, Ok, Err}
+use Rattle.numbers.specs.declared.refusal.Reason.TheVariants.{ReplayCall}
+use Rattle.numbers.specs.declared.refusal.Refusal.{Refusal}
+use Rattle.replay_script.specs.declared.Counted.{Counted}
 
 -- ---- the width of a call
 
@@ -189,13 +192,13 @@ module _ {s : List ℕ} {at n m : ℕ} (h : Counting s at n m) where
         fewer = omega (arith, h.fewer, show_one (call_of (drop at s)));
       }
 
-  pub count_stop : at < length s → width (drop at s) ≡ 0 → Broken at ≡ counted (decode s)
+  pub count_stop : at < length s → width (drop at s) ≡ 0 → ◌≡◌ {A = Result Counted Refusal} (Err (record { 0 = ReplayCall; 1 = at })) (counted (decode s))
   unfolding decode
   count_stop l z =
       let e : scan width s 0 ≡ at = sym h.goes ∙ scan_stop width s at z in
       rw (e, ne_eqb at (length s) (λ q. omega arith))
 
-  pub count_end : length s ≤ at → Calls n m ≡ counted (decode s)
+  pub count_end : length s ≤ at → ◌≡◌ {A = Result Counted Refusal} (Ok (record { calls = n; shows = m })) (counted (decode s))
   unfolding decode shown
   count_end l =
       let i = h.inside in

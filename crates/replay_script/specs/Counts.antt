@@ -1,9 +1,10 @@
 -- How many calls a script has, and how many of them are shows. Assumes nothing.
-use Rattle.std.specs.Prelude.{ℕ, ◌+◌, List, [], ◌∷◌, length}
+use Rattle.std.specs.Prelude.{ℕ, ◌+◌, List, [], ◌∷◌, Result, Ok, Err, length}
+use Rattle.numbers.specs.declared.refusal.Reason.TheVariants.{ReplayCall}
+use Rattle.numbers.specs.declared.refusal.Refusal.{Refusal}
 use Rattle.desk_ledger.specs.Ticks.{judging, showing, counting, releasing, Ticked, opens_at, adds_at, asks_of}
 use Rattle.replay_script.specs.Scripts.{Decoded, calls, broken}
 use Rattle.replay_script.specs.declared.Counted.{Counted}
-use Rattle.replay_script.specs.declared.Counted.TheVariants.{Calls, Broken}
 
 -- 1 for a show, 0 for any other call
 abbrev pub shows : Ticked → ℕ
@@ -18,6 +19,7 @@ unfoldable pub shown : List Ticked → ℕ
 shown [] = 0
 shown (c ∷ cs) = shows c + shown cs
 
-abbrev pub counted : Decoded → Counted
-counted (calls cs) = Calls (length cs) (shown cs)
-counted (broken p) = Broken p
+-- both counts, or 90 at the first broken call
+abbrev pub counted : Decoded → Result Counted Refusal
+counted (calls cs) = Ok (record { calls = length cs; shows = shown cs })
+counted (broken p) = Err (record { 0 = ReplayCall; 1 = p })

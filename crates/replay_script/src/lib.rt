@@ -8,11 +8,13 @@ ghost use Rattle.std.specs.Prelude.{◌≡◌, ◌≤◌, length};
 ghost use Rattle.replay_script.specs.Scripts.{width, call_of, decode};
 ghost use Rattle.replay_script.specs.Counts.{shows, counted};
 
-// How many calls a script has, and how many of them are shows; or where its first call starts that is unknown or cut off.
-#[derive(Clone, Copy)]
-pub enum Counted {
-    Calls(usize, usize),
-    Broken(usize),
+use numbers::refusal::{Reason, Refusal};
+
+// How many calls a script has, and how many of them are shows.
+#[derive(Clone, Copy, Debug, PartialEq, Eq)]
+pub struct Counted {
+    pub calls: usize,
+    pub shows: usize,
 }
 
 // Measures the call at the start of s in octets: 0 where it is unknown or cut off.
@@ -60,8 +62,8 @@ fn count_show(s: &[u8]) -> usize
     0
 }
 
-// Counts the calls of a script and the shows among them, or finds its first broken call.
-pub fn count(script: &[u8]) -> Counted
+// Counts the calls of a script and the shows among them, or refuses with 90 at its first broken call.
+pub fn count(script: &[u8]) -> Result<Counted, Refusal>
     ensures { result ≡ counted (decode script.now) }
 {
     let mut at: usize = 0;
@@ -70,11 +72,11 @@ pub fn count(script: &[u8]) -> Counted
     while at < script.len() {
         let w = width(&script[at..]);
         if w == 0 {
-            return Counted::Broken(at);
+            return Err(Refusal(Reason::ReplayCall, at));
         }
         shows += count_show(&script[at..]);
         calls += 1;
         at += w;
     }
-    Counted::Calls(calls, shows)
+    Ok(Counted { calls, shows })
 }

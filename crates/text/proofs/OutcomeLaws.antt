@@ -16,6 +16,8 @@ use Rattle.text_unescaping.specs.Unescaped.{first_fault, unescaped}
 use Rattle.text_unescaping.specs.Measured.{measured}
 use Rattle.std.proofs.Common.{Result, Ok, Err}
 use Rattle.std.specs.Result.{MatchResult}
+use Rattle.numbers.specs.Refusals.{number}
+use Rattle.numbers.specs.declared.refusal.Reason.TheVariants.{TooLong, TextOctet}
 use Rattle.numbers.specs.declared.refusal.Refusal.{Refusal}
 use Rattle.octets.specs.Counts.{any}
 use Rattle.utf8_screening.specs.Plain.{odd}
@@ -33,14 +35,14 @@ module _ (p : ℕ → Bool) (m : ℕ) (t room : List ℕ) (left : Filled) where
   -- what a refusal leaves
   abbrev refusing : Result ℕ Refusal → Filled
   refusing (Ok l) = left
-  refusing (Err r) = refuse r.0 r.1 room
+  refusing (Err r) = refuse (number r.0) r.1 room
 
-  refused_by : (r : Refusal) → screened_by p m t ≡ Err r → refuse r.0 r.1 room ≡ checked p t room left
+  refused_by : (r : Refusal) → screened_by p m t ≡ Err r → refuse (number r.0) r.1 room ≡ checked p t room left
   unfolding screened_by checked
   refused_by r e = by (ltb 16384 (length t)) (ltb (first_bad p t) (length t)) e
     where
-      by : (a b : Bool) → pick a (refused 1 16384) (pick b (refused 31 (first_bad p t)) (Ok m)) ≡ Err r
-          → refuse r.0 r.1 room ≡ pick a (refuse 1 16384 room) (pick b (refuse 31 (first_bad p t) room) left)
+      by : (a b : Bool) → pick a (refused TooLong 16384) (pick b (refused TextOctet (first_bad p t)) (Ok m)) ≡ Err r
+          → refuse (number r.0) r.1 room ≡ pick a (refuse 1 16384 room) (pick b (refuse 31 (first_bad p t) room) left)
       by true b e = sym (ap refusing e)
       by false true e = sym (ap refusing e)
       by false false e = cc
@@ -49,7 +51,7 @@ module _ (p : ℕ → Bool) (m : ℕ) (t room : List ℕ) (left : Filled) where
   unfolding screened_by checked
   left_by l e = by (ltb 16384 (length t)) (ltb (first_bad p t) (length t)) refl e
     where
-      by : (a b : Bool) → ltb 16384 (length t) ≡ a → pick a (refused 1 16384) (pick b (refused 31 (first_bad p t)) (Ok m)) ≡ Ok l
+      by : (a b : Bool) → ltb 16384 (length t) ≡ a → pick a (refused TooLong 16384) (pick b (refused TextOctet (first_bad p t)) (Ok m)) ≡ Ok l
           → (l ≡ m) × ((length t ≤ 16384) × (left ≡ pick a (refuse 1 16384 room) (pick b (refuse 31 (first_bad p t) room) left)))
       by true b h e = clash cc
       by false true h e = clash cc
@@ -103,7 +105,7 @@ outcome k t room = checked k.allows t room (k.left t room)
 
 -- the outcome, by what screening answered
 module _ (k : Change) (t room : List ℕ) {s : Result ℕ Refusal} (e : s ≡ screened_for k t) where
-  pub refused_outcome : {r : Refusal} → s ≡ Err r → refuse r.0 r.1 room ≡ outcome k t room
+  pub refused_outcome : {r : Refusal} → s ≡ Err r → refuse (number r.0) r.1 room ≡ outcome k t room
   refused_outcome g = refused_by k.allows (seen_by k.amiss k.holds t) t room (k.left t room) _ (sym e ∙ g)
 
   module _ {l : ℕ} (g : s ≡ Ok l) where

@@ -1,10 +1,11 @@
 // Text: escaping, and unescaping, which gives back what was escaped.
 #![tactic(auto)]
 
-ghost use Rattle.std.specs.Prelude.{◌≡◌, ◌≤◌, length};
+ghost use Rattle.std.specs.Prelude.{◌≡◌, ◌+◌, ◌≤◌, length};
 ghost use Rattle.std.specs.Fn.{FnOnceReturnsAt};
 ghost use Rattle.numbers.specs.Limits as limit;
 ghost use Rattle.octets.specs.Room.{filled, written, fill, fill_bounded};
+ghost use Rattle.text_escaping.specs.Coded.{coded};
 ghost use Rattle.text_escaping.specs.Escaped.{escaped};
 ghost use Rattle.text_unescaping.specs.Unescaped.{unescaped};
 ghost use Rattle.text.specs.Screened.{Screens};
@@ -12,6 +13,7 @@ ghost use Rattle.text.specs.Outcomes.{faultless, escape_outcome, unescape_outcom
 
 use numbers::limit;
 use numbers::refusal::{Reason, Refusal};
+use text_escaping::LetterTable;
 use utf8_screening::texts;
 
 // Refuses a text with TOO_LONG or TEXT_OCTET, else answers what `see` sees in it: 1 where an octet may be bad, 2 where one is a mark, 3
@@ -50,21 +52,38 @@ pub fn put(text: &[u8], out: &mut [u8]) -> Result<usize, Refusal>
     Ok(text.len())
 }
 
-// Escapes octet by octet, or refuses with FORM_TOO_LONG or ROOM.
-fn escape_each(text: &[u8], out: &mut [u8]) -> Result<usize, Refusal>
-    requires { length text.now ≤ limit.octets }
-    ensures { filled (written result) out.new ≡ fill_bounded (escaped text.now) out.old }
+// Writes a text in which each octet with a letter, of which there are `pairs`, is written as the lead and its letter, or refuses with
+// FORM_TOO_LONG or ROOM.
+pub fn put_coded(
+    t: &LetterTable,
+    lead: u8,
+    text: &[u8],
+    pairs: usize,
+    out: &mut [u8],
+) -> Result<usize, Refusal>
+    requires text_len_bound { length text.now ≤ limit.octets }
+    requires pairs_counted { length text.now + pairs ≡ length (coded lead t.now text.now) }
+    requires pairs_bound { pairs ≤ length text.now }
+    ensures { filled (written result) out.new ≡ fill_bounded (coded lead t.now text.now) out.old }
 {
-    let n = text.len() + text_marks::counts::marks(text);
+    let n = text.len() + pairs;
     if limit::OCTETS < n {
         return Err(Refusal(Reason::FormTooLong, limit::OCTETS));
     }
     if out.len() < n {
         return Err(Refusal(Reason::Room, n));
     }
-    let t = text_escaping::letters();
-    text_escaping::write(&t, b'\\', text, out);
+    text_escaping::write(t, lead, text, out);
     Ok(n)
+}
+
+// Escapes octet by octet, or refuses with FORM_TOO_LONG or ROOM.
+fn escape_each(text: &[u8], out: &mut [u8]) -> Result<usize, Refusal>
+    requires { length text.now ≤ limit.octets }
+    ensures { filled (written result) out.new ≡ fill_bounded (escaped text.now) out.old }
+{
+    let pairs = text_marks::counts::marks(text);
+    put_coded(&text_escaping::letters(), b'\\', text, pairs, out)
 }
 
 // Writes the text with its escapes, or refuses with TOO_LONG, TEXT_OCTET, FORM_TOO_LONG or ROOM.

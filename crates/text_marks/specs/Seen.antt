@@ -1,6 +1,6 @@
 -- What is seen in a text: whether an octet is not plain, and whether one is a backslash, a comma or one of two octets more.
 -- Assumes nothing.
-use Rattle.std.specs.Prelude.{ℕ, ◌+◌, Bool, ◌||◌, List, eqb}
+use Rattle.std.specs.Prelude.{ℕ, ◌+◌, ◌≡◌, ◌<◌, Bool, ◌||◌, List, [], ◌∷◌, eqb}
 use Rattle.octets.specs.Ascii as ascii
 use Rattle.octets.specs.Classes.{bit}
 use Rattle.octets.specs.Counts.{any}
@@ -18,3 +18,8 @@ seen_by p q s = bit (any p s) 1 + bit (any q s) 2
 -- 1 where an octet is not plain, 2 where one is held, 3 where both
 abbrev pub seen : ℕ → ℕ → List ℕ → ℕ
 seen x y s = seen_by odd (held x y) s
+
+-- what is seen in a list, by what is seen of one octet: for any two tests, where of each octet what they say is seen
+abbrev pub Sees : (ℕ → ℕ → Type 0) → List ℕ → ℕ → Type 0
+Sees Saw s n =
+    (p q : ℕ → Bool) → ((b r : ℕ) → b < 256 → Saw b r → r ≡ seen_by p q (b ∷ [])) → n ≡ seen_by p q s

@@ -4,8 +4,8 @@
 ghost use Rattle.std.specs.Prelude.{◌≡◌, ◌≤◌};
 ghost use Rattle.value_offsets.specs.Minutes.{digit_at, pair_at, time_of, is_behind, signed, most_minutes, Bounded, minutes_of};
 
-use numbers::refusal::Reason;
 use numbers::kind;
+use numbers::refusal::Reason;
 use property_table::Edition;
 use value_kinds::Fault;
 
@@ -80,7 +80,7 @@ pub fn minutes(value: &[u8]) -> Offset
     let steps = value_automaton::scanner::table();
     let f = value_automaton::value_fault(&steps, Edition::First, kind::OFFSET, value);
     if let Fault::Breaks(octet) = f {
-        return Offset::Refused(Reason::Value, octet);
+        return Offset::Refused(Reason::Value.number(), octet);
     }
     Offset::Minutes(signed(is_behind(value), time_of(value)))
 }

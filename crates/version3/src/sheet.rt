@@ -245,7 +245,7 @@ fn place_with<const LINE: usize, const FORM: usize>(
     others: &mut [u8],
 ) -> Option<Reached>
     requires classes { Classes t.now × Lists rows.now }
-    requires s_len_bound { (length s.now ≤ limit.octets) × (3 * LINE + 20 ≤ FORM) }
+    requires s_len_bound { (length s.now ≤ limit.octets) × (LINE ≤ limit.octets) × (FORM ≡ 3 * LINE + 20) }
     requires lent { Lent first.old second.old others.old }
     requires halfway { Halfway way s.now first.old second.old others.old from ends }
     ensures { ReachedBy way s.now LINE first.new second.new others.new result }
@@ -402,20 +402,20 @@ fn write_in(
 
 // The same with rooms that are made here: for a line of at most LINE octets at first and its form, and for the lines of the first place, the
 // second and the others.
-fn write_with<const LINE: usize, const FORM: usize, const HEAD: usize, const CARD: usize>(
+fn write_with<const LINE: usize, const FORM: usize, const HEAD: usize, const REST: usize>(
     way: Way,
     s: &[u8],
     out: &mut [u8],
 ) -> Option<Result<usize, Refusal>>
-    requires s_len_bound { (length s.now ≤ limit.octets) × (3 * LINE + 20 ≤ FORM) }
-    requires lent { (HEAD ≤ limit.octets) × (CARD ≤ limit.octets) }
-    ensures { TriedBy way s.now HEAD HEAD CARD out.old out.new result }
+    requires s_len_bound { (length s.now ≤ limit.octets) × (LINE ≤ limit.octets) × (FORM ≡ 3 * LINE + 20) }
+    requires lent { (HEAD ≤ limit.octets) × (REST ≤ limit.octets) }
+    ensures { TriedBy way s.now HEAD HEAD REST out.old out.new result }
 {
     let mut scratch = [0u8; LINE];
     let mut form = [0u8; FORM];
     let mut first = [0u8; HEAD];
     let mut second = [0u8; HEAD];
-    let mut others = [0u8; CARD];
+    let mut others = [0u8; REST];
     write_in(
         way,
         s,

@@ -1,7 +1,5 @@
 -- `folder_raising::is_raised` meets its contract. Assumes nothing.
-use mathlib.Core.Path.{sym}
 use native.Mathlib.Omega.{arith}
-use Rattle.utf8.proofs.Chains.{nope}
 use Rattle.folder_raising.specs.Walk.{raised}
 use Rattle.folder_raising.proofs.KeptLaws.{kept_end, kept_colon, kept_equals, kept_name}
 use Rattle.folder_raising.proofs.is_raised.Goals as goal

@@ -7,16 +7,16 @@ use Rattle.reader.proofs.conclude.Goals as goal
 
 pub returns-then-c-eq-BEFORE_BEGIN : goal.returns-then-c-eq-BEFORE_BEGIN
 unfolding verdict_of step_of card_of
-returns-then-c-eq-BEFORE_BEGIN c = simp (c.in-Next.is, eq-eqb _ _ c.if-c-eq-BEFORE_BEGIN.true) (λ store. refl)
+returns-then-c-eq-BEFORE_BEGIN c = simp (c.in-Ok.is, eq-eqb _ _ c.if-c-eq-BEFORE_BEGIN.true) (λ store. refl)
 
 pub returns-else-c-eq-BEFORE_BEGIN : goal.returns-else-c-eq-BEFORE_BEGIN
 unfolding verdict_of step_of card_of
-returns-else-c-eq-BEFORE_BEGIN c = simp (c.in-Next.is, ne_eqb _ _ c.if-c-eq-BEFORE_BEGIN.false) (λ store. refl)
+returns-else-c-eq-BEFORE_BEGIN c = simp (c.in-Ok.is, ne_eqb _ _ c.if-c-eq-BEFORE_BEGIN.false) (λ store. refl)
 
-pub returns-in-Refused : goal.returns-in-Refused
+pub returns-in-Placed : goal.returns-in-Placed
 unfolding verdict_of step_of
-returns-in-Refused c = simp c.in-Refused.is (λ store. refl)
+returns-in-Placed c = simp (c.in-Err.is, c.in-Placed.is) (λ store. refl)
 
-pub returns-in-Flawed : goal.returns-in-Flawed
+pub returns-in-Octet : goal.returns-in-Octet
 unfolding verdict_of step_of
-returns-in-Flawed c = simp c.in-Flawed.is (λ store. refl)
+returns-in-Octet c = simp (c.in-Err.is, c.in-Octet.is) (λ store. refl)

@@ -3,7 +3,7 @@ use mathlib.Core.Path.{◌≡◌, sym, ap, ◌∙◌}
 use mathlib.Core.List.{List, ◌++◌}
 use Prim.Native.Nat.{ℕ}
 use native.Mathlib.Omega.{arith}
-use lib.ListN.{take, drop, length-take}
+use lib.ListN.{take, drop}
 use lib.Seq.{take_at}
 use Rattle.octets.specs.Room.{overlay}
 use Rattle.line_folds.specs.Folds.{unfolded}

@@ -70,6 +70,7 @@ judge_at_hand-j-requires c =
       counted = c.requires.counted;
       roomy = (record { lies = r.lies; room = omega (arith, n); short = omega (arith, n, reach, long, r.short) }, omega (arith, r.room, r.short));
     }
+
 -- what was laid behind the values
 abbrev hand : Bool → List ℕ → List ℕ
 hand folded s = pick folded (unfolded s) []

@@ -4,7 +4,6 @@ use mathlib.Core.List.{List}
 use Prim.Native.Nat.{ℕ, ◌+◌, ◌-◌}
 use native.Mathlib.Omega.{arith}
 use lib.ListN.{length, take, drop}
-use Rattle.property_table.specs.declared.Edition.{Edition}
 use Rattle.line_folds.specs.Logical.{raw_lines}
 use Rattle.line_folds.proofs.LineLaws.{lines_end}
 use Rattle.card_state.specs.State.{Step, fresh_card}
@@ -54,13 +53,13 @@ returns-in_default c =
     ≡ onward (settled l.at (take (v.result.end - l.at) (drop l.at a.s.now)) (step_of j.new.scratch j.result)) (judge_lines a.edition (raw_lines (drop (v.result.end + 2) a.s.now)) (v.result.end + 2)) =
     l.invariant.5 ∙ judged a.edition a.s.now l.at v.result.end c.loop-at-test.true v.ensures.1 v.ensures.2 (card_of l.c l.scratch) (step_of j.new.scratch j.result) j.ensures.result_after in
     let store = j.new.scratch in
-    (store, c.settle.ensures store ∙ sym (turn ∙ stopped_step store _ line _ j.result c.in_default.not-Next))
+    (store, c.settle.ensures store ∙ sym (turn ∙ stopped_step store _ line _ j.result c.in_default.not-Ok))
 
 pub loop-at-preserved : goal.loop-at-preserved
 unfolding step_of card_of Holds
 loop-at-preserved c =
-    let e = c.in-Next.is in
-    let next = c.in-Next.next in
+    let e = c.in-Ok.is in
+    let next = c.in-Ok.next in
     let l = c.loop-at in
     let v = c.line_at-span in
     let a = c.args in

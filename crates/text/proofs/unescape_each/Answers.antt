@@ -7,6 +7,7 @@ use native.Mathlib.Omega.{arith}
 use lib.ListN.{drop}
 use Rattle.std.proofs.lemmas.Result.{err_from_is_err_and}
 use Rattle.numbers.specs.declared.refusal.Refusal.{Refusal}
+use Rattle.numbers.specs.declared.refusal.Reason.TheVariants.{Escape}
 use Rattle.octets.proofs.RoomLaws.{fill_short, fill_fits}
 use Rattle.text_unescaping.specs.Unescaped.{unescaped}
 use Rattle.text.proofs.OutcomeLaws.{was_ok, was_err, fault_outcome, told, whole_outcome}
@@ -17,7 +18,7 @@ returns-in_err-kept c =
     let p = err_from_is_err_and c.from_residual.result c.from_residual.ensures.1 in
     let q = was_err Refusal c.measure.result c.in_err-kept.field-0.0 c.in_err-kept.ensures.cases in
     let h = q.2 in
-    let k : c.in_err-kept.field-0.0 ≡ record { 0 = 30; 1 = q.0 } = search rules in
+    let k : c.in_err-kept.field-0.0 ≡ record { 0 = Escape; 1 = q.0 } = search rules in
     rw (p.1, p.2, k) (fault_outcome c.args.text.now c.args.out.now c.measure.ensures q.1)
 
 pub returns-then-out-kept : goal.returns-then-out-kept

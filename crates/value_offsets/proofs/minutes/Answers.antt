@@ -12,7 +12,7 @@ use Rattle.value_offsets.proofs.minutes.Goals as goal
 
 pub returns-in-Breaks : goal.returns-in-Breaks
 unfolding minutes_of
-returns-in-Breaks c = record { value = simp (sym c.value_fault-f.ensures ∙ c.in-Breaks.is); bounded = tt }
+returns-in-Breaks c = record { value = simp (sym c.value_fault-f.ensures ∙ c.in-Breaks.is, c.number.ensures); bounded = tt }
 
 pub returns : goal.returns
 unfolding minutes_of

@@ -10,6 +10,7 @@ use Rattle.line_folds.specs.Folds.{unfolded}
 use Rattle.line_folds.proofs.FoldLaws.{unfold_shorter}
 use Rattle.cabbook_rows.proofs.PartLaws.{part_front}
 use Rattle.cabbook_rows.specs.Faults.{fault_words}
+use Rattle.numbers.specs.Refusals.{number}
 use Rattle.cabbook_rows.proofs.faults.put_raw.Goals as goal
 
 pub returns-then-line-gt-READ_ROOM : goal.returns-then-line-gt-READ_ROOM
@@ -24,5 +25,5 @@ returns c =
     let l = a.line.now in
     let e = c.unfold-n.ensures in
     let q = c.part.ensures ∙ part_front (unfolded l) _ _ c.unfold-n.result e.0 e.1 in
-    let f = c.put_fault.ensures ∙ ap (λ (t : List ℕ). added (fault_words a.number t) (page a.at a.room.now)) q in
+    let f = c.put_fault.ensures ∙ ap (λ (t : List ℕ). added (fault_words (number a.reason) t) (page a.at a.room.now)) q in
     rw (le-ltb 16385 (length l) c.if-line-gt-READ_ROOM.false) f

@@ -8,4 +8,4 @@ pub returns : goal.returns
 unfolding octets
 returns c =
     let a = c.args in
-    (piece _ (piece _ (piece _ (piece _ (piece _ (nothing (page a.at a.room.now)) c.put_where-where_end.ensures) c.put_all-start.ensures) c.put_amount-number_end.ensures) c.put_why-why_end.ensures) c.put_all.ensures).sum
+    (piece _ (piece _ (piece _ (piece _ (piece _ (nothing (page a.at a.room.now)) c.put_where-where_end.ensures) c.put_all-start.ensures) (rw c.number.ensures at c.put_amount-number_end.ensures)) c.put_why-why_end.ensures) c.put_all.ensures).sum

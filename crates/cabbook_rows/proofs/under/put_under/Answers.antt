@@ -19,7 +19,7 @@ pub put_marked-requires : goal.put_marked-requires
 put_marked-requires c =
     let a = c.args in
     let s = a.s.now in
-    (rw c.part.ensures (omega (arith, part_le s c.line_start-start.result a.place)), rw c.part-2.ensures (omega (arith, part_le s a.place c.shown_end-end.result)))
+    (rw c.part.ensures (omega (arith, part_le s c.line_start-start.result a.r.1)), rw c.part-2.ensures (omega (arith, part_le s a.r.1 c.shown_end-end.result)))
 
 pub returns : goal.returns
 returns c = rw (le-ltb 16385 (length c.args.s.now) c.if-s-gt-READ_ROOM.false, ← c.line_start-start.ensures.0) (rw (← c.shown_end-end.ensures) (rw (c.part.ensures, c.part-2.ensures) at c.put_marked.ensures))

@@ -22,16 +22,15 @@ turns_end q kind last t n i s h =
     let k : n - i ≡ 0 = omega arith in
     ap (λ (m : ℕ). run q kind last t m s) k
 
-pub loop-i-init : goal.loop-i-init
-loop-i-init c = (omega arith, refl, simp unary_clauses refl)
+pub loop-init : goal.loop-init
+loop-init c = simp unary_clauses refl
 
-pub loop-i-preserved : goal.loop-i-preserved
-loop-i-preserved c =
-    let l = c.loop-i in
-    let k = c.call-turn in
-    (omega arith, k.auto.pool ∙ l.invariant.1, turn_on _ _ _ _ _ _ _ _ _ (omega arith) k.ensures c.next_ticket-t.ensures ∙ l.invariant.2)
+pub loop-preserved : goal.loop-preserved
+loop-preserved c =
+    let l = c.loop in
+    turn_on _ _ _ _ _ _ l.counter _ _ (omega arith) c.call-turn.ensures c.next_ticket-t.ensures ∙ l.invariant
 
 pub returns : goal.returns
 returns c =
-    let l = c.loop-i in
-    sym (turns_end _ _ _ _ _ _ _ c.loop-i-test.false) ∙ l.invariant.2
+    let l = c.loop in
+    sym (turns_end _ _ _ _ _ _ _ c.loop-test.false) ∙ l.invariant

@@ -1,7 +1,6 @@
 -- `crate::text::fold_buffered` meets its contract. Assumes nothing.
 use mathlib.Core.Path.{refl, ap, ◌∙◌}
 use native.Mathlib.Omega.{arith}
-use lib.ListN.{length-take}
 use Rattle.std.proofs.lemmas.Result.{err_from_is_err_and}
 use Rattle.octets.specs.Room.{filled}
 use Rattle.octets.specs.Room.{Written}

@@ -1,7 +1,6 @@
 -- `crate::text::put_behind` meets its contract. Assumes nothing.
 use native.Mathlib.Omega.{arith}
-use lib.ListN.{length-append}
-use Rattle.folder.proofs.FitLaws.{too_long, behind_run}
+use Rattle.folder.proofs.FitLaws.{behind_run}
 use Rattle.folder.proofs.text.put_behind.Goals as goal
 
 pub returns : goal.returns

@@ -1,11 +1,10 @@
 -- `folder_line::standing::stands_folded` meets its contract. Assumes nothing.
-use mathlib.Core.Path.{◌≡◌, sym}
+use mathlib.Core.Path.{◌≡◌}
 use Prim.Native.Nat.{◌-◌}
 use native.Mathlib.Omega.{arith}
 use Rattle.folder_line.specs.Pieces.{folded, pieces}
 use Rattle.folder_line.proofs.FullLaws.{stands_last, stands_clean, stands_next}
-use borrow.Author.Tests.{leb-true, not-false}
-use Rattle.utf8.proofs.Chains.{nope}
+use borrow.Author.Tests.{leb-true}
 use Rattle.folder_line.proofs.standing.stands_folded.Goals as goal
 
 pub loop-i-init : goal.loop-i-init

@@ -1,23 +1,25 @@
 -- `line_folds::hops::next_cr` meets its contract. Assumes nothing.
-use Rattle.std.proofs.Common.{rules, tests, ◌≡◌, sym, ◌∙◌, eqb, drop, arith, length-drop}
-use Rattle.std.proofs.lemmas.List.{take_rest}
-use Rattle.std.proofs.lemmas.Iterator.{YieldsList-from_slice}
-use Rattle.std.proofs.lemmas.Iterator.Search.{position_from_yields_List}
-use Rattle.line_folds.proofs.HopLaws.{sought, cr_found, cr_missed}
+use mathlib.Core.Path.{sym, ◌∙◌}
+use native.Mathlib.Omega.{arith}
+use Rattle.line_folds.specs.Folds.{not_cr}
+use Rattle.octets.proofs.Runs.{run_stop, run_step, run_end}
+use Rattle.line_folds.proofs.HopLaws.{no_cr, a_cr}
 use Rattle.line_folds.proofs.hops.next_cr.Goals as goal
 
-pub returns-in-Some : goal.returns-in-Some
-returns-in-Some c =
-    let l = drop c.skip_to_cr-near.result c.args.s.now in
-    let e : c.position.result ≡ sought l = position_from_yields_List (λ b. eqb b 13) _ _ c.position.result c.position.ensures.ran (YieldsList-from_slice l (c.iter.ensures.rest ∙ take_rest c.args.s.now c.skip_to_cr-near.result)) (λ x b q k. search (rules, tests)) in
-    let f = cr_found l c.in-Some.n (sym c.in-Some.is ∙ e) in
-    let n = length-drop c.skip_to_cr-near.result c.args.s.now in
-    (omega arith, omega arith)
+pub loop-i-init : goal.loop-i-init
+loop-i-init c = c.skip_to_cr-i.ensures
 
-pub returns-in-None : goal.returns-in-None
-returns-in-None c =
-    let l = drop c.skip_to_cr-near.result c.args.s.now in
-    let e : c.position.result ≡ sought l = position_from_yields_List (λ b. eqb b 13) _ _ c.position.result c.position.ensures.ran (YieldsList-from_slice l (c.iter.ensures.rest ∙ take_rest c.args.s.now c.skip_to_cr-near.result)) (λ x b q k. search (rules, tests)) in
-    let f = cr_missed l (sym c.in-None.is ∙ e) in
-    let n = length-drop c.skip_to_cr-near.result c.args.s.now in
+pub returns-then-s-i-eq13 : goal.returns-then-s-i-eq13
+returns-then-s-i-eq13 c =
+    let s = c.args.s.now in
+    (c.loop-i.invariant.0, sym (c.loop-i.invariant.1 ∙ run_stop not_cr s c.loop-i.i c.loop-i-test.true (a_cr _ c.if-s-i-eq13.true)))
+
+pub loop-i-preserved : goal.loop-i-preserved
+loop-i-preserved c =
+    let s = c.args.s.now in
+    (omega arith, c.loop-i.invariant.1 ∙ run_step not_cr s c.loop-i.i c.loop-i-test.true (no_cr _ c.if-s-i-eq13.false))
+
+pub returns : goal.returns
+returns c =
+    let e = c.loop-i.invariant.1 ∙ run_end not_cr c.args.s.now c.loop-i.i c.loop-i-test.false in
     (omega arith, omega arith)

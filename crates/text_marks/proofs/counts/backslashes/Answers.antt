@@ -1,26 +1,19 @@
 -- `text_marks::counts::backslashes` meets its contract. Assumes nothing.
-use mathlib.Core.Path.{sym, ◌∙◌}
+use mathlib.Core.Path.{◌≡◌, ◌∙◌}
 use native.Mathlib.Omega.{arith}
-use lib.ListN.{get_or}
+use borrow.Author.Rules.{rules}
+use Rattle.octets.proofs.BitLaws.{bit_le, byte_bit}
 use mir.Val.{bool_byte}
 use Rattle.text_marks.specs.Marks.{backslash}
-use Rattle.octets.proofs.CountLaws.{count_step, count_end}
-use Rattle.octets.proofs.BitLaws.{byte_bit, bit_le}
 use Rattle.text_marks.proofs.counts.backslashes.Goals as goal
 
-pub overflow_add-n : goal.overflow_add-n
-overflow_add-n c =
-    let b = backslash (get_or c.args.s.now c.loop-b.b-index 0) in
-    omega (arith, bit_le b, byte_bit b)
-
-pub loop-b-preserved : goal.loop-b-preserved
-loop-b-preserved c =
-    let l = c.loop-b in
-    let s = c.args.s.now in
-    let b = backslash (get_or s l.b-index 0) in
-    (omega (arith, bit_le b, byte_bit b), l.invariant.1 ∙ count_step backslash s l.b-index c.loop-b-test.true l.n (bool_byte b) (byte_bit b))
+pub count_by-requires : goal.count_by-requires
+count_by-requires c =
+    record {
+      callable = search rules;
+      s_len_bound = c.requires;
+      bits = λ b r h k. let e : r ≡ bool_byte (backslash b) = search rules in omega (arith, bit_le (backslash b), byte_bit (backslash b));
+    }
 
 pub returns : goal.returns
-returns c =
-    let l = c.loop-b in
-    (sym (l.invariant.1 ∙ count_end backslash c.args.s.now l.b-index c.loop-b-test.false l.n), omega arith)
+returns c = (c.count_by.ensures.value backslash (λ b r h k. let e : r ≡ bool_byte (backslash b) = search rules in e ∙ byte_bit (backslash b)), c.count_by.ensures.bound)

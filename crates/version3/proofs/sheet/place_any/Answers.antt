@@ -1,5 +1,4 @@
 -- `version3::sheet::place_any` meets its contract. Assumes nothing.
-use borrow.Author.Rules.{rules}
 use native.Mathlib.Omega.{arith}
 use Rattle.version3.proofs.sheet.place_any.Goals as goal
 

@@ -1,8 +1,0 @@
--- `desk_slots::find_idle` meets its contract. Assumes nothing.
-use mathlib.Core.Path.{◌≡◌}
-use Rattle.desk_entries.specs.Search.{lowest_of}
-use Rattle.desk_slots.specs.Slots.{idle_at}
-use Rattle.desk_slots.proofs.find_idle.Given as goal
-
-abbrev pub invariant-loop-i : goal.invariant-loop-i
-invariant-loop-i l = l.lowest ≡ lowest_of (idle_at l.entries l.stamps l.at) l.i

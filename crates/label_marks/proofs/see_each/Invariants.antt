@@ -1,8 +1,0 @@
--- `label_marks::see_each` meets its contract. Assumes nothing.
-use mathlib.Core.Path.{◌≡◌}
-use lib.ListN.{take}
-use Rattle.label_marks.specs.Seen.{seen}
-use Rattle.label_marks.proofs.see_each.Given as goal
-
-abbrev pub invariant-loop-b : goal.invariant-loop-b
-invariant-loop-b l = l.bits ≡ seen l.x l.y l.z (take l.b-index l.s)
