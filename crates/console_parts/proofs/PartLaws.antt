@@ -11,14 +11,8 @@ use Rattle.octets.specs.Pick.{pick}
 use Rattle.octets.specs.Slices.{part}
 use Rattle.octets.specs.Room.{overlay}
 use Rattle.octets.proofs.Copies.{copy_step, copy_done}
-use Rattle.console_parts.specs.Parts.{number_length, shifted, number_at, part_end, end_of, part_of, source_at, sources_up_to, numbers_from}
+use Rattle.console_parts.specs.Parts.{number_length, number_at, part_end, end_of, part_of, source_at, sources_up_to, numbers_from}
 use Rattle.merge_sources.specs.declared.Source.{Source}
-
--- a number of four octets, octet by octet
-module _ (s : List ℕ) (p : ℕ) {w x y z a b c d : ℕ} (ew : w ≡ get_or s p 0) (ex : x ≡ get_or s (p + 1) 0) (ey : y ≡ get_or s (p + 2) 0) (ez : z ≡ get_or s (p + 3) 0) where
-  pub four : a ≡ shifted 0 w → b ≡ shifted a x → c ≡ shifted b y → d ≡ shifted c z → d ≡ number_at s p
-  unfolding number_at
-  four ea eb ec ed = rw (ed, ec, eb, ea, ew, ex, ey, ez)
 
 picked_short : (b c : Bool) (s t : List ℕ) → length t ≤ length s → length (pick b [] (pick c [] t)) ≤ length s
 picked_short true c s t h = omega arith

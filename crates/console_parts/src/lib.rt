@@ -3,7 +3,7 @@
 
 ghost use Rattle.std.specs.Prelude.{◌≡◌, ◌+◌, ◌*◌, ◌/◌, ◌<◌, ◌≤◌, length, get_or};
 ghost use Rattle.octets.specs.Room.{overlay};
-ghost use Rattle.console_parts.specs.Parts.{number_length, most_lent, most_octets, shifted, number_at, part_end, end_of, part_of, whole, holds_edits, source_at, sources_up_to, numbers_from};
+ghost use Rattle.console_parts.specs.Parts.{number_length, most_lent, most_octets, number_at, part_end, end_of, part_of, whole, holds_edits, source_at, sources_up_to, numbers_from};
 
 use merge_sources::{Entries, LENT, Source};
 
@@ -22,18 +22,7 @@ const LENGTH: usize = 8;
 fn octet_at(s: &[u8], at: usize) -> u8
     ensures { result ≡ get_or s.now at 0 }
 {
-    if at < s.len() {
-        return s[at];
-    }
-    0
-}
-
-// A number with one more octet behind it.
-fn shift(high: u32, low: u8) -> u32
-    requires { high < 16777216 }
-    ensures { (result ≡ shifted high low) × (result < (high + 1) * 256) }
-{
-    high * 256 + low as u32
+    s.get(at).copied().unwrap_or(0)
 }
 
 // The number of four octets at a place, the highest first.
@@ -41,10 +30,12 @@ fn number_at(s: &[u8], at: usize) -> u32
     requires { at ≤ most_octets }
     ensures { result ≡ number_at s.now at }
 {
-    let a = shift(0, octet_at(s, at));
-    let b = shift(a, octet_at(s, at + 1));
-    let c = shift(b, octet_at(s, at + 2));
-    shift(c, octet_at(s, at + 3))
+    u32::from_be_bytes([
+        octet_at(s, at),
+        octet_at(s, at + 1),
+        octet_at(s, at + 2),
+        octet_at(s, at + 3),
+    ])
 }
 
 // Where the part at a place ends: after its length and so many octets; past all octets where it does not lie there.
@@ -69,10 +60,8 @@ fn end_of(s: &[u8], k: usize) -> usize
     ensures { (result ≡ end_of s.now k) × (result ≤ length s.now + 1) }
 {
     let mut end: usize = 0;
-    let mut i: usize = 0;
-    while i < k {
+    for _ in 0..k {
         end = part_end(s, end);
-        i += 1;
     }
     end
 }
@@ -97,17 +86,12 @@ pub fn is_whole(s: &[u8], size: usize) -> bool
 }
 
 // Whether octets come apart into k parts, the third and the fourth of whole entries: two cards, their rows, and a plan where k is 5.
+#[tactic(auto, unfolding(crate::specs::Parts::holds_edits))]
 pub fn holds_edits(s: &[u8], k: usize) -> bool
     requires { length s.now ≤ most_octets }
     ensures { result ≡ holds_edits s.now k }
 {
-    if end_of(s, k) != s.len() {
-        return false;
-    }
-    if is_whole(part_of(s, 2), ENTRY) {
-        return is_whole(part_of(s, 3), ENTRY);
-    }
-    false
+    end_of(s, k) == s.len() && is_whole(part_of(s, 2), ENTRY) && is_whole(part_of(s, 3), ENTRY)
 }
 
 // Entry i of a row; zeros past its end.
@@ -132,10 +116,8 @@ pub fn entries_of(s: &[u8]) -> Entries
         place: 0,
         length: 0,
     }; LENT];
-    let mut i: usize = 0;
-    while i < LENT {
+    for i in 0..LENT {
         a[i] = source_at(s, i);
-        i += 1;
     }
     a
 }
@@ -145,10 +127,7 @@ pub fn put_numbers(s: &[u8], out: &mut [u32])
     requires { (length s.now ≤ most_octets) × (length s.now / number_length ≤ length out.old) }
     ensures { out.new ≡ overlay (numbers_from s.now 0 (length s.now / number_length)) out.old }
 {
-    let n = s.len() / NUMBER;
-    let mut i: usize = 0;
-    while i < n {
+    for i in 0..s.len() / NUMBER {
         out[i] = number_at(s, i * NUMBER);
-        i += 1;
     }
 }

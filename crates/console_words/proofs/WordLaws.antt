@@ -1,20 +1,29 @@
 -- The laws of the words of a line: the first one, those after it, and how many there are; joined by spaces they are the line, none has
 -- a space, and words without spaces are those of the line that joins them. Assumes nothing.
 use mathlib.Core.Path.{◌≡◌, refl, sym, ap, ◌∙◌}
-use mathlib.Core.Bool.{Bool, true, false, not, ◌&&◌}
+use mathlib.Core.Bool.{Bool, true, false, not, ◌&&◌, cond}
 use mathlib.Core.List.{List, [], ◌∷◌, ◌++◌}
 use Prim.Native.Nat.{ℕ, zero, suc, ◌+◌, ◌-◌, ◌≤◌, ◌<◌}
 use native.Mathlib.Nat.{not-suc-le-zero}
-use native.Mathlib.Numerals.{add-one}
 use native.Mathlib.Omega.{arith}
 use lib.Dec.{eqb}
 use lib.ListN.{length, get_or, take, drop, length-append, length-drop, drop_of_length-le}
-use lib.Seq.{drop-cons, drop-drop, get_or-append_seam, take-append_seam}
-use borrow.Author.Tests.{eq-eqb, ne_eqb, eqb-true}
+use lib.Seq.{drop-cons, get_or-append_seam, take-append_seam}
+use borrow.Author.Tests.{eq-eqb, ne_eqb, eqb-true, ltb-false}
+use Rattle.std.specs.Prelude.{Option, Some, None, MatchOption, nat_lt, unwrap_or}
+use Rattle.std.specs.List.{slice_get, slice_split, onto_first, count_by, position, position_or_len}
+use Rattle.std.specs.Option.{option_map}
+use Rattle.std.proofs.lemmas.Option.{unwrap_or-slice_get}
+use Rattle.std.specs.Cmp.Lexicographic.{pointwise}
+use Rattle.std.proofs.lemmas.Slice.Eq.{strip_suffix_is}
+use Rattle.std.proofs.lemmas.Bool.Decides.{Decides-eqb}
+use denote.Ref.{Bor}
+use Rattle.std.proofs.lemmas.List.Splits.{length-slice_split}
+use Rattle.std.proofs.lemmas.List.Recursion.{is_position_or_len}
 use Rattle.octets.specs.Classes.{run, more}
 use Rattle.octets.proofs.Bools.{and_both}
 use Rattle.octets.specs.Counts.{all_in}
-use Rattle.console_words.specs.Words.{other, next_of, before, words_of, word_at, joined, Follows, Starts, without_cr}
+use Rattle.console_words.specs.Words.{other, next_of, before, words_of, word_at, joined, without_cr}
 
 -- the first word
 head_step : (t : Bool) (x : ℕ) (xs : List ℕ) (ws : List (List ℕ)) (n : ℕ) → get_or ws 0 [] ≡ take n xs
@@ -51,38 +60,60 @@ run_le p (x ∷ xs) = step (p x) (run p xs) (length xs) (run_le p xs)
     step true m n h = omega arith
     step false m n h = omega arith
 
-pub next_low : (b : ℕ) (s : List ℕ) (i : ℕ) → i ≤ next_of b s i
-unfolding next_of
-next_low b s i = omega arith
-
 pub next_inside : (b : ℕ) (s : List ℕ) (i : ℕ) → i ≤ length s → next_of b s i ≤ length s
 unfolding next_of
 next_inside b s i h = omega (arith, run_le (other b) (drop i s), length-drop i s)
 
--- past the next space, or at the end, start the words after the first
-pub past_one : (s : List ℕ) (a e : ℕ) → e ≡ next_of 32 s a → (k : ℕ) → word_at (drop a s) (k + 1) ≡ word_at (drop (e + 1) s) k
+-- what the library says of a split at spaces, and of the first place of an octet
+words_split : (l : List ℕ) → words_of l ≡ slice_split (λ x. eqb x 32) l
+unfolding words_of
+words_split [] = refl
+words_split (x ∷ xs) = rw (words_split xs) (step (eqb x 32) (slice_split (λ y. eqb y 32) xs))
+  where
+    step : (t : Bool) (ws : List (List ℕ)) → before t x ws ≡ cond t ([] ∷ ws) (onto_first x ws)
+    step true ws = refl
+    step false [] = refl
+    step false (w ∷ ws) = refl
+
+pub words_counted : (l : List ℕ) → length (words_of l) ≡ count_by (λ x. eqb x 32) l + 1
+words_counted l = ap length (words_split l) ∙ length-slice_split (λ x. eqb x 32) l
+
+word_split : (l : List ℕ) (k : ℕ) → word_at l k ≡ get_or (slice_split (λ x. eqb x 32) l) k []
+unfolding word_at
+word_split l k = ap (λ (ws : List (List ℕ)). get_or ws k []) (words_split l)
+
+pub word_told : (l : List ℕ) (k : ℕ) (r : Option (Bor (List ℕ))) (none v : Bor (List ℕ))
+    → option_map (λ x. x.now) r ≡ slice_get (slice_split (λ x. eqb x 32) l) k → none.now ≡ [] → v ≡ unwrap_or r none → v.now ≡ word_at l k
+word_told l k r none v e n f =
+    ap (λ (x : Bor (List ℕ)). x.now) f
+    ∙ by r
+    ∙ ap (λ (o : Option (List ℕ)). unwrap_or o []) e
+    ∙ unwrap_or-slice_get (slice_split (λ x. eqb x 32) l) k []
+    ∙ sym (word_split l k)
+  where
+    by : (o : Option (Bor (List ℕ))) → (unwrap_or o none).now ≡ unwrap_or (option_map (λ x. x.now) o) []
+    by None = n
+    by (Some x) = refl
+
+run_placed : (b : ℕ) (l : List ℕ) → run (other b) l ≡ position_or_len (λ x. eqb x b) l
+unfolding run
+run_placed b l = is_position_or_len (run (other b)) (λ x. eqb x b) refl (λ x xs. step (eqb x b) (run (other b) xs)) l
+  where
+    step : (t : Bool) (n : ℕ) → more (not t) n ≡ cond t 0 (1 + n)
+    step true n = refl
+    step false n = omega arith
+
+pub next_placed : (b : ℕ) (s : List ℕ) (i : ℕ) (r : Option ℕ) (n : ℕ) → r ≡ position (λ x. eqb x b) (drop i s) → n ≡ unwrap_or r (length (drop i s)) → i + n ≡ next_of b s i
 unfolding next_of
-past_one s a e q k =
-    let n = run (other 32) (drop a s) in
-    let there : a + suc n ≡ e + 1 = omega arith in
-    rw (add-one k) (later_words (drop a s) k ∙ rw (drop-drop (suc n) a s, there))
-
-pub past_end : (s : List ℕ) (a e : ℕ) → e ≡ next_of 32 s a → e ≡ length s → (k : ℕ) → word_at (drop a s) (k + 1) ≡ word_at (drop e s) k
-past_end s a e q h k = past_one s a e q k ∙ rw (drop_of_length-le s {i = e + 1} (omega arith), drop_of_length-le s {i = e} (omega arith))
-
--- word k is the part up to the next space from where it starts
-pub word_part : (s : List ℕ) (k a e : ℕ) → Starts s k a → e ≡ next_of 32 s a → take (e - a) (drop a s) ≡ word_at s k
-unfolding next_of
-word_part s k a e h q =
-    let n : e - a ≡ run (other 32) (drop a s) = omega arith in
-    rw n (sym (h.there ∙ first_word (drop a s)))
-
--- the next word
-pub start_next : (s : List ℕ) (k i a r : ℕ) → i < k → word_at s k ≡ word_at (drop a s) (k - i) → Follows s a r
-    → word_at s k ≡ word_at (drop r s) (k - (i + 1))
-start_next s k i a r h e f =
-    let n : k - i ≡ k - (i + 1) + 1 = omega arith in
-    e ∙ ap (word_at (drop a s)) n ∙ f.goes (k - (i + 1))
+next_placed b s i r n e f =
+    let p : ℕ → Bool = λ x. eqb x b in
+    let m = position_or_len p (drop i s) in
+    let short : m ≤ length (drop i s) = omega (arith, run_placed b (drop i s), run_le (other b) (drop i s)) in
+    ap (λ (k : ℕ). i + k) (f ∙ ap (λ (o : Option ℕ). unwrap_or o (length (drop i s))) e ∙ by (nat_lt m (length (drop i s))) m (length (drop i s)) short refl ∙ sym (run_placed b (drop i s)))
+  where
+    by : (t : Bool) (m l : ℕ) → m ≤ l → nat_lt m l ≡ t → unwrap_or (cond t (Some m) None) l ≡ m
+    by true m l h q = refl
+    by false m l h q = omega (arith, ltb-false m l q)
 
 -- there is at least one word
 some_before : (t : Bool) (x : ℕ) (ws : List (List ℕ)) → 1 ≤ length (before t x ws)
@@ -94,26 +125,6 @@ pub some_word : (l : List ℕ) → 1 ≤ length (words_of l)
 unfolding words_of
 some_word [] = omega arith
 some_word (x ∷ xs) = some_before (eqb x 32) x (words_of xs)
-
-grown : (x : ℕ) (ws : List (List ℕ)) → 1 ≤ length ws → length (before false x ws) ≡ length ws
-grown x [] h = absurd (not-suc-le-zero h)
-grown x (w ∷ ws) h = refl
-
--- the count of words at a place of a line
-module _ (s : List ℕ) (i : ℕ) where
-  words_at : i < length s → length (words_of (drop i s)) ≡ length (before (eqb (get_or s i 0) 32) (get_or s i 0) (words_of (drop (i + 1) s)))
-  unfolding words_of
-  words_at h = rw (add-one, drop-cons s i 0)
-
-  pub count_space : i < length s → get_or s i 0 ≡ 32 → length (words_of (drop i s)) ≡ 1 + length (words_of (drop (i + 1) s))
-  count_space h e = rw (words_at h, eq-eqb (get_or s i 0) 32 e) (omega arith)
-
-  pub count_other : i < length s → (get_or s i 0 ≡ 32 → ⊥) → length (words_of (drop i s)) ≡ length (words_of (drop (i + 1) s))
-  count_other h e = rw (words_at h, ne_eqb (get_or s i 0) 32 e) (grown (get_or s i 0) (words_of (drop (i + 1) s)) (some_word (drop (i + 1) s)))
-
-  pub count_end : length s ≤ i → length (words_of (drop i s)) ≡ 1
-  unfolding words_of
-  count_end h = rw (drop_of_length-le s h)
 
 -- the words joined by spaces are the line
 join_step : (t : Bool) (x : ℕ) (ws : List (List ℕ)) (xs : List ℕ) → 1 ≤ length ws → (t ≡ true → x ≡ 32) → joined ws ≡ xs
@@ -183,7 +194,16 @@ pub no_cr : (l : List ℕ) → (get_or l (length l - 1) 0 ≡ 13 → ⊥) → wi
 unfolding without_cr
 no_cr l h = rw (ne_eqb (get_or l (length l - 1) 0) 13 h)
 
-pub nothing_off : (l : List ℕ) → length l ≡ 0 → l ≡ without_cr l
-unfolding without_cr
-nothing_off [] h = refl
-nothing_off (x ∷ xs) h = absurd (omega arith)
+-- what the library says of a line whose CR is taken off
+ends : (s : List ℕ) → get_or s (length s - 1) 0 ≡ 13 → pointwise eqb (drop (length s - 1) s) (13 ∷ []) ≡ true
+ends [] e = absurd (omega arith)
+ends (x ∷ xs) e =
+    let h : length (x ∷ xs) - 1 < length (x ∷ xs) = omega arith in
+    let g : length (x ∷ xs) ≤ suc (length (x ∷ xs) - 1) = omega arith in
+    rw (drop-cons (x ∷ xs) (length (x ∷ xs) - 1) 0 h, drop_of_length-le (x ∷ xs) {i = suc (length (x ∷ xs) - 1)} g, eq-eqb _ 13 e)
+
+pub cr_told : (line : Bor (List ℕ)) (r : Option (Bor (List ℕ)))
+    → MatchOption r (pointwise eqb (drop (length line.now - 1) line.now) (13 ∷ []) ≡ false) (λ x. (pointwise eqb (drop (length line.now - 1) line.now) (13 ∷ []) ≡ true) × (x.now ≡ take (length line.now - 1) line.now) × (length x.now + 1 ≡ length line.now))
+    → (unwrap_or r line).now ≡ without_cr line.now
+cr_told line None h = sym (no_cr line.now (λ e. let z : true ≡ false = sym (ends line.now e) ∙ h in cc))
+cr_told line (Some x) h = sym (ap without_cr (strip_suffix_is Decides-eqb line.now (13 ∷ []) (Some x) h) ∙ cr_off x.now)

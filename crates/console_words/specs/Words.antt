@@ -1,5 +1,5 @@
 -- The words of a line, split by single spaces, and the line without a CR at its end. Assumes nothing.
-use Rattle.std.specs.Prelude.{ℕ, ◌+◌, ◌-◌, ◌≤◌, ◌≡◌, Bool, true, false, not, List, [], ◌∷◌, ◌++◌, eqb, length, get_or, take, drop}
+use Rattle.std.specs.Prelude.{ℕ, ◌+◌, ◌-◌, Bool, true, false, not, List, [], ◌∷◌, ◌++◌, eqb, length, get_or, take, drop}
 use Rattle.octets.specs.Pick.{pick}
 use Rattle.octets.specs.Classes.{run}
 
@@ -30,16 +30,6 @@ unfoldable pub joined : List (List ℕ) → List ℕ
 joined [] = []
 joined (w ∷ []) = w
 joined (w ∷ v ∷ ws) = w ++ (32 ∷ joined (v ∷ ws))
-
--- the words from place r on are those from place a on without the first
-pub record Follows (s : List ℕ) (a r : ℕ) : Type 0 where
-  pub goes : (k : ℕ) → word_at (drop a s) (k + 1) ≡ word_at (drop r s) k
-  pub inside : r ≤ length s
-
--- word k is the first one from place a on
-pub record Starts (s : List ℕ) (k a : ℕ) : Type 0 where
-  pub there : word_at s k ≡ word_at (drop a s) 0
-  pub inside : a ≤ length s
 
 -- the line without its last octet where that is a CR, any other line as it is
 unfoldable pub without_cr : List ℕ → List ℕ

@@ -32,7 +32,7 @@ use Rattle.merge.specs.Plans as plans
 use Rattle.merge.specs.Plans.{flatten, covers_from}
 use Rattle.merge.specs.Outcome as outcome
 use Rattle.merge.specs.Outcome.{planned, write_of, plan_in, judge_of as check_by, entered, plan_outcome, check_outcome}
-use Rattle.merge.specs.declared.Paired.TheVariants.{Pairs, Refused}
+use Rattle.merge.specs.Paired.{Pairs, Refused}
 use Rattle.merge.proofs.SettleLaws.{settle_pairs}
 use Rattle.merge_laws.specs.Demand11.{Both, Ready, Passing}
 use Rattle.merge_laws.proofs.Walks.{covers_true, covers_all}

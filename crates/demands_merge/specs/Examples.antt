@@ -5,7 +5,7 @@ use Rattle.octets.specs.Ascii.{octets}
 use Rattle.line_parser.specs.Grammar.{Each}
 use Rattle.merge_sources.specs.declared.Source.{Source}
 use Rattle.merge.specs.Outcome.{planned, plan_outcome, check_outcome}
-use Rattle.merge.specs.declared.Paired.TheVariants.{Pairs, Refused}
+use Rattle.merge.specs.Paired.{Pairs, Refused}
 use Rattle.merge_laws.specs.Demand11.{Ready, Passing}
 
 -- a line with its CR LF

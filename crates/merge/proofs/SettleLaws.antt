@@ -10,7 +10,7 @@ use Rattle.merge_sources.specs.Row.{same_row}
 use Rattle.merge_sources.specs.declared.Row.{Row}
 use Rattle.merge_pids.specs.Marks.{Marked}
 use Rattle.merge_partners.specs.Pairs.{First, joined, join_all, first_of, demanded_pairs, pairs_from, same_uids}
-use Rattle.merge.specs.declared.Paired.TheVariants.{Pairs, Refused}
+use Rattle.merge.specs.Paired.{Pairs, Refused}
 use Rattle.merge.specs.Sides.{Side, marks_of, row_in, over_side, is_over, Settled, settled, pairs_of, settled_by, settle_of}
 
 -- what the code holds of a side

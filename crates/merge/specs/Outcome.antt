@@ -11,8 +11,7 @@ use Rattle.merge_sources.specs.Row.{row_of}
 use Rattle.merge_sources.specs.declared.Source.{Source}
 use Rattle.merge_sources.specs.declared.Row.{Row}
 use Rattle.merge_partners.specs.Pairs.{First as Joining, joined, first_of, pairs_from}
-use Rattle.merge.specs.declared.Paired.{Paired}
-use Rattle.merge.specs.declared.Paired.TheVariants.{Pairs, Refused}
+use Rattle.merge.specs.Paired.{Paired, Pairs, Refused}
 use Rattle.merge.specs.Sides.{Side, side, read_of, Settled, settle_of}
 use Rattle.merge.specs.Plans.{flatten, enter_all, covers_from}
 

@@ -13,8 +13,7 @@ use Rattle.merge_pids.specs.Marks.{Marked, marked, put_all, mark_length}
 use Rattle.merge_sides.specs.Sources.{own_row, over_entries}
 use Rattle.merge_sides.specs.Marks.{marks_from, over_marks}
 use Rattle.merge_partners.specs.Pairs.{First as Joining, joined, join_all, first_of, demanded_pairs, pairs_from, same_uids}
-use Rattle.merge.specs.declared.Paired.{Paired}
-use Rattle.merge.specs.declared.Paired.TheVariants.{Pairs, Refused}
+use Rattle.merge.specs.Paired.{Paired, Pairs, Refused}
 
 -- what reading a card leaves: its copy and records in rooms that hold those of any card, and its counts
 pub record Side : Type 0 where

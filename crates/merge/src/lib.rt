@@ -7,24 +7,18 @@ ghost use Rattle.octets.specs.Room.{overlay};
 ghost use Rattle.merge_sources.specs.Row.{row_of};
 ghost use Rattle.merge_pids.specs.Marks.{marked};
 ghost use Rattle.merge_partners.specs.Pairs.{joined, joined_first, first_of, pairs_from};
-ghost use Rattle.merge.specs.Sides.{side, refusal_of, over_side, settled, settle_of, own_row_of};
+ghost use Rattle.merge.specs.Paired.{paired};
+ghost use Rattle.merge.specs.Sides.{side, over_side, settled, settle_of, own_row_of};
 ghost use Rattle.merge.specs.Plans.{flatten, put_partner, put_partners, enter_to, enter_step, enter_all, is_kept, covers_from};
 ghost use Rattle.merge.specs.Outcome.{planned, plan_rows, check_rows, plan_outcome, check_outcome};
 
 use merge_partners::Partners;
 use merge_sources::{Row, Source};
-use numbers::refusal::Reason;
+use numbers::refusal::{Reason, Refusal};
 use numbers::limit;
 use octets::indices::wide_number;
 use property_table::Edition;
-use reader::Verdict;
-
-// The count of pairs, or a refusal's number and place.
-#[derive(Clone, Copy)]
-pub enum Paired {
-    Pairs(usize),
-    Refused(u32, usize),
-}
+use reader::Counts;
 
 // How many numbers the marks of a card may take.
 const MARKS: usize = limit::LINES * merge_pids::MARK;
@@ -34,16 +28,6 @@ const PAIR: usize = 2;
 
 // How many numbers the records of a card may take.
 const RECORDS: usize = limit::LINES * limit::RECORD_LENGTH;
-
-// What the reader refuses.
-fn refusal_of(v: Verdict) -> Paired
-    ensures { result ≡ refusal_of v }
-{
-    match v {
-        Verdict::Accepted(cards, lines) => Paired::Refused(Reason::MergeLimit, 0),
-        Verdict::Refused(n, p) => Paired::Refused(n, p),
-    }
-}
 
 // Whether a side is over a limit: cards, entries of its row, CLIENTPIDMAP lines, or a number over 65,535.
 fn is_over(cards: usize, lent: usize, own: Row, marks: &[u32], end: usize) -> bool
@@ -68,58 +52,56 @@ fn is_over(cards: usize, lent: usize, own: Row, marks: &[u32], end: usize) -> bo
 fn settle(
     ca: &[u8],
     ra: &[u32],
-    ka: usize,
-    na: usize,
+    x: Counts,
     a: Row,
     cb: &[u8],
     rb: &[u32],
-    kb: usize,
-    nb: usize,
+    y: Counts,
     b: Row,
     p: &mut Partners,
-) -> Paired
-    ensures { settled result p.new ≡ settle_of (side ca.now ra.now ka na) (side cb.now rb.now kb nb) a b p.old }
+) -> Result<usize, Refusal>
+    ensures { settled (paired result) p.new ≡ settle_of (side ca.now ra.now x.cards x.lines) (side cb.now rb.now y.cards y.lines) a b p.old }
 {
     let t = octets::classes::table();
     let mut firsts = [0u32; MARKS];
     let mut seconds = [0u32; MARKS];
-    let ea = merge_sides::put_marks(&t, ca, ra, na, &mut firsts);
-    let eb = merge_sides::put_marks(&t, cb, rb, nb, &mut seconds);
-    let own_a = merge_sides::own_row(ca, ra, na);
-    let own_b = merge_sides::own_row(cb, rb, nb);
-    if is_over(ka, a.count, own_a, &firsts, ea) {
-        return Paired::Refused(Reason::MergeLimit, 0);
+    let ea = merge_sides::put_marks(&t, ca, ra, x.lines, &mut firsts);
+    let eb = merge_sides::put_marks(&t, cb, rb, y.lines, &mut seconds);
+    let own_a = merge_sides::own_row(ca, ra, x.lines);
+    let own_b = merge_sides::own_row(cb, rb, y.lines);
+    if is_over(x.cards, a.count, own_a, &firsts, ea) {
+        return Err(Refusal(Reason::MergeLimit, 0));
     }
-    if is_over(kb, b.count, own_b, &seconds, eb) {
-        return Paired::Refused(Reason::MergeLimit, 0);
+    if is_over(y.cards, b.count, own_b, &seconds, eb) {
+        return Err(Refusal(Reason::MergeLimit, 0));
     }
     if !merge_sources::same_row(own_a, a) {
-        return Paired::Refused(Reason::SourceRow, 0);
+        return Err(Refusal(Reason::SourceRow, 0));
     }
     if !merge_sources::same_row(own_b, b) {
-        return Paired::Refused(Reason::SourceRow, 0);
+        return Err(Refusal(Reason::SourceRow, 0));
     }
-    if !merge_partners::same_uids(ca, ra, na, cb, rb, nb) {
-        return Paired::Refused(Reason::NoPlan, 0);
+    if !merge_partners::same_uids(ca, ra, x.lines, cb, rb, y.lines) {
+        return Err(Refusal(Reason::NoPlan, 0));
     }
     if !merge_partners::join_all(
         ca,
         ra,
-        na,
+        x.lines,
         &firsts,
         ea / merge_pids::MARK,
         a,
         cb,
         rb,
-        nb,
+        y.lines,
         &seconds,
         eb / merge_pids::MARK,
         b,
         p,
     ) {
-        return Paired::Refused(Reason::NoPlan, 0);
+        return Err(Refusal(Reason::NoPlan, 0));
     }
-    Paired::Pairs(merge_partners::count_pairs(p))
+    Ok(merge_partners::count_pairs(p))
 }
 
 // Writes the pair of line i, where it has a partner and there is room, and answers where the next one goes.
@@ -147,39 +129,34 @@ fn put_pairs(p: &Partners, out: &mut [u32])
     ensures { out.new ≡ overlay (flatten (pairs_from p.now 0 limit.lines)) out.old }
 {
     let mut at: usize = 0;
-    let mut i: usize = 0;
-    while i < limit::LINES {
-        at = put_partner(i, p[i], out, at);
-        i += 1;
+    for (i, partner) in p.iter().enumerate() {
+        at = put_partner(i, *partner, out, at);
     }
 }
 
 // The planner on rows by value.
-pub fn plan_rows(first: &[u8], second: &[u8], a: Row, b: Row, out: &mut [u32]) -> Paired
-    ensures { planned result out.new ≡ plan_rows first.now second.now a b out.old }
+pub fn plan_rows(
+    first: &[u8],
+    second: &[u8],
+    a: Row,
+    b: Row,
+    out: &mut [u32],
+) -> Result<usize, Refusal>
+    ensures { planned (paired result) out.new ≡ plan_rows first.now second.now a b out.old }
 {
     let mut ca = [0u8; limit::OCTETS];
     let mut ra = [0u32; RECORDS];
-    let v = reader::read(Edition::First, first, &mut ca, &mut ra);
-    let Verdict::Accepted(ka, na) = v else {
-        return refusal_of(v);
-    };
+    let x = reader::read(Edition::First, first, &mut ca, &mut ra)?;
     let mut cb = [0u8; limit::OCTETS];
     let mut rb = [0u32; RECORDS];
-    let w = reader::read(Edition::First, second, &mut cb, &mut rb);
-    let Verdict::Accepted(kb, nb) = w else {
-        return refusal_of(w);
-    };
+    let y = reader::read(Edition::First, second, &mut cb, &mut rb)?;
     let mut p = [0u32; limit::LINES];
-    let s = settle(&ca, &ra, ka, na, a, &cb, &rb, kb, nb, b, &mut p);
-    let Paired::Pairs(n) = s else {
-        return s;
-    };
+    let n = settle(&ca, &ra, x, a, &cb, &rb, y, b, &mut p)?;
     if out.len() < n * PAIR {
-        return Paired::Refused(Reason::RecordRoom, n * PAIR);
+        return Err(Refusal(Reason::RecordRoom, n * PAIR));
     }
     put_pairs(&p, out);
-    Paired::Pairs(n)
+    Ok(n)
 }
 
 // Enters a pair of a plan; false where a line is none, or stands in the plan already.
@@ -273,50 +250,51 @@ fn is_kept(partner: u32, other: u32) -> bool
 fn covers(p: &Partners, q: &Partners) -> bool
     ensures { result ≡ covers_from p.now q.now 0 limit.lines }
 {
-    let mut i: usize = 0;
-    while i < limit::LINES {
-        if !is_kept(p[i], q[i]) {
+    for (i, partner) in p.iter().enumerate() {
+        if !is_kept(*partner, q[i]) {
             return false;
         }
-        i += 1;
     }
     true
 }
 
 // The checker on rows by value.
-pub fn check_rows(first: &[u8], second: &[u8], a: Row, b: Row, plan: &[u32]) -> Paired
-    ensures { result ≡ check_rows first.now second.now a b plan.now }
+pub fn check_rows(
+    first: &[u8],
+    second: &[u8],
+    a: Row,
+    b: Row,
+    plan: &[u32],
+) -> Result<usize, Refusal>
+    ensures { paired result ≡ check_rows first.now second.now a b plan.now }
 {
     let mut ca = [0u8; limit::OCTETS];
     let mut ra = [0u32; RECORDS];
-    let v = reader::read(Edition::First, first, &mut ca, &mut ra);
-    let Verdict::Accepted(ka, na) = v else {
-        return refusal_of(v);
-    };
+    let x = reader::read(Edition::First, first, &mut ca, &mut ra)?;
     let mut cb = [0u8; limit::OCTETS];
     let mut rb = [0u32; RECORDS];
-    let w = reader::read(Edition::First, second, &mut cb, &mut rb);
-    let Verdict::Accepted(kb, nb) = w else {
-        return refusal_of(w);
-    };
+    let y = reader::read(Edition::First, second, &mut cb, &mut rb)?;
     let mut p = [0u32; limit::LINES];
-    let s = settle(&ca, &ra, ka, na, a, &cb, &rb, kb, nb, b, &mut p);
-    let Paired::Pairs(n) = s else {
-        return s;
-    };
+    settle(&ca, &ra, x, a, &cb, &rb, y, b, &mut p)?;
     let mut q = [0u32; limit::LINES];
-    if !enter_plan(&ca, &ra, na, &cb, &rb, nb, plan, &mut q) {
-        return Paired::Refused(Reason::Plan, 0);
+    if !enter_plan(&ca, &ra, x.lines, &cb, &rb, y.lines, plan, &mut q) {
+        return Err(Refusal(Reason::Plan, 0));
     }
     if !covers(&p, &q) {
-        return Paired::Refused(Reason::Plan, 0);
+        return Err(Refusal(Reason::Plan, 0));
     }
-    Paired::Pairs(plan.len() / PAIR)
+    Ok(plan.len() / PAIR)
 }
 
 // The planner: proposes the demanded pairs of two edits of one card, each with the row of its sources that the host lends.
-pub fn plan(first: &[u8], second: &[u8], m: &[Source], n: &[Source], out: &mut [u32]) -> Paired
-    ensures { planned result out.new ≡ plan_outcome first.now second.now m.now n.now out.old }
+pub fn plan(
+    first: &[u8],
+    second: &[u8],
+    m: &[Source],
+    n: &[Source],
+    out: &mut [u32],
+) -> Result<usize, Refusal>
+    ensures { planned (paired result) out.new ≡ plan_outcome first.now second.now m.now n.now out.old }
 {
     let a = merge_sources::row_of(m);
     let b = merge_sources::row_of(n);
@@ -324,8 +302,14 @@ pub fn plan(first: &[u8], second: &[u8], m: &[Source], n: &[Source], out: &mut [
 }
 
 // The checker: accepts a plan that passes.
-pub fn check(first: &[u8], second: &[u8], m: &[Source], n: &[Source], plan: &[u32]) -> Paired
-    ensures { result ≡ check_outcome first.now second.now m.now n.now plan.now }
+pub fn check(
+    first: &[u8],
+    second: &[u8],
+    m: &[Source],
+    n: &[Source],
+    plan: &[u32],
+) -> Result<usize, Refusal>
+    ensures { paired result ≡ check_outcome first.now second.now m.now n.now plan.now }
 {
     let a = merge_sources::row_of(m);
     let b = merge_sources::row_of(n);
@@ -344,8 +328,8 @@ pub fn lend_plan(
     b: Entries,
     l: usize,
     out: &mut [u32],
-) -> Paired
-    ensures { planned result out.new ≡ plan_outcome first.now second.now (take (min k (limit.sources + 1)) a) (take (min l (limit.sources + 1)) b) out.old }
+) -> Result<usize, Refusal>
+    ensures { planned (paired result) out.new ≡ plan_outcome first.now second.now (take (min k (limit.sources + 1)) a) (take (min l (limit.sources + 1)) b) out.old }
 {
     let x = merge_sources::lend_row(a, k);
     let y = merge_sources::lend_row(b, l);
@@ -361,8 +345,8 @@ pub fn lend_check(
     b: Entries,
     l: usize,
     plan: &[u32],
-) -> Paired
-    ensures { result ≡ check_outcome first.now second.now (take (min k (limit.sources + 1)) a) (take (min l (limit.sources + 1)) b) plan.now }
+) -> Result<usize, Refusal>
+    ensures { paired result ≡ check_outcome first.now second.now (take (min k (limit.sources + 1)) a) (take (min l (limit.sources + 1)) b) plan.now }
 {
     let x = merge_sources::lend_row(a, k);
     let y = merge_sources::lend_row(b, l);
@@ -375,9 +359,8 @@ pub fn sources_of(card: &[u8]) -> Row
 {
     let mut c = [0u8; limit::OCTETS];
     let mut r = [0u32; RECORDS];
-    let v = reader::read(Edition::First, card, &mut c, &mut r);
-    let Verdict::Accepted(k, n) = v else {
+    let Ok(counts) = reader::read(Edition::First, card, &mut c, &mut r) else {
         return merge_sources::empty(0);
     };
-    merge_sides::own_row(&c, &r, n)
+    merge_sides::own_row(&c, &r, counts.lines)
 }

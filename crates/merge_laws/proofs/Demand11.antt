@@ -17,8 +17,7 @@ use Rattle.merge_sources.specs.declared.Source.{Source}
 use Rattle.merge_partners.specs.Pairs.{Pair}
 use Rattle.merge.specs.Plans.{flatten}
 use Rattle.merge.specs.Outcome.{Planned, planned, plan_outcome, check_outcome}
-use Rattle.merge.specs.declared.Paired.{Paired}
-use Rattle.merge.specs.declared.Paired.TheVariants.{Pairs, Refused}
+use Rattle.merge.specs.Paired.{Paired, Pairs, Refused}
 use Rattle.merge.proofs.WriteLaws.{flatten_length}
 use Rattle.merge_words.specs.Lists.{Member}
 use Rattle.merge_words.specs.Lists.Member.{here, there}

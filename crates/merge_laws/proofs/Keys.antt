@@ -12,8 +12,7 @@ use Rattle.line_parser.specs.Grammar.{Line}
 use Rattle.merge_sources.specs.Row.{none, row_of, first_in}
 use Rattle.merge_sources.specs.declared.Source.{Source}
 use Rattle.merge_sources.specs.declared.Row.{Row}
-use Rattle.merge_sources.specs.declared.Found.{Found}
-use Rattle.merge_sources.specs.declared.Found.TheVariants.{At, Nothing}
+use Rattle.std.specs.Prelude.{Option, Some, None}
 use Rattle.merge_sides.specs.Lines.{same_octets}
 use Rattle.merge_partners.specs.Keys.{uri_of, class_from, class_of, class_at, classes_of, class_by, no_key, key_by}
 use Rattle.merge_partners.proofs.WalkLaws.{sets_at}
@@ -86,12 +85,12 @@ module _ (ca : List ℕ) (a : Row) (c : List ℕ) (xs : List Line) (m : List Sou
   Entry n = uri_of c (get_or (row_of m).entries n none)
 
   -- in a row that is lent, a class is that of the first entry
-  class_in : (s n : ℕ) → first_in (row_of m).entries 0 (length m) s ≡ At n → n < 16 → Class s ≡ class_of ca a (Entry n)
+  class_in : (s n : ℕ) → first_in (row_of m).entries 0 (length m) s ≡ Some n → n < 16 → Class s ≡ class_of ca a (Entry n)
   unfolding class_by row_of
   class_in s n e h =
       rw (row_count m, least_is (length m) few, e, lt-ltb n 16 h) (classes_at ca a c (row_of m) n h)
 
-  class_none : (s : ℕ) → first_in (row_of m).entries 0 (length m) s ≡ Nothing → Class s ≡ 16
+  class_none : (s : ℕ) → first_in (row_of m).entries 0 (length m) s ≡ None → Class s ≡ 16
   unfolding class_by
   class_none s e = rw (row_count m, least_is (length m) few, e)
 
@@ -101,11 +100,11 @@ module _ (ca : List ℕ) (a : Row) (c : List ℕ) (xs : List Line) (m : List Sou
     pub leads : Leads xs s (Entry place)
     pub class : Class s ≡ class_of ca a (Entry place)
 
-  classed_by : (s : ℕ) → Class s < 16 → (f : Found) → first_in (row_of m).entries 0 (length m) s ≡ f → Classed s
-  classed_by s h (At n) e =
+  classed_by : (s : ℕ) → Class s < 16 → (f : Option ℕ) → first_in (row_of m).entries 0 (length m) s ≡ f → Classed s
+  classed_by s h (Some n) e =
       let l = found_leads c (row_of m).entries s 0 n held (row_entries m few) e in
       record { place = n; below = omega (arith, l.below); leads = l.leads; class = class_in s n e (omega (arith, l.below)) }
-  classed_by s h Nothing e = absurd (omega (arith, h, class_none s e))
+  classed_by s h None e = absurd (omega (arith, h, class_none s e))
 
   -- a source number with a class leads to a URI of that class
   pub class_leads : (s : ℕ) → Class s < 16 → Classed s

@@ -24,7 +24,7 @@ use Rattle.merge_partners.specs.Pairs.{Pair, Joined, pairs_from}
 use Rattle.merge.specs.Plans.{flatten, covers_from}
 use Rattle.merge.specs.Sides.{Side, side, read_of, row_in, is_over, Settled, settled, pairs_of, settle_of}
 use Rattle.merge.specs.Outcome.{planned, write_of, plan_rows, plan_outcome, plan_in, judge_of as check_by, check_rows, check_outcome}
-use Rattle.merge.specs.declared.Paired.TheVariants.{Pairs, Refused}
+use Rattle.merge.specs.Paired.{Pairs, Refused}
 use Rattle.merge.proofs.SettleLaws.{first_over, second_over, first_row, second_row, no_uids, settle_pairs}
 use Rattle.merge_words.specs.Sources.{RowOf, Over}
 use Rattle.merge_words.specs.Sides.{Held, SideOf}

@@ -12,7 +12,7 @@ use Rattle.octets.proofs.Bools.{by, clash}
 use Rattle.line_parser.specs.Grammar.{Line, Each, Is}
 use Rattle.merge_sources.specs.Row.{none, entries_from, row_of, least, first_in}
 use Rattle.merge_sources.specs.declared.Source.{Source}
-use Rattle.merge_sources.specs.declared.Found.TheVariants.{At}
+use Rattle.std.specs.Prelude.{Some}
 use Rattle.merge_partners.specs.Keys.{uri_of}
 use Rattle.merge_words.specs.Pids.{decimal}
 use Rattle.merge_words.specs.Sources.{Maps, Leads}
@@ -59,7 +59,7 @@ rowed_tail es i e m r k h = ap (λ (n : ℕ). get_or es n none) (omega arith) �
 
 pub record FoundAt (c : List ℕ) (es : List Source) (i k n : ℕ) (uri : List ℕ) : Type 0 where
   pub place : ℕ
-  pub is : first_in es i k n ≡ At place
+  pub is : first_in es i k n ≡ Some place
   pub from : i ≤ place
   pub below : place < i + k
   pub has : uri_of c (get_or es place none) ≡ uri
@@ -97,7 +97,7 @@ module _ (c : List ℕ) (es : List Source) (n : ℕ) where
     pub below : place < i + k
     pub leads : Leads xs n (uri_of c (get_or es place none))
 
-  pub found_leads : {xs : List Line} {m : List Source} (i place : ℕ) → Held c xs m → Rowed es i m → first_in es i (length m) n ≡ At place → LeadsAt xs i (length m) place
+  pub found_leads : {xs : List Line} {m : List Source} (i place : ℕ) → Held c xs m → Rowed es i m → first_in es i (length m) n ≡ Some place → LeadsAt xs i (length m) place
   unfolding first_in
   found_leads i k no-entry r e = clash cc
   found_leads i k (passed d h) r e =
@@ -108,7 +108,7 @@ module _ (c : List ℕ) (es : List Source) (n : ℕ) where
       by (eqb (get_or es i none).number n)
       (λ t.
       let s : (get_or es i none).number ≡ n = eqb-true (get_or es i none).number n t in
-      let a : At i ≡ At k = rw t at e in
+      let a : Some i ≡ Some k = rw t at e in
       let j : i ≡ k = cc in
       let mp : Maps x n (uri_of c en) = subst (λ (y : ℕ). Maps x y (uri_of c en)) (sym (ap (λ (y : Source). y.number) z) ∙ s) q in
       let v : uri_of c en ≡ uri_of c (get_or es k none) = ap (uri_of c) (sym z) ∙ ap (λ (y : ℕ). uri_of c (get_or es y none)) j in

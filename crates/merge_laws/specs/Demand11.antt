@@ -9,7 +9,7 @@ use Rattle.merge_sources.specs.declared.Source.{Source}
 use Rattle.merge_partners.specs.Pairs.{Pair, pair}
 use Rattle.merge.specs.Plans.{flatten}
 use Rattle.merge.specs.Outcome.{planned, plan_outcome, check_outcome}
-use Rattle.merge.specs.declared.Paired.TheVariants.{Pairs, Refused}
+use Rattle.merge.specs.Paired.{Pairs, Refused}
 use Rattle.merge_words.specs.Lists.{Member, At}
 use Rattle.merge_words.specs.Sources.{RowOf, Over}
 use Rattle.merge_laws.specs.Plans.{Demanded, Passes}

@@ -12,10 +12,10 @@ use Rattle.octets.proofs.Bools.{by}
 use Rattle.line_parser.specs.Grammar.{Value, plain, in_quotes, Param, Line, led, value_text, param_text, group_text, front, render}
 use Rattle.line_parameters.specs.First.{value_octets}
 use Rattle.reader.specs.Outcome.{ended}
-use Rattle.merge_pids.specs.Numbers.{pid_of}
+use Rattle.std.specs.Prelude.{Option, Some, None}
+use Rattle.merge_pids.specs.Numbers.{pid as pid_numbers, pid_of}
 use Rattle.merge_pids.specs.Marks.{Mark, mark, pid_name, value_marks}
 use Rattle.merge_pids.specs.declared.Pid.{Pid}
-use Rattle.merge_pids.specs.declared.Pid.TheVariants.{Marks, Nothing}
 use Rattle.merge_words.specs.Lists.{Member, here, there, At, first, later}
 use Rattle.merge_words.specs.Pids.{PidText, PidOf, pid}
 use Rattle.merge_words.specs.Sides.{capped, MarkOf}
@@ -25,18 +25,18 @@ use Rattle.merge_words.proofs.NumberLaws.{pid_complete, PidIn, pid_sound, pid_lo
 
 -- ---- each mark is a PID's
 
-record OneMark (i : ℕ) (o : Pid) (m : Mark) : Type 0 where
+record OneMark (i : ℕ) (o : Option Pid) (m : Mark) : Type 0 where
   p : ℕ
   s : ℕ
-  pid_is : o ≡ Marks p s
+  pid_is : o ≡ Some (pid_numbers p s)
   mark_is : m ≡ mark i p s
 
-one_mark : (i : ℕ) (o : Pid) (m : Mark) → Member m (value_marks i o) → OneMark i o m
-one_mark i Nothing m h = member_none h refl
-one_mark i (Marks p s) m h = go (member_cases h)
+one_mark : (i : ℕ) (o : Option Pid) (m : Mark) → Member m (value_marks i o) → OneMark i o m
+one_mark i None m h = member_none h refl
+one_mark i (Some v) m h = go (member_cases h)
   where
-    go : (m ≡ mark i p s) ⊎ Member m [] → OneMark i (Marks p s) m
-    go (inl e) = record { p = p; s = s; pid_is = refl; mark_is = e }
+    go : (m ≡ mark i v.first v.source) ⊎ Member m [] → OneMark i (Some v) m
+    go (inl e) = record { p = v.first; s = v.source; pid_is = refl; mark_is = e }
     go (inr g) = member_none g refl
 
 -- of one of the values
@@ -210,9 +210,9 @@ unfolding value_octets value_text
 value_long (plain xs) = omega arith
 value_long (in_quotes xs) = omega (arith, length-append xs (34 ∷ []))
 
-one_few : (i : ℕ) (v : List ℕ) (o : Pid) → pid_of v ≡ o → length (value_marks i o) * 4 ≤ suc (length v)
-one_few i v Nothing e = omega arith
-one_few i v (Marks p s) e = let t = pid_sound v p s e in omega (arith, pid_long v t.first t.source t.text)
+one_few : (i : ℕ) (v : List ℕ) (o : Option Pid) → pid_of v ≡ o → length (value_marks i o) * 4 ≤ suc (length v)
+one_few i v None e = omega arith
+one_few i v (Some w) e = let t = pid_sound v w.first w.source e in omega (arith, pid_long v t.first t.source t.text)
 
 values_few : (i : ℕ) (vs : List Value) → length (values_pids i vs) * 4 ≤ length (led 44 value_text vs)
 unfolding values_pids led

@@ -15,8 +15,9 @@ use Rattle.line_parser.specs.Grammar.{Each, Is}
 use Rattle.line_parser.proofs.PartLaws.{run_le}
 use Rattle.line_parameters.proofs.Complete.{run_append}
 use Rattle.line_parameters.proofs.Sound.{run_each}
-use Rattle.merge_pids.specs.Numbers.{with_digit, digits, pid_of}
-use Rattle.merge_pids.specs.declared.Pid.TheVariants.{Marks, Nothing}
+use Rattle.std.specs.Prelude.{Some, None}
+use Rattle.merge_pids.specs.Numbers.{with_digit, digits, pid as pid_numbers, pid_of}
+use Rattle.merge_pids.specs.declared.Pid.{Pid}
 use Rattle.merge_pids.proofs.NumberLaws.{pid_none, pid_no_dot, pid_dot, after_none, after_more, after_all}
 use Rattle.merge_words.specs.Pids.{decimal, PidText}
 use Rattle.merge_words.specs.Sides.{capped}
@@ -72,7 +73,7 @@ all_run ds h = rw (take_all (run digit ds) ds h) at (run_each digit ds)
 -- ---- a PID value
 
 -- digits, a dot and digits count, with both numbers
-pub pid_complete : (v : List ℕ) (p s : ℕ) → PidText v p s → pid_of v ≡ Marks (capped p) (capped s)
+pub pid_complete : (v : List ℕ) (p s : ℕ) → PidText v p s → pid_of v ≡ Some (pid_numbers (capped p) (capped s))
 pid_complete v p s t =
     let b = t.before in
     let a = t.after in
@@ -84,7 +85,7 @@ pid_complete v p s t =
     let k : run digit a ≡ length a = run_all a t.source.each in
     let x : digits 0 b ≡ capped p = digits_law b ∙ ap capped (sym t.first.stands) in
     let y : digits 0 a ≡ capped s = digits_law a ∙ ap capped (sym t.source.stands) in
-    let q : pid_of v ≡ Marks (digits 0 b) (digits 0 a) =
+    let q : pid_of v ≡ Some (pid_numbers (digits 0 b) (digits 0 a)) =
     pid_dot v n (sym r) (λ z. omega (arith, t.first.some)) g ∙ rw (f, m) (after_all b a (λ z. omega (arith, t.source.some)) (omega arith)) in
     rw (← x, ← y) q
 
@@ -96,10 +97,10 @@ pub record PidIn (v : List ℕ) (p s : ℕ) : Type 0 where
   pub first_is : p ≡ capped first
   pub source_is : s ≡ capped source
 
-never : {A : Type 0} (v : List ℕ) {p s : ℕ} → pid_of v ≡ Marks p s → pid_of v ≡ Nothing → A
+never : {A : Type 0} (v : List ℕ) {p s : ℕ} → pid_of v ≡ Some (pid_numbers p s) → pid_of v ≡ None → A
 never v e f = clash cc
 
-module _ (v : List ℕ) (p s : ℕ) (e : pid_of v ≡ Marks p s) where
+module _ (v : List ℕ) (p s : ℕ) (e : pid_of v ≡ Some (pid_numbers p s)) where
   abbrev D : ℕ
   D = run digit v
 
@@ -110,9 +111,10 @@ module _ (v : List ℕ) (p s : ℕ) (e : pid_of v ≡ Marks p s) where
   whole some g more all =
       let short : D < length v = by (ltb D (length v)) (λ t. ltb-true D (length v) t)
       (λ t. absurd (omega (arith, g, get_or-eq_default v 0 {n = D} (ltb-false D (length v) t)))) in
-      let q : Marks (digits 0 (take D v)) (digits 0 M) ≡ Marks p s = sym (pid_dot v D refl some g ∙ after_all (take D v) M more all) ∙ e in
-      let x : digits 0 (take D v) ≡ p = cc in
-      let y : digits 0 M ≡ s = cc in
+      let q : Some (pid_numbers (digits 0 (take D v)) (digits 0 M)) ≡ Some (pid_numbers p s) = sym (pid_dot v D refl some g ∙ after_all (take D v) M more all) ∙ e in
+      let r : pid_numbers (digits 0 (take D v)) (digits 0 M) ≡ pid_numbers p s = cc in
+      let x : digits 0 (take D v) ≡ p = ap (λ (n : Pid). n.first) r in
+      let y : digits 0 M ≡ s = ap (λ (n : Pid). n.source) r in
       record {
         first = decimal 0 (take D v);
         source = decimal 0 M;

@@ -1,35 +1,22 @@
 -- `console_words::next` meets its contract. Assumes nothing.
-use mathlib.Core.Path.{refl, sym, ap, ◌∙◌}
-use mathlib.Core.Bool.{not}
+use mathlib.Core.Path.{◌≡◌}
 use native.Mathlib.Omega.{arith}
-use borrow.Author.Tests.{eq-eqb, ne_eqb}
-use Rattle.octets.proofs.Runs.{run_stop, run_step, run_end}
-use Rattle.console_words.specs.Words.{other, next_of}
-use Rattle.console_words.proofs.WordLaws.{next_inside}
+use Prim.Native.Nat.{◌-◌, ◌≤◌}
+use lib.ListN.{length, take, drop, length-drop, drop_of_length-le}
+use lib.Seq.{take_all}
+use Rattle.octets.specs.Classes.{run}
+use Rattle.console_words.specs.Words.{next_of}
+use Rattle.console_words.proofs.WordLaws.{next_placed}
 use Rattle.console_words.proofs.next.Goals as goal
 
-pub loop-i-init : goal.loop-i-init
-loop-i-init c = (omega arith, refl)
+pub returns-then-s-from-clause-value : goal.returns-then-s-from-clause-value
+unfolding next_of run
+returns-then-s-from-clause-value c =
+    let h : length c.args.s.now ≤ c.args.from = omega arith in
+    rw (drop_of_length-le c.args.s.now h) (omega arith)
 
-pub returns-then-s-i : goal.returns-then-s-i
-unfolding next_of
-returns-then-s-i c =
+pub returns-clause-value : goal.returns-clause-value
+returns-clause-value c =
     let a = c.args in
-    let l = c.loop-i in
-    let found = l.invariant.1 ∙ run_stop (other a.octet) a.s.now l.i (omega arith) (ap not (eq-eqb _ _ c.if-s-i.true)) in
-    record { value = sym found; upper_bound = λ h. omega arith }
-
-pub loop-i-preserved : goal.loop-i-preserved
-unfolding next_of
-loop-i-preserved c =
-    let a = c.args in
-    let l = c.loop-i in
-    (omega arith, l.invariant.1 ∙ run_step (other a.octet) a.s.now l.i (omega arith) (ap not (ne_eqb _ _ c.if-s-i.false)))
-
-pub returns : goal.returns
-unfolding next_of
-returns c =
-    let a = c.args in
-    let l = c.loop-i in
-    let found = l.invariant.1 ∙ run_end (other a.octet) a.s.now l.i c.loop-i-test.false in
-    record { value = sym found; upper_bound = λ h. omega (arith, found, next_inside a.octet a.s.now a.from h) }
+    let whole : take (length a.s.now - a.from) (drop a.from a.s.now) ≡ drop a.from a.s.now = take_all _ (drop a.from a.s.now) (omega (arith, length-drop a.from a.s.now)) in
+    next_placed a.octet a.s.now a.from c.place.result c.unwrap_or.result (rw whole at c.place.ensures) (rw whole at c.unwrap_or.ensures)

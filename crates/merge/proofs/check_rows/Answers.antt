@@ -1,63 +1,76 @@
 -- `merge::check_rows` meets its contract. Assumes nothing.
 use borrow.Author.Tests.{not-true, not-false}
-use mathlib.Core.Path.{sym, ap, ◌∙◌}
+use mathlib.Core.Path.{sym, ap, refl, ◌∙◌}
 use mathlib.Core.Bool.{Bool}
 use mathlib.Core.List.{List}
 use Prim.Native.Nat.{ℕ}
+use Rattle.std.proofs.lemmas.Result.{err_from_is_err_and}
 use Rattle.merge_partners.specs.Pairs.{First, joined_first}
-use Rattle.merge.specs.declared.Paired.{Paired}
-use Rattle.merge.specs.Sides.{Side, side, read_of, Settled, settled}
-use Rattle.merge.specs.Outcome.{judge_of, entered, plan_in}
+use Rattle.merge.specs.Sides.{Side, side, read_of, Settled}
+use Rattle.merge.specs.Outcome.{plan_in, entered, judge_of}
 use Rattle.merge.proofs.OutcomeLaws.{check_first, check_second, check_both}
 use Rattle.merge.proofs.check_rows.Goals as goal
 
-pub returns-in_default : goal.returns-in_default
+pub returns-in_err-x : goal.returns-in_err-x
 unfolding read_of
-returns-in_default c =
+returns-in_err-x c =
     let a = c.args in
-    c.refusal_of.ensures ∙ sym (check_first a.first.now a.second.now a.a a.b c.read-v.result c.read-v.new.copy c.read-v.new.records c.read-v.ensures a.plan.now _ _ c.in_default.is)
+    let p = err_from_is_err_and c.from_residual.result c.from_residual.ensures.1 in
+    rw (p.1, p.2) (sym (check_first a.first.now a.second.now a.a a.b _ _ _ c.in_err-x.ensures a.plan.now _ _ refl))
 
-pub returns-in_default-w : goal.returns-in_default-w
+pub returns-in_err-y : goal.returns-in_err-y
 unfolding read_of
-returns-in_default-w c =
+returns-in_err-y c =
     let a = c.args in
-    c.refusal_of-in_default-w.ensures ∙ sym (check_second a.first.now a.second.now a.a a.b c.read-v.result c.read-v.new.copy c.read-v.new.records c.read-v.ensures _ _ c.in-Accepted.is c.read-w.result c.read-w.new.copy c.read-w.new.records c.read-w.ensures a.plan.now _ _ c.in_default-w.is)
+    let p = err_from_is_err_and c.from_residual-in_err-y.result c.from_residual-in_err-y.ensures.1 in
+    rw (p.1, p.2) (sym (check_second a.first.now a.second.now a.a a.b _ _ _ c.in_ok-x.ensures _ _ refl _ _ _ c.in_err-y.ensures a.plan.now _ _ refl))
 
-pub returns-in_default-s : goal.returns-in_default-s
+pub returns-in_err-settle : goal.returns-in_err-settle
 unfolding read_of
-returns-in_default-s c =
+returns-in_err-settle c =
     let a = c.args in
-    let x : Side = (side c.read-v.new.copy c.read-v.new.records c.in-Accepted.ka c.in-Accepted.na) in
-    let y : Side = (side c.read-w.new.copy c.read-w.new.records c.in-Accepted-w.kb c.in-Accepted-w.nb) in
-    let p : List ℕ = c.settle-s.new.p in
-    c.in_default-s.is ∙ sym (check_both a.first.now a.second.now a.a a.b c.read-v.result c.read-v.new.copy c.read-v.new.records c.read-v.ensures _ _ c.in-Accepted.is c.read-w.result c.read-w.new.copy c.read-w.new.records c.read-w.ensures _ _ c.in-Accepted-w.is a.plan.now ∙ ap (λ (z : Settled). judge_of z x y a.plan.now) (sym c.settle-s.ensures) ∙ ap (λ (r : Paired). judge_of (settled r p) x y a.plan.now) c.in_default-s.is)
+    let x : Side = side c.read.new.copy c.read.new.records c.in_ok-x.x.cards c.in_ok-x.x.lines in
+    let y : Side = side c.read-2.new.copy c.read-2.new.records c.in_ok-y.y.cards c.in_ok-y.y.lines in
+    let p = err_from_is_err_and c.from_residual-in_err-settle.result c.from_residual-in_err-settle.ensures.1 in
+    rw (p.1, p.2)
+    (sym (check_both a.first.now a.second.now a.a a.b _ _ _ c.in_ok-x.ensures _ _ refl _ _ _ c.in_ok-y.ensures _ _ refl a.plan.now
+    ∙ ap (λ (z : Settled). judge_of z x y a.plan.now) (sym c.in_err-settle.ensures)))
 
 pub returns-then-not-enter_plan : goal.returns-then-not-enter_plan
 unfolding read_of plan_in
 returns-then-not-enter_plan c =
     let a = c.args in
-    let x : Side = (side c.read-v.new.copy c.read-v.new.records c.in-Accepted.ka c.in-Accepted.na) in
-    let y : Side = (side c.read-w.new.copy c.read-w.new.records c.in-Accepted-w.kb c.in-Accepted-w.nb) in
-    let p : List ℕ = c.settle-s.new.p in
+    let x : Side = side c.read.new.copy c.read.new.records c.in_ok-x.x.cards c.in_ok-x.x.lines in
+    let y : Side = side c.read-2.new.copy c.read-2.new.records c.in_ok-y.y.cards c.in_ok-y.y.lines in
+    let p : List ℕ = c.settle.new.p in
     let q : List ℕ = c.enter_plan.new.p in
-    sym (check_both a.first.now a.second.now a.a a.b c.read-v.result c.read-v.new.copy c.read-v.new.records c.read-v.ensures _ _ c.in-Accepted.is c.read-w.result c.read-w.new.copy c.read-w.new.records c.read-w.ensures _ _ c.in-Accepted-w.is a.plan.now ∙ ap (λ (z : Settled). judge_of z x y a.plan.now) (sym c.settle-s.ensures) ∙ ap (λ (r : Paired). judge_of (settled r p) x y a.plan.now) c.in-Pairs.is ∙ ap (λ (f : First). entered f p a.plan.now) (sym c.enter_plan.ensures) ∙ ap (λ (t : Bool). entered (joined_first t q) p a.plan.now) (not-true c.enter_plan.result c.if-not-enter_plan.true-raw))
+    sym (check_both a.first.now a.second.now a.a a.b _ _ _ c.in_ok-x.ensures _ _ refl _ _ _ c.in_ok-y.ensures _ _ refl a.plan.now
+    ∙ ap (λ (z : Settled). judge_of z x y a.plan.now) (sym c.in_ok-settle.ensures)
+    ∙ ap (λ (f : First). entered f p a.plan.now) (sym c.enter_plan.ensures)
+    ∙ ap (λ (t : Bool). entered (joined_first t q) p a.plan.now) c.if-not-enter_plan.true)
 
 pub returns-then-not-covers : goal.returns-then-not-covers
 unfolding read_of plan_in
 returns-then-not-covers c =
     let a = c.args in
-    let x : Side = (side c.read-v.new.copy c.read-v.new.records c.in-Accepted.ka c.in-Accepted.na) in
-    let y : Side = (side c.read-w.new.copy c.read-w.new.records c.in-Accepted-w.kb c.in-Accepted-w.nb) in
-    let p : List ℕ = c.settle-s.new.p in
+    let x : Side = side c.read.new.copy c.read.new.records c.in_ok-x.x.cards c.in_ok-x.x.lines in
+    let y : Side = side c.read-2.new.copy c.read-2.new.records c.in_ok-y.y.cards c.in_ok-y.y.lines in
+    let p : List ℕ = c.settle.new.p in
     let q : List ℕ = c.enter_plan.new.p in
-    sym (check_both a.first.now a.second.now a.a a.b c.read-v.result c.read-v.new.copy c.read-v.new.records c.read-v.ensures _ _ c.in-Accepted.is c.read-w.result c.read-w.new.copy c.read-w.new.records c.read-w.ensures _ _ c.in-Accepted-w.is a.plan.now ∙ ap (λ (z : Settled). judge_of z x y a.plan.now) (sym c.settle-s.ensures) ∙ ap (λ (r : Paired). judge_of (settled r p) x y a.plan.now) c.in-Pairs.is ∙ ap (λ (f : First). entered f p a.plan.now) (sym c.enter_plan.ensures) ∙ ap (λ (t : Bool). entered (joined_first t q) p a.plan.now) (not-false c.enter_plan.result c.if-not-enter_plan.false-raw) ∙ rw (sym c.covers.ensures ∙ not-true c.covers.result c.if-not-covers.true-raw))
+    sym (check_both a.first.now a.second.now a.a a.b _ _ _ c.in_ok-x.ensures _ _ refl _ _ _ c.in_ok-y.ensures _ _ refl a.plan.now
+    ∙ ap (λ (z : Settled). judge_of z x y a.plan.now) (sym c.in_ok-settle.ensures)
+    ∙ ap (λ (f : First). entered f p a.plan.now) (sym c.enter_plan.ensures)
+    ∙ ap (λ (t : Bool). entered (joined_first t q) p a.plan.now) c.if-not-enter_plan.false ∙ rw (sym c.covers.ensures ∙ c.if-not-covers.true))
 
 pub returns : goal.returns
 unfolding read_of plan_in
 returns c =
     let a = c.args in
-    let x : Side = (side c.read-v.new.copy c.read-v.new.records c.in-Accepted.ka c.in-Accepted.na) in
-    let y : Side = (side c.read-w.new.copy c.read-w.new.records c.in-Accepted-w.kb c.in-Accepted-w.nb) in
-    let p : List ℕ = c.settle-s.new.p in
+    let x : Side = side c.read.new.copy c.read.new.records c.in_ok-x.x.cards c.in_ok-x.x.lines in
+    let y : Side = side c.read-2.new.copy c.read-2.new.records c.in_ok-y.y.cards c.in_ok-y.y.lines in
+    let p : List ℕ = c.settle.new.p in
     let q : List ℕ = c.enter_plan.new.p in
-    sym (check_both a.first.now a.second.now a.a a.b c.read-v.result c.read-v.new.copy c.read-v.new.records c.read-v.ensures _ _ c.in-Accepted.is c.read-w.result c.read-w.new.copy c.read-w.new.records c.read-w.ensures _ _ c.in-Accepted-w.is a.plan.now ∙ ap (λ (z : Settled). judge_of z x y a.plan.now) (sym c.settle-s.ensures) ∙ ap (λ (r : Paired). judge_of (settled r p) x y a.plan.now) c.in-Pairs.is ∙ ap (λ (f : First). entered f p a.plan.now) (sym c.enter_plan.ensures) ∙ ap (λ (t : Bool). entered (joined_first t q) p a.plan.now) (not-false c.enter_plan.result c.if-not-enter_plan.false-raw) ∙ rw (sym c.covers.ensures ∙ not-false c.covers.result c.if-not-covers.false-raw))
+    sym (check_both a.first.now a.second.now a.a a.b _ _ _ c.in_ok-x.ensures _ _ refl _ _ _ c.in_ok-y.ensures _ _ refl a.plan.now
+    ∙ ap (λ (z : Settled). judge_of z x y a.plan.now) (sym c.in_ok-settle.ensures)
+    ∙ ap (λ (f : First). entered f p a.plan.now) (sym c.enter_plan.ensures)
+    ∙ ap (λ (t : Bool). entered (joined_first t q) p a.plan.now) c.if-not-enter_plan.false ∙ rw (sym c.covers.ensures ∙ c.if-not-covers.false))

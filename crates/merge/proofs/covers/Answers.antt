@@ -7,16 +7,16 @@ use Rattle.merge.specs.Plans.{covers_from}
 use Rattle.merge.proofs.covers.Goals as goal
 
 pub loop-i-init : goal.loop-i-init
-loop-i-init c = (omega arith, refl)
+loop-i-init c = (refl)
 
 pub returns-then-not-is_kept : goal.returns-then-not-is_kept
 unfolding covers_from
-returns-then-not-is_kept c = sym (c.loop-i.invariant.1 ∙ rw (left 4096 c.loop-i.i c.loop-i-test.true, sym c.is_kept.ensures ∙ not-true _ c.if-not-is_kept.true-raw))
+returns-then-not-is_kept c = sym (c.loop-i.invariant ∙ rw (left 4096 c.loop-i.i c.loop-i-test.true, sym c.is_kept.ensures ∙ c.if-not-is_kept.true))
 
 pub loop-i-preserved : goal.loop-i-preserved
 unfolding covers_from
-loop-i-preserved c = (omega arith, c.loop-i.invariant.1 ∙ rw (left 4096 c.loop-i.i c.loop-i-test.true, sym c.is_kept.ensures ∙ not-false _ c.if-not-is_kept.false-raw))
+loop-i-preserved c = (c.loop-i.invariant ∙ rw (left 4096 c.loop-i.i c.loop-i-test.true, sym c.is_kept.ensures ∙ c.if-not-is_kept.false))
 
 pub returns : goal.returns
 unfolding covers_from
-returns c = sym (c.loop-i.invariant.1 ∙ rw (over 4096 c.loop-i.i c.loop-i-test.false))
+returns c = sym (c.loop-i.invariant ∙ rw (over 4096 c.loop-i.i c.loop-i-test.false))

@@ -27,7 +27,7 @@ returns-then-not-enter_step c =
     let l = c.loop-at in
     let step = enter_step a.ca.now a.ra.now a.na a.cb.now a.rb.now a.nb l.p l.t in
     let e = c.enter_step.ensures ∙ ap (λ (i : ℕ). step i c.wide_number-j.result) c.wide_number-i.ensures.0 ∙ ap (step (get_or a.plan.now l.at 0)) c.wide_number-j.ensures.0 in
-    sym (ap first_of (l.invariant ∙ enter_off a.ca.now a.ra.now a.na a.cb.now a.rb.now a.nb a.plan.now l.at l.p l.t _ _ _ e (omega (arith, c.if-plan-at-lt-PAIR.false)) (not-true _ c.if-not-enter_step.true-raw)))
+    sym (ap first_of (l.invariant ∙ enter_off a.ca.now a.ra.now a.na a.cb.now a.rb.now a.nb a.plan.now l.at l.p l.t _ _ _ e (omega (arith, c.if-plan-at-lt-PAIR.false)) c.if-not-enter_step.true))
 
 pub loop-at-smaller : goal.loop-at-smaller
 loop-at-smaller c = omega (arith, c.if-plan-at-lt-PAIR.false)
@@ -38,7 +38,7 @@ loop-at-preserved c =
     let l = c.loop-at in
     let step = enter_step a.ca.now a.ra.now a.na a.cb.now a.rb.now a.nb l.p l.t in
     let e = c.enter_step.ensures ∙ ap (λ (i : ℕ). step i c.wide_number-j.result) c.wide_number-i.ensures.0 ∙ ap (step (get_or a.plan.now l.at 0)) c.wide_number-j.ensures.0 in
-    l.invariant ∙ enter_on a.ca.now a.ra.now a.na a.cb.now a.rb.now a.nb a.plan.now l.at l.p l.t _ _ _ e (omega (arith, c.if-plan-at-lt-PAIR.false)) (not-false _ c.if-not-enter_step.false-raw)
+    l.invariant ∙ enter_on a.ca.now a.ra.now a.na a.cb.now a.rb.now a.nb a.plan.now l.at l.p l.t _ _ _ e (omega (arith, c.if-plan-at-lt-PAIR.false)) c.if-not-enter_step.false
 
 pub returns : goal.returns
 returns c =

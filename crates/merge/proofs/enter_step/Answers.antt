@@ -6,8 +6,8 @@ use Rattle.merge.proofs.enter_step.Goals as goal
 
 pub returns-then-not-same_property : goal.returns-then-not-same_property
 unfolding enter_step
-returns-then-not-same_property c = rw (sym c.same_property.ensures ∙ not-true _ c.if-not-same_property.true-raw)
+returns-then-not-same_property c = rw (sym c.same_property.ensures ∙ c.if-not-same_property.true)
 
 pub returns : goal.returns
 unfolding enter_step
-returns c = rw (sym c.same_property.ensures ∙ not-false _ c.if-not-same_property.false-raw) c.enter.ensures
+returns c = rw (sym c.same_property.ensures ∙ c.if-not-same_property.false) c.enter.ensures

@@ -1,13 +1,13 @@
 -- `merge::plan_rows` meets its contract. Assumes nothing.
 use borrow.Author.Tests.{lt-ltb, le-ltb}
-use mathlib.Core.Path.{sym, ap, ◌∙◌}
+use mathlib.Core.Path.{sym, ap, refl, ◌∙◌}
 use mathlib.Core.List.{List}
 use Prim.Native.Nat.{ℕ, ◌*◌}
 use native.Mathlib.Omega.{arith}
 use lib.ListN.{length, replicate}
+use Rattle.std.proofs.lemmas.Result.{err_from_is_err_and}
 use Rattle.merge_partners.specs.Pairs.{pairs_from}
-use Rattle.merge.specs.declared.Paired.{Paired}
-use Rattle.merge.specs.declared.Paired.TheVariants.{Pairs}
+use Rattle.merge.specs.Paired.{Pairs}
 use Rattle.merge.specs.Sides.{Side, side, read_of, Settled, settled}
 use Rattle.merge.specs.Outcome.{planned, write_of}
 use Rattle.merge.proofs.SettleLaws.{pair_count}
@@ -15,71 +15,63 @@ use Rattle.merge.proofs.WriteLaws.{flatten_length, pairs_few}
 use Rattle.merge.proofs.OutcomeLaws.{plan_first, plan_second, plan_both}
 use Rattle.merge.proofs.plan_rows.Goals as goal
 
-pub returns-in_default : goal.returns-in_default
+pub returns-in_err-x : goal.returns-in_err-x
 unfolding read_of
-returns-in_default c =
+returns-in_err-x c =
     let a = c.args in
-    ap (λ (r : Paired). planned r a.out.now) c.refusal_of.ensures ∙ sym (plan_first a.first.now a.second.now a.a a.b c.read-v.result c.read-v.new.copy c.read-v.new.records c.read-v.ensures a.out.now _ _ c.in_default.is)
+    let p = err_from_is_err_and c.from_residual.result c.from_residual.ensures.1 in
+    rw (p.1, p.2) (sym (plan_first a.first.now a.second.now a.a a.b _ _ _ c.in_err-x.ensures a.out.now _ _ refl))
 
-pub returns-in_default-w : goal.returns-in_default-w
+pub returns-in_err-y : goal.returns-in_err-y
 unfolding read_of
-returns-in_default-w c =
+returns-in_err-y c =
     let a = c.args in
-    ap (λ (r : Paired). planned r a.out.now) c.refusal_of-in_default-w.ensures ∙ sym (plan_second a.first.now a.second.now a.a a.b c.read-v.result c.read-v.new.copy c.read-v.new.records c.read-v.ensures _ _ c.in-Accepted.is c.read-w.result c.read-w.new.copy c.read-w.new.records c.read-w.ensures a.out.now _ _ c.in_default-w.is)
+    let p = err_from_is_err_and c.from_residual-in_err-y.result c.from_residual-in_err-y.ensures.1 in
+    rw (p.1, p.2) (sym (plan_second a.first.now a.second.now a.a a.b _ _ _ c.in_ok-x.ensures _ _ refl _ _ _ c.in_err-y.ensures a.out.now _ _ refl))
 
-pub returns-in_default-s : goal.returns-in_default-s
+pub returns-in_err-n : goal.returns-in_err-n
 unfolding read_of
-returns-in_default-s c =
+returns-in_err-n c =
     let a = c.args in
-    let x : Side = (side c.read-v.new.copy c.read-v.new.records c.in-Accepted.ka c.in-Accepted.na) in
-    let y : Side = (side c.read-w.new.copy c.read-w.new.records c.in-Accepted-w.kb c.in-Accepted-w.nb) in
-    let p : List ℕ = c.settle-s.new.p in
-    ap (λ (r : Paired). planned r a.out.now) c.in_default-s.is ∙ sym (plan_both a.first.now a.second.now a.a a.b c.read-v.result c.read-v.new.copy c.read-v.new.records c.read-v.ensures _ _ c.in-Accepted.is c.read-w.result c.read-w.new.copy c.read-w.new.records c.read-w.ensures _ _ c.in-Accepted-w.is a.out.now ∙ ap (λ (z : Settled). write_of z a.out.now) (sym c.settle-s.ensures) ∙ ap (λ (r : Paired). write_of (settled r p) a.out.now) c.in_default-s.is)
+    let p = err_from_is_err_and c.from_residual-in_err-n.result c.from_residual-in_err-n.ensures.1 in
+    rw (p.1, p.2)
+    (sym (plan_both a.first.now a.second.now a.a a.b _ _ _ c.in_ok-x.ensures _ _ refl _ _ _ c.in_ok-y.ensures _ _ refl a.out.now
+    ∙ ap (λ (z : Settled). write_of z a.out.now) (sym c.in_err-n.ensures)))
 
 pub overflow_mul-n : goal.overflow_mul-n
 unfolding read_of
 overflow_mul-n c =
     let a = c.args in
-    let x : Side = (side c.read-v.new.copy c.read-v.new.records c.in-Accepted.ka c.in-Accepted.na) in
-    let y : Side = (side c.read-w.new.copy c.read-w.new.records c.in-Accepted-w.kb c.in-Accepted-w.nb) in
-    let p : List ℕ = c.settle-s.new.p in
-    let count = pair_count x y a.a a.b (replicate 4096 0) c.in-Pairs.n p (ap (λ (r : Paired). settled r p) (sym c.in-Pairs.is) ∙ c.settle-s.ensures) in
-    omega (arith, count, pairs_few p 0 4096)
+    let p = c.settle.new.p in
+    omega (arith, pair_count _ _ a.a a.b (replicate 4096 0) _ p c.in_ok-n.ensures, pairs_few p 0 4096)
 
 pub overflow_mul-result : goal.overflow_mul-result
 unfolding read_of
 overflow_mul-result c =
     let a = c.args in
-    let x : Side = (side c.read-v.new.copy c.read-v.new.records c.in-Accepted.ka c.in-Accepted.na) in
-    let y : Side = (side c.read-w.new.copy c.read-w.new.records c.in-Accepted-w.kb c.in-Accepted-w.nb) in
-    let p : List ℕ = c.settle-s.new.p in
-    let count = pair_count x y a.a a.b (replicate 4096 0) c.in-Pairs.n p (ap (λ (r : Paired). settled r p) (sym c.in-Pairs.is) ∙ c.settle-s.ensures) in
-    omega (arith, count, pairs_few p 0 4096)
+    let p = c.settle.new.p in
+    omega (arith, pair_count _ _ a.a a.b (replicate 4096 0) _ p c.in_ok-n.ensures, pairs_few p 0 4096)
 
 pub returns-then-out-n : goal.returns-then-out-n
 unfolding read_of
 returns-then-out-n c =
     let a = c.args in
-    let x : Side = (side c.read-v.new.copy c.read-v.new.records c.in-Accepted.ka c.in-Accepted.na) in
-    let y : Side = (side c.read-w.new.copy c.read-w.new.records c.in-Accepted-w.kb c.in-Accepted-w.nb) in
-    let p : List ℕ = c.settle-s.new.p in
-    sym (plan_both a.first.now a.second.now a.a a.b c.read-v.result c.read-v.new.copy c.read-v.new.records c.read-v.ensures _ _ c.in-Accepted.is c.read-w.result c.read-w.new.copy c.read-w.new.records c.read-w.ensures _ _ c.in-Accepted-w.is a.out.now ∙ ap (λ (z : Settled). write_of z a.out.now) (sym c.settle-s.ensures) ∙ ap (λ (r : Paired). write_of (settled r p) a.out.now) c.in-Pairs.is ∙ rw (lt-ltb (length a.out.now) (c.in-Pairs.n * 2) c.if-out-n.true))
+    sym (plan_both a.first.now a.second.now a.a a.b _ _ _ c.in_ok-x.ensures _ _ refl _ _ _ c.in_ok-y.ensures _ _ refl a.out.now
+    ∙ ap (λ (z : Settled). write_of z a.out.now) (sym c.in_ok-n.ensures)
+    ∙ rw (lt-ltb (length a.out.now) (c.in_ok-n.n * 2) c.if-out-n.true))
 
 pub put_pairs-requires : goal.put_pairs-requires
 unfolding read_of
 put_pairs-requires c =
     let a = c.args in
-    let x : Side = (side c.read-v.new.copy c.read-v.new.records c.in-Accepted.ka c.in-Accepted.na) in
-    let y : Side = (side c.read-w.new.copy c.read-w.new.records c.in-Accepted-w.kb c.in-Accepted-w.nb) in
-    let p : List ℕ = c.settle-s.new.p in
-    let count = pair_count x y a.a a.b (replicate 4096 0) c.in-Pairs.n p (ap (λ (r : Paired). settled r p) (sym c.in-Pairs.is) ∙ c.settle-s.ensures) in
-    omega (arith, flatten_length (pairs_from p 0 4096), count, c.if-out-n.false)
+    let p = c.settle.new.p in
+    omega (arith, flatten_length (pairs_from p 0 4096), pair_count _ _ a.a a.b (replicate 4096 0) _ p c.in_ok-n.ensures, c.if-out-n.false)
 
 pub returns : goal.returns
 unfolding read_of
 returns c =
     let a = c.args in
-    let x : Side = (side c.read-v.new.copy c.read-v.new.records c.in-Accepted.ka c.in-Accepted.na) in
-    let y : Side = (side c.read-w.new.copy c.read-w.new.records c.in-Accepted-w.kb c.in-Accepted-w.nb) in
-    let p : List ℕ = c.settle-s.new.p in
-    ap (λ (o : List ℕ). planned (Pairs c.in-Pairs.n) o) c.put_pairs.ensures ∙ sym (plan_both a.first.now a.second.now a.a a.b c.read-v.result c.read-v.new.copy c.read-v.new.records c.read-v.ensures _ _ c.in-Accepted.is c.read-w.result c.read-w.new.copy c.read-w.new.records c.read-w.ensures _ _ c.in-Accepted-w.is a.out.now ∙ ap (λ (z : Settled). write_of z a.out.now) (sym c.settle-s.ensures) ∙ ap (λ (r : Paired). write_of (settled r p) a.out.now) c.in-Pairs.is ∙ rw (le-ltb (length a.out.now) (c.in-Pairs.n * 2) c.if-out-n.false))
+    ap (λ (o : List ℕ). planned (Pairs c.in_ok-n.n) o) c.put_pairs.ensures
+    ∙ sym (plan_both a.first.now a.second.now a.a a.b _ _ _ c.in_ok-x.ensures _ _ refl _ _ _ c.in_ok-y.ensures _ _ refl a.out.now
+    ∙ ap (λ (z : Settled). write_of z a.out.now) (sym c.in_ok-n.ensures)
+    ∙ rw (le-ltb (length a.out.now) (c.in_ok-n.n * 2) c.if-out-n.false))

@@ -61,11 +61,11 @@ returns-then-not-join_marks c =
     let a = c.args in
     let s : Joined = joined true a.p.now (replicate 4096 0) in
     let d = demanded_by a.ca.now a.ra.now a.na a.firsts.now a.ka a.a a.cb.now a.rb.now a.nb a.seconds.now a.kb a.b c.classes_of-in_a.result c.classes_of-in_b.result c.put_keys.new.keys c.least-n.result c.classes_of-in_a.ensures c.classes_of-in_b.ensures c.put_keys.ensures c.least-n.ensures.value in
-    sym (ap first_of (ap (join_all s) d ∙ join_off s _ _ _ _ c.join_marks.ensures _ (not-true _ c.if-not-join_marks.true-raw)))
+    sym (ap first_of (ap (join_all s) d ∙ join_off s _ _ _ _ c.join_marks.ensures _ c.if-not-join_marks.true))
 
 pub returns : goal.returns
 returns c =
     let a = c.args in
     let s : Joined = joined true a.p.now (replicate 4096 0) in
     let d = demanded_by a.ca.now a.ra.now a.na a.firsts.now a.ka a.a a.cb.now a.rb.now a.nb a.seconds.now a.kb a.b c.classes_of-in_a.result c.classes_of-in_b.result c.put_keys.new.keys c.least-n.result c.classes_of-in_a.ensures c.classes_of-in_b.ensures c.put_keys.ensures c.least-n.ensures.value in
-    ap first_of (c.join_singles.ensures ∙ sym (ap (join_all s) d ∙ join_on s _ _ _ _ c.join_marks.ensures _ (not-false _ c.if-not-join_marks.false-raw)))
+    ap first_of (c.join_singles.ensures ∙ sym (ap (join_all s) d ∙ join_on s _ _ _ _ c.join_marks.ensures _ c.if-not-join_marks.false))

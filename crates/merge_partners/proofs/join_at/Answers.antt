@@ -31,7 +31,7 @@ pub returns-then-not-same_property : goal.returns-then-not-same_property
 unfolding join_all key_pair hit_pair
 returns-then-not-same_property c =
     let a = c.args in
-    let f : same_property a.ca.now a.ra.now a.i a.cb.now a.rb.now (number_at a.marks.now a.k 0) ≡ false = ap (same_property a.ca.now a.ra.now a.i a.cb.now a.rb.now) (sym (c.wide_number-j.ensures.0 ∙ c.number_of.ensures)) ∙ sym c.same_property.ensures ∙ not-true _ c.if-not-same_property.true-raw in
+    let f : same_property a.ca.now a.ra.now a.i a.cb.now a.rb.now (number_at a.marks.now a.k 0) ≡ false = ap (same_property a.ca.now a.ra.now a.i a.cb.now a.rb.now) (sym (c.wide_number-j.ensures.0 ∙ c.number_of.ensures)) ∙ sym c.same_property.ensures ∙ c.if-not-same_property.true in
     rw (eq-eqb (get_or a.keys.now a.k 0) a.key c.if-keys-k.false, f)
 
 pub returns : goal.returns
@@ -39,5 +39,5 @@ unfolding join_all key_pair hit_pair
 returns c =
     let a = c.args in
     let n = c.wide_number-j.ensures.0 ∙ c.number_of.ensures in
-    let f : same_property a.ca.now a.ra.now a.i a.cb.now a.rb.now (number_at a.marks.now a.k 0) ≡ true = ap (same_property a.ca.now a.ra.now a.i a.cb.now a.rb.now) (sym n) ∙ sym c.same_property.ensures ∙ not-false _ c.if-not-same_property.false-raw in
+    let f : same_property a.ca.now a.ra.now a.i a.cb.now a.rb.now (number_at a.marks.now a.k 0) ≡ true = ap (same_property a.ca.now a.ra.now a.i a.cb.now a.rb.now) (sym n) ∙ sym c.same_property.ensures ∙ c.if-not-same_property.false in
     rw (eq-eqb (get_or a.keys.now a.k 0) a.key c.if-keys-k.false, f) (c.join.ensures ∙ ap (join_to a.p.now a.t.now a.i) n)

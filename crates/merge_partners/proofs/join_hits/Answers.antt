@@ -23,14 +23,14 @@ returns-then-not-join_at c =
     let a = c.args in
     let l = c.loop-k in
     let s = joined true l.p l.t in
-    sym (l.invariant ∙ ap (join_all s) (hits_turn a.ca.now a.ra.now a.i a.key a.cb.now a.rb.now a.marks.now a.keys.now (length a.keys.now) l.k c.loop-k-test.true) ∙ join_off s _ _ _ _ c.join_at.ensures _ (not-true _ c.if-not-join_at.true-raw))
+    sym (l.invariant ∙ ap (join_all s) (hits_turn a.ca.now a.ra.now a.i a.key a.cb.now a.rb.now a.marks.now a.keys.now (length a.keys.now) l.k c.loop-k-test.true) ∙ join_off s _ _ _ _ c.join_at.ensures _ c.if-not-join_at.true)
 
 pub loop-k-preserved : goal.loop-k-preserved
 loop-k-preserved c =
     let a = c.args in
     let l = c.loop-k in
     let s = joined true l.p l.t in
-    (l.invariant ∙ ap (join_all s) (hits_turn a.ca.now a.ra.now a.i a.key a.cb.now a.rb.now a.marks.now a.keys.now (length a.keys.now) l.k c.loop-k-test.true) ∙ join_on s _ _ _ _ c.join_at.ensures _ (not-false _ c.if-not-join_at.false-raw))
+    (l.invariant ∙ ap (join_all s) (hits_turn a.ca.now a.ra.now a.i a.key a.cb.now a.rb.now a.marks.now a.keys.now (length a.keys.now) l.k c.loop-k-test.true) ∙ join_on s _ _ _ _ c.join_at.ensures _ c.if-not-join_at.false)
 
 pub returns : goal.returns
 unfolding join_all

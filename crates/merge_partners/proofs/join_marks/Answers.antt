@@ -31,14 +31,14 @@ returns-then-not-join_mark c =
     let a = c.args in
     let l = c.loop-k in
     let e = c.join_mark.ensures ∙ ap (λ (i : ℕ). join_all (joined true l.p l.t) (mark_pairs a.ca.now a.ra.now i c.key_at-key.result a.cb.now a.rb.now a.marks.now a.keys.now)) (c.wide_number-i.ensures.0 ∙ c.number_of.ensures) ∙ ap (λ (key : ℕ). join_all (joined true l.p l.t) (mark_pairs a.ca.now a.ra.now (number_at a.firsts.now l.k 0) key a.cb.now a.rb.now a.marks.now a.keys.now)) c.key_at-key.ensures in
-    sym (l.invariant.0 ∙ ap (join_all (joined true l.p l.t)) (shared_turn a.ca.now a.ra.now a.firsts.now a.own a.classes.now a.cb.now a.rb.now a.marks.now a.keys.now a.n l.k c.loop-k-test.true) ∙ join_off (joined true l.p l.t) _ _ _ _ e _ (not-true _ c.if-not-join_mark.true-raw))
+    sym (l.invariant.0 ∙ ap (join_all (joined true l.p l.t)) (shared_turn a.ca.now a.ra.now a.firsts.now a.own a.classes.now a.cb.now a.rb.now a.marks.now a.keys.now a.n l.k c.loop-k-test.true) ∙ join_off (joined true l.p l.t) _ _ _ _ e _ c.if-not-join_mark.true)
 
 pub loop-k-preserved : goal.loop-k-preserved
 loop-k-preserved c =
     let a = c.args in
     let l = c.loop-k in
     let e = c.join_mark.ensures ∙ ap (λ (i : ℕ). join_all (joined true l.p l.t) (mark_pairs a.ca.now a.ra.now i c.key_at-key.result a.cb.now a.rb.now a.marks.now a.keys.now)) (c.wide_number-i.ensures.0 ∙ c.number_of.ensures) ∙ ap (λ (key : ℕ). join_all (joined true l.p l.t) (mark_pairs a.ca.now a.ra.now (number_at a.firsts.now l.k 0) key a.cb.now a.rb.now a.marks.now a.keys.now)) c.key_at-key.ensures in
-    (l.invariant.0 ∙ ap (join_all (joined true l.p l.t)) (shared_turn a.ca.now a.ra.now a.firsts.now a.own a.classes.now a.cb.now a.rb.now a.marks.now a.keys.now a.n l.k c.loop-k-test.true) ∙ join_on (joined true l.p l.t) _ _ _ _ e _ (not-false _ c.if-not-join_mark.false-raw), known_of a.ca.now a.ra.now (length a.digests.now) a.ca.now a.ra.now c.look-last.result c.wide_number-i.result c.look-last.ensures.line_value c.look-last.ensures.head_value)
+    (l.invariant.0 ∙ ap (join_all (joined true l.p l.t)) (shared_turn a.ca.now a.ra.now a.firsts.now a.own a.classes.now a.cb.now a.rb.now a.marks.now a.keys.now a.n l.k c.loop-k-test.true) ∙ join_on (joined true l.p l.t) _ _ _ _ e _ c.if-not-join_mark.false, known_of a.ca.now a.ra.now (length a.digests.now) a.ca.now a.ra.now c.look-last.result c.wide_number-i.result c.look-last.ensures.line_value c.look-last.ensures.head_value)
 
 pub returns : goal.returns
 unfolding join_all

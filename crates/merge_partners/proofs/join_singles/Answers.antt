@@ -18,13 +18,13 @@ pub returns-then-not-join_row : goal.returns-then-not-join_row
 returns-then-not-join_row c =
     let a = c.args in
     let l = c.loop-row in
-    sym (l.invariant ∙ ap (join_all (joined true l.p l.t)) (singles_turn a.ra.now a.na a.rb.now a.nb 39 l.row c.loop-row-test.true) ∙ join_off (joined true l.p l.t) _ _ _ _ c.join_row.ensures _ (not-true _ c.if-not-join_row.true-raw))
+    sym (l.invariant ∙ ap (join_all (joined true l.p l.t)) (singles_turn a.ra.now a.na a.rb.now a.nb 39 l.row c.loop-row-test.true) ∙ join_off (joined true l.p l.t) _ _ _ _ c.join_row.ensures _ c.if-not-join_row.true)
 
 pub loop-row-preserved : goal.loop-row-preserved
 loop-row-preserved c =
     let a = c.args in
     let l = c.loop-row in
-    (l.invariant ∙ ap (join_all (joined true l.p l.t)) (singles_turn a.ra.now a.na a.rb.now a.nb 39 l.row c.loop-row-test.true) ∙ join_on (joined true l.p l.t) _ _ _ _ c.join_row.ensures _ (not-false _ c.if-not-join_row.false-raw))
+    (l.invariant ∙ ap (join_all (joined true l.p l.t)) (singles_turn a.ra.now a.na a.rb.now a.nb 39 l.row c.loop-row-test.true) ∙ join_on (joined true l.p l.t) _ _ _ _ c.join_row.ensures _ c.if-not-join_row.false)
 
 pub returns : goal.returns
 unfolding join_all

@@ -22,7 +22,7 @@ pub returns-then-not-same_name : goal.returns-then-not-same_name
 unfolding octets put_all named_marks
 returns-then-not-same_name c =
     let a = c.args in
-    let e : same (take (a.name_end - a.start) (drop a.start a.s.now)) pid_name ≡ false = sym c.same_name.ensures ∙ not-true _ c.if-not-same_name.true-raw in
+    let e : same (take (a.name_end - a.start) (drop a.start a.s.now)) pid_name ≡ false = sym c.same_name.ensures ∙ c.if-not-same_name.true in
     rw e
 
 pub put_values-requires : goal.put_values-requires
@@ -32,5 +32,5 @@ pub returns : goal.returns
 unfolding octets named_marks
 returns c =
     let a = c.args in
-    let e : same (take (a.name_end - a.start) (drop a.start a.s.now)) pid_name ≡ true = sym c.same_name.ensures ∙ not-false _ c.if-not-same_name.false-raw in
+    let e : same (take (a.name_end - a.start) (drop a.start a.s.now)) pid_name ≡ true = sym c.same_name.ensures ∙ c.if-not-same_name.false in
     rw e c.put_values.ensures
