@@ -11,8 +11,8 @@ ghost use Rattle.desk.specs.Steps.{table, refuse, grant, stamped, slot_of, idle_
 
 use desk_entries::{Entry, Session, State, ticks};
 use desk_slots::{Found, Table};
-use numbers::refusal::{Reason, Refusal};
 use numbers::limit;
+use numbers::refusal::{Reason, Refusal};
 use reader::Verdict;
 
 // A desk: the entries of its slots, its slot count and its next ticket; the highest tick seen, and beside each entry the tick of its opening or last accepted add.
@@ -100,9 +100,11 @@ impl Desk {
     fn table(self) -> Table
         ensures { result ≡ table self }
     {
+        let entries = self.entries;
+        let stamps = self.stamps;
         Table {
-            entries: self.entries,
-            stamps: self.stamps,
+            entries,
+            stamps,
             slots: self.slots,
             next: self.next,
             tick: self.tick,

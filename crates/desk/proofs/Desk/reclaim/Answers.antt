@@ -8,11 +8,11 @@ use Rattle.desk.proofs.Desk.reclaim.Goals as goal
 pub clear-requires : goal.clear-requires
 clear-requires c =
     let a = c.args in
-    let h = idle_inside a.self a.tick _ (sym c.find_idle.ensures ∙ ap place c.in-Some.is) in
+    let h = idle_inside a.self a.tick _ (sym (rw c.table.ensures at c.find_idle.ensures) ∙ ap place c.in-Some.is) in
     omega (arith, c.requires.fits)
 
 pub begin-requires : goal.begin-requires
 begin-requires c =
     let a = c.args in
-    let h = idle_inside a.self a.tick _ (sym c.find_idle.ensures ∙ ap place c.in-Some.is) in
+    let h = idle_inside a.self a.tick _ (sym (rw c.table.ensures at c.find_idle.ensures) ∙ ap place c.in-Some.is) in
     (omega (arith, c.requires.few), c.requires.left)
