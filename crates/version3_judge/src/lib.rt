@@ -92,13 +92,7 @@ fn in_order(phase: Phase, row: usize) -> bool
 fn is_laden(x: Parts) -> bool
     ensures { result ≡ laden x.row x.group_length x.param_count }
 {
-    if !property_table::is_framing(x.row) {
-        return false;
-    }
-    if x.group_length != 0 {
-        return true;
-    }
-    x.param_count != 0
+    property_table::is_framing(x.row) && (x.group_length != 0 || x.param_count != 0)
 }
 
 // Whether lines of the row are in cards of both versions.
@@ -156,10 +150,7 @@ fn is_short(steps: &Transitions, most: usize, value: &[u8]) -> bool
     requires { Scanner steps.now }
     ensures { result ≡ short most value.now }
 {
-    if !is_of_kind(steps, kind::TEXTS, value) {
-        return false;
-    }
-    version3_text::count_semicolons(value) < most
+    is_of_kind(steps, kind::TEXTS, value) && version3_text::count_semicolons(value) < most
 }
 
 // Whether a value of version 3 is a name of at most five components, an address of at most seven, else of its kind.
@@ -223,13 +214,7 @@ fn is_version(way: Way, value: &[u8]) -> bool
 fn is_whole(c: Set) -> bool
     ensures { result ≡ whole c }
 {
-    if !c.has_fn {
-        return false;
-    }
-    if !c.has_n {
-        return false;
-    }
-    c.has_version
+    c.has_fn && c.has_n && c.has_version
 }
 
 // Whether a framing line is the one that may stand here.
@@ -255,10 +240,7 @@ fn does_frame(way: Way, c: Set, row: usize, value: &[u8]) -> bool
 fn is_second(c: Set, row: usize) -> bool
     ensures { result ≡ (eqb row property.n && c.has_n) }
 {
-    if row != property::N {
-        return false;
-    }
-    c.has_n
+    row == property::N && c.has_n
 }
 
 // Whether a line that frames nothing may stand here and goes over.
@@ -308,16 +290,6 @@ fn is_good(
     does_go(way, t, steps, c, s, x, value)
 }
 
-// Whether one of two holds.
-fn either(a: bool, b: bool) -> bool
-    ensures { result ≡ (a || b) }
-{
-    if a {
-        return true;
-    }
-    b
-}
-
 // The phase after a line of the row that may stand here.
 fn phase_after(row: usize) -> Phase
     ensures { result ≡ pick (eqb row property.end) Ended Inside }
@@ -334,9 +306,9 @@ fn note(c: Set, row: usize) -> Set
 {
     Set {
         phase: phase_after(row),
-        has_fn: either(c.has_fn, row == property::FN),
-        has_n: either(c.has_n, row == property::N),
-        has_version: either(c.has_version, row == property::VERSION),
+        has_fn: c.has_fn | (row == property::FN),
+        has_n: c.has_n | (row == property::N),
+        has_version: c.has_version | (row == property::VERSION),
     }
 }
 

@@ -9,7 +9,6 @@ use lib.Dec.{eqb}
 use lib.Bits.{bit_or}
 use lib.ListN.{length, get_or, take, drop}
 use lib.Seq.{drop-cons, drop-drop}
-use borrow.Author.Tests.{eq-eqb, ne_eqb}
 use mir.Val.{bool_byte}
 use Rattle.octets.specs.Classes.{run, more}
 use Rattle.octets.specs.Scan.{gather}
@@ -31,18 +30,6 @@ unmarked_not b = go (eqb b 92) (eqb b 59)
     go false u = refl
 
 module _ (b : ℕ) where
-  pub no_mark : (b ≡ 92 → ⊥) → (b ≡ 59 → ⊥) → unmarked b ≡ true
-  unfolding unmarked
-  no_mark p q = simp (ne_eqb b 92 p, ne_eqb b 59 q)
-
-  pub a_backslash : b ≡ 92 → unmarked b ≡ false
-  unfolding unmarked
-  a_backslash e = simp (eq-eqb b 92 e)
-
-  pub a_semicolon : (b ≡ 92 → ⊥) → b ≡ 59 → unmarked b ≡ false
-  unfolding unmarked
-  a_semicolon p e = simp (ne_eqb b 92 p, eq-eqb b 59 e)
-
   unmarked_parts : unmarked b ≡ true → (eqb b 92 ≡ false) × (eqb b 59 ≡ false)
   unfolding unmarked
   unmarked_parts e =

@@ -22,7 +22,8 @@ use numbers::limit;
 use reader::Verdict;
 use watch_arrivals::{AFTER_CR, AFTER_CR_LF, AFTER_OTHER};
 
-// What is known so far: no fault, the fault of an ended line, a lone CR or LF, or an input that is too long.
+// What is known so far: no fault, the fault of an ended line, a lone CR or LF, or an input that is too long. A number, as `tail` is one, since a
+// caller may hand in a Watch with any numbers: `ChunkOf` and `EndOf` say what is answered then, and an enum would ask more of callers.
 pub const NO_FAULT: u32 = 0;
 
 pub const LINE_FAULT: u32 = 1;
@@ -108,31 +109,27 @@ fn end_of(place: u32) -> usize
     (p - 1) / SPAN + (p - 1) % SPAN
 }
 
-// The farther of a place in the buffer and the end of a value.
-fn farther(a: usize, place: u32) -> usize
-    ensures { (a ≤ result) × (end_of place ≤ result) × ((n : ℕ) → a ≤ n → end_of place ≤ n → result ≤ n) }
-{
-    let e = end_of(place);
-    if a < e {
-        return e;
-    }
-    a
-}
-
 // Where the last of a card's values ends.
 fn far_end(t: Tags) -> usize
     ensures { ((n : ℕ) → result ≤ n → Inside n (places_of t)) × ((n : ℕ) → Inside n (places_of t) → result ≤ n) }
 {
-    let a = farther(0, t.kind);
-    let b = farther(a, t.n);
-    let c = farther(b, t.bday);
-    let d = farther(c, t.anniversary);
-    let e = farther(d, t.gender);
-    let f = farther(e, t.prodid);
-    let g = farther(f, t.rev);
-    let h = farther(g, t.uid);
-    let i = farther(h, t.created);
-    farther(i, t.language)
+    let places = [
+        t.kind,
+        t.n,
+        t.bday,
+        t.anniversary,
+        t.gender,
+        t.prodid,
+        t.rev,
+        t.uid,
+        t.created,
+        t.language,
+    ];
+    let mut far: usize = 0;
+    for &place in &places {
+        far = far.max(end_of(place));
+    }
+    far
 }
 
 // Whether the card of a state can be worked with: its values lie in its part of the buffer, and its counts within the octets before `start`.

@@ -87,10 +87,7 @@ pub fn first_break(tail: u32, chunk: &[u8]) -> usize
 fn is_blank(b: u8) -> bool
     ensures { result ≡ blank b }
 {
-    if b == b' ' {
-        return true;
-    }
-    b == b'\t'
+    b == b' ' || b == b'\t'
 }
 
 // Where the line after the one that goes on at `from` starts, or the chunk's length.

@@ -1,19 +1,14 @@
--- src/lib.rt:231:9
-use mathlib.Core.Path.{sym}
-use borrow.Author.Tests.{not-true, not-false}
+-- `version3_judge::is_whole` meets its contract. Assumes nothing.
+use mathlib.Core.Path.{sym, ◌∙◌}
+use mathlib.Core.Bool.{false≢true}
 use Rattle.version3_judge.specs.Judge.{whole}
+use Rattle.version3_judge.proofs.is_whole.Goals.{then-c, else-c}
 use Rattle.version3_judge.proofs.is_whole.Goals as goal
 
-pub returns-then-not-c : goal.returns-then-not-c
+pub returns-then-c-2 : goal.returns-then-c-2
 unfolding whole
-returns-then-not-c c = sym (rw (not-true c.args.c.has_fn c.if-not-c.true))
+returns-then-c-2 c = elim c.if-c.branch [ then-c w ↦ sym (rw (w.if-c.true, sym w.value-is ∙ c.if-c-2.true)) | else-c w ↦ absurd (false≢true (sym w.if-c.false ∙ sym w.value-is ∙ c.if-c-2.true)) ]
 
--- src/lib.rt:234:9
-pub returns-then-not-c-2 : goal.returns-then-not-c-2
+pub returns-else-c-2 : goal.returns-else-c-2
 unfolding whole
-returns-then-not-c-2 c = sym (rw (not-false c.args.c.has_fn c.if-not-c.false, not-true c.args.c.has_n c.if-not-c-2.true))
-
--- src/lib.rt:227:1
-pub returns : goal.returns
-unfolding whole
-returns c = sym (rw (not-false c.args.c.has_fn c.if-not-c.false, not-false c.args.c.has_n c.if-not-c-2.false))
+returns-else-c-2 c = elim c.if-c.branch [ then-c w ↦ c.if-c-2.false ∙ sym (rw (w.if-c.true, sym w.value-is ∙ c.if-c-2.false)) | else-c w ↦ c.if-c-2.false ∙ sym (rw w.if-c.false) ]

@@ -1,8 +1,7 @@
--- src/lib.rt:340:16
+-- `version3_judge::note` meets its contract. Assumes nothing.
 use Rattle.version3_judge.specs.Judge.{noted}
 use Rattle.version3_judge.proofs.note.Goals as goal
 
--- src/lib.rt:336:1
 pub returns : goal.returns
 unfolding noted
-returns c = rw (c.phase_after.ensures, c.either.ensures, c.either-2.ensures, c.either-3.ensures)
+returns c = rw c.phase_after.ensures
