@@ -7,13 +7,17 @@ use native.Mathlib.Omega.{arith}
 use lib.ListN.{length, take, drop, length-drop}
 use lib.Seq.{drop-drop}
 use borrow.Author.Tests.{ne_eqb}
-use Rattle.octets.specs.Classes.{named}
+use Rattle.octets.specs.Classes.{named as name_octet}
 use Rattle.octets.proofs.Bools.{clash}
 use Rattle.line_parser.specs.Parse.{Parse, got, bad}
 use Rattle.line_parser.specs.Rule.{Head, head}
-use Rattle.line_parser.specs.Places.{headed, name_start}
+use Rattle.std.specs.Prelude.{Result, Ok, Err}
+use Rattle.numbers.specs.Refusals.{number}
+use Rattle.numbers.specs.declared.refusal.Reason.{Reason}
+use Rattle.line_parser.specs.declared.rule.Named.{Named as NamedPart}
+use Rattle.line_parser.specs.Places.{headed, name_start, named}
 use Rattle.line_parser.specs.Places.{Part}
-use Rattle.line_parser.specs.Places.{Named}
+use Rattle.line_parser.specs.Places.{Named, Fault}
 use Rattle.line_parser.proofs.PartLaws.{Taken, run_le, head_parts}
 use Rattle.property_table.specs.declared.Edition.TheVariants.{First}
 use Rattle.property_table.specs.Rows.{row_of}
@@ -27,7 +31,7 @@ pub record NameAt (l : List ℕ) (g n : ℕ) : Type 0 where
   pub row : row_of First (take (n - name_start g) (drop (name_start g) l)) ≡ row_of_name l
 
 taken_le : (l a : List ℕ) (k : ℕ) → Taken l a k → k ≤ length l
-taken_le l a k t = omega (arith, t.whole, run_le named l)
+taken_le l a k t = omega (arith, t.whole, run_le name_octet l)
 
 after_dot : (g : ℕ) → 0 < g → name_start g ≡ g + 1
 after_dot g h = rw (ne_eqb g 0 (λ e. omega arith))
@@ -72,6 +76,11 @@ name_at l p g n e q = by (head l) refl (sym e ∙ q)
         let en : k ≡ n = cc in
         let s = spelt l h k f in
         rw (← eg, ← en) record { order = s.order; inside = s.inside; group = s.group; row = ap (row_of First) s.octets ∙ sym (ap row_by f) }
+
+-- no name was found
+pub not_named : (r : Result NamedPart Reason) → ((h : NamedPart) → r ≡ Ok h → ⊥) → (g n : ℕ) → named r ≡ Named g n → ⊥
+not_named (Ok h) k g n e = k h refl
+not_named (Err x) k g n e = let z : Fault (number x) ≡ Named g n = e in clash cc
 
 -- where no name was found, the number is 0
 pub nameless : (l : List ℕ) (p : Part) → p ≡ headed (head l) → ((g n : ℕ) → p ≡ Named g n → ⊥) → 0 ≡ row_of_name l
