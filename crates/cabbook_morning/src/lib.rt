@@ -17,7 +17,7 @@ use cabbook_options::words::Words;
 use depot::{Morning, Upload};
 use desk::Desk;
 use numbers::limit;
-use numbers::refusal::{Reason, Refusal};
+use numbers::refusal::Reason;
 use program_host::Host;
 use reader::Verdict;
 
@@ -92,15 +92,19 @@ fn take_file(host: &mut Host, mut m: Morning, k: usize, pool: &mut [u8]) -> Morn
             m.running = depot::more(m.running);
             m
         }
-        Err(Refusal(Reason::NoFreeSlot, _)) => {
-            host.close(fd);
-            m.next = i;
-            m
-        }
         Err(r) => {
             host.close(fd);
-            printing::print_row(host, i, m.width, 0, 0, Err(r), true);
-            depot::count_verdict(m, Err(r), true)
+            let reason = r.0;
+            match reason {
+                Reason::NoFreeSlot => {
+                    m.next = i;
+                    m
+                }
+                _ => {
+                    printing::print_row(host, i, m.width, 0, 0, Err(r), true);
+                    depot::count_verdict(m, Err(r), true)
+                }
+            }
         }
     }
 }

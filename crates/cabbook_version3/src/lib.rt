@@ -20,6 +20,12 @@ use version3_parameters::Way;
 // The line of version 3 that says so.
 const VERSION_LINE: usize = 13;
 
+// What is said of a file of version 3 that is taken in, and of one that is not.
+const TAKEN_IN: &[u8] = b": of version 3.0, and `cabbook v3in` takes it in\n";
+
+const ONCE_MENDED: &[u8] =
+    b": of version 3.0, and `cabbook v3in` takes it in once this is mended:\n";
+
 // Writes a card as the other version has it to room.
 fn write(way: Way, s: &[u8], room: &mut [u8]) -> Result<usize, Refusal> {
     match way {
@@ -118,17 +124,9 @@ pub fn print_advice(host: &mut Host, file: File) -> Ended
 {
     let mut room = [0u8; limit::OCTETS];
     let Err(r) = version3::take_in(file.octets, &mut room) else {
-        print_line(
-            host,
-            file.path,
-            b": of version 3.0, and `cabbook v3in` takes it in\n",
-        )?;
+        print_line(host, file.path, TAKEN_IN)?;
         return Ok(status::REFUSED);
     };
-    print_line(
-        host,
-        file.path,
-        b": of version 3.0, and `cabbook v3in` takes it in once this is mended:\n",
-    )?;
+    print_line(host, file.path, ONCE_MENDED)?;
     print_refusal(host, STDOUT, Way::Inward, file, r)
 }

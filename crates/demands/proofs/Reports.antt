@@ -14,9 +14,9 @@ use Rattle.report_weights.specs.Counts.{Count}
 use Rattle.report.specs.Steps.{take_step}
 use Rattle.report.specs.Text.{report_text}
 use Rattle.report.specs.declared.Report.{Report}
-use Rattle.report.specs.declared.Answer.{Answer}
-use Rattle.report.specs.declared.Answer.TheVariants.{Counted, Refused}
-use Rattle.report.specs.declared.Taken.{Taken}
+use Rattle.report.specs.Answer.{Answer}
+use Rattle.report.specs.Answer.{Counted, Refused}
+use Rattle.report.specs.Answer.{Taken}
 use Rattle.report_laws.proofs.Totals.{only_full, to_count, take_refused}
 use Rattle.demands.specs.Demand1.{TakeBy, passes, PrintBy, print_room}
 use Rattle.demands.proofs.Refusing.{ByCase, FillingByCase, clash}

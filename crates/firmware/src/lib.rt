@@ -3,6 +3,7 @@
 
 ghost use Rattle.std.specs.Prelude.{◌≡◌, ◌<◌};
 ghost use Rattle.numbers.specs.Limits as limit;
+ghost use Rattle.numbers.specs.Refusals.{number};
 ghost use Rattle.octets.specs.Room.{written};
 ghost use Rattle.reader.specs.Outcome.{judge_of};
 ghost use Rattle.folder.specs.Outcome.{fold_outcome};
@@ -16,9 +17,10 @@ use property_table::Edition;
 // Packs a refusal's number and place into one word.
 fn pack_refusal(r: Refusal) -> u64
     requires { r.1 < limit.word }
-    ensures { result ≡ word r.0 r.1 }
+    ensures { result ≡ word (number r.0) r.1 }
 {
-    let Refusal(n, p) = r;
+    let Refusal(reason, p) = r;
+    let n = reason.number();
     (n as u64) * limit::WORD + (p as u64)
 }
 

@@ -2,6 +2,7 @@
 #![tactic(auto)]
 
 ghost use Rattle.std.specs.Prelude.{◌≡◌, ◌+◌, get_or};
+ghost use Rattle.numbers.specs.Refusals.{number as reason_number};
 ghost use Rattle.numbers.specs.Counts as places;
 ghost use Rattle.numbers.specs.Properties as property;
 ghost use Rattle.octets.specs.Room.{written};
@@ -24,9 +25,10 @@ use report::Report;
 mod calls;
 
 // Packs a refusal's number above all counts.
-fn pack_refusal(n: u32) -> u64
-    ensures { result ≡ number n }
+fn pack_refusal(r: Refusal) -> u64
+    ensures { result ≡ number (reason_number r.0) }
 {
+    let n = r.0.number();
     (n as u64) * limit::WORD
 }
 
@@ -36,7 +38,7 @@ fn pack_count(r: Result<usize, Refusal>) -> u64
 {
     match r {
         Ok(n) => n as u64,
-        Err(Refusal(n, _)) => pack_refusal(n),
+        Err(r) => pack_refusal(r),
     }
 }
 
@@ -76,7 +78,7 @@ pub extern "C" fn timed_read(input: &[u8], copy: &mut [u8], records: &mut [u32])
 {
     match reader::read(Edition::First, input, copy, records) {
         Ok(counts) => counts.cards as u64,
-        Err(Refusal(n, _)) => pack_refusal(n),
+        Err(r) => pack_refusal(r),
     }
 }
 

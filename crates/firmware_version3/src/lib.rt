@@ -2,6 +2,7 @@
 #![tactic(auto)]
 
 ghost use Rattle.std.specs.Prelude.{◌≡◌};
+ghost use Rattle.numbers.specs.Refusals.{number as reason_number};
 ghost use Rattle.octets.specs.Room.{written};
 ghost use Rattle.version3.specs.Outcome.{take_outcome, give_outcome};
 ghost use Rattle.firmware_version3.specs.Answers.{number, written_number};
@@ -10,9 +11,10 @@ use numbers::limit;
 use numbers::refusal::Refusal;
 
 // Packs a refusal's number above all counts.
-fn pack_refusal(n: u32) -> u64
-    ensures { result ≡ number n }
+fn pack_refusal(r: Refusal) -> u64
+    ensures { result ≡ number (reason_number r.0) }
 {
+    let n = r.0.number();
     (n as u64) * limit::WORD
 }
 
@@ -22,7 +24,7 @@ fn pack_written(r: Result<usize, Refusal>) -> u64
 {
     match r {
         Ok(n) => n as u64,
-        Err(Refusal(n, _)) => pack_refusal(n),
+        Err(r) => pack_refusal(r),
     }
 }
 

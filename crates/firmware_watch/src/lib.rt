@@ -2,6 +2,7 @@
 #![tactic(auto)]
 
 ghost use Rattle.std.specs.Prelude.{◌≡◌};
+ghost use Rattle.numbers.specs.Refusals.{number as reason_number};
 ghost use Rattle.reader.specs.Outcome.{judge_of, verdict};
 ghost use Rattle.firmware_watch.specs.Answers.{number, verdict_number};
 
@@ -12,9 +13,10 @@ use reader::Verdict;
 mod chunks;
 
 // Packs a refusal's number above all counts.
-fn pack_refusal(n: u32) -> u64
-    ensures { result ≡ number n }
+fn pack_refusal(r: Refusal) -> u64
+    ensures { result ≡ number (reason_number r.0) }
 {
+    let n = r.0.number();
     (n as u64) * limit::WORD
 }
 
@@ -24,7 +26,7 @@ fn pack_verdict(v: Verdict) -> u64
 {
     match v {
         Ok(counts) => counts.cards as u64,
-        Err(Refusal(n, _)) => pack_refusal(n),
+        Err(r) => pack_refusal(r),
     }
 }
 

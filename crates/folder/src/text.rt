@@ -9,8 +9,8 @@ ghost use Rattle.folder_raising.specs.Walk.{raised, written};
 ghost use Rattle.folder.specs.Fitting.{Fitted, Poured};
 
 use folder_raising::Style;
-use numbers::refusal::{Reason, Refusal};
 use numbers::limit;
+use numbers::refusal::{Reason, Refusal};
 
 // Raises the names of the line that stands in the first n octets of d.
 fn raise_start(d: &mut [u8], n: usize)

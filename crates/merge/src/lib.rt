@@ -12,13 +12,12 @@ ghost use Rattle.merge.specs.Sides.{side, over_side, settled, settle_of, own_row
 ghost use Rattle.merge.specs.Plans.{flatten, put_partner, put_partners, enter_to, enter_step, enter_all, is_kept, covers_from};
 ghost use Rattle.merge.specs.Outcome.{planned, plan_rows, check_rows, plan_outcome, check_outcome};
 
-use merge_partners::Partners;
+use merge_partners::{Partners, Side};
 use merge_sources::{Row, Source};
-use numbers::refusal::{Reason, Refusal};
 use numbers::limit;
+use numbers::refusal::{Reason, Refusal};
 use octets::indices::wide_number;
 use property_table::Edition;
-use reader::Counts;
 
 // How many numbers the marks of a card may take.
 const MARKS: usize = limit::LINES * merge_pids::MARK;
@@ -49,30 +48,28 @@ fn is_over(cards: usize, lent: usize, own: Row, marks: &[u32], end: usize) -> bo
 }
 
 // The demanded pairs of two accepted cards, or 71, 72 or 70; the partners of the first card's lines are left in p.
-fn settle(
-    ca: &[u8],
-    ra: &[u32],
-    x: Counts,
+fn settle<'a>(
+    x: &Side<'a>,
+    x_cards: usize,
     a: Row,
-    cb: &[u8],
-    rb: &[u32],
-    y: Counts,
+    y: &Side<'a>,
+    y_cards: usize,
     b: Row,
     p: &mut Partners,
 ) -> Result<usize, Refusal>
-    ensures { settled (paired result) p.new ≡ settle_of (side ca.now ra.now x.cards x.lines) (side cb.now rb.now y.cards y.lines) a b p.old }
+    ensures { settled (paired result) p.new ≡ settle_of (side x.now.copy.now x.now.records.now x_cards x.now.lines) (side y.now.copy.now y.now.records.now y_cards y.now.lines) a b p.old }
 {
     let t = octets::classes::table();
     let mut firsts = [0u32; MARKS];
     let mut seconds = [0u32; MARKS];
-    let ea = merge_sides::put_marks(&t, ca, ra, x.lines, &mut firsts);
-    let eb = merge_sides::put_marks(&t, cb, rb, y.lines, &mut seconds);
-    let own_a = merge_sides::own_row(ca, ra, x.lines);
-    let own_b = merge_sides::own_row(cb, rb, y.lines);
-    if is_over(x.cards, a.count, own_a, &firsts, ea) {
+    let ea = merge_sides::put_marks(&t, x.copy, x.records, x.lines, &mut firsts);
+    let eb = merge_sides::put_marks(&t, y.copy, y.records, y.lines, &mut seconds);
+    let own_a = merge_sides::own_row(x.copy, x.records, x.lines);
+    let own_b = merge_sides::own_row(y.copy, y.records, y.lines);
+    if is_over(x_cards, a.count, own_a, &firsts, ea) {
         return Err(Refusal(Reason::MergeLimit, 0));
     }
-    if is_over(y.cards, b.count, own_b, &seconds, eb) {
+    if is_over(y_cards, b.count, own_b, &seconds, eb) {
         return Err(Refusal(Reason::MergeLimit, 0));
     }
     if !merge_sources::same_row(own_a, a) {
@@ -81,19 +78,15 @@ fn settle(
     if !merge_sources::same_row(own_b, b) {
         return Err(Refusal(Reason::SourceRow, 0));
     }
-    if !merge_partners::same_uids(ca, ra, x.lines, cb, rb, y.lines) {
+    if !merge_partners::same_uids(x, y) {
         return Err(Refusal(Reason::NoPlan, 0));
     }
     if !merge_partners::join_all(
-        ca,
-        ra,
-        x.lines,
+        x,
         &firsts,
         ea / merge_pids::MARK,
         a,
-        cb,
-        rb,
-        y.lines,
+        y,
         &seconds,
         eb / merge_pids::MARK,
         b,
@@ -146,12 +139,22 @@ pub fn plan_rows(
 {
     let mut ca = [0u8; limit::OCTETS];
     let mut ra = [0u32; RECORDS];
-    let x = reader::read(Edition::First, first, &mut ca, &mut ra)?;
+    let x_counts = reader::read(Edition::First, first, &mut ca, &mut ra)?;
+    let x = Side {
+        copy: &ca,
+        records: &ra,
+        lines: x_counts.lines,
+    };
     let mut cb = [0u8; limit::OCTETS];
     let mut rb = [0u32; RECORDS];
-    let y = reader::read(Edition::First, second, &mut cb, &mut rb)?;
+    let y_counts = reader::read(Edition::First, second, &mut cb, &mut rb)?;
+    let y = Side {
+        copy: &cb,
+        records: &rb,
+        lines: y_counts.lines,
+    };
     let mut p = [0u32; limit::LINES];
-    let n = settle(&ca, &ra, x, a, &cb, &rb, y, b, &mut p)?;
+    let n = settle(&x, x_counts.cards, a, &y, y_counts.cards, b, &mut p)?;
     if out.len() < n * PAIR {
         return Err(Refusal(Reason::RecordRoom, n * PAIR));
     }
@@ -187,38 +190,18 @@ fn enter(p: &mut Partners, t: &mut Partners, na: usize, nb: usize, i: usize, j: 
 }
 
 // Enters a pair of a plan where its lines have one property.
-fn enter_step(
-    ca: &[u8],
-    ra: &[u32],
-    na: usize,
-    cb: &[u8],
-    rb: &[u32],
-    nb: usize,
-    i: usize,
-    j: usize,
-    p: &mut Partners,
-    t: &mut Partners,
-) -> bool
-    ensures { joined result p.new t.new ≡ enter_step ca.now ra.now na cb.now rb.now nb p.old t.old i j }
+fn enter_step(x: &Side, y: &Side, i: usize, j: usize, p: &mut Partners, t: &mut Partners) -> bool
+    ensures { joined result p.new t.new ≡ enter_step x.now.copy.now x.now.records.now x.now.lines y.now.copy.now y.now.records.now y.now.lines p.old t.old i j }
 {
-    if !merge_sides::same_property(ca, ra, i, cb, rb, j) {
+    if !merge_sides::same_property(x.copy, x.records, i, y.copy, y.records, j) {
         return false;
     }
-    enter(p, t, na, nb, i, j)
+    enter(p, t, x.lines, y.lines, i, j)
 }
 
 // Enters the pairs of a plan; false for an odd count, a number that is no line's, a line twice, or lines of two properties.
-fn enter_plan(
-    ca: &[u8],
-    ra: &[u32],
-    na: usize,
-    cb: &[u8],
-    rb: &[u32],
-    nb: usize,
-    plan: &[u32],
-    p: &mut Partners,
-) -> bool
-    ensures { joined_first result p.new ≡ first_of (enter_all ca.now ra.now na cb.now rb.now nb (joined true p.old (replicate limit.lines 0)) plan.now) }
+fn enter_plan(x: &Side, y: &Side, plan: &[u32], p: &mut Partners) -> bool
+    ensures { joined_first result p.new ≡ first_of (enter_all x.now.copy.now x.now.records.now x.now.lines y.now.copy.now y.now.records.now y.now.lines (joined true p.old (replicate limit.lines 0)) plan.now) }
 {
     let mut t = [0u32; limit::LINES];
     let mut at: usize = 0;
@@ -228,7 +211,7 @@ fn enter_plan(
         }
         let i = wide_number(plan[at]);
         let j = wide_number(plan[at + 1]);
-        if !enter_step(ca, ra, na, cb, rb, nb, i, j, p, &mut t) {
+        if !enter_step(x, y, i, j, p, &mut t) {
             return false;
         }
         at += PAIR;
@@ -270,14 +253,24 @@ pub fn check_rows(
 {
     let mut ca = [0u8; limit::OCTETS];
     let mut ra = [0u32; RECORDS];
-    let x = reader::read(Edition::First, first, &mut ca, &mut ra)?;
+    let x_counts = reader::read(Edition::First, first, &mut ca, &mut ra)?;
+    let x = Side {
+        copy: &ca,
+        records: &ra,
+        lines: x_counts.lines,
+    };
     let mut cb = [0u8; limit::OCTETS];
     let mut rb = [0u32; RECORDS];
-    let y = reader::read(Edition::First, second, &mut cb, &mut rb)?;
+    let y_counts = reader::read(Edition::First, second, &mut cb, &mut rb)?;
+    let y = Side {
+        copy: &cb,
+        records: &rb,
+        lines: y_counts.lines,
+    };
     let mut p = [0u32; limit::LINES];
-    settle(&ca, &ra, x, a, &cb, &rb, y, b, &mut p)?;
+    settle(&x, x_counts.cards, a, &y, y_counts.cards, b, &mut p)?;
     let mut q = [0u32; limit::LINES];
-    if !enter_plan(&ca, &ra, x.lines, &cb, &rb, y.lines, plan, &mut q) {
+    if !enter_plan(&x, &y, plan, &mut q) {
         return Err(Refusal(Reason::Plan, 0));
     }
     if !covers(&p, &q) {

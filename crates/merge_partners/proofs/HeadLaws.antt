@@ -9,6 +9,7 @@ use lib.Dec.{eqb}
 use lib.ListN.{length, get_or, take, drop, replicate, drop_of_length-le}
 use lib.Seq.{drop-cons}
 use borrow.Author.Tests.{eq-eqb, eqb-true}
+use Rattle.std.specs.Prelude.{Some}
 use Rattle.octets.specs.Cases.{lower, same}
 use Rattle.octets.proofs.Bools.{by, and_both}
 use Rattle.merge_sides.specs.Lines.{field_at, name_at, same_property}
@@ -108,12 +109,12 @@ module _ (ca ra c rs : List ℕ) (j n i : ℕ) where
 
 -- what is known of the line that was looked at last
 module _ (ca ra : List ℕ) (n : ℕ) (c rs : List ℕ) where
-  pub look_same : (last : Headed) (j : ℕ) → Known ca ra n c rs last → j < 4294967296 → j ≡ last.line
+  pub look_same : (last : Headed) (j : ℕ) → Known ca ra n c rs (Some last) → last.line ≡ j
       → (last.line ≡ j) × (last.head ≡ head_from ca ra c rs j 0 n)
-  look_same last j k h e = (sym e, k (λ z. omega arith) ∙ ap (λ (m : ℕ). head_from ca ra c rs m 0 n) (sym e))
+  look_same last j k e = (e, k ∙ ap (λ (m : ℕ). head_from ca ra c rs m 0 n) e)
 
-  pub known_of : (a : Headed) (j : ℕ) → a.line ≡ j → a.head ≡ head_from ca ra c rs j 0 n → Known ca ra n c rs a
-  known_of a j e f = λ z. f ∙ ap (λ (m : ℕ). head_from ca ra c rs m 0 n) (sym e)
+  pub known_of : (a : Headed) (j : ℕ) → a.line ≡ j → a.head ≡ head_from ca ra c rs j 0 n → Known ca ra n c rs (Some a)
+  known_of a j e f = f ∙ ap (λ (m : ℕ). head_from ca ra c rs m 0 n) (sym e)
 
 -- the tag of line i and a key finds each mark that can join it
 pub tagged_sifts : (ca ra : List ℕ) (n : ℕ) (cb rb marks keys tags seats : List ℕ) → Tagged ca ra n cb rb marks keys tags seats → (i key tag : ℕ)

@@ -40,9 +40,9 @@ no_one : (b : Bool) (n : ℕ) → one b + n ≡ 0 → b ≡ false
 no_one true n e = absurd (omega (arith, e))
 no_one false n e = refl
 
--- a mark that was counted as 0
-pub counted_none : (tag seat own partner m r : ℕ) → r ≡ one (is_new tag seat own partner) → partner ≡ m → r ≡ 0 → is_new tag seat own m ≡ false
-counted_none tag seat own partner m r e f z = ap (is_new tag seat own) (sym f) ∙ no_one (is_new tag seat own partner) 0 (omega (arith, e, z))
+-- a mark that was passed over
+pub passed_over : (tag seat own partner m : ℕ) (r : Bool) → r ≡ is_new tag seat own partner → partner ≡ m → r ≡ false → is_new tag seat own m ≡ false
+passed_over tag seat own partner m r e f z = ap (is_new tag seat own) (sym f) ∙ sym e ∙ z
 
 module _ (ca ra : List ℕ) (i key tag : ℕ) (cb rb marks keys tags seats : List ℕ) (s : Sifts ca ra i key tag cb rb marks keys tags seats) (p t : List ℕ) where
   pub none_new : (k : ℕ) → k < length keys → is_new (get_or tags k 0) (get_or seats k 0) tag (partner_of p i) ≡ false

@@ -1,6 +1,7 @@
 -- Walks over entries, keys, marks and lines: one more of those that are left, and none. Assumes nothing.
 use mathlib.Core.Path.{◌≡◌, refl, sym, ap, ◌∙◌}
-use mathlib.Core.Bool.{not}
+use mathlib.Core.Bool.{Bool, true, false, not}
+use Rattle.std.specs.Int.{from_bool}
 use mathlib.Core.List.{List, [], ◌++◌}
 use Prim.Native.Nat.{ℕ, zero, suc, ◌+◌, ◌-◌, ◌<◌, ◌≤◌, min}
 use native.Mathlib.Numerals.{add-one}
@@ -60,6 +61,11 @@ module _ (f : ℕ → ℕ) (xs : List ℕ) (n : ℕ) (e : xs ≡ sets_from f (re
   taken_at k l =
       get_or-take n xs k 0 l ∙ ap (λ (ys : List ℕ). get_or ys k 0) e
       ∙ sets_at f n (replicate 4096 0) 0 k (omega arith) (omega arith) (omega (arith, h, length-replicate {A = ℕ} 4096 0))
+
+-- a test counts as 1 where it holds
+pub counted : (r : ℕ) (b t : Bool) → r ≡ from_bool b → b ≡ t → (r ≡ one t) × (r ≤ 1)
+counted r true t e f = (e ∙ ap one f, omega (arith, e))
+counted r false t e f = (e ∙ ap one f, omega (arith, e))
 
 module _ (tags seats : List ℕ) (own partner n k : ℕ) where
   pub new_turn : k < n → count_new tags seats own partner k (n - k) ≡ one (is_new (get_or tags k 0) (get_or seats k 0) own partner) + count_new tags seats own partner (k + 1) (n - (k + 1))

@@ -1,5 +1,5 @@
 -- Heads, digests, tags and seats: how lines of one property, and marks that can join two lines, are found fast. Assumes nothing.
-use Rattle.std.specs.Prelude.{ℕ, zero, suc, ◌+◌, ◌*◌, ◌%◌, ◌<◌, ◌≤◌, ◌≡◌, Bool, true, false, not, List, [], ◌∷◌, eqb, ltb, length, get_or}
+use Rattle.std.specs.Prelude.{ℕ, zero, suc, ◌+◌, ◌*◌, ◌%◌, ◌<◌, ◌≤◌, ◌≡◌, Bool, true, false, not, List, [], ◌∷◌, Option, Some, None, eqb, ltb, length, get_or}
 use Rattle.numbers.specs.Limits as limit
 use Rattle.numbers.specs.Fields as field
 use Rattle.numbers.specs.Properties as property
@@ -38,13 +38,10 @@ unfoldable pub head_from : List ℕ → List ℕ → List ℕ → List ℕ → �
 head_from ca ra c rs j i zero = limit.lines
 head_from ca ra c rs j i (suc k) = pick (same_property ca ra i c rs j) i (head_from ca ra c rs j (i + 1) k)
 
--- the line before any was looked at
-abbrev pub no_line : ℕ
-no_line = limit.word
-
--- what is known of the line that was looked at last: its head among n lines
-abbrev pub Known : List ℕ → List ℕ → ℕ → List ℕ → List ℕ → Headed → Type 0
-Known ca ra n c rs a = (a.line ≡ no_line → ⊥) → a.head ≡ head_from ca ra c rs a.line 0 n
+-- what is known of the line that was looked at last, if there is one: its head among n lines
+abbrev pub Known : List ℕ → List ℕ → ℕ → List ℕ → List ℕ → Option Headed → Type 0
+Known ca ra n c rs None = Unit {0}
+Known ca ra n c rs (Some a) = a.head ≡ head_from ca ra c rs a.line 0 n
 
 -- the tag of a mark, of its line's head and its key
 unfoldable pub tag_of : ℕ → ℕ → ℕ

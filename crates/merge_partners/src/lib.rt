@@ -26,15 +26,29 @@ pub type Classes = [usize; limit::SOURCES];
 // The key of a mark that leads nowhere.
 const NO_KEY: u32 = 4294967295;
 
+// A card that was read: its copy, its records, and how many lines it has.
+#[derive(Clone, Copy)]
+pub struct Side<'a> {
+    pub copy: &'a [u8],
+    pub records: &'a [u32],
+    pub lines: usize,
+}
+
+// The second card's marks by their numbers, each with its key, its tag, and how its line stands as a partner.
+#[derive(Clone, Copy)]
+struct Marks<'a> {
+    numbers: &'a [u32],
+    keys: &'a [u32],
+    tags: &'a [u32],
+    seats: &'a [u32],
+}
+
 // A line that was looked at, and its head: the first line of the first card that has its property.
 #[derive(Clone, Copy)]
 struct Headed {
     line: usize,
     head: usize,
 }
-
-// The line before any was looked at.
-const NO_LINE: usize = 4294967296;
 
 // The factor of a digest, and what it stays below: primes, so that names seldom have one digest.
 const FACTOR: usize = 32749;
@@ -141,7 +155,7 @@ fn key_at(marks: &[u32], k: usize, own: Row, classes: &Classes) -> u32
 }
 
 // Writes a number at i, where there is room.
-fn put_number(xs: &mut [u32], i: usize, n: u32)
+fn put_number<T: Copy>(xs: &mut [T], i: usize, n: T)
     ensures { xs.new ≡ set xs.old i n }
 {
     if i < xs.len() {
@@ -180,64 +194,51 @@ fn digest_name(s: &[u8]) -> usize
 }
 
 // A number that lines of one property share: the property's, or for number 0 the digest of the name.
-fn digest_of(c: &[u8], rs: &[u32], i: usize) -> usize
-    ensures { result ≡ digest_of c.now rs.now i }
+fn digest_of(side: &Side, i: usize) -> usize
+    ensures { result ≡ digest_of side.now.copy.now side.now.records.now i }
 {
+    let rs = side.records;
     let row = merge_sides::field_at(rs, i, field::PROPERTY);
     if row != property::OTHER {
         return row;
     }
     let start = merge_sides::name_start(rs, i);
-    let name = part(c, start, start + merge_sides::field_at(rs, i, field::NAME));
+    let name = part(
+        side.copy,
+        start,
+        start + merge_sides::field_at(rs, i, field::NAME),
+    );
     digest_name(name)
 }
 
-// Writes a digest at i, where there is room.
-fn put_digest(xs: &mut [usize], i: usize, digest: usize)
-    ensures { xs.new ≡ set xs.old i digest }
-{
-    if i < xs.len() {
-        xs[i] = digest;
-    }
-}
-
 // Writes the digests of the first n lines.
-fn put_digests(c: &[u8], rs: &[u32], n: usize, digests: &mut [usize])
-    ensures { digests.new ≡ sets_from (digest_of c.now rs.now) digests.old 0 n }
+fn put_digests(side: &Side, n: usize, digests: &mut [usize])
+    ensures { digests.new ≡ sets_from (digest_of side.now.copy.now side.now.records.now) digests.old 0 n }
 {
     for i in 0..n {
-        put_digest(digests, i, digest_of(c, rs, i));
+        put_number(digests, i, digest_of(side, i));
     }
 }
 
-// Whether line i of the first card has the property of line j of a card; names are compared only where the digests x and y are equal.
-fn is_alike(
-    ca: &[u8],
-    ra: &[u32],
-    i: usize,
-    x: usize,
-    c: &[u8],
-    rs: &[u32],
-    j: usize,
-    y: usize,
-) -> bool
-    requires { (x ≡ digest_of ca.now ra.now i) × (y ≡ digest_of c.now rs.now j) }
-    ensures { result ≡ same_property ca.now ra.now i c.now rs.now j }
+// Whether line i of the first card has the property of line j of a card; names are compared only where the digests d and e are equal.
+fn is_alike(x: &Side, i: usize, d: usize, y: &Side, j: usize, e: usize) -> bool
+    requires { (d ≡ digest_of x.now.copy.now x.now.records.now i) × (e ≡ digest_of y.now.copy.now y.now.records.now j) }
+    ensures { result ≡ same_property x.now.copy.now x.now.records.now i y.now.copy.now y.now.records.now j }
 {
-    if x != y {
+    if d != e {
         return false;
     }
-    merge_sides::same_property(ca, ra, i, c, rs, j)
+    merge_sides::same_property(x.copy, x.records, i, y.copy, y.records, j)
 }
 
 // The head of line j of a card among the lines of the first card that have digests; 4,096 for none.
-fn head_of(ca: &[u8], ra: &[u32], digests: &[usize], c: &[u8], rs: &[u32], j: usize) -> usize
-    requires { Digests ca.now ra.now digests.now }
-    ensures { result ≡ head_from ca.now ra.now c.now rs.now j 0 (length digests.now) }
+fn head_of(x: &Side, digests: &[usize], y: &Side, j: usize) -> usize
+    requires { Digests x.now.copy.now x.now.records.now digests.now }
+    ensures { result ≡ head_from x.now.copy.now x.now.records.now y.now.copy.now y.now.records.now j 0 (length digests.now) }
 {
-    let digest = digest_of(c, rs, j);
-    for (i, x) in digests.iter().enumerate() {
-        if is_alike(ca, ra, i, *x, c, rs, j, digest) {
+    let digest = digest_of(y, j);
+    for (i, d) in digests.iter().enumerate() {
+        if is_alike(x, i, *d, y, j, digest) {
             return i;
         }
     }
@@ -245,27 +246,20 @@ fn head_of(ca: &[u8], ra: &[u32], digests: &[usize], c: &[u8], rs: &[u32], j: us
 }
 
 // Looks at line j of a card, unless it is the one that was looked at last.
-fn look(
-    ca: &[u8],
-    ra: &[u32],
-    digests: &[usize],
-    c: &[u8],
-    rs: &[u32],
-    j: usize,
-    last: Headed,
-) -> Headed
-    requires j_lt_word { j < limit.word }
-    requires digests { Digests ca.now ra.now digests.now }
-    requires known { Known ca.now ra.now (length digests.now) c.now rs.now last }
+fn look<'a>(x: &Side<'a>, digests: &[usize], y: &Side<'a>, j: usize, last: Option<Headed>) -> Headed
+    requires digests { Digests x.now.copy.now x.now.records.now digests.now }
+    requires known { Known x.now.copy.now x.now.records.now (length digests.now) y.now.copy.now y.now.records.now last }
     ensures line_value { result.line ≡ j }
-    ensures head_value { result.head ≡ head_from ca.now ra.now c.now rs.now j 0 (length digests.now) }
+    ensures head_value { result.head ≡ head_from x.now.copy.now x.now.records.now y.now.copy.now y.now.records.now j 0 (length digests.now) }
 {
-    if j == last.line {
-        return last;
+    if let Some(known) = last
+        && known.line == j
+    {
+        return known;
     }
     Headed {
         line: j,
-        head: head_of(ca, ra, digests, c, rs, j),
+        head: head_of(x, digests, y, j),
     }
 }
 
@@ -283,28 +277,24 @@ fn tag_of(head: usize, key: u32) -> u32
 }
 
 // Writes the tags of the second card's marks, which have these keys.
-fn put_tags(
-    ca: &[u8],
-    ra: &[u32],
+fn put_tags<'a>(
+    x: &Side<'a>,
     digests: &[usize],
-    cb: &[u8],
-    rb: &[u32],
+    y: &Side<'a>,
     marks: &[u32],
     keys: &[u32],
     tags: &mut [u32],
 )
-    requires digests { Digests ca.now ra.now digests.now }
+    requires digests { Digests x.now.copy.now x.now.records.now digests.now }
     requires keys_len_bound { length keys.now ≤ limit.lines }
-    ensures { tags.new ≡ sets_from (tag_at ca.now ra.now (length digests.now) cb.now rb.now marks.now keys.now) tags.old 0 (length keys.now) }
+    ensures { tags.new ≡ sets_from (tag_at x.now.copy.now x.now.records.now (length digests.now) y.now.copy.now y.now.records.now marks.now keys.now) tags.old 0 (length keys.now) }
 {
-    let mut last = Headed {
-        line: NO_LINE,
-        head: 0,
-    };
+    let mut last = None;
     for (k, key) in keys.iter().enumerate() {
         let j = wide_number(number_of(marks, k, LINE));
-        last = look(ca, ra, digests, cb, rb, j, last);
-        put_number(tags, k, tag_of(last.head, *key));
+        let headed = look(x, digests, y, j, last);
+        put_number(tags, k, tag_of(headed.head, *key));
+        last = Some(headed);
     }
 }
 
@@ -327,18 +317,11 @@ fn put_seats(marks: &[u32], n: usize, seats: &mut [u32])
     }
 }
 
-// 1 for a mark of this tag whose line is not the partner already, else 0.
-fn is_new(tag: u32, seat: u32, own: u32, partner: u32) -> u32
-    ensures value { result ≡ one (is_new tag seat own partner) }
-    ensures upper_bound { result ≤ 1 }
+// Whether a mark has this tag and a line that is not the partner already.
+fn is_new(tag: u32, seat: u32, own: u32, partner: u32) -> bool
+    ensures { result ≡ is_new tag seat own partner }
 {
-    if tag != own {
-        return 0;
-    }
-    if seat == partner {
-        return 0;
-    }
-    1
+    tag == own && seat != partner
 }
 
 // How many marks have this tag and a line that is not the partner already.
@@ -348,7 +331,7 @@ fn count_new(tags: &[u32], seats: &[u32], own: u32, partner: u32) -> u32
 {
     let mut hits: u32 = 0;
     for (k, tag) in tags.iter().enumerate() {
-        hits += is_new(*tag, seats[k], own, partner);
+        hits += u32::from(is_new(*tag, seats[k], own, partner));
     }
     hits
 }
@@ -392,34 +375,29 @@ fn join(p: &mut Partners, t: &mut Partners, i: usize, j: usize) -> bool
 
 // Joins line i with the line of the second card's mark k where the mark has the key and the lines have one property.
 fn join_at(
-    ca: &[u8],
-    ra: &[u32],
+    x: &Side,
     i: usize,
     key: u32,
     tag: u32,
-    cb: &[u8],
-    rb: &[u32],
-    marks: &[u32],
-    keys: &[u32],
-    tags: &[u32],
-    seats: &[u32],
+    y: &Side,
+    m: &Marks,
     k: usize,
     p: &mut Partners,
     t: &mut Partners,
 ) -> bool
-    requires k_in_bounds { k < length keys.now }
-    requires sifts { Sifts ca.now ra.now i key tag cb.now rb.now marks.now keys.now tags.now seats.now }
-    ensures { joined result p.new t.new ≡ join_all (joined true p.old t.old) (key_pair ca.now ra.now i key cb.now rb.now marks.now keys.now k) }
+    requires k_in_bounds { k < length m.now.keys.now }
+    requires sifts { Sifts x.now.copy.now x.now.records.now i key tag y.now.copy.now y.now.records.now m.now.numbers.now m.now.keys.now m.now.tags.now m.now.seats.now }
+    ensures { joined result p.new t.new ≡ join_all (joined true p.old t.old) (key_pair x.now.copy.now x.now.records.now i key y.now.copy.now y.now.records.now m.now.numbers.now m.now.keys.now k) }
 {
     let partner = partner_of(p, i);
-    if is_new(tags[k], seats[k], tag, partner) == 0 {
+    if !is_new(m.tags[k], m.seats[k], tag, partner) {
         return true;
     }
-    if keys[k] != key {
+    if m.keys[k] != key {
         return true;
     }
-    let j = wide_number(number_of(marks, k, LINE));
-    if !merge_sides::same_property(ca, ra, i, cb, rb, j) {
+    let j = wide_number(number_of(m.numbers, k, LINE));
+    if !merge_sides::same_property(x.copy, x.records, i, y.copy, y.records, j) {
         return true;
     }
     join(p, t, i, j)
@@ -427,27 +405,20 @@ fn join_at(
 
 // Joins line i with each line of the second card that has its property and a mark of the key.
 fn join_hits(
-    ca: &[u8],
-    ra: &[u32],
+    x: &Side,
     i: usize,
     key: u32,
     tag: u32,
-    cb: &[u8],
-    rb: &[u32],
-    marks: &[u32],
-    keys: &[u32],
-    tags: &[u32],
-    seats: &[u32],
+    y: &Side,
+    m: &Marks,
     p: &mut Partners,
     t: &mut Partners,
 ) -> bool
-    requires { Sifts ca.now ra.now i key tag cb.now rb.now marks.now keys.now tags.now seats.now }
-    ensures { joined result p.new t.new ≡ join_all (joined true p.old t.old) (hit_pairs ca.now ra.now i key cb.now rb.now marks.now keys.now 0 (length keys.now)) }
+    requires { Sifts x.now.copy.now x.now.records.now i key tag y.now.copy.now y.now.records.now m.now.numbers.now m.now.keys.now m.now.tags.now m.now.seats.now }
+    ensures { joined result p.new t.new ≡ join_all (joined true p.old t.old) (hit_pairs x.now.copy.now x.now.records.now i key y.now.copy.now y.now.records.now m.now.numbers.now m.now.keys.now 0 (length m.now.keys.now)) }
 {
-    for k in 0..keys.len() {
-        if !join_at(
-            ca, ra, i, key, tag, cb, rb, marks, keys, tags, seats, k, p, t,
-        ) {
+    for k in 0..m.keys.len() {
+        if !join_at(x, i, key, tag, y, m, k, p, t) {
             return false;
         }
     }
@@ -456,65 +427,53 @@ fn join_hits(
 
 // The same, where a mark of the tag has a line that is not the partner already.
 fn join_mark(
-    ca: &[u8],
-    ra: &[u32],
+    x: &Side,
     i: usize,
     key: u32,
     tag: u32,
-    cb: &[u8],
-    rb: &[u32],
-    marks: &[u32],
-    keys: &[u32],
-    tags: &[u32],
-    seats: &[u32],
+    y: &Side,
+    m: &Marks,
     p: &mut Partners,
     t: &mut Partners,
 ) -> bool
-    requires { Sifts ca.now ra.now i key tag cb.now rb.now marks.now keys.now tags.now seats.now }
-    ensures { joined result p.new t.new ≡ join_all (joined true p.old t.old) (mark_pairs ca.now ra.now i key cb.now rb.now marks.now keys.now) }
+    requires { Sifts x.now.copy.now x.now.records.now i key tag y.now.copy.now y.now.records.now m.now.numbers.now m.now.keys.now m.now.tags.now m.now.seats.now }
+    ensures { joined result p.new t.new ≡ join_all (joined true p.old t.old) (mark_pairs x.now.copy.now x.now.records.now i key y.now.copy.now y.now.records.now m.now.numbers.now m.now.keys.now) }
 {
     if key == NO_KEY {
         return true;
     }
     let partner = partner_of(p, i);
-    if count_new(tags, seats, tag, partner) == 0 {
+    if count_new(m.tags, m.seats, tag, partner) == 0 {
         return true;
     }
-    join_hits(ca, ra, i, key, tag, cb, rb, marks, keys, tags, seats, p, t)
+    join_hits(x, i, key, tag, y, m, p, t)
 }
 
 // Joins all lines that share a global value.
 fn join_marks(
-    ca: &[u8],
-    ra: &[u32],
+    x: &Side,
     digests: &[usize],
     firsts: &[u32],
     n: usize,
     own: Row,
     classes: &Classes,
-    cb: &[u8],
-    rb: &[u32],
-    marks: &[u32],
-    keys: &[u32],
-    tags: &[u32],
-    seats: &[u32],
+    y: &Side,
+    m: &Marks,
     p: &mut Partners,
     t: &mut Partners,
 ) -> bool
-    requires digests { Digests ca.now ra.now digests.now }
-    requires tagged { Tagged ca.now ra.now (length digests.now) cb.now rb.now marks.now keys.now tags.now seats.now }
-    ensures { joined result p.new t.new ≡ join_all (joined true p.old t.old) (shared_pairs ca.now ra.now firsts.now own classes.now cb.now rb.now marks.now keys.now 0 n) }
+    requires digests { Digests x.now.copy.now x.now.records.now digests.now }
+    requires tagged { Tagged x.now.copy.now x.now.records.now (length digests.now) y.now.copy.now y.now.records.now m.now.numbers.now m.now.keys.now m.now.tags.now m.now.seats.now }
+    ensures { joined result p.new t.new ≡ join_all (joined true p.old t.old) (shared_pairs x.now.copy.now x.now.records.now firsts.now own classes.now y.now.copy.now y.now.records.now m.now.numbers.now m.now.keys.now 0 n) }
 {
-    let mut last = Headed {
-        line: NO_LINE,
-        head: 0,
-    };
+    let mut last = None;
     for k in 0..n {
         let i = wide_number(number_of(firsts, k, LINE));
         let key = key_at(firsts, k, own, classes);
-        last = look(ca, ra, digests, ca, ra, i, last);
-        let tag = tag_of(last.head, key);
-        if !join_mark(ca, ra, i, key, tag, cb, rb, marks, keys, tags, seats, p, t) {
+        let headed = look(x, digests, x, i, last);
+        let tag = tag_of(headed.head, key);
+        last = Some(headed);
+        if !join_mark(x, i, key, tag, y, m, p, t) {
             return false;
         }
     }
@@ -525,45 +484,36 @@ fn join_marks(
 fn join_row(
     rows: &PropertyTable,
     row: usize,
-    ra: &[u32],
-    na: usize,
-    rb: &[u32],
-    nb: usize,
+    x: &Side,
+    y: &Side,
     p: &mut Partners,
     t: &mut Partners,
 ) -> bool
     requires lists { Lists rows.now }
     requires row_lt_all { row < property.all }
-    ensures { joined result p.new t.new ≡ join_all (joined true p.old t.old) (row_pairs row ra.now na rb.now nb) }
+    ensures { joined result p.new t.new ≡ join_all (joined true p.old t.old) (row_pairs row x.now.records.now x.now.lines y.now.records.now y.now.lines) }
 {
     if property_table::once_of(rows, row) == 0 {
         return true;
     }
-    if merge_sides::count_lines(ra, na, row) != 1 {
+    if merge_sides::count_lines(x.records, x.lines, row) != 1 {
         return true;
     }
-    if merge_sides::count_lines(rb, nb, row) != 1 {
+    if merge_sides::count_lines(y.records, y.lines, row) != 1 {
         return true;
     }
-    let i = merge_sides::find_line(ra, na, row);
-    let j = merge_sides::find_line(rb, nb, row);
+    let i = merge_sides::find_line(x.records, x.lines, row);
+    let j = merge_sides::find_line(y.records, y.lines, row);
     join(p, t, i, j)
 }
 
 // The same for every such property.
-fn join_singles(
-    ra: &[u32],
-    na: usize,
-    rb: &[u32],
-    nb: usize,
-    p: &mut Partners,
-    t: &mut Partners,
-) -> bool
-    ensures { joined result p.new t.new ≡ join_all (joined true p.old t.old) (single_pairs ra.now na rb.now nb 0 property.count) }
+fn join_singles(x: &Side, y: &Side, p: &mut Partners, t: &mut Partners) -> bool
+    ensures { joined result p.new t.new ≡ join_all (joined true p.old t.old) (single_pairs x.now.records.now x.now.lines y.now.records.now y.now.lines 0 property.count) }
 {
     let rows = property_table::table();
     for row in 0..property::COUNT {
-        if !join_row(&rows, row, ra, na, rb, nb, p, t) {
+        if !join_row(&rows, row, x, y, p, t) {
             return false;
         }
     }
@@ -584,65 +534,53 @@ fn count_looked(na: usize, ka: usize, kb: usize) -> usize
 }
 
 // Joins all demanded pairs; false where a line is in two of them.
-pub fn join_all(
-    ca: &[u8],
-    ra: &[u32],
-    na: usize,
+pub fn join_all<'a>(
+    x: &Side<'a>,
     firsts: &[u32],
     ka: usize,
     a: Row,
-    cb: &[u8],
-    rb: &[u32],
-    nb: usize,
+    y: &Side<'a>,
     seconds: &[u32],
     kb: usize,
     b: Row,
     p: &mut Partners,
 ) -> bool
-    ensures { joined_first result p.new ≡ first_of (join_all (joined true p.old (replicate limit.lines 0)) (demanded_pairs ca.now ra.now na firsts.now ka a cb.now rb.now nb seconds.now kb b)) }
+    ensures { joined_first result p.new ≡ first_of (join_all (joined true p.old (replicate limit.lines 0)) (demanded_pairs x.now.copy.now x.now.records.now x.now.lines firsts.now ka a y.now.copy.now y.now.records.now y.now.lines seconds.now kb b)) }
 {
     let mut t = [0u32; limit::LINES];
     let mut keys = [0u32; limit::LINES];
-    let in_a = classes_of(ca, a, ca, a);
-    let in_b = classes_of(ca, a, cb, b);
+    let in_a = classes_of(x.copy, a, x.copy, a);
+    let in_b = classes_of(x.copy, a, y.copy, b);
     put_keys(seconds, kb, b, &in_b, &mut keys);
     let n = octets::slices::least(kb, limit::LINES);
-    let looked = count_looked(na, ka, kb);
+    let looked = count_looked(x.lines, ka, kb);
     let mut digests = [0usize; limit::LINES];
-    put_digests(ca, ra, looked, &mut digests);
+    put_digests(x, looked, &mut digests);
     let mut tags = [0u32; limit::LINES];
-    put_tags(
-        ca,
-        ra,
-        &digests[..looked],
-        cb,
-        rb,
-        seconds,
-        &keys[..n],
-        &mut tags,
-    );
+    put_tags(x, &digests[..looked], y, seconds, &keys[..n], &mut tags);
     let mut seats = [0u32; limit::LINES];
     put_seats(seconds, n, &mut seats);
+    let m = Marks {
+        numbers: seconds,
+        keys: &keys[..n],
+        tags: &tags[..n],
+        seats: &seats[..n],
+    };
     if !join_marks(
-        ca,
-        ra,
+        x,
         &digests[..looked],
         firsts,
         ka,
         a,
         &in_a,
-        cb,
-        rb,
-        seconds,
-        &keys[..n],
-        &tags[..n],
-        &seats[..n],
+        y,
+        &m,
         p,
         &mut t,
     ) {
         return false;
     }
-    join_singles(ra, na, rb, nb, p, &mut t)
+    join_singles(x, y, p, &mut t)
 }
 
 // How many lines have a partner.
@@ -654,19 +592,19 @@ pub fn count_pairs(p: &Partners) -> usize
 }
 
 // Whether both cards have a UID line, and the first ones have the same value.
-pub fn same_uids(ca: &[u8], ra: &[u32], na: usize, cb: &[u8], rb: &[u32], nb: usize) -> bool
-    ensures { result ≡ same_uids ca.now ra.now na cb.now rb.now nb }
+pub fn same_uids(x: &Side, y: &Side) -> bool
+    ensures { result ≡ same_uids x.now.copy.now x.now.records.now x.now.lines y.now.copy.now y.now.records.now y.now.lines }
 {
-    let i = merge_sides::find_line(ra, na, property::UID);
-    let j = merge_sides::find_line(rb, nb, property::UID);
-    if na <= i {
+    let i = merge_sides::find_line(x.records, x.lines, property::UID);
+    let j = merge_sides::find_line(y.records, y.lines, property::UID);
+    if x.lines <= i {
         return false;
     }
-    if nb <= j {
+    if y.lines <= j {
         return false;
     }
     merge_sides::same_octets(
-        merge_sides::value_of(ca, ra, i),
-        merge_sides::value_of(cb, rb, j),
+        merge_sides::value_of(x.copy, x.records, i),
+        merge_sides::value_of(y.copy, y.records, j),
     )
 }

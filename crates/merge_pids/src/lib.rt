@@ -8,7 +8,6 @@ ghost use Rattle.line_parser.specs.Parse.{hd};
 ghost use Rattle.merge_pids.specs.Numbers.{with_digit, digits, pid_of};
 ghost use Rattle.merge_pids.specs.Marks.{mark, marked, put_mark, put_all, value_marks, span_at, values_marks, named_marks, params_marks};
 
-use line_parser::rule::Part;
 use numbers::limit;
 use octets::classes;
 use octets::classes::ClassTable;
@@ -212,8 +211,7 @@ pub fn put_params(
             return next;
         }
         let start = place + 1;
-        let p = line_parser::rule::read_param(t, s, start);
-        let Part::Upto(end) = p else {
+        let Ok(end) = line_parser::rule::read_param(t, s, start) else {
             return next;
         };
         let name_end = classes::span(t, s, start, classes::NAME);

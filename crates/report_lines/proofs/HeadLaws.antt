@@ -11,13 +11,20 @@ use Rattle.octets.specs.Classes.{named}
 use Rattle.octets.proofs.Bools.{clash}
 use Rattle.line_parser.specs.Parse.{Parse, got, bad}
 use Rattle.line_parser.specs.Rule.{Head, head}
-use Rattle.line_parser.specs.Places.{headed, name_start}
-use Rattle.line_parser.specs.Places.{Part}
-use Rattle.line_parser.specs.Places.{Named}
+use Rattle.std.specs.Prelude.{Result, Ok, Err}
+use Rattle.numbers.specs.Refusals.{number}
+use Rattle.numbers.specs.declared.refusal.Reason.{Reason}
+use Rattle.line_parser.specs.declared.rule.Named.{Named as NamedPart}
+use Rattle.line_parser.specs.Places.{headed, name_start, named as head_told, Part, Named, Fault}
 use Rattle.line_parser.proofs.PartLaws.{Taken, run_le, head_parts}
 use Rattle.property_table.specs.declared.Edition.TheVariants.{First}
 use Rattle.property_table.specs.Rows.{row_of}
 use Rattle.report_lines.specs.Rows.{row_by, row_of_name}
+
+-- a head that was not read names nothing
+pub not_named : (r : Result NamedPart Reason) → ((h : NamedPart) → r ≡ Ok h → ⊥) → (g n : ℕ) → head_told r ≡ Named g n → ⊥
+not_named (Ok h) k g n p = k h refl
+not_named (Err x) k g n p = let z : Fault (number x) ≡ Named g n = p in clash cc
 
 -- a name that ends at n, after a group of g octets
 pub record NameAt (l : List ℕ) (g n : ℕ) : Type 0 where

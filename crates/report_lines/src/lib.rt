@@ -12,7 +12,6 @@ ghost use Rattle.line_folds.specs.Logical.{logical_lines};
 ghost use Rattle.property_table.specs.Rows.{Lists};
 ghost use Rattle.report_lines.specs.Rows.{row_of_name, line_counts};
 
-use line_parser::rule::Part;
 use numbers::{limit, property};
 use octets::classes::ClassTable;
 use property_table::Edition;
@@ -28,16 +27,11 @@ fn row_of(t: &ClassTable, rows: &PropertyTable, s: &[u8]) -> usize
     requires s_len_bound { length s.now ≤ limit.octets }
     ensures { (result ≡ row_of_name s.now) × (result < property.count) }
 {
-    let head = line_parser::rule::read_head(t, s);
-    let Part::Named {
-        group_length,
-        name_end,
-    } = head
-    else {
+    let Ok(head) = line_parser::rule::read_head(t, s) else {
         return property::OTHER;
     };
-    let start = card_line::name_start(group_length);
-    property_table::find_row(rows, Edition::First, &s[start..name_end])
+    let start = card_line::name_start(head.group_length);
+    property_table::find_row(rows, Edition::First, &s[start..head.name_end])
 }
 
 // The same of a line as it came: as it is where it has no fold, else unfolded into the scratch.

@@ -6,8 +6,8 @@ ghost use Rattle.numbers.specs.Counts as places;
 ghost use Rattle.report_weights.specs.Counts.{refusal_at, count_at, counts as all_counts};
 ghost use Rattle.report_weights.specs.Parts.{refused_part, accepted_part, weights};
 
-use numbers::refusal::{Reason, Refusal};
 use numbers::count;
+use numbers::refusal::{Reason, Refusal};
 use reader::Counts;
 use report_lines::LineCounts;
 use std::array::from_fn;
@@ -20,21 +20,21 @@ const REFUSALS: usize = count::PROPERTIES - count::REFUSALS;
 
 // The refusals of a judgement, by number.
 const NUMBERS: [u32; REFUSALS] = [
-    Reason::TooLong,
-    Reason::Empty,
-    Reason::LoneCrOrLf,
-    Reason::NoEnd,
-    Reason::BadOctet,
-    Reason::Value,
-    Reason::Laden,
-    Reason::Order,
-    Reason::Second,
-    Reason::NoFn,
-    Reason::Member,
-    Reason::Name,
-    Reason::Parameter,
-    Reason::Quote,
-    Reason::NoColon,
+    Reason::TooLong as u32,
+    Reason::Empty as u32,
+    Reason::LoneCrOrLf as u32,
+    Reason::NoEnd as u32,
+    Reason::BadOctet as u32,
+    Reason::Value as u32,
+    Reason::Laden as u32,
+    Reason::Order as u32,
+    Reason::Second as u32,
+    Reason::NoFn as u32,
+    Reason::Member as u32,
+    Reason::Name as u32,
+    Reason::Parameter as u32,
+    Reason::Quote as u32,
+    Reason::NoColon as u32,
 ];
 
 // The refusal that is counted at a place.
@@ -108,7 +108,7 @@ pub fn weigh(input: &[u8]) -> Weights
     ensures { result ≡ weights input.now }
 {
     match reader::judge(input) {
-        Err(Refusal(n, _)) => weigh_refused(n),
+        Err(Refusal(reason, _)) => weigh_refused(reason.number()),
         Ok(counts) => {
             let t = octets::classes::table();
             let rows = property_table::table();

@@ -9,7 +9,6 @@ ghost use Rattle.folder_line.specs.Pieces.{folded, Clean};
 ghost use Rattle.version3.specs.Card.{turn_number, turn_of_row, clear, card_text, Formed};
 ghost use Rattle.version3.specs.Places.{Within, Lent, joined_by, AddedBy, PlacedBy, Halfway, SheetBy, ReachedBy, TriedBy, Attempt};
 
-use card_line::LineParts;
 use numbers::refusal::{Reason, Refusal};
 use numbers::{limit, property};
 use octets::classes::ClassTable;
@@ -97,11 +96,11 @@ fn form_line(way: Way, t: &ClassTable, rows: &PropertyTable, s: &[u8], d: &mut [
     ensures { Formed way s.now result d.new }
 {
     match card_line::parts_of(t, rows, Edition::First, s) {
-        LineParts::Fault(e) => Form {
+        Err(_) => Form {
             turn: Turn::Others,
             length: 0,
         },
-        LineParts::Line(x) => {
+        Ok(x) => {
             let n = version3_line::put_line(way, t, s, x, d);
             let length = clear_length(t, &d[..n]);
             Form {

@@ -9,8 +9,8 @@ use Rattle.line_folds.specs.Logical.{raw_lines}
 use Rattle.line_folds.proofs.SpanLaws.{lines_turn, part_length}
 use Rattle.version3_parameters.specs.declared.Way.{Way}
 use Rattle.version3_judge.specs.declared.Set.{Set}
-use Rattle.version3_judge.specs.declared.Flaw.{Flaw}
-use Rattle.version3_judge.specs.declared.Flaw.TheVariants.{Placed, Octet}
+use Rattle.card_state.specs.declared.Flaw.{Flaw}
+use Rattle.card_state.specs.declared.Flaw.TheVariants.{Placed, Octet}
 use Rattle.version3_judge.specs.Judge.{Step, stopped, judge_line, onward, settled, judge_lines}
 
 -- the line from `at` to e is the first of those that are left; it was judged r
@@ -26,5 +26,5 @@ module _ (w : Way) (s : List ℕ) (at e : ℕ) (lt : at < length s) (he : e ≡ 
 
 -- a refusal is handed up with its place, and the lines after it are not judged
 pub stopped_step : (p : ℕ) (l : List ℕ) (f : Set → Step) (k : Flaw) → onward (settled p l (stopped k)) f ≡ settled p l (stopped k)
-stopped_step p l f (Placed r) = refl
+stopped_step p l f (Placed r q) = refl
 stopped_step p l f (Octet n o) = refl

@@ -20,6 +20,8 @@ use Rattle.value_kinds.specs.Kinds.{kind_in}
 use Rattle.value_kinds.specs.declared.Fault.{Fault}
 use Rattle.value_kinds.specs.declared.Fault.TheVariants.{Fits, Breaks}
 use Rattle.card_line.specs.Parts.{row_of_line, kind_of_line}
+use Rattle.card_state.specs.declared.Flaw.{Flaw}
+use Rattle.card_state.specs.declared.Flaw.TheVariants.{Placed, Octet}
 use Rattle.card_judge.specs.Judge.{laden}
 use Rattle.version3_text.specs.Renewed.{semicolons}
 use Rattle.version3_geo.specs.Floats.{old_geo, new_geo}
@@ -29,8 +31,6 @@ use Rattle.version3_parameters.specs.Params.{prefs_fit}
 use Rattle.version3_judge.specs.declared.Set.{Set}
 use Rattle.version3_judge.specs.declared.Phase.{Phase}
 use Rattle.version3_judge.specs.declared.Phase.TheVariants.{BeforeBegin, Inside, Ended}
-use Rattle.version3_judge.specs.declared.Flaw.{Flaw}
-use Rattle.version3_judge.specs.declared.Flaw.TheVariants.{Placed, Octet}
 
 -- the card after a line, or the refusal's number and its place in the input, or its number and the octet of the unfolded line
 pub data Step : Type 0 where
@@ -40,8 +40,8 @@ pub data Step : Type 0 where
 
 -- the same of a refused line
 abbrev pub stopped : Flaw → Step
-stopped (Placed r) = Refused (number r.0) r.1
-stopped (Octet n o) = Flawed n o
+stopped (Placed r p) = Refused (number r) p
+stopped (Octet r o) = Flawed (number r) o
 
 -- and of a line's result
 abbrev pub step : Result Set Flaw → Step

@@ -5,6 +5,7 @@ ghost use Rattle.std.specs.Prelude.{◌≡◌, false, not, ◌&&◌, ◌||◌, e
 ghost use Rattle.numbers.specs.Kinds as kinds;
 ghost use Rattle.numbers.specs.Limits as limit;
 ghost use Rattle.numbers.specs.Properties as property;
+ghost use Rattle.numbers.specs.Refusals.{number};
 ghost use Rattle.octets.specs.Pick.{pick};
 ghost use Rattle.octets.specs.Cases.{same};
 ghost use Rattle.octets.specs.Classes.{Classes};
@@ -20,7 +21,8 @@ ghost use Rattle.version3_parameters.specs.Places.{params_of};
 ghost use Rattle.version3_judge.specs.declared.Phase.TheVariants.{Inside, Ended};
 ghost use Rattle.version3_judge.specs.Judge.{fresh_set, number_of, in_place, common, of_kind, short, fills, goes_over, version_read, whole, frames, goes, good, noted, judge_parts, judge_line, settled, judge_lines, Refused, step, stopped, walked};
 
-use card_line::{LineParts, Parts};
+use card_line::Parts;
+use card_state::Flaw;
 use numbers::refusal::{Reason, Refusal};
 use numbers::{kind, limit, property};
 use octets::cases::same_name;
@@ -49,13 +51,6 @@ pub struct Set {
     pub has_version: bool,
 }
 
-// Why a line is refused: the refusal, with its place in the input, or its number and the octet of the unfolded line.
-#[derive(Clone, Copy, Debug, PartialEq, Eq)]
-enum Flaw {
-    Placed(Refusal),
-    Octet(u32, usize),
-}
-
 // Before the first line.
 fn fresh() -> Set
     ensures { result ≡ fresh_set }
@@ -68,9 +63,9 @@ fn fresh() -> Set
     }
 }
 
-// The number of a line that is not taken in, or not given out.
-fn number_of(way: Way) -> u32
-    ensures { result ≡ number_of way }
+// Why a line is refused that is not taken in, or not given out.
+fn reason_of(way: Way) -> Reason
+    ensures { number result ≡ number_of way }
 {
     match way {
         Way::Inward => Reason::NotTakenIn,
@@ -328,13 +323,13 @@ fn judge_parts(
     ensures { step result ≡ judge_parts way c at x.row x.group_length x.param_count x.kind (params_of s.now) value.now }
 {
     if !in_order(c.phase, x.row) {
-        return Err(Flaw::Placed(Refusal(Reason::Order, at)));
+        return Err(Flaw::Placed(Reason::Order, at));
     }
     if is_laden(x) {
-        return Err(Flaw::Placed(Refusal(Reason::Laden, at)));
+        return Err(Flaw::Placed(Reason::Laden, at));
     }
     if !is_good(way, t, steps, c, s, x, value) {
-        return Err(Flaw::Placed(Refusal(number_of(way), at)));
+        return Err(Flaw::Placed(reason_of(way), at));
     }
     Ok(note(c, x.row))
 }
@@ -358,8 +353,8 @@ fn judge_line(
         return Err(Flaw::Octet(Reason::BadOctet, bad));
     }
     match card_line::parts_of(t, rows, Edition::First, s) {
-        LineParts::Fault(e) => Err(Flaw::Placed(Refusal(e, at))),
-        LineParts::Line(x) => {
+        Err(reason) => Err(Flaw::Placed(reason, at)),
+        Ok(x) => {
             let start = x.value_start;
             judge_parts(way, t, steps, s, &s[start..], x, at, c)
         }
@@ -393,13 +388,13 @@ fn judge_span(
 // The refusal of the line s, which starts at `at` in the input, with the place in the input of an octet that it names.
 fn settle(flaw: Flaw, s: &[u8], at: usize) -> Refusal
     requires { at + length s.now ≤ limit.octets }
-    ensures { Refused result.0 result.1 ≡ settled at s.now (stopped flaw) }
+    ensures { Refused (number result.0) result.1 ≡ settled at s.now (stopped flaw) }
 {
     match flaw {
-        Flaw::Placed(refusal) => refusal,
-        Flaw::Octet(number, octet) => {
+        Flaw::Placed(reason, place) => Refusal(reason, place),
+        Flaw::Octet(reason, octet) => {
             let place = line_folds::places::place_of(s, octet);
-            Refusal(number, at + place)
+            Refusal(reason, at + place)
         }
     }
 }

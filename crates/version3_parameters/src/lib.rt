@@ -12,7 +12,6 @@ ghost use Rattle.card_line.specs.Parts.{Accepted};
 ghost use Rattle.version3_parameters.specs.Params.{changed_all, any_prefers, mark, new_params, params_text, prefs_fit};
 ghost use Rattle.version3_parameters.specs.Places.{Holds, ParamAt, piece, type_by, pref_by, named_by, lawful_by, text_by, prefers_by, params_of, one_written, Puts};
 
-use line_parser::rule::Part;
 use octets::cases::same_name;
 use octets::classes;
 use octets::classes::ClassTable;
@@ -182,8 +181,7 @@ fn put_each(way: Way, t: &ClassTable, s: &[u8], from: usize, d: &mut [u8]) -> Pu
             return Put { length: w, gone };
         }
         let start = at + 1;
-        let p = line_parser::rule::read_param(t, s, start);
-        let Part::Upto(end) = p else {
+        let Ok(end) = line_parser::rule::read_param(t, s, start) else {
             return Put { length: w, gone };
         };
         let put = put_param(way, t, s, start, end, &mut d[w..]);
@@ -267,8 +265,7 @@ pub fn do_prefs_fit(way: Way, t: &ClassTable, s: &[u8], name_end: usize) -> bool
             return n < 2;
         }
         let start = at + 1;
-        let p = line_parser::rule::read_param(t, s, start);
-        let Part::Upto(end) = p else {
+        let Ok(end) = line_parser::rule::read_param(t, s, start) else {
             return n < 2;
         };
         if is_named(t, s, start, end, b"PREF") {

@@ -7,6 +7,7 @@ use native.Mathlib.Omega.{arith}
 use lib.ListN.{length, take, drop}
 use lib.Seq.{take-take}
 use borrow.Author.Tests.{lt-ltb, le-ltb, eq-eqb, ne_eqb}
+use Rattle.numbers.specs.Refusals.{number}
 use Rattle.line_breaks.specs.Lone.{first_lone, ends_cr_lf}
 use Rattle.line_folds.specs.Folds.{line_length}
 use Rattle.line_folds.specs.Logical.{raw_lines}
@@ -116,10 +117,10 @@ module _ (w : Watch) (b i : List ℕ) where
           ap (λ (ls : List (List ℕ)). judge_lines First ls 0 fresh_card) ((open_law i).lines fine pos)
           ∙ judge_append First (ended_lines i) (take (line_length o) o ∷ []) 0 fresh_card
 
-      pub end_faulty : w.known ≡ 1 → Judged w.fault w.place ≡ judge_of i
+      pub end_faulty : w.known ≡ 1 → Judged (number w.fault) w.place ≡ judge_of i
       end_faulty h = by_state s
         where
-          by_state : Stands w b i → Judged w.fault w.place ≡ judge_of i
+          by_state : Stands w b i → Judged (number w.fault) w.place ≡ judge_of i
           by_state (live l) = absurd (omega (arith, h, l.known))
           by_state (broken f) = absurd (omega (arith, h, f.known))
           by_state (over f) = absurd (omega (arith, h, f.known))

@@ -7,6 +7,7 @@ use native.Mathlib.Omega.{arith}
 use lib.Dec.{ltb, leb}
 use lib.ListN.{length, drop, replicate, length-append}
 use borrow.Author.Tests.{lt-ltb, le-leb}
+use Rattle.numbers.specs.declared.refusal.Reason.TheVariants.{TooLong, LoneCrOrLf}
 use Rattle.octets.proofs.Bools.{or_left, or_right}
 use Rattle.property_table.specs.declared.Edition.TheVariants.{First}
 use Rattle.card_state.specs.State.{Card, Step, Next, Refused, Flawed, fresh_card}
@@ -92,7 +93,7 @@ module _ (w : Watch) (b i c : List ℕ) where
 
   -- it gets too long
   pub gets_over : (w.known ≡ 3 → ⊥) → Stands w b i → 16384 < w.start + w.«open» + length c → (b' : List ℕ) → b' ≡ padded []
-      → After (quiet_state 3 1 16384 16384 0) b' (i ++ c)
+      → After (quiet_state 3 TooLong 16384 16384 0) b' (i ++ c)
   gets_over n s h b' z =
       let long : 16384 < length (i ++ c) = omega (arith, all_long, counted w b i n s) in
       record {
@@ -102,7 +103,7 @@ module _ (w : Watch) (b i c : List ℕ) where
 
   -- a lone CR or LF was known
   pub stays_broken : w.known ≡ 2 → Stands w b i → b ≡ buffer_after i → (n : ℕ) → n ≡ w.start + w.«open» + length c → n ≤ 16384
-      → After (quiet_state 2 3 w.place n 0) b (i ++ c)
+      → After (quiet_state 2 LoneCrOrLf w.place n 0) b (i ++ c)
   stays_broken h (live l) e n size low = absurd (omega (arith, h, l.known))
   stays_broken h (faulty f) e n size low = absurd (omega (arith, h, f.known))
   stays_broken h (over f) e n size low = absurd (omega (arith, h, f.known))
@@ -128,7 +129,7 @@ module _ (w : Watch) (b i c : List ℕ) where
   -- one gets known
   pub gets_broken : (w.known ≡ 3 → ⊥) → (w.known ≡ 2 → ⊥) → Stands w b i → (n place : ℕ) → n ≡ w.start + w.«open» + length c → n ≤ 16384
       → lone_from w.tail c ≤ length c → place + 1 ≡ w.start + w.«open» + lone_from w.tail c → (b' : List ℕ) → b' ≡ padded []
-      → After (quiet_state 2 3 place n 0) b' (i ++ c)
+      → After (quiet_state 2 LoneCrOrLf place n 0) b' (i ++ c)
   gets_broken h g s n place size low lone at b' z =
       let k = whole h g s in
       let count = counted w b i h s in

@@ -6,6 +6,8 @@ use native.Mathlib.Omega.{arith}
 use lib.ListN.{length, take, drop, replicate, length-drop, length-append, take-append-drop}
 use lib.Seq.{length-take-le, take-append-le, take-take}
 use borrow.Author.Tests.{eq-eqb, ne_eqb, lt-ltb, le-ltb, le-leb, lt-leb}
+use Rattle.numbers.specs.Refusals.{number}
+use Rattle.numbers.specs.declared.refusal.Reason.{Reason}
 use Rattle.octets.specs.Room.{overlay}
 use Rattle.property_table.specs.declared.Edition.TheVariants.{First}
 use Rattle.card_state.specs.State.{Card, Step, Next}
@@ -25,26 +27,26 @@ use Rattle.watch_lines.specs.Values.{values_from, buffers_from}
 use Rattle.watch_lines.specs.Taking.{kept, judgement, joined_line, Within, Went}
 use Rattle.watch_lines.proofs.RunLaws.{open_law}
 use Rattle.watch.specs.State.{quiet_state, open_state, stopped_state, claims, Sound}
-use Rattle.watch.specs.Outcome.{view_of, quiet_view, open_view, Came, came, count, cleared, new_lines, after_lines, lines_came, octets_came, chunk_came, begun, Comes, last_line, end_came}
+use Rattle.watch.specs.Outcome.{told, view_of, quiet_view, open_view, Came, came, count, cleared, new_lines, after_lines, lines_came, octets_came, chunk_came, begun, Comes, last_line, end_came}
 use Rattle.watch.specs.declared.Watch.{Watch}
 
 abbrev Stopped : KeptStep → Type 0
 Stopped j = (d : Kept) → j ≡ next d → ⊥
 
 -- a state that claims nothing, as it is read
-quiet_view_lem : (known fault place n tail : ℕ) (b : List ℕ) → view_of (quiet_state known fault place n tail) b ≡ quiet_view known fault place n tail
+quiet_view_lem : (known : ℕ) (fault : Reason) (place n tail : ℕ) (b : List ℕ) → view_of (quiet_state known fault place n tail) b ≡ quiet_view known (told known fault) place n tail
 unfolding view_of card_of places_of tag_at
 quiet_view_lem known fault place n tail b = refl
 
 -- and it can be worked with
-pub quiet_sound : (known fault place n tail : ℕ) → n ≤ 16384 → tail ≤ n → ((known ≡ 1 → ⊥) → tail ≤ 0) → Sound (quiet_state known fault place n tail)
+pub quiet_sound : (known : ℕ) (fault : Reason) (place n tail : ℕ) → n ≤ 16384 → tail ≤ n → ((known ≡ 1 → ⊥) → tail ≤ 0) → Sound (quiet_state known fault place n tail)
 quiet_sound known fault place n tail h g l = record {
   counts = record { short = omega (arith, h); tail = omega (arith, g); line = l };
   card = record { lies = none_lie; used = omega arith; cards = omega arith; lines = omega arith };
 }
 
-pub quiet_comes : (known fault place n tail : ℕ) (r : Watch) (b : List ℕ) (o : Came) → Sound (quiet_state known fault place n tail) → r ≡ quiet_state known fault place n tail
-    → o ≡ came (quiet_view known fault place n tail) b → Comes r b o
+pub quiet_comes : (known : ℕ) (fault : Reason) (place n tail : ℕ) (r : Watch) (b : List ℕ) (o : Came) → Sound (quiet_state known fault place n tail) → r ≡ quiet_state known fault place n tail
+    → o ≡ came (quiet_view known (told known fault) place n tail) b → Comes r b o
 quiet_comes known fault place n tail r b o s e f = record {
   sound = subst Sound (sym e) s;
   view = ap (λ (w : Watch). view_of w b) e ∙ quiet_view_lem known fault place n tail b ∙ sym (ap (λ (x : Came). x.view) f);
@@ -110,7 +112,7 @@ module _ (w : Watch) (b c : List ℕ) (k : ℕ) (k-is : k ≡ next_from w.tail c
         ∙ ap (λ (y : ℕ). after_lines x y t a d l) (sym n-is)
         ∙ ap (λ (y : ℕ). after_lines x n y a d l) (sym tail_is)
 
-    stopped_sound : (m p : ℕ) → Sound (quiet_state 1 m p n tail)
+    stopped_sound : (m : Reason) (p : ℕ) → Sound (quiet_state 1 m p n tail)
     stopped_sound m p = quiet_sound 1 m p n tail (omega (arith, n-is, room)) (omega (arith, n-is, tail_is, tail_short w.tail c, low-tail)) (λ e. absurd (e refl))
 
     stopped_comes : (r : KeptStep) → Stopped r → (a d : List ℕ) → lines_came w b c k ≡ after_lines (step_of d r) n tail a d (open_line (drop k c)) → Comes (stopped_state r n tail) d (lines_came w b c k)
@@ -207,7 +209,7 @@ module _ (w : Watch) (b c : List ℕ) where
     chunk_breaks l = rw (ne_eqb w.known 3 o, le-ltb 16384 (count w + length c) g, ne_eqb w.known 2 p, le-leb (lone_from w.tail c) (length c) l)
 
     pub chunk_faulty : length c < lone_from w.tail c → w.known ≡ 1
-        → chunk_came w b c ≡ came (quiet_view 1 w.fault w.place (count w + length c) (tail_from w.tail c)) b
+        → chunk_came w b c ≡ came (quiet_view 1 (number w.fault) w.place (count w + length c) (tail_from w.tail c)) b
     unfolding chunk_came
     chunk_faulty l e = rw (ne_eqb w.known 3 o, le-ltb 16384 (count w + length c) g, ne_eqb w.known 2 p, lt-leb (lone_from w.tail c) (length c) l, eq-eqb w.known 1 e)
 
@@ -226,8 +228,8 @@ broken_same w b c k e d f =
     ∙ ap (λ (m : ℕ). came (quiet_view 2 3 (count w + m - 1) (count w + length c) 0) d) (sym e)
 
 pub faulty_same : (w : Watch) (b c : List ℕ) (t : ℕ) → t ≡ tail_from w.tail c
-    → came (quiet_view 1 w.fault w.place (count w + length c) (tail_from w.tail c)) b ≡ came (quiet_view 1 w.fault w.place (count w + length c) t) b
-faulty_same w b c t e = ap (λ (m : ℕ). came (quiet_view 1 w.fault w.place (count w + length c) m) b) (sym e)
+    → came (quiet_view 1 (number w.fault) w.place (count w + length c) (tail_from w.tail c)) b ≡ came (quiet_view 1 (number w.fault) w.place (count w + length c) t) b
+faulty_same w b c t e = ap (λ (m : ℕ). came (quiet_view 1 (number w.fault) w.place (count w + length c) m) b) (sym e)
 
 -- the buffer before the first octet, and after it
 pub begun_first : (w : Watch) (b d : List ℕ) → count w ≡ 0 → d ≡ patch b 0 (replicate (16384 - 0) 0) → d ≡ begun w b
@@ -265,7 +267,7 @@ module _ (w : Watch) (b : List ℕ) where
           end_is_open h = rw (ne_eqb w.known 3 o, ne_eqb (count w) 0 z, ne_eqb w.known 2 p, ne_eqb w.tail 1 q, ne_eqb w.tail 2 h)
 
           module _ (t : w.tail ≡ 2) where
-            pub end_is_faulty : w.known ≡ 1 → Judged w.fault w.place ≡ end_came w b
+            pub end_is_faulty : w.known ≡ 1 → Judged (number w.fault) w.place ≡ end_came w b
             unfolding end_came
             end_is_faulty h = rw (ne_eqb w.known 3 o, ne_eqb (count w) 0 z, ne_eqb w.known 2 p, ne_eqb w.tail 1 q, eq-eqb w.tail 2 t, eq-eqb w.known 1 h)
 

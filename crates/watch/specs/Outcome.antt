@@ -2,6 +2,8 @@
 use Rattle.std.specs.Prelude.{ℕ, ◌+◌, ◌-◌, ◌<◌, ◌≤◌, ◌≡◌, List, ◌∷◌, ◌++◌, eqb, ltb, leb, length, take, drop, replicate}
 use Rattle.numbers.specs.Limits as limit
 use Rattle.numbers.specs.Refusals as refusal
+use Rattle.numbers.specs.Refusals.{number}
+use Rattle.numbers.specs.declared.refusal.Reason.{Reason}
 use Rattle.octets.specs.Pick.{pick}
 use Rattle.property_table.specs.declared.Edition.TheVariants.{First}
 use Rattle.card_state.specs.State.{Card, Step, Next, Refused as Halted, Flawed, fresh_card}
@@ -31,10 +33,14 @@ pub record View : Type 0 where
   pub used : ℕ
   pub card : Card
 
+-- the number of a fault that is known, else 0
+abbrev pub told : ℕ → Reason → ℕ
+told known r = pick (eqb known is_none) 0 (number r)
+
 unfoldable pub view_of : Watch → List ℕ → View
 view_of w b = record {
   known = w.known;
-  fault = w.fault;
+  fault = told w.known w.fault;
   place = w.place;
   start = w.start;
   «open» = w.«open»;
@@ -99,7 +105,7 @@ chunk_came w b c =
     (pick (eqb w.known is_break) (came (quiet_view is_break refusal.lone_cr_or_lf w.place (count w + length c) after_other) b)
     (pick (leb (lone_from w.tail c) (length c))
     (came (quiet_view is_break refusal.lone_cr_or_lf (count w + lone_from w.tail c - 1) (count w + length c) after_other) (cleared w b))
-    (pick (eqb w.known is_line) (came (quiet_view is_line w.fault w.place (count w + length c) (tail_from w.tail c)) b)
+    (pick (eqb w.known is_line) (came (quiet_view is_line (number w.fault) w.place (count w + length c) (tail_from w.tail c)) b)
     (octets_came w b c)))))
 
 -- before the first octet the buffer may hold anything, and is cleared
@@ -124,7 +130,7 @@ end_came w b =
     (pick (eqb w.known is_break) (Judged refusal.lone_cr_or_lf w.place)
     (pick (eqb w.tail after_cr) (Judged refusal.lone_cr_or_lf (count w - 1))
     (pick (eqb w.tail after_cr_lf)
-    (pick (eqb w.known is_line) (Judged w.fault w.place)
+    (pick (eqb w.known is_line) (Judged (number w.fault) w.place)
     (verdict_of (count w) (settled w.start (last_line w b) (judgement w.card b (last_line w b) w.start))))
     (Judged refusal.no_end (count w))))))
 

@@ -1,6 +1,9 @@
 -- The state of a watch: what it is after some octets. Assumes nothing.
 use Rattle.std.specs.Prelude.{ℕ, ◌+◌, ◌<◌, ◌≤◌, ◌≡◌, true, List, length}
 use Rattle.numbers.specs.Limits as limit
+use Rattle.numbers.specs.Refusals.{number}
+use Rattle.numbers.specs.declared.refusal.Reason.{Reason}
+use Rattle.numbers.specs.declared.refusal.Reason.TheVariants.{Order}
 use Rattle.card_state.specs.State.{Step, Next}
 use Rattle.card_state.specs.Kept.{fresh_kept, card_of}
 use Rattle.card_state.specs.declared.Card.{Card as Kept}
@@ -28,20 +31,24 @@ is_break = 2
 abbrev pub is_over : ℕ
 is_over = 3
 
+-- the reason of a state with no fault known
+abbrev pub no_reason : Reason
+no_reason = Order
+
 -- a state that claims nothing of the buffer, after n octets
-abbrev pub quiet_state : ℕ → ℕ → ℕ → ℕ → ℕ → Watch
+abbrev pub quiet_state : ℕ → Reason → ℕ → ℕ → ℕ → Watch
 quiet_state known fault place n tail = record { known = known; fault = fault; place = place; start = n; «open» = 0; tail = tail; card = fresh_kept }
 
 abbrev pub fresh_watch : Watch
-fresh_watch = quiet_state is_none 0 0 0 after_other
+fresh_watch = quiet_state is_none no_reason 0 0 after_other
 
 -- a state with no fault known
 abbrev pub open_state : ℕ → ℕ → ℕ → Kept → Watch
-open_state start left tail card = record { known = is_none; fault = 0; place = 0; start = start; «open» = left; tail = tail; card = card }
+open_state start left tail card = record { known = is_none; fault = no_reason; place = 0; start = start; «open» = left; tail = tail; card = card }
 
 -- the state after a line that was refused
 abbrev pub stopped_state : KeptStep → ℕ → ℕ → Watch
-stopped_state (next_kept c) n tail = quiet_state is_none 0 0 n tail
+stopped_state (next_kept c) n tail = quiet_state is_none no_reason 0 n tail
 stopped_state (refused_kept k p) n tail = quiet_state is_line k p n tail
 stopped_state (flawed_kept k o) n tail = quiet_state is_line k o n tail
 
@@ -87,7 +94,7 @@ pub record Faulty (w : Watch) (i : List ℕ) : Type 0 where
   pub known : w.known ≡ is_line
   pub short : length i ≤ limit.octets
   pub fine : lone_from after_other i ≡ length i + 1
-  pub fault : Halts (judged i) w.fault w.place
+  pub fault : Halts (judged i) (number w.fault) w.place
   pub quiet : Quiet w (length i)
   pub tail : w.tail ≡ tail_from after_other i
 

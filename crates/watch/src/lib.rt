@@ -3,7 +3,7 @@
 
 ghost use Rattle.std.specs.Prelude.{◌≡◌, true, List, ◌++◌, ℕ, ◌+◌, ◌-◌, ◌<◌, ◌≤◌, ltb, length, take, drop};
 ghost use Rattle.numbers.specs.Limits as limit;
-ghost use Rattle.numbers.specs.Refusals as refusal;
+ghost use Rattle.numbers.specs.declared.refusal.Reason.TheVariants.{TooLong};
 ghost use Rattle.card_state.specs.Kept.{places_of, end_of, Inside, step_of};
 ghost use Rattle.desk_pool.specs.Pools.{patch};
 ghost use Rattle.value_automaton.specs.States.{Scanner};
@@ -16,9 +16,9 @@ ghost use Rattle.watch.specs.State.{is_over, quiet_state, open_state, stopped_st
 ghost use Rattle.watch.specs.Outcome.{Comes, lines_came, octets_came, chunk_came, end_came, ChunkOf, EndOf};
 
 use card_state::tags::Tags;
-use card_state::{Card, Step};
-use numbers::refusal::{Reason, Refusal};
+use card_state::{Card, Flaw, Step};
 use numbers::limit;
+use numbers::refusal::{Reason, Refusal};
 use reader::Verdict;
 use watch_arrivals::{AFTER_CR, AFTER_CR_LF, AFTER_OTHER};
 
@@ -32,12 +32,15 @@ pub const LONE_BREAK: u32 = 2;
 
 pub const TOO_LONG: u32 = 3;
 
+// The reason of a state with no fault known.
+const NO_REASON: Reason = Reason::Order;
+
 // What is kept between two chunks, beside the buffer.
 #[derive(Clone, Copy)]
 pub struct Watch {
-    // Which fault is known: NO_FAULT, LINE_FAULT, LONE_BREAK or TOO_LONG; and its number and place.
+    // Which fault is known: NO_FAULT, LINE_FAULT, LONE_BREAK or TOO_LONG; and its reason and place, which count only where one is known.
     pub known: u32,
-    pub fault: u32,
+    pub fault: Reason,
     pub place: usize,
     // Where the line that has not ended starts in the input, and its octets so far; all octets once a fault is known.
     pub start: usize,
@@ -56,7 +59,7 @@ pub enum Arrived {
 }
 
 // The state once a fault is known, after n octets.
-fn faulty(known: u32, fault: u32, place: usize, n: usize, tail: u32) -> Watch
+fn faulty(known: u32, fault: Reason, place: usize, n: usize, tail: u32) -> Watch
     ensures { result ≡ quiet_state known fault place n tail }
 {
     let card = card_state::fresh();
@@ -73,7 +76,7 @@ fn faulty(known: u32, fault: u32, place: usize, n: usize, tail: u32) -> Watch
 
 // The state once the input is too long.
 fn too_long() -> Watch
-    ensures { result ≡ quiet_state is_over refusal.too_long limit.octets limit.octets after_other }
+    ensures { result ≡ quiet_state is_over TooLong limit.octets limit.octets after_other }
 {
     faulty(
         TOO_LONG,
@@ -89,9 +92,9 @@ fn stopped(step: Step, n: usize, tail: u32) -> Watch
     ensures { result ≡ stopped_state step n tail }
 {
     match step {
-        Step::Next(c) => faulty(NO_FAULT, 0, 0, n, tail),
-        Step::Refused(k, p) => faulty(LINE_FAULT, k, p, n, tail),
-        Step::Flawed(k, o) => faulty(LINE_FAULT, k, o, n, tail),
+        Ok(_) => faulty(NO_FAULT, NO_REASON, 0, n, tail),
+        Err(Flaw::Placed(reason, place)) => faulty(LINE_FAULT, reason, place, n, tail),
+        Err(Flaw::Octet(reason, octet)) => faulty(LINE_FAULT, reason, octet, n, tail),
     }
 }
 
@@ -202,7 +205,7 @@ fn go_on(w: Watch, buffer: &mut [u8], chunk: &[u8], tail: u32) -> Watch
     watch_buffer::append(buffer, used + w.open, chunk);
     Watch {
         known: NO_FAULT,
-        fault: 0,
+        fault: NO_REASON,
         place: 0,
         start: w.start,
         open: w.open + chunk.len(),
@@ -237,13 +240,13 @@ fn take_lines_with(
     let l = watch_lines::judge_chunk(&t, &rows, steps, buffer, w.open, chunk, next, w.start, c);
     let at = l.at;
     let last = l.step;
-    let Step::Next(card) = last else {
+    let Ok(card) = last else {
         return stopped(last, n, tail);
     };
     watch_buffer::append(buffer, card.used, &chunk[at..]);
     Watch {
         known: NO_FAULT,
-        fault: 0,
+        fault: NO_REASON,
         place: 0,
         start: base + at,
         open: chunk.len() - at,
@@ -373,7 +376,7 @@ impl Watch {
     pub fn new() -> Watch
         ensures { result ≡ fresh_watch }
     {
-        faulty(NO_FAULT, 0, 0, 0, AFTER_OTHER)
+        faulty(NO_FAULT, NO_REASON, 0, 0, AFTER_OTHER)
     }
 
     // Takes a chunk: the next state, or 45, then 46.
@@ -381,11 +384,11 @@ impl Watch {
         ensures { ChunkOf self buffer.old chunk.now result buffer.new }
     {
         if buffer.len() != limit::OCTETS {
-            return Arrived::Refused(Reason::BufferLength, 0);
+            return Arrived::Refused(Reason::BufferLength.number(), 0);
         }
         let over = is_over(self);
         if over {
-            return Arrived::Refused(Reason::Claim, 0);
+            return Arrived::Refused(Reason::Claim.number(), 0);
         }
         let sound = is_sound(self);
         if !sound {

@@ -7,6 +7,7 @@ use native.Mathlib.Omega.{arith}
 use lib.Dec.{eqb, ltb}
 use lib.ListN.{length, take, drop, replicate, length-drop, length-append, length-replicate}
 use lib.Seq.{length-take-le, take_at, take-take, take-length, drop-drop}
+use Rattle.numbers.specs.Refusals.{number}
 use Rattle.octets.specs.Classes.{run}
 use Rattle.octets.specs.Pick.{pick}
 use Rattle.octets.specs.Room.{overlay}
@@ -60,7 +61,7 @@ never : (j : KeptStep) → Stopped j → (at : ℕ) (s b : List ℕ) (r : KeptSt
 unfolding step_of
 never (next c) h at s b r e d q = absurd (h c refl)
 never (refused n p) h at s b r e d q =
-    let z : Next (card_of d b) ≡ Refused n p = sym (ap (step_of b) q) ∙ e in
+    let z : Next (card_of d b) ≡ Refused (number n) p = sym (ap (step_of b) q) ∙ e in
     let y : ◌≡◌ {A = ℕ} 0 1 = cc in absurd (omega arith)
 never (flawed n o) h at s b r e d q =
     let z = sym (ap (step_of b) q) ∙ e in

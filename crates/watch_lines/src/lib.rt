@@ -86,7 +86,7 @@ fn take_line(
     ensures { Took c (pick first line.now other.now) buffer.old buffer.new at to result }
 {
     let j = judge_either(t, rows, steps, first, line, other, folded, buffer, at, c);
-    let Step::Next(next) = j else {
+    let Ok(next) = j else {
         watch_buffer::clear(buffer, 0, to);
         return settle_either(j, first, line, other, at);
     };
@@ -129,7 +129,7 @@ fn judge_lines(
         let j = take_line(
             t, rows, steps, first, line, other, folded, buffer, to, place, card,
         );
-        let Step::Next(after) = j else {
+        let Ok(after) = j else {
             return Walked { step: j, at: next };
         };
         let span = line_folds::spans::line_at(chunk, next);

@@ -5,4 +5,4 @@ use Rattle.cabbook_morning.proofs.TurnLaws.{taken}
 use Rattle.cabbook_morning.proofs.read_chunk.Goals as goal
 
 pub returns : goal.returns
-returns c = taken c.fetch_argument.result c.args.size c.least-n.result c.args.room.now _ _ c.fetch_argument.ensures (omega arith) (omega arith) (search rules)
+returns c = taken c.fetch_argument.result c.args.size c.min-n.result c.args.room.now _ _ c.fetch_argument.ensures (omega arith) (omega arith) (search rules)

@@ -6,6 +6,3 @@ use Rattle.cabbook_morning.proofs.run_round.Given as goal
 
 abbrev pub invariant-loop-k : goal.invariant-loop-k
 invariant-loop-k l = length l.pool ≡ length l.initial.pool
-
-abbrev pub decreases-loop-k : goal.decreases-loop-k
-decreases-loop-k l = 40 - l.k

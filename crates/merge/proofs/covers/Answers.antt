@@ -1,7 +1,5 @@
 -- `merge::covers` meets its contract. Assumes nothing.
-use borrow.Author.Tests.{not-true, not-false}
 use mathlib.Core.Path.{refl, sym, ◌∙◌}
-use native.Mathlib.Omega.{arith}
 use Rattle.merge_sides.proofs.Walks.{left, over}
 use Rattle.merge.specs.Plans.{covers_from}
 use Rattle.merge.proofs.covers.Goals as goal

@@ -1,5 +1,4 @@
 -- `merge::enter_plan` meets its contract. Assumes nothing.
-use borrow.Author.Tests.{not-true, not-false}
 use mathlib.Core.Path.{refl, sym, ap, ◌∙◌}
 use Prim.Native.Nat.{ℕ}
 use native.Mathlib.Omega.{arith}
@@ -16,7 +15,7 @@ pub returns-then-plan-at-lt-PAIR : goal.returns-then-plan-at-lt-PAIR
 returns-then-plan-at-lt-PAIR c =
     let a = c.args in
     let l = c.loop-at in
-    sym (ap first_of (l.invariant ∙ enter_odd a.ca.now a.ra.now a.na a.cb.now a.rb.now a.nb a.plan.now l.at l.p l.t c.loop-at-test.true c.if-plan-at-lt-PAIR.true))
+    sym (ap first_of (l.invariant ∙ enter_odd a.x.now.copy.now a.x.now.records.now a.x.now.lines a.y.now.copy.now a.y.now.records.now a.y.now.lines a.plan.now l.at l.p l.t c.loop-at-test.true c.if-plan-at-lt-PAIR.true))
 
 pub bounds-plan-at-in-loop-at : goal.bounds-plan-at-in-loop-at
 bounds-plan-at-in-loop-at c = omega (arith, c.if-plan-at-lt-PAIR.false)
@@ -25,9 +24,9 @@ pub returns-then-not-enter_step : goal.returns-then-not-enter_step
 returns-then-not-enter_step c =
     let a = c.args in
     let l = c.loop-at in
-    let step = enter_step a.ca.now a.ra.now a.na a.cb.now a.rb.now a.nb l.p l.t in
+    let step = enter_step a.x.now.copy.now a.x.now.records.now a.x.now.lines a.y.now.copy.now a.y.now.records.now a.y.now.lines l.p l.t in
     let e = c.enter_step.ensures ∙ ap (λ (i : ℕ). step i c.wide_number-j.result) c.wide_number-i.ensures.0 ∙ ap (step (get_or a.plan.now l.at 0)) c.wide_number-j.ensures.0 in
-    sym (ap first_of (l.invariant ∙ enter_off a.ca.now a.ra.now a.na a.cb.now a.rb.now a.nb a.plan.now l.at l.p l.t _ _ _ e (omega (arith, c.if-plan-at-lt-PAIR.false)) c.if-not-enter_step.true))
+    sym (ap first_of (l.invariant ∙ enter_off a.x.now.copy.now a.x.now.records.now a.x.now.lines a.y.now.copy.now a.y.now.records.now a.y.now.lines a.plan.now l.at l.p l.t _ _ _ e (omega (arith, c.if-plan-at-lt-PAIR.false)) c.if-not-enter_step.true))
 
 pub loop-at-smaller : goal.loop-at-smaller
 loop-at-smaller c = omega (arith, c.if-plan-at-lt-PAIR.false)
@@ -36,12 +35,12 @@ pub loop-at-preserved : goal.loop-at-preserved
 loop-at-preserved c =
     let a = c.args in
     let l = c.loop-at in
-    let step = enter_step a.ca.now a.ra.now a.na a.cb.now a.rb.now a.nb l.p l.t in
+    let step = enter_step a.x.now.copy.now a.x.now.records.now a.x.now.lines a.y.now.copy.now a.y.now.records.now a.y.now.lines l.p l.t in
     let e = c.enter_step.ensures ∙ ap (λ (i : ℕ). step i c.wide_number-j.result) c.wide_number-i.ensures.0 ∙ ap (step (get_or a.plan.now l.at 0)) c.wide_number-j.ensures.0 in
-    l.invariant ∙ enter_on a.ca.now a.ra.now a.na a.cb.now a.rb.now a.nb a.plan.now l.at l.p l.t _ _ _ e (omega (arith, c.if-plan-at-lt-PAIR.false)) c.if-not-enter_step.false
+    l.invariant ∙ enter_on a.x.now.copy.now a.x.now.records.now a.x.now.lines a.y.now.copy.now a.y.now.records.now a.y.now.lines a.plan.now l.at l.p l.t _ _ _ e (omega (arith, c.if-plan-at-lt-PAIR.false)) c.if-not-enter_step.false
 
 pub returns : goal.returns
 returns c =
     let a = c.args in
     let l = c.loop-at in
-    sym (ap first_of (l.invariant ∙ enter_end a.ca.now a.ra.now a.na a.cb.now a.rb.now a.nb a.plan.now l.at l.p l.t c.loop-at-test.false))
+    sym (ap first_of (l.invariant ∙ enter_end a.x.now.copy.now a.x.now.records.now a.x.now.lines a.y.now.copy.now a.y.now.records.now a.y.now.lines a.plan.now l.at l.p l.t c.loop-at-test.false))

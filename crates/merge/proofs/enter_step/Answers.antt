@@ -1,5 +1,4 @@
 -- `merge::enter_step` meets its contract. Assumes nothing.
-use borrow.Author.Tests.{not-true, not-false}
 use mathlib.Core.Path.{sym, ◌∙◌}
 use Rattle.merge.specs.Plans.{enter_step}
 use Rattle.merge.proofs.enter_step.Goals as goal

@@ -8,26 +8,26 @@ use lib.ListN.{length, replicate}
 use Rattle.std.proofs.lemmas.Result.{err_from_is_err_and}
 use Rattle.merge_partners.specs.Pairs.{pairs_from}
 use Rattle.merge.specs.Paired.{Pairs}
-use Rattle.merge.specs.Sides.{Side, side, read_of, Settled, settled}
+use Rattle.merge.specs.Sides.{read_of, Settled}
 use Rattle.merge.specs.Outcome.{planned, write_of}
 use Rattle.merge.proofs.SettleLaws.{pair_count}
 use Rattle.merge.proofs.WriteLaws.{flatten_length, pairs_few}
 use Rattle.merge.proofs.OutcomeLaws.{plan_first, plan_second, plan_both}
 use Rattle.merge.proofs.plan_rows.Goals as goal
 
-pub returns-in_err-x : goal.returns-in_err-x
+pub returns-in_err-x_counts : goal.returns-in_err-x_counts
 unfolding read_of
-returns-in_err-x c =
+returns-in_err-x_counts c =
     let a = c.args in
     let p = err_from_is_err_and c.from_residual.result c.from_residual.ensures.1 in
-    rw (p.1, p.2) (sym (plan_first a.first.now a.second.now a.a a.b _ _ _ c.in_err-x.ensures a.out.now _ _ refl))
+    rw (p.1, p.2) (sym (plan_first a.first.now a.second.now a.a a.b _ _ _ c.in_err-x_counts.ensures a.out.now _ _ refl))
 
-pub returns-in_err-y : goal.returns-in_err-y
+pub returns-in_err-y_counts : goal.returns-in_err-y_counts
 unfolding read_of
-returns-in_err-y c =
+returns-in_err-y_counts c =
     let a = c.args in
-    let p = err_from_is_err_and c.from_residual-in_err-y.result c.from_residual-in_err-y.ensures.1 in
-    rw (p.1, p.2) (sym (plan_second a.first.now a.second.now a.a a.b _ _ _ c.in_ok-x.ensures _ _ refl _ _ _ c.in_err-y.ensures a.out.now _ _ refl))
+    let p = err_from_is_err_and c.from_residual-in_err-y_counts.result c.from_residual-in_err-y_counts.ensures.1 in
+    rw (p.1, p.2) (sym (plan_second a.first.now a.second.now a.a a.b _ _ _ c.in_ok-x_counts.ensures _ _ refl _ _ _ c.in_err-y_counts.ensures a.out.now _ _ refl))
 
 pub returns-in_err-n : goal.returns-in_err-n
 unfolding read_of
@@ -35,7 +35,7 @@ returns-in_err-n c =
     let a = c.args in
     let p = err_from_is_err_and c.from_residual-in_err-n.result c.from_residual-in_err-n.ensures.1 in
     rw (p.1, p.2)
-    (sym (plan_both a.first.now a.second.now a.a a.b _ _ _ c.in_ok-x.ensures _ _ refl _ _ _ c.in_ok-y.ensures _ _ refl a.out.now
+    (sym (plan_both a.first.now a.second.now a.a a.b _ _ _ c.in_ok-x_counts.ensures _ _ refl _ _ _ c.in_ok-y_counts.ensures _ _ refl a.out.now
     ∙ ap (λ (z : Settled). write_of z a.out.now) (sym c.in_err-n.ensures)))
 
 pub overflow_mul-n : goal.overflow_mul-n
@@ -56,7 +56,7 @@ pub returns-then-out-n : goal.returns-then-out-n
 unfolding read_of
 returns-then-out-n c =
     let a = c.args in
-    sym (plan_both a.first.now a.second.now a.a a.b _ _ _ c.in_ok-x.ensures _ _ refl _ _ _ c.in_ok-y.ensures _ _ refl a.out.now
+    sym (plan_both a.first.now a.second.now a.a a.b _ _ _ c.in_ok-x_counts.ensures _ _ refl _ _ _ c.in_ok-y_counts.ensures _ _ refl a.out.now
     ∙ ap (λ (z : Settled). write_of z a.out.now) (sym c.in_ok-n.ensures)
     ∙ rw (lt-ltb (length a.out.now) (c.in_ok-n.n * 2) c.if-out-n.true))
 
@@ -72,6 +72,6 @@ unfolding read_of
 returns c =
     let a = c.args in
     ap (λ (o : List ℕ). planned (Pairs c.in_ok-n.n) o) c.put_pairs.ensures
-    ∙ sym (plan_both a.first.now a.second.now a.a a.b _ _ _ c.in_ok-x.ensures _ _ refl _ _ _ c.in_ok-y.ensures _ _ refl a.out.now
+    ∙ sym (plan_both a.first.now a.second.now a.a a.b _ _ _ c.in_ok-x_counts.ensures _ _ refl _ _ _ c.in_ok-y_counts.ensures _ _ refl a.out.now
     ∙ ap (λ (z : Settled). write_of z a.out.now) (sym c.in_ok-n.ensures)
     ∙ rw (le-ltb (length a.out.now) (c.in_ok-n.n * 2) c.if-out-n.false))

@@ -1,5 +1,4 @@
 -- `merge::settle` meets its contract. Assumes nothing.
-use borrow.Author.Tests.{not-true, not-false}
 use mathlib.Core.Path.{◌≡◌, sym, ap, ◌∙◌}
 use mathlib.Core.Bool.{Bool}
 use Prim.Native.Nat.{ℕ}
@@ -17,8 +16,8 @@ pub returns-then-is_over : goal.returns-then-is_over
 unfolding marks_of row_in
 returns-then-is_over c =
     let a = c.args in
-    let x : Side = (side a.ca.now a.ra.now a.x.cards a.x.lines) in
-    let y : Side = (side a.cb.now a.rb.now a.y.cards a.y.lines) in
+    let x : Side = (side a.x.now.copy.now a.x.now.records.now a.x_cards a.x.now.lines) in
+    let y : Side = (side a.y.now.copy.now a.y.now.records.now a.y_cards a.y.now.lines) in
     let ma : Marked = marked c.put_marks-ea.result c.put_marks-ea.new.out in
     let oa : c.is_over.result ≡ is_over x a.a = c.is_over.ensures ∙ over_by x a.a c.own_row-own_a.result ma c.own_row-own_a.ensures c.put_marks-ea.ensures in
     sym (first_over x y a.a a.b a.p.now (sym oa ∙ c.if-is_over.true))
@@ -27,8 +26,8 @@ pub returns-then-is_over-2 : goal.returns-then-is_over-2
 unfolding marks_of row_in
 returns-then-is_over-2 c =
     let a = c.args in
-    let x : Side = (side a.ca.now a.ra.now a.x.cards a.x.lines) in
-    let y : Side = (side a.cb.now a.rb.now a.y.cards a.y.lines) in
+    let x : Side = (side a.x.now.copy.now a.x.now.records.now a.x_cards a.x.now.lines) in
+    let y : Side = (side a.y.now.copy.now a.y.now.records.now a.y_cards a.y.now.lines) in
     let ma : Marked = marked c.put_marks-ea.result c.put_marks-ea.new.out in
     let oa : c.is_over.result ≡ is_over x a.a = c.is_over.ensures ∙ over_by x a.a c.own_row-own_a.result ma c.own_row-own_a.ensures c.put_marks-ea.ensures in
     let mb : Marked = marked c.put_marks-eb.result c.put_marks-eb.new.out in
@@ -39,8 +38,8 @@ pub returns-then-not-same_row : goal.returns-then-not-same_row
 unfolding marks_of row_in
 returns-then-not-same_row c =
     let a = c.args in
-    let x : Side = (side a.ca.now a.ra.now a.x.cards a.x.lines) in
-    let y : Side = (side a.cb.now a.rb.now a.y.cards a.y.lines) in
+    let x : Side = (side a.x.now.copy.now a.x.now.records.now a.x_cards a.x.now.lines) in
+    let y : Side = (side a.y.now.copy.now a.y.now.records.now a.y_cards a.y.now.lines) in
     let ma : Marked = marked c.put_marks-ea.result c.put_marks-ea.new.out in
     let oa : c.is_over.result ≡ is_over x a.a = c.is_over.ensures ∙ over_by x a.a c.own_row-own_a.result ma c.own_row-own_a.ensures c.put_marks-ea.ensures in
     let mb : Marked = marked c.put_marks-eb.result c.put_marks-eb.new.out in
@@ -52,8 +51,8 @@ pub returns-then-not-same_row-2 : goal.returns-then-not-same_row-2
 unfolding marks_of row_in
 returns-then-not-same_row-2 c =
     let a = c.args in
-    let x : Side = (side a.ca.now a.ra.now a.x.cards a.x.lines) in
-    let y : Side = (side a.cb.now a.rb.now a.y.cards a.y.lines) in
+    let x : Side = (side a.x.now.copy.now a.x.now.records.now a.x_cards a.x.now.lines) in
+    let y : Side = (side a.y.now.copy.now a.y.now.records.now a.y_cards a.y.now.lines) in
     let ma : Marked = marked c.put_marks-ea.result c.put_marks-ea.new.out in
     let oa : c.is_over.result ≡ is_over x a.a = c.is_over.ensures ∙ over_by x a.a c.own_row-own_a.result ma c.own_row-own_a.ensures c.put_marks-ea.ensures in
     let mb : Marked = marked c.put_marks-eb.result c.put_marks-eb.new.out in
@@ -66,8 +65,8 @@ pub returns-then-not-same_uids : goal.returns-then-not-same_uids
 unfolding marks_of row_in
 returns-then-not-same_uids c =
     let a = c.args in
-    let x : Side = (side a.ca.now a.ra.now a.x.cards a.x.lines) in
-    let y : Side = (side a.cb.now a.rb.now a.y.cards a.y.lines) in
+    let x : Side = (side a.x.now.copy.now a.x.now.records.now a.x_cards a.x.now.lines) in
+    let y : Side = (side a.y.now.copy.now a.y.now.records.now a.y_cards a.y.now.lines) in
     let ma : Marked = marked c.put_marks-ea.result c.put_marks-ea.new.out in
     let oa : c.is_over.result ≡ is_over x a.a = c.is_over.ensures ∙ over_by x a.a c.own_row-own_a.result ma c.own_row-own_a.ensures c.put_marks-ea.ensures in
     let mb : Marked = marked c.put_marks-eb.result c.put_marks-eb.new.out in
@@ -86,8 +85,8 @@ pub returns-then-not-join_all : goal.returns-then-not-join_all
 unfolding marks_of row_in
 returns-then-not-join_all c =
     let a = c.args in
-    let x : Side = (side a.ca.now a.ra.now a.x.cards a.x.lines) in
-    let y : Side = (side a.cb.now a.rb.now a.y.cards a.y.lines) in
+    let x : Side = (side a.x.now.copy.now a.x.now.records.now a.x_cards a.x.now.lines) in
+    let y : Side = (side a.y.now.copy.now a.y.now.records.now a.y_cards a.y.now.lines) in
     let ma : Marked = marked c.put_marks-ea.result c.put_marks-ea.new.out in
     let oa : c.is_over.result ≡ is_over x a.a = c.is_over.ensures ∙ over_by x a.a c.own_row-own_a.result ma c.own_row-own_a.ensures c.put_marks-ea.ensures in
     let mb : Marked = marked c.put_marks-eb.result c.put_marks-eb.new.out in
@@ -102,8 +101,8 @@ pub returns : goal.returns
 unfolding marks_of row_in
 returns c =
     let a = c.args in
-    let x : Side = (side a.ca.now a.ra.now a.x.cards a.x.lines) in
-    let y : Side = (side a.cb.now a.rb.now a.y.cards a.y.lines) in
+    let x : Side = (side a.x.now.copy.now a.x.now.records.now a.x_cards a.x.now.lines) in
+    let y : Side = (side a.y.now.copy.now a.y.now.records.now a.y_cards a.y.now.lines) in
     let ma : Marked = marked c.put_marks-ea.result c.put_marks-ea.new.out in
     let oa : c.is_over.result ≡ is_over x a.a = c.is_over.ensures ∙ over_by x a.a c.own_row-own_a.result ma c.own_row-own_a.ensures c.put_marks-ea.ensures in
     let mb : Marked = marked c.put_marks-eb.result c.put_marks-eb.new.out in

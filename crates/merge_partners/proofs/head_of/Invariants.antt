@@ -6,4 +6,4 @@ use Rattle.merge_partners.specs.Heads.{head_from}
 use Rattle.merge_partners.proofs.head_of.Given as goal
 
 abbrev pub invariant-loop-i : goal.invariant-loop-i
-invariant-loop-i l = head_from l.ca l.ra l.c l.rs l.j 0 (length l.digests) ≡ head_from l.ca l.ra l.c l.rs l.j l.i (length l.digests - l.i)
+invariant-loop-i l = head_from l.x.copy.now l.x.records.now l.y.copy.now l.y.records.now l.j 0 (length l.digests) ≡ head_from l.x.copy.now l.x.records.now l.y.copy.now l.y.records.now l.j l.i (length l.digests - l.i)

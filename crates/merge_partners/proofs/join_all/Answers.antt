@@ -1,5 +1,4 @@
 -- `merge_partners::join_all` meets its contract. Assumes nothing.
-use borrow.Author.Tests.{not-true, not-false}
 use mathlib.Core.Path.{◌≡◌, sym, ap, ◌∙◌}
 use mathlib.Core.Bool.{true}
 use Prim.Native.Nat.{ℕ}
@@ -26,27 +25,12 @@ put_tags-requires c =
     let n = c.least-n.result in
     let k : length c.put_keys.new.keys ≡ 4096 = c.put_keys.auto.keys ∙ length-replicate {A = ℕ} 4096 0 in
     let e : length (take n c.put_keys.new.keys) ≡ n = length-take n c.put_keys.new.keys ∙ omega (arith, k, c.least-n.ensures.upper_bound.1) in
-    record { digests = digested c.args.ca.now c.args.ra.now c.put_digests.new.digests c.count_looked-looked.result c.put_digests.ensures c.count_looked-looked.ensures; keys_len_bound = omega (arith, e, c.least-n.ensures.upper_bound.1) }
+    record { digests = digested c.args.x.now.copy.now c.args.x.now.records.now c.put_digests.new.digests c.count_looked-looked.result c.put_digests.ensures c.count_looked-looked.ensures; keys_len_bound = omega (arith, e, c.least-n.ensures.upper_bound.1) }
 
 pub slice_bounds-join_marks-end : goal.slice_bounds-join_marks-end
 slice_bounds-join_marks-end c =
     let k : length c.put_digests.new.digests ≡ 4096 = c.put_digests.auto.digests ∙ length-replicate {A = ℕ} 4096 0 in
     simp length-take (omega (arith, k, c.count_looked-looked.ensures))
-
-pub slice_bounds-join_marks-end-2 : goal.slice_bounds-join_marks-end-2
-slice_bounds-join_marks-end-2 c =
-    let k : length c.put_keys.new.keys ≡ 4096 = c.put_keys.auto.keys ∙ length-replicate {A = ℕ} 4096 0 in
-    simp length-take (omega (arith, k, c.least-n.ensures.upper_bound.1))
-
-pub slice_bounds-join_marks-end-3 : goal.slice_bounds-join_marks-end-3
-slice_bounds-join_marks-end-3 c =
-    let k : length c.put_tags.new.tags ≡ 4096 = c.put_tags.auto.tags ∙ length-replicate {A = ℕ} 4096 0 in
-    simp length-take (omega (arith, k, c.least-n.ensures.upper_bound.1))
-
-pub slice_bounds-join_marks-end-4 : goal.slice_bounds-join_marks-end-4
-slice_bounds-join_marks-end-4 c =
-    let k : length c.put_seats.new.seats ≡ 4096 = c.put_seats.auto.seats ∙ length-replicate {A = ℕ} 4096 0 in
-    simp length-take (omega (arith, k, c.least-n.ensures.upper_bound.1))
 
 pub join_marks-requires : goal.join_marks-requires
 join_marks-requires c =
@@ -54,18 +38,18 @@ join_marks-requires c =
     let n = c.least-n.result in
     let k : length c.put_keys.new.keys ≡ 4096 = c.put_keys.auto.keys ∙ length-replicate {A = ℕ} 4096 0 in
     let e : length (take n c.put_keys.new.keys) ≡ n = length-take n c.put_keys.new.keys ∙ omega (arith, k, c.least-n.ensures.upper_bound.1) in
-    record { digests = digested a.ca.now a.ra.now c.put_digests.new.digests c.count_looked-looked.result c.put_digests.ensures c.count_looked-looked.ensures; tagged = tagged a.ca.now a.ra.now (length (take c.count_looked-looked.result c.put_digests.new.digests)) a.cb.now a.rb.now a.seconds.now (take n c.put_keys.new.keys) c.put_tags.new.tags c.put_seats.new.seats n e c.least-n.ensures.upper_bound.1 c.put_tags.ensures c.put_seats.ensures }
+    record { digests = digested a.x.now.copy.now a.x.now.records.now c.put_digests.new.digests c.count_looked-looked.result c.put_digests.ensures c.count_looked-looked.ensures; tagged = tagged a.x.now.copy.now a.x.now.records.now (length (take c.count_looked-looked.result c.put_digests.new.digests)) a.y.now.copy.now a.y.now.records.now a.seconds.now (take n c.put_keys.new.keys) c.put_tags.new.tags c.put_seats.new.seats n e c.least-n.ensures.upper_bound.1 c.put_tags.ensures c.put_seats.ensures }
 
 pub returns-then-not-join_marks : goal.returns-then-not-join_marks
 returns-then-not-join_marks c =
     let a = c.args in
     let s : Joined = joined true a.p.now (replicate 4096 0) in
-    let d = demanded_by a.ca.now a.ra.now a.na a.firsts.now a.ka a.a a.cb.now a.rb.now a.nb a.seconds.now a.kb a.b c.classes_of-in_a.result c.classes_of-in_b.result c.put_keys.new.keys c.least-n.result c.classes_of-in_a.ensures c.classes_of-in_b.ensures c.put_keys.ensures c.least-n.ensures.value in
+    let d = demanded_by a.x.now.copy.now a.x.now.records.now a.x.now.lines a.firsts.now a.ka a.a a.y.now.copy.now a.y.now.records.now a.y.now.lines a.seconds.now a.kb a.b c.classes_of-in_a.result c.classes_of-in_b.result c.put_keys.new.keys c.least-n.result c.classes_of-in_a.ensures c.classes_of-in_b.ensures c.put_keys.ensures c.least-n.ensures.value in
     sym (ap first_of (ap (join_all s) d ∙ join_off s _ _ _ _ c.join_marks.ensures _ c.if-not-join_marks.true))
 
 pub returns : goal.returns
 returns c =
     let a = c.args in
     let s : Joined = joined true a.p.now (replicate 4096 0) in
-    let d = demanded_by a.ca.now a.ra.now a.na a.firsts.now a.ka a.a a.cb.now a.rb.now a.nb a.seconds.now a.kb a.b c.classes_of-in_a.result c.classes_of-in_b.result c.put_keys.new.keys c.least-n.result c.classes_of-in_a.ensures c.classes_of-in_b.ensures c.put_keys.ensures c.least-n.ensures.value in
+    let d = demanded_by a.x.now.copy.now a.x.now.records.now a.x.now.lines a.firsts.now a.ka a.a a.y.now.copy.now a.y.now.records.now a.y.now.lines a.seconds.now a.kb a.b c.classes_of-in_a.result c.classes_of-in_b.result c.put_keys.new.keys c.least-n.result c.classes_of-in_a.ensures c.classes_of-in_b.ensures c.put_keys.ensures c.least-n.ensures.value in
     ap first_of (c.join_singles.ensures ∙ sym (ap (join_all s) d ∙ join_on s _ _ _ _ c.join_marks.ensures _ c.if-not-join_marks.false))

@@ -21,8 +21,8 @@ unfolding mark_pairs
 returns-then-count_new-eq0 c =
     let a = c.args in
     let s = c.requires in
-    let e : count_new a.tags.now a.seats.now a.tag (partner_of a.p.now a.i) 0 (length a.keys.now) ≡ 0 = ap (λ (m : ℕ). count_new a.tags.now a.seats.now a.tag m 0 (length a.keys.now)) (sym c.partner_of-partner.ensures) ∙ ap (count_new a.tags.now a.seats.now a.tag c.partner_of-partner.result 0) (sym s.0) ∙ sym c.count_new.ensures ∙ c.if-count_new-eq0.true in
-    rw (ne_eqb a.key 4294967295 c.if-key-eq-NO_KEY.false) (sym (none_at_all a.ca.now a.ra.now a.i a.key a.tag a.cb.now a.rb.now a.marks.now a.keys.now a.tags.now a.seats.now s a.p.now a.t.now (length a.keys.now) 0 (omega arith) e))
+    let e : count_new a.m.now.tags.now a.m.now.seats.now a.tag (partner_of a.p.now a.i) 0 (length a.m.now.keys.now) ≡ 0 = ap (λ (m : ℕ). count_new a.m.now.tags.now a.m.now.seats.now a.tag m 0 (length a.m.now.keys.now)) (sym c.partner_of-partner.ensures) ∙ ap (count_new a.m.now.tags.now a.m.now.seats.now a.tag c.partner_of-partner.result 0) (sym s.0) ∙ sym c.count_new.ensures ∙ c.if-count_new-eq0.true in
+    rw (ne_eqb a.key 4294967295 c.if-key-eq-NO_KEY.false) (sym (none_at_all a.x.now.copy.now a.x.now.records.now a.i a.key a.tag a.y.now.copy.now a.y.now.records.now a.m.now.numbers.now a.m.now.keys.now a.m.now.tags.now a.m.now.seats.now s a.p.now a.t.now (length a.m.now.keys.now) 0 (omega arith) e))
 
 pub join_hits-requires : goal.join_hits-requires
 join_hits-requires c = c.requires

@@ -1,5 +1,4 @@
 -- `merge_partners::join_singles` meets its contract. Assumes nothing.
-use borrow.Author.Tests.{not-true, not-false}
 use mathlib.Core.Path.{refl, sym, ap, ◌∙◌}
 use mathlib.Core.Bool.{true}
 use native.Mathlib.Omega.{arith}
@@ -18,17 +17,17 @@ pub returns-then-not-join_row : goal.returns-then-not-join_row
 returns-then-not-join_row c =
     let a = c.args in
     let l = c.loop-row in
-    sym (l.invariant ∙ ap (join_all (joined true l.p l.t)) (singles_turn a.ra.now a.na a.rb.now a.nb 39 l.row c.loop-row-test.true) ∙ join_off (joined true l.p l.t) _ _ _ _ c.join_row.ensures _ c.if-not-join_row.true)
+    sym (l.invariant ∙ ap (join_all (joined true l.p l.t)) (singles_turn a.x.now.records.now a.x.now.lines a.y.now.records.now a.y.now.lines 39 l.row c.loop-row-test.true) ∙ join_off (joined true l.p l.t) _ _ _ _ c.join_row.ensures _ c.if-not-join_row.true)
 
 pub loop-row-preserved : goal.loop-row-preserved
 loop-row-preserved c =
     let a = c.args in
     let l = c.loop-row in
-    (l.invariant ∙ ap (join_all (joined true l.p l.t)) (singles_turn a.ra.now a.na a.rb.now a.nb 39 l.row c.loop-row-test.true) ∙ join_on (joined true l.p l.t) _ _ _ _ c.join_row.ensures _ c.if-not-join_row.false)
+    (l.invariant ∙ ap (join_all (joined true l.p l.t)) (singles_turn a.x.now.records.now a.x.now.lines a.y.now.records.now a.y.now.lines 39 l.row c.loop-row-test.true) ∙ join_on (joined true l.p l.t) _ _ _ _ c.join_row.ensures _ c.if-not-join_row.false)
 
 pub returns : goal.returns
 unfolding join_all
 returns c =
     let a = c.args in
     let l = c.loop-row in
-    sym (l.invariant ∙ rw (singles_over a.ra.now a.na a.rb.now a.nb 39 l.row c.loop-row-test.false))
+    sym (l.invariant ∙ rw (singles_over a.x.now.records.now a.x.now.lines a.y.now.records.now a.y.now.lines 39 l.row c.loop-row-test.false))

@@ -4,7 +4,7 @@ use Prim.Native.Nat.{ℕ, suc, ◌-◌, ◌+◌}
 use native.Mathlib.Omega.{arith}
 use lib.ListN.{length, drop, length-drop}
 use Rattle.line_parser.specs.Rule.{param}
-use Rattle.line_parser.proofs.Steps.{place_upto, place_fault, past}
+use Rattle.line_parser.proofs.Steps.{ok_upto, place_fault, not_upto, past}
 use Rattle.merge_pids.specs.Marks.{Marked, marked, put_all, params_marks}
 use Rattle.merge_pids.proofs.ParamLaws.{params_none, params_bad, params_on}
 use Rattle.merge_pids.proofs.put_params.Goals as goal
@@ -19,8 +19,8 @@ pub returns-then-s-place-ne59 : goal.returns-then-s-place-ne59
 unfolding put_all
 returns-then-s-place-ne59 c = sym (c.loop-place.invariant.3 ∙ rw (params_none c.args.line c.args.s.now c.loop-place.place c.loop-place.invariant.0 c.if-s-place-ne59.true))
 
-pub read_param-p-requires : goal.read_param-p-requires
-read_param-p-requires c = record { classes = c.requires; at_in_bounds = omega (arith, c.loop-place-test.true) }
+pub read_param-requires : goal.read_param-requires
+read_param-requires c = record { classes = c.requires; at_in_bounds = omega (arith, c.loop-place-test.true) }
 
 pub shape_of-out-in_default : goal.shape_of-out-in_default
 shape_of-out-in_default c = c.loop-place.invariant.2
@@ -28,7 +28,7 @@ shape_of-out-in_default c = c.loop-place.invariant.2
 pub returns-in_default : goal.returns-in_default
 unfolding put_all
 returns-in_default c =
-    place_fault (c.loop-place.place + 1) (param (drop (c.loop-place.place + 1) c.args.s.now)) c.read_param-p.ensures c.in_default.not-Upto (λ x q.
+    place_fault (c.loop-place.place + 1) (param (drop (c.loop-place.place + 1) c.args.s.now)) c.read_param.ensures (not_upto c.read_param.result c.in_default.not-Ok) (λ x q.
     sym (c.loop-place.invariant.3 ∙ rw (params_bad c.args.line c.args.s.now c.loop-place.place c.loop-place.invariant.0 x c.if-s-place-ne59.false q)))
 
 pub span-name_end-requires : goal.span-name_end-requires
@@ -38,13 +38,13 @@ pub put_named-next-requires : goal.put_named-next-requires
 put_named-next-requires c = record { classes = c.requires; start_le_name_end = (omega (arith, c.span-name_end.ensures.value), c.span-name_end.ensures.upper_bound) }
 
 pub loop-place-smaller : goal.loop-place-smaller
-loop-place-smaller c = place_upto (c.loop-place.place + 1) (param (drop (c.loop-place.place + 1) c.args.s.now)) c.read_param-p.ensures c.in-Upto.is (λ p k q h. omega (arith, h, c.loop-place-test.true))
+loop-place-smaller c = ok_upto (c.loop-place.place + 1) (param (drop (c.loop-place.place + 1) c.args.s.now)) c.read_param.ensures c.in-Ok.is (λ p k q h. omega (arith, h, c.loop-place-test.true))
 
 pub loop-place-preserved : goal.loop-place-preserved
 loop-place-preserved c =
     let l = c.loop-place in
     let s = c.args.s.now in
-    place_upto (l.place + 1) (param (drop (l.place + 1) s)) c.read_param-p.ensures c.in-Upto.is (λ p k q h. (
+    ok_upto (l.place + 1) (param (drop (l.place + 1) s)) c.read_param.ensures c.in-Ok.is (λ p k q h. (
       l.invariant.0 - 1,
       omega (arith, h, l.invariant.1, c.loop-place-test.true),
       c.put_named-next.auto.out ∙ l.invariant.2,

@@ -21,7 +21,7 @@ is_good-requires c = record { classes = c.requires.classes; accepted = c.require
 
 -- src/lib.rt:369:9
 pub returns-then-not-is_good : goal.returns-then-not-is_good
-returns-then-not-is_good c = ap (λ (n : ℕ). Refused n c.args.at) c.number_of.ensures ∙ parts_not c.args.way c.args.c c.args.x.row c.args.x.kind (params_of c.args.s.now) c.args.value.now c.args.at c.args.x.group_length c.args.x.param_count (sym c.in_order.ensures ∙ not-false _ c.if-not-in_order.false-raw) (sym c.is_laden.ensures ∙ c.if-is_laden.false) (sym c.is_good.ensures ∙ not-true _ c.if-not-is_good.true-raw)
+returns-then-not-is_good c = ap (λ (n : ℕ). Refused n c.args.at) c.reason_of.ensures ∙ parts_not c.args.way c.args.c c.args.x.row c.args.x.kind (params_of c.args.s.now) c.args.value.now c.args.at c.args.x.group_length c.args.x.param_count (sym c.in_order.ensures ∙ not-false _ c.if-not-in_order.false-raw) (sym c.is_laden.ensures ∙ c.if-is_laden.false) (sym c.is_good.ensures ∙ not-true _ c.if-not-is_good.true-raw)
 
 -- src/lib.rt:348:1
 pub returns : goal.returns

@@ -6,7 +6,8 @@ use lib.ListN.{drop}
 use borrow.Author.Tests.{not-true, not-false}
 use Rattle.octets.specs.Ascii.{octets}
 use Rattle.line_parser.specs.Rule.{param}
-use Rattle.line_parser.proofs.Steps.{place_fault}
+use Rattle.line_parser.specs.Places.{upto}
+use Rattle.line_parser.proofs.Steps.{place_fault, not_upto}
 use Rattle.line_parser.proofs.ParseLaws.{bad_got}
 use Rattle.version3_parameters.specs.Places.{named_by, lawful_by, params_of}
 use Rattle.version3_parameters.proofs.RestLaws.{Rest, rest_start, rest_inside, rest_none, rest_next, next_upto, next_at}
@@ -31,15 +32,15 @@ pub returns-in_default : goal.returns-in_default
 returns-in_default c =
     let l = c.loop-at in
     let n = rest_next l.invariant.1 l.invariant.2 c.if-s-at-ne59.false in
-    place_fault (l.at + 1) (param (drop (l.at + 1) c.args.s.now)) c.read_param-p.ensures c.in_default.not-Upto (λ x q. absurd (bad_got (sym q ∙ n.read)))
+    place_fault (l.at + 1) (param (drop (l.at + 1) c.args.s.now)) c.read_param.ensures (not_upto c.read_param.result c.in_default.not-Ok) (λ x q. absurd (bad_got (sym q ∙ n.read)))
 
 -- src/lib.rt:289:12
 pub is_named-requires : goal.is_named-requires
-is_named-requires c = record { classes = c.requires.classes; param_at = (next_at (rest_next c.loop-at.invariant.1 c.loop-at.invariant.2 c.if-s-at-ne59.false) _ (next_upto (rest_next c.loop-at.invariant.1 c.loop-at.invariant.2 c.if-s-at-ne59.false) c.read_param-p.ensures c.in-Upto.is), omega (arith, next_upto (rest_next c.loop-at.invariant.1 c.loop-at.invariant.2 c.if-s-at-ne59.false) c.read_param-p.ensures c.in-Upto.is, (rest_next c.loop-at.invariant.1 c.loop-at.invariant.2 c.if-s-at-ne59.false).inside)) }
+is_named-requires c = record { classes = c.requires.classes; param_at = (next_at (rest_next c.loop-at.invariant.1 c.loop-at.invariant.2 c.if-s-at-ne59.false) _ (next_upto (rest_next c.loop-at.invariant.1 c.loop-at.invariant.2 c.if-s-at-ne59.false) c.read_param.ensures (ap upto c.in-Ok.is)), omega (arith, next_upto (rest_next c.loop-at.invariant.1 c.loop-at.invariant.2 c.if-s-at-ne59.false) c.read_param.ensures (ap upto c.in-Ok.is), (rest_next c.loop-at.invariant.1 c.loop-at.invariant.2 c.if-s-at-ne59.false).inside)) }
 
 -- src/lib.rt:290:17
 pub is_lawful-requires : goal.is_lawful-requires
-is_lawful-requires c = record { classes = c.requires.classes; param_at = (next_at (rest_next c.loop-at.invariant.1 c.loop-at.invariant.2 c.if-s-at-ne59.false) _ (next_upto (rest_next c.loop-at.invariant.1 c.loop-at.invariant.2 c.if-s-at-ne59.false) c.read_param-p.ensures c.in-Upto.is), omega (arith, next_upto (rest_next c.loop-at.invariant.1 c.loop-at.invariant.2 c.if-s-at-ne59.false) c.read_param-p.ensures c.in-Upto.is, (rest_next c.loop-at.invariant.1 c.loop-at.invariant.2 c.if-s-at-ne59.false).inside)) }
+is_lawful-requires c = record { classes = c.requires.classes; param_at = (next_at (rest_next c.loop-at.invariant.1 c.loop-at.invariant.2 c.if-s-at-ne59.false) _ (next_upto (rest_next c.loop-at.invariant.1 c.loop-at.invariant.2 c.if-s-at-ne59.false) c.read_param.ensures (ap upto c.in-Ok.is)), omega (arith, next_upto (rest_next c.loop-at.invariant.1 c.loop-at.invariant.2 c.if-s-at-ne59.false) c.read_param.ensures (ap upto c.in-Ok.is), (rest_next c.loop-at.invariant.1 c.loop-at.invariant.2 c.if-s-at-ne59.false).inside)) }
 
 -- src/lib.rt:291:17
 pub returns-then-not-is_lawful : goal.returns-then-not-is_lawful
@@ -54,25 +55,25 @@ overflow_add-n c = omega (arith, c.loop-at.invariant.0, (rest_next c.loop-at.inv
 
 -- src/lib.rt:280:5
 pub loop-at-smaller-then-is_named : goal.loop-at-smaller-then-is_named
-loop-at-smaller-then-is_named c = omega (arith, next_upto (rest_next c.loop-at.invariant.1 c.loop-at.invariant.2 c.if-s-at-ne59.false) c.read_param-p.ensures c.in-Upto.is, (rest_next c.loop-at.invariant.1 c.loop-at.invariant.2 c.if-s-at-ne59.false).inside, c.loop-at-test.true)
+loop-at-smaller-then-is_named c = omega (arith, next_upto (rest_next c.loop-at.invariant.1 c.loop-at.invariant.2 c.if-s-at-ne59.false) c.read_param.ensures (ap upto c.in-Ok.is), (rest_next c.loop-at.invariant.1 c.loop-at.invariant.2 c.if-s-at-ne59.false).inside, c.loop-at-test.true)
 
 -- src/lib.rt:280:5
 pub loop-at-preserved-then-is_named : goal.loop-at-preserved-then-is_named
 unfolding octets
 loop-at-preserved-then-is_named c =
     let n = rest_next c.loop-at.invariant.1 c.loop-at.invariant.2 c.if-s-at-ne59.false in
-    (omega (arith, next_upto (rest_next c.loop-at.invariant.1 c.loop-at.invariant.2 c.if-s-at-ne59.false) c.read_param-p.ensures c.in-Upto.is, c.loop-at.invariant.0), n.others, subst (λ (j : ℕ). Rest c.args.s.now j n.others) (sym (next_upto (rest_next c.loop-at.invariant.1 c.loop-at.invariant.2 c.if-s-at-ne59.false) c.read_param-p.ensures c.in-Upto.is)) n.left, rw n.all at c.loop-at.invariant.3 ∙ fit_yes c.args.way c.loop-at.n n.first n.others (sym (ap (named_by _) n.read) ∙ sym c.is_named.ensures ∙ c.if-is_named.true) (sym (ap (lawful_by c.args.way) n.read) ∙ sym c.is_lawful.ensures ∙ not-false _ c.if-not-is_lawful.false-raw))
+    (omega (arith, next_upto (rest_next c.loop-at.invariant.1 c.loop-at.invariant.2 c.if-s-at-ne59.false) c.read_param.ensures (ap upto c.in-Ok.is), c.loop-at.invariant.0), n.others, subst (λ (j : ℕ). Rest c.args.s.now j n.others) (sym (next_upto (rest_next c.loop-at.invariant.1 c.loop-at.invariant.2 c.if-s-at-ne59.false) c.read_param.ensures (ap upto c.in-Ok.is))) n.left, rw n.all at c.loop-at.invariant.3 ∙ fit_yes c.args.way c.loop-at.n n.first n.others (sym (ap (named_by _) n.read) ∙ sym c.is_named.ensures ∙ c.if-is_named.true) (sym (ap (lawful_by c.args.way) n.read) ∙ sym c.is_lawful.ensures ∙ not-false _ c.if-not-is_lawful.false-raw))
 
 -- src/lib.rt:280:5
 pub loop-at-smaller : goal.loop-at-smaller
-loop-at-smaller c = omega (arith, next_upto (rest_next c.loop-at.invariant.1 c.loop-at.invariant.2 c.if-s-at-ne59.false) c.read_param-p.ensures c.in-Upto.is, (rest_next c.loop-at.invariant.1 c.loop-at.invariant.2 c.if-s-at-ne59.false).inside, c.loop-at-test.true)
+loop-at-smaller c = omega (arith, next_upto (rest_next c.loop-at.invariant.1 c.loop-at.invariant.2 c.if-s-at-ne59.false) c.read_param.ensures (ap upto c.in-Ok.is), (rest_next c.loop-at.invariant.1 c.loop-at.invariant.2 c.if-s-at-ne59.false).inside, c.loop-at-test.true)
 
 -- src/lib.rt:280:5
 pub loop-at-preserved : goal.loop-at-preserved
 unfolding octets
 loop-at-preserved c =
     let n = rest_next c.loop-at.invariant.1 c.loop-at.invariant.2 c.if-s-at-ne59.false in
-    (omega (arith, next_upto (rest_next c.loop-at.invariant.1 c.loop-at.invariant.2 c.if-s-at-ne59.false) c.read_param-p.ensures c.in-Upto.is, c.loop-at.invariant.0), n.others, subst (λ (j : ℕ). Rest c.args.s.now j n.others) (sym (next_upto (rest_next c.loop-at.invariant.1 c.loop-at.invariant.2 c.if-s-at-ne59.false) c.read_param-p.ensures c.in-Upto.is)) n.left, rw n.all at c.loop-at.invariant.3 ∙ fit_other c.args.way c.loop-at.n n.first n.others (sym (ap (named_by _) n.read) ∙ sym c.is_named.ensures ∙ c.if-is_named.false))
+    (omega (arith, next_upto (rest_next c.loop-at.invariant.1 c.loop-at.invariant.2 c.if-s-at-ne59.false) c.read_param.ensures (ap upto c.in-Ok.is), c.loop-at.invariant.0), n.others, subst (λ (j : ℕ). Rest c.args.s.now j n.others) (sym (next_upto (rest_next c.loop-at.invariant.1 c.loop-at.invariant.2 c.if-s-at-ne59.false) c.read_param.ensures (ap upto c.in-Ok.is))) n.left, rw n.all at c.loop-at.invariant.3 ∙ fit_other c.args.way c.loop-at.n n.first n.others (sym (ap (named_by _) n.read) ∙ sym c.is_named.ensures ∙ c.if-is_named.false))
 
 -- src/lib.rt:273:1
 pub returns : goal.returns

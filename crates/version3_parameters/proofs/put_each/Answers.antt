@@ -11,7 +11,8 @@ use Rattle.line_unfolding.proofs.PutLaws.{put_part}
 use Rattle.line_parser.specs.Parse.{Parse}
 use Rattle.line_parser.specs.Grammar.{Param}
 use Rattle.line_parser.specs.Rule.{param}
-use Rattle.line_parser.proofs.Steps.{place_fault}
+use Rattle.line_parser.specs.Places.{upto}
+use Rattle.line_parser.proofs.Steps.{place_fault, not_upto}
 use Rattle.line_parser.proofs.ParseLaws.{bad_got}
 use Rattle.version3_parameters.specs.Params.{changed, changed_all, any_prefers, params_text}
 use Rattle.version3_parameters.specs.Places.{text_by, params_of}
@@ -55,7 +56,7 @@ pub returns-in_default : goal.returns-in_default
 returns-in_default c =
     let l = c.loop-at in
     let n = rest_next l.invariant.0 l.invariant.1 c.if-s-at-ne59.false in
-    place_fault (l.at + 1) (param (drop (l.at + 1) c.args.s.now)) c.read_param-p.ensures c.in_default.not-Upto (λ x q. absurd (bad_got (sym q ∙ n.read)))
+    place_fault (l.at + 1) (param (drop (l.at + 1) c.args.s.now)) c.read_param.ensures (not_upto c.read_param.result c.in_default.not-Ok) (λ x q. absurd (bad_got (sym q ∙ n.read)))
 
 -- src/lib.rt:197:52
 pub slice_bounds-put_param-count : goal.slice_bounds-put_param-count
@@ -67,7 +68,7 @@ slice_bounds-put_param-start c = omega (arith, fits c.args.way c.loop-at.invaria
 
 -- src/lib.rt:197:13
 pub put_param-put-requires : goal.put_param-put-requires
-put_param-put-requires c = record { classes = c.requires.classes; param_at = (next_at (rest_next c.loop-at.invariant.0 c.loop-at.invariant.1 c.if-s-at-ne59.false) _ (next_upto (rest_next c.loop-at.invariant.0 c.loop-at.invariant.1 c.if-s-at-ne59.false) c.read_param-p.ensures c.in-Upto.is), omega (arith, next_upto (rest_next c.loop-at.invariant.0 c.loop-at.invariant.1 c.if-s-at-ne59.false) c.read_param-p.ensures c.in-Upto.is, (rest_next c.loop-at.invariant.0 c.loop-at.invariant.1 c.if-s-at-ne59.false).inside)); s_in_bounds = simp (length-take, length-drop) (rw (rest_next c.loop-at.invariant.0 c.loop-at.invariant.1 c.if-s-at-ne59.false).read (omega (arith, fits c.args.way c.loop-at.invariant.0 (rest_next c.loop-at.invariant.0 c.loop-at.invariant.1 c.if-s-at-ne59.false) c.loop-at.invariant.2 c.requires.s_in_bounds))) }
+put_param-put-requires c = record { classes = c.requires.classes; param_at = (next_at (rest_next c.loop-at.invariant.0 c.loop-at.invariant.1 c.if-s-at-ne59.false) _ (next_upto (rest_next c.loop-at.invariant.0 c.loop-at.invariant.1 c.if-s-at-ne59.false) c.read_param.ensures (ap upto c.in-Ok.is)), omega (arith, next_upto (rest_next c.loop-at.invariant.0 c.loop-at.invariant.1 c.if-s-at-ne59.false) c.read_param.ensures (ap upto c.in-Ok.is), (rest_next c.loop-at.invariant.0 c.loop-at.invariant.1 c.if-s-at-ne59.false).inside)); s_in_bounds = simp (length-take, length-drop) (rw (rest_next c.loop-at.invariant.0 c.loop-at.invariant.1 c.if-s-at-ne59.false).read (omega (arith, fits c.args.way c.loop-at.invariant.0 (rest_next c.loop-at.invariant.0 c.loop-at.invariant.1 c.if-s-at-ne59.false) c.loop-at.invariant.2 c.requires.s_in_bounds))) }
 
 -- src/lib.rt:198:9
 pub overflow_add-w : goal.overflow_add-w
@@ -75,7 +76,7 @@ overflow_add-w c = omega (arith, fits c.args.way c.loop-at.invariant.0 (rest_nex
 
 -- src/lib.rt:188:5
 pub loop-at-smaller : goal.loop-at-smaller
-loop-at-smaller c = omega (arith, next_upto (rest_next c.loop-at.invariant.0 c.loop-at.invariant.1 c.if-s-at-ne59.false) c.read_param-p.ensures c.in-Upto.is, (rest_next c.loop-at.invariant.0 c.loop-at.invariant.1 c.if-s-at-ne59.false).inside, c.loop-at-test.true)
+loop-at-smaller c = omega (arith, next_upto (rest_next c.loop-at.invariant.0 c.loop-at.invariant.1 c.if-s-at-ne59.false) c.read_param.ensures (ap upto c.in-Ok.is), (rest_next c.loop-at.invariant.0 c.loop-at.invariant.1 c.if-s-at-ne59.false).inside, c.loop-at-test.true)
 
 -- src/lib.rt:188:5
 pub loop-at-preserved : goal.loop-at-preserved
@@ -84,7 +85,7 @@ loop-at-preserved c =
     let n = rest_next c.loop-at.invariant.0 c.loop-at.invariant.1 c.if-s-at-ne59.false in
     let u = rw n.read at c.put_param-put.ensures in
     let e = ap (λ (ps : List Param). params_text (changed_all c.args.way ps)) n.all ∙ each_next c.args.way n.first n.others in
-    (n.others, subst (λ (j : ℕ). Rest c.args.s.now j n.others) (sym (next_upto (rest_next c.loop-at.invariant.0 c.loop-at.invariant.1 c.if-s-at-ne59.false) c.read_param-p.ensures c.in-Upto.is)) n.left, rw u.count (put_part l.invariant.2 (params_text (changed c.args.way n.first)) (params_text (changed_all c.args.way n.others)) _ e (fits c.args.way c.loop-at.invariant.0 (rest_next c.loop-at.invariant.0 c.loop-at.invariant.1 c.if-s-at-ne59.false) c.loop-at.invariant.2 c.requires.s_in_bounds) u.room), ap (λ (b : Bool). b || any_prefers c.args.way n.others) (ap (λ (b : Bool). l.gone || b) u.said) ∙ said_next c.args.way n.first n.others l.gone _ (rw n.all at l.invariant.3))
+    (n.others, subst (λ (j : ℕ). Rest c.args.s.now j n.others) (sym (next_upto (rest_next c.loop-at.invariant.0 c.loop-at.invariant.1 c.if-s-at-ne59.false) c.read_param.ensures (ap upto c.in-Ok.is))) n.left, rw u.count (put_part l.invariant.2 (params_text (changed c.args.way n.first)) (params_text (changed_all c.args.way n.others)) _ e (fits c.args.way c.loop-at.invariant.0 (rest_next c.loop-at.invariant.0 c.loop-at.invariant.1 c.if-s-at-ne59.false) c.loop-at.invariant.2 c.requires.s_in_bounds) u.room), ap (λ (b : Bool). b || any_prefers c.args.way n.others) (ap (λ (b : Bool). l.gone || b) u.said) ∙ said_next c.args.way n.first n.others l.gone _ (rw n.all at l.invariant.3))
 
 -- src/lib.rt:179:1
 pub shape_of-d : goal.shape_of-d

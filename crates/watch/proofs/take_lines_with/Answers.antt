@@ -35,10 +35,10 @@ returns-in_default c =
     let two = next_two_least a.w.tail a.chunk.now (subst (λ (k : ℕ). k < length a.chunk.now) p.next_value.0 p.next_value.1) in record {
       by_index = λ i l h e. subst (λ (x : Watch). After x b (i ++ a.chunk.now)) (sym c.stopped.ensures)
           (after_refused a.w a.buffer.now i a.chunk.now l h p.tail_bound.1 p.chunk_value a.next p.next_value.0 p.next_value.1 p.sound.1
-          g.result.step b g.result.at g.ensures.went g.ensures.next_le_at.0 g.ensures.next_le_at.1 c.in_default.not-Next _ a.tail refl e);
+          g.result.step b g.result.at g.ensures.went g.ensures.next_le_at.0 g.ensures.next_le_at.1 c.in_default.not-Ok _ a.tail refl e);
       comes = (λ e. subst (λ (x : Watch). Comes x b (lines_came a.w a.buffer.now a.chunk.now a.next)) (sym c.stopped.ensures)
           (comes_refused a.w a.buffer.now a.chunk.now a.next p.next_value.0 p.tail_bound.0 p.sound.0.card p.tail_bound.1 p.sound.1 (omega (arith, two, p.tail_bound.0, p.next_value.0)) p.next_value.1 _ a.tail refl e
-          g.result.step b g.result.at g.ensures.went c.in_default.not-Next));
+          g.result.step b g.result.at g.ensures.went c.in_default.not-Ok));
     }
 
 pub append-requires : goal.append-requires
@@ -48,7 +48,7 @@ append-requires c =
     let g = c.judge_chunk-l in
     let two = next_two_least a.w.tail a.chunk.now (subst (λ (k : ℕ). k < length a.chunk.now) p.next_value.0 p.next_value.1) in
     let size = line_long a.w a.buffer.now a.chunk.now a.next p.next_value.0 p.tail_bound.0 p.sound.0.card p.tail_bound.1 p.sound.1 (omega (arith, two, p.tail_bound.0, p.next_value.0)) p.next_value.1 in
-    let win = (g.ensures.went.rest c.in-Next.card c.in-Next.is).1 in
+    let win = (g.ensures.went.rest c.in-Ok.card c.in-Ok.is).1 in
     rw (rest g.result.at a.chunk.now, length-drop g.result.at a.chunk.now)
     (omega (arith, win.used, size, g.ensures.next_le_at, p.tail_bound.1, p.sound.1, g, length-drop g.result.at a.chunk.now, length-drop a.next a.chunk.now))
 
@@ -65,12 +65,12 @@ returns c =
     let g = c.judge_chunk-l in
     let b = g.new.buffer in
     let two = next_two_least a.w.tail a.chunk.now (subst (λ (k : ℕ). k < length a.chunk.now) p.next_value.0 p.next_value.1) in
-    let f = c.in-Next.card in
+    let f = c.in-Ok.card in
     let put = subst (λ (x : List ℕ). c.append.new.buffer ≡ patch b f.used x) (rest g.result.at a.chunk.now) c.append.ensures in record {
       by_index = λ i l h e.
           after_kept a.w a.buffer.now i a.chunk.now l h p.tail_bound.1 p.chunk_value a.next p.next_value.0 p.next_value.1 p.sound.1
-          g.result.step b g.result.at g.ensures.went g.ensures.next_le_at.0 g.ensures.next_le_at.1 f c.in-Next.is a.tail e c.append.new.buffer put;
+          g.result.step b g.result.at g.ensures.went g.ensures.next_le_at.0 g.ensures.next_le_at.1 f c.in-Ok.is a.tail e c.append.new.buffer put;
       comes = (λ e.
           comes_kept a.w a.buffer.now a.chunk.now a.next p.next_value.0 p.tail_bound.0 p.sound.0.card p.tail_bound.1 p.sound.1 (omega (arith, two, p.tail_bound.0, p.next_value.0)) p.next_value.1 _ a.tail refl e
-          g.result.step b g.result.at g.ensures.went f c.in-Next.is g.ensures.next_le_at.0 g.ensures.next_le_at.1 (omega (arith, g, p.sound.1)) c.append.new.buffer put);
+          g.result.step b g.result.at g.ensures.went f c.in-Ok.is g.ensures.next_le_at.0 g.ensures.next_le_at.1 (omega (arith, g, p.sound.1)) c.append.new.buffer put);
     }

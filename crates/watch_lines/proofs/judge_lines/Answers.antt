@@ -66,7 +66,7 @@ returns-in_default c =
     let j = c.take_line-j in
     let k = a.chunk.now in record {
       went = hand_refused a.c a.line.now (drop a.from k) a.buffer.now a.start l.card (hand_line l.first a.line.now k l.at l.end) (drop l.next k) l.buffer l.place l.invariant.6
-          j.new.buffer (l.card.used + (l.n + 2)) (omega (arith, l.invariant.2)) j.result c.in_default.not-Next j.ensures (drop l.next k);
+          j.new.buffer (l.card.used + (l.n + 2)) (omega (arith, l.invariant.2)) j.result c.in_default.not-Ok j.ensures (drop l.next k);
       from_le_at = ((l.invariant.1.0, l.invariant.1.3));
     }
 
@@ -90,8 +90,8 @@ returns-then-chunk-span-le2 c =
     let b = j.new.buffer in
     let s = hand_line l.first a.line.now k l.at l.end in
     let to = l.card.used + (l.n + 2) in
-    let d = c.in-Next.after in
-    let e = c.in-Next.is in
+    let d = c.in-Ok.after in
+    let e = c.in-Ok.is in
     let t = subst (λ (x : KeptStep). Took l.card s l.buffer b l.place to x) e j.ensures in
     let w = within_next l.card d s l.buffer b l.place to l.invariant.5 t in
     let m = length-drop a.from k in
@@ -132,8 +132,8 @@ loop-after-preserved c =
     let b = j.new.buffer in
     let s = hand_line l.first a.line.now k l.at l.end in
     let to = l.card.used + (l.n + 2) in
-    let d = c.in-Next.after in
-    let e = c.in-Next.is in
+    let d = c.in-Ok.after in
+    let e = c.in-Ok.is in
     let more = c.if-chunk-span-le2.false in
     let t = subst (λ (x : KeptStep). Took l.card s l.buffer b l.place to x) e j.ensures in
     let w = within_next l.card d s l.buffer b l.place to l.invariant.5 t in

@@ -22,7 +22,7 @@ returns-in_default c =
     let s = pick a.first a.line.now a.other.now in
     let j = c.judge_either-j in
     took_refused a.c s a.buffer.now j.new.buffer a.at a.to c.requires.roomy.1 (omega (arith, j)) c.requires.other_bound.0 c.requires.other_bound.1
-    j.result c.in_default.not-Next j.ensures.result_after j.ensures.holds.1 c.settle_either.result c.settle_either.ensures c.clear.new.buffer c.clear.ensures
+    j.result c.in_default.not-Ok j.ensures.result_after j.ensures.holds.1 c.settle_either.result c.settle_either.ensures c.clear.new.buffer c.clear.ensures
 
 pub clear-requires-2 : goal.clear-requires-2
 clear-requires-2 c =
@@ -30,7 +30,7 @@ clear-requires-2 c =
     let a = c.args in
     let s = pick a.first a.line.now a.other.now in
     let j = c.judge_either-j in
-    let low = kept_low (a.c.used + length s) j.result c.in-Next.next c.in-Next.is j.ensures.holds.0 in
+    let low = kept_low (a.c.used + length s) j.result c.in-Ok.next c.in-Ok.is j.ensures.holds.0 in
     (omega (arith, low, c.requires.other_bound.0), omega (arith, j, c.requires.roomy.1, c.requires.other_bound.1))
 
 pub returns : goal.returns
@@ -40,8 +40,8 @@ returns c =
     let s = pick a.first a.line.now a.other.now in
     let j = c.judge_either-j in
     let b = j.new.buffer in
-    let e = c.in-Next.is in
-    let d = c.in-Next.next in
+    let e = c.in-Ok.is in
+    let d = c.in-Ok.next in
     took_next a.c s a.buffer.now b a.at a.to c.requires.roomy.1 (omega (arith, j)) c.requires.other_bound.0 c.requires.other_bound.1 d
     (subst (λ (x : KeptStep). step_of b x ≡ judgement a.c a.buffer.now s a.at) e j.ensures.result_after)
     (subst (λ (x : KeptStep). Left First a.c s a.buffer.now b x) e j.ensures.holds.1)

@@ -1,6 +1,13 @@
--- `cabbook_commands::reporting::gather` is safe and ends, and meets its contract. Assumes nothing.
-use Prim.Native.Nat.{◌-◌}
+-- `cabbook_commands::reporting::gather` is safe and ends. Assumes nothing.
+use Rattle.std.proofs.Common.{ℕ, ◌-◌, ◌<◌, ◌≤◌, Option, Some, None, IfSome}
 use Rattle.cabbook_commands.proofs.reporting.gather.Given as goal
 
-abbrev pub decreases-loop-i : goal.decreases-loop-i
-decreases-loop-i l = l.count - l.i
+abbrev left : ℕ → Option ℕ → ℕ
+left count (Some i) = count - i
+left count None = 0
+
+abbrev pub invariant-loop-next : goal.invariant-loop-next
+invariant-loop-next l = IfSome l.next (λ i. i < l.count)
+
+abbrev pub decreases-loop-next : goal.decreases-loop-next
+decreases-loop-next l = left l.count l.next

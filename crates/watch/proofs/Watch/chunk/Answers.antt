@@ -1,9 +1,10 @@
 -- `watch::Watch::chunk` meets its contract. Assumes nothing.
 use native.Mathlib.Omega.{arith}
-use mathlib.Core.Path.{refl, sym, subst, ◌∙◌}
+use mathlib.Core.Path.{refl, sym, ap, subst, ◌∙◌}
 use mathlib.Core.List.{List}
 use Prim.Native.Nat.{ℕ}
 use borrow.Author.Tests.{ltb-true, ltb-false, not-true, not-false}
+use Rattle.watch.specs.declared.Arrived.TheVariants.{Refused}
 use Rattle.watch.specs.State.{claims}
 use Rattle.watch.proofs.SoundLaws.{no_way}
 use Rattle.watch.proofs.ReachLaws.{reached_sound, sound_claims, first_buffer, first_stands, later_buffer}
@@ -14,7 +15,7 @@ use Rattle.watch.proofs.Watch.chunk.Goals as goal
 pub returns-then-buffer-ne-OCTETS : goal.returns-then-buffer-ne-OCTETS
 returns-then-buffer-ne-OCTETS c =
     record {
-      another = λ h. (refl, refl);
+      another = λ h. (ap (λ (n : ℕ). Refused n 0) c.number.ensures, refl);
       over = λ e k. absurd (c.if-buffer-ne-OCTETS.true e);
       goes = λ e k. absurd (c.if-buffer-ne-OCTETS.true e);
       false = λ e k s. absurd (c.if-buffer-ne-OCTETS.true e);
@@ -28,7 +29,7 @@ returns-then-over c =
     let much = ltb-true 16384 (claims c.args.self) (sym c.is_over-over.ensures ∙ c.if-over.true) in
     record {
       another = λ h. absurd (h c.if-buffer-ne-OCTETS.false);
-      over = λ e k. (refl, refl);
+      over = λ e k. (ap (λ (n : ℕ). Refused n 0) c.number-then-over.ensures, refl);
       goes = λ e k. absurd (omega (arith, much, k));
       false = λ e k s. absurd (omega (arith, much, k));
       sound = λ e k s. absurd (omega (arith, much, k));

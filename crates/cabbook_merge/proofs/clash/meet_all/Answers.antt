@@ -1,8 +1,0 @@
--- `cabbook_merge::clash::meet_all` is safe and ends. Assumes nothing.
-use Rattle.cabbook_merge.proofs.clash.meet_all.Goals as goal
-
-pub loop-at-init : goal.loop-at-init
-loop-at-init c = tt
-
-pub loop-at-preserved : goal.loop-at-preserved
-loop-at-preserved c = tt
