@@ -40,7 +40,7 @@ fn put_after(out: &mut [u8], at: usize, mark: u8, n: usize) -> usize
 }
 
 // Adds `no NUMBER PLACE`.
-fn put_no(out: &mut [u8], at: usize, number: u32, place: usize) -> usize
+pub fn put_no(out: &mut [u8], at: usize, number: u32, place: usize) -> usize
     ensures { page result out.new ≡ added (refusal_text number place) (page at out.old) }
 {
     let word = program_output::put_all(out, at, b"no");
