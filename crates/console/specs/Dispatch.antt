@@ -1,10 +1,10 @@
 -- What the console answers to a line, and what it keeps then. Assumes nothing.
-use Rattle.std.specs.Prelude.{ℕ, ◌≡◌, Bool, true, false, List, ltb, length, replicate}
+use Rattle.std.specs.Prelude.{ℕ, ◌≡◌, Bool, true, false, List, Option, Some, None, ltb, length, replicate}
 use Rattle.octets.specs.Slices.{part}
 use Rattle.console_requests.specs.Requests.{Requested, request_of}
 use Rattle.console_requests.specs.declared.Request.{Request}
 use Rattle.console_requests.specs.declared.Name.{Name}
-use Rattle.console_requests.specs.declared.Name.TheVariants.{ToEntry, ToDesk, ToReport, ToMerge, ToWatch, Bad}
+use Rattle.console_requests.specs.declared.Name.TheVariants.{ToEntry, ToDesk, ToReport, ToMerge, ToWatch}
 use Rattle.console_requests.specs.declared.EntryCall.{EntryCall}
 use Rattle.console_requests.specs.declared.EntryCall.TheVariants.{Judge, Read, Fold, Escape, Unescape, Encode, Decode, FoldIn, Offset, JudgeIn, ReadIn, TakeIn, GiveOut}
 use Rattle.console_requests.specs.declared.DeskCall.{DeskCall}
@@ -108,14 +108,17 @@ AnswerAny (ToDesk d) n k m sent x y = y ≡ beside (desk_turn d n k sent x.watch
 AnswerAny (ToReport r) n k m sent x y = y ≡ keeping (report_turn r n k sent x.watched.state.kept) x.pool x
 AnswerAny (ToMerge e) n k m sent x y = y ≡ saying (merge_text e n sent) x
 AnswerAny (ToWatch w) n k m sent x y = WatchTurn w n k sent x.watched y.watched × (y.pool ≡ x.pool)
-AnswerAny Bad n k m sent x y = y ≡ saying_bad x
 
 abbrev pub AnswerTo : Request → List ℕ → Everything → Everything → Type 0
 AnswerTo q sent x y = AnswerAny q.name q.first q.second q.third sent x y
 
 -- the octets that a request sends stand at the front of the room
+abbrev pub AnswerSent : Option Request → List ℕ → Everything → Everything → Type 0
+AnswerSent (Some q) room x y = AnswerTo q (part room 0 q.count) x y
+AnswerSent None room x y = y ≡ saying_bad x
+
 abbrev pub AnswerFrom : Requested → Everything → Everything → Type 0
-AnswerFrom r x y = AnswerTo r.request (part r.room 0 r.request.count) x y
+AnswerFrom r x y = AnswerSent r.request r.room x y
 
 unfoldable pub AnswerIn : List ℕ → List ℕ → Everything → Everything → Type 0
 AnswerIn line room x y = AnswerFrom (request_of line room) x y

@@ -140,7 +140,6 @@ fn answer_request(
             s.with_output(at)
         }
         Name::ToWatch(w) => answer_watch(w, q, s, sent, buffer, out),
-        Name::Bad => s.answer_bad(out),
     }
 }
 
@@ -155,7 +154,9 @@ fn answer_in(
 ) -> Session
     ensures { AnswerIn line.now room.old (all_of s out.old buffer.old pool.old) (all_of result out.new buffer.new pool.new) }
 {
-    let q = console_requests::request_of(line, room);
+    let Some(q) = console_requests::request_of(line, room) else {
+        return s.answer_bad(out);
+    };
     answer_request(
         q,
         s,

@@ -3,7 +3,7 @@ use mathlib.Core.Path.{◌≡◌, refl}
 use mathlib.Core.List.{List, [], ◌∷◌, ◌++◌}
 use Prim.Native.Nat.{ℕ}
 use native.Mathlib.Omega.{arith}
-use lib.ListN.{length, get_or, drop}
+use lib.ListN.{length}
 use Rattle.octets.specs.Ascii.{octets}
 use Rattle.program_output.specs.Digits.{decimal, pair}
 use Rattle.console_answers.specs.Texts.{pairs, octets_word, further, others, joined}
@@ -39,7 +39,6 @@ unfolding joined
 joined_none [] h = refl
 joined_none (x ∷ xs) h = absurd (omega arith)
 
-pub joined_some : (s : List ℕ) → (length s ≡ 0 → ⊥) → joined s ≡ decimal (get_or s 0 0) ++ others (drop 1 s)
+pub joined_cons : (x : ℕ) (xs : List ℕ) → joined (x ∷ xs) ≡ decimal x ++ others xs
 unfolding joined
-joined_some [] h = absurd (h refl)
-joined_some (x ∷ xs) h = refl
+joined_cons x xs = refl

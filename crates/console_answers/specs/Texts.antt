@@ -11,8 +11,7 @@ use Rattle.reader.specs.Outcome.{Verdict}
 use Rattle.reader.specs.Outcome.{Accepted, Refused}
 use Rattle.value_offsets.specs.declared.Offset.{Offset}
 use Rattle.value_offsets.specs.declared.Offset.TheVariants.{Minutes, Refused as NoOffset}
-use Rattle.desk.specs.declared.Answer.{Answer}
-use Rattle.desk.specs.declared.Answer.TheVariants.{Done, Refused as Denied}
+use Rattle.desk.specs.Answer.{Answer, Done, Refused as Denied}
 
 -- ---- words
 

@@ -7,14 +7,12 @@ ghost use Rattle.console_answers.specs.Texts.{octets_word};
 pub fn put_octets(out: &mut [u8], at: usize, octets: &[u8]) -> usize
     ensures { page result out.new ≡ added (octets_word octets.now) (page at out.old) }
 {
-    if octets.len() == 0 {
+    if octets.is_empty() {
         return program_output::put(out, at, b'-');
     }
     let mut end = at;
-    let mut i: usize = 0;
-    while i < octets.len() {
-        end = program_output::digits::put_pair(out, end, octets[i]);
-        i += 1;
+    for octet in octets {
+        end = program_output::digits::put_pair(out, end, *octet);
     }
     end
 }

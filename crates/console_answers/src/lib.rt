@@ -2,14 +2,17 @@
 #![tactic(auto)]
 
 ghost use Rattle.std.specs.Prelude.{◌≡◌, ◌∷◌, ◌≤◌, nat_abs};
+ghost use Rattle.numbers.specs.Refusals.{number};
+ghost use Rattle.octets.specs.Room.{written};
+ghost use Rattle.reader.specs.Outcome.{verdict};
+ghost use Rattle.desk.specs.Answer.{answer};
 ghost use Rattle.program_output.specs.Pages.{page, added};
 ghost use Rattle.program_output.specs.Digits.{decimal};
 ghost use Rattle.value_offsets.specs.Minutes.{most_minutes, Bounded};
 ghost use Rattle.console_answers.specs.Texts.{line_end, bad_line, refusal_text, done_text, verdict_text, written_text, answer_text, offset_text, signed_word, octets_word, spaced, joined, room_end};
 
-use desk::Answer;
-use octets::rooms::Written;
-use reader::Verdict;
+use numbers::refusal::Refusal;
+use reader::{Counts, Verdict};
 use value_offsets::Offset;
 
 pub mod hex;
@@ -37,12 +40,20 @@ fn put_after(out: &mut [u8], at: usize, mark: u8, n: usize) -> usize
 }
 
 // Adds `no NUMBER PLACE`.
-pub fn put_refusal(out: &mut [u8], at: usize, number: u32, place: usize) -> usize
+pub fn put_no(out: &mut [u8], at: usize, number: u32, place: usize) -> usize
     ensures { page result out.new ≡ added (refusal_text number place) (page at out.old) }
 {
     let word = program_output::put_all(out, at, b"no");
     let end = put_after(out, word, b' ', number as usize);
     put_after(out, end, b' ', place)
+}
+
+// Adds `no NUMBER PLACE` of a refusal.
+pub fn put_refusal(out: &mut [u8], at: usize, refusal: Refusal) -> usize
+    ensures { page result out.new ≡ added (refusal_text (number refusal.0) refusal.1) (page at out.old) }
+{
+    let Refusal(reason, place) = refusal;
+    put_no(out, at, reason.number(), place)
 }
 
 // Adds `ok NUMBER`.
@@ -55,36 +66,25 @@ pub fn put_done(out: &mut [u8], at: usize, number: usize) -> usize
 
 // Adds `ok CARDS LINES`, or the refusal.
 pub fn put_verdict(out: &mut [u8], at: usize, v: Verdict) -> usize
-    ensures { page result out.new ≡ added (verdict_text v) (page at out.old) }
+    ensures { page result out.new ≡ added (verdict_text (verdict v)) (page at out.old) }
 {
     match v {
-        Verdict::Accepted(cards, lines) => {
+        Ok(Counts { cards, lines }) => {
             let end = put_done(out, at, cards);
             put_after(out, end, b' ', lines)
         }
-        Verdict::Refused(number, place) => put_refusal(out, at, number, place),
+        Err(refusal) => put_refusal(out, at, refusal),
     }
 }
 
 // Adds `ok NUMBER`, or the refusal, of a call of the desk.
-pub fn put_answer(out: &mut [u8], at: usize, a: Answer) -> usize
-    ensures { page result out.new ≡ added (answer_text a) (page at out.old) }
+pub fn put_answer(out: &mut [u8], at: usize, a: Result<usize, Refusal>) -> usize
+    ensures { page result out.new ≡ added (answer_text (answer a)) (page at out.old) }
 {
     match a {
-        Answer::Done(n) => put_done(out, at, n),
-        Answer::Refused(number, place) => put_refusal(out, at, number, place),
+        Ok(n) => put_done(out, at, n),
+        Err(denied) => put_refusal(out, at, denied),
     }
-}
-
-// A number without its sign.
-fn magnitude(z: i32) -> u32
-    requires { nat_abs z ≤ most_minutes }
-    ensures { result ≡ nat_abs z }
-{
-    if z < 0 {
-        return (-z) as u32;
-    }
-    z as u32
 }
 
 // Adds a number, with a hyphen before it where it is below 0.
@@ -92,7 +92,7 @@ fn put_signed(out: &mut [u8], at: usize, z: i32) -> usize
     requires { nat_abs z ≤ most_minutes }
     ensures { page result out.new ≡ added (signed_word z) (page at out.old) }
 {
-    let n = magnitude(z) as usize;
+    let n = z.unsigned_abs() as usize;
     if z < 0 {
         return put_after(out, at, b'-', n);
     }
@@ -109,20 +109,20 @@ pub fn put_offset(out: &mut [u8], at: usize, o: Offset) -> usize
             let word = program_output::put_all(out, at, b"ok ");
             put_signed(out, word, z)
         }
-        Offset::Refused(number, place) => put_refusal(out, at, number, place),
+        Offset::Refused(number, place) => put_no(out, at, number, place),
     }
 }
 
 // Adds `ok COUNT OCTETS` with the octets written to room, or the refusal.
-pub fn put_written(out: &mut [u8], at: usize, w: Written, room: &[u8]) -> usize
-    ensures { page result out.new ≡ added (written_text w room.now) (page at out.old) }
+pub fn put_written(out: &mut [u8], at: usize, w: Result<usize, Refusal>, room: &[u8]) -> usize
+    ensures { page result out.new ≡ added (written_text (written w) room.now) (page at out.old) }
 {
     match w {
-        Written::Wrote(count) => {
+        Ok(count) => {
             let end = put_done(out, at, count);
             put_spaced_octets(out, end, octets::slices::part(room, 0, count))
         }
-        Written::Refused(number, place) => put_refusal(out, at, number, place),
+        Err(unwritten) => put_refusal(out, at, unwritten),
     }
 }
 
@@ -138,15 +138,13 @@ pub fn put_spaced_octets(out: &mut [u8], at: usize, s: &[u8]) -> usize
 pub fn put_spaced_numbers(out: &mut [u8], at: usize, s: &[u32]) -> usize
     ensures { page result out.new ≡ added (spaced (joined s.now)) (page at out.old) }
 {
-    let mut end = program_output::put(out, at, b' ');
-    if s.len() == 0 {
-        return end;
-    }
-    end = program_output::digits::put_number(out, end, s[0] as usize);
-    let mut i: usize = 1;
-    while i < s.len() {
-        end = put_after(out, end, b',', s[i] as usize);
-        i += 1;
+    let start = program_output::put(out, at, b' ');
+    let Some((first, rest)) = s.split_first() else {
+        return start;
+    };
+    let mut end = program_output::digits::put_number(out, start, *first as usize);
+    for n in rest {
+        end = put_after(out, end, b',', *n as usize);
     }
     end
 }

@@ -5,6 +5,7 @@ use Rattle.octets.specs.Pick.{pick}
 use Rattle.octets.specs.Room.{overlay}
 use Rattle.octets.specs.Slices.{part}
 use Rattle.desk.specs.Steps.{Turned, new_step, open_step, add_step, release_step, show_step, held_step, judge_step}
+use Rattle.desk.specs.Answer.{answer}
 use Rattle.desk.specs.declared.Desk.{Desk}
 use Rattle.desk.specs.declared.Turn.{Turn}
 use Rattle.program_output.specs.Pages.{Page, page, added}
@@ -56,7 +57,7 @@ says_bad t = says bad_line t
 
 -- a call's answer and the next desk
 abbrev pub after_turn : Turn → ℕ → Page → State
-after_turn t size o = state t.desk size (added (answer_text t.answer ++ line_end) o)
+after_turn t size o = state t.desk size (added (answer_text (answer t.answer) ++ line_end) o)
 
 -- ---- desk, next
 

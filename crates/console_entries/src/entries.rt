@@ -1,6 +1,7 @@
 // The calls of reader, folder, text, labels, offsets and version 3.
 ghost use Rattle.std.specs.Prelude.{◌≡◌, ◌+◌, ◌≤◌};
-ghost use Rattle.octets.specs.Room.{filled};
+ghost use Rattle.octets.specs.Room.{filled, written};
+ghost use Rattle.reader.specs.Outcome.{verdict};
 ghost use Rattle.program_output.specs.Pages.{page, added};
 ghost use Rattle.console_entries.specs.Rooms.{most_room, octet_room, number_room};
 ghost use Rattle.console_entries.specs.Entries.{line_end_length, lines_of, count, numbers_of, copy_length, taken_text, rooms_text, read_text, outcome_of, write_text, judge_answer, judge_in_answer, offset_answer, read_answer, read_in_answer, write_answer, chosen_answer, encode_answer, decode_answer, fold_answer};
@@ -8,8 +9,8 @@ ghost use Rattle.console_entries.specs.Entries.{line_end_length, lines_of, count
 use crate::rooms;
 use folder_raising::Style;
 use label_carets::Rule;
+use numbers::refusal::Refusal;
 use numbers::{field, limit};
-use octets::rooms::Written;
 use property_table::Edition;
 use reader::Verdict;
 
@@ -68,11 +69,11 @@ pub fn put_offset_answer(value: &[u8], out: &mut [u8], at: usize) -> usize
 
 // How many lines the reader accepted; 0 on a refusal.
 fn lines_of(v: Verdict) -> usize
-    ensures { result ≡ lines_of v }
+    ensures { result ≡ lines_of (verdict v) }
 {
     match v {
-        Verdict::Accepted(_, lines) => lines,
-        Verdict::Refused(_, _) => 0,
+        Ok(counts) => counts.lines,
+        Err(_) => 0,
     }
 }
 
@@ -201,8 +202,8 @@ pub fn put_read_in_answer(
 }
 
 // Calls the entry, which writes to room.
-fn call(entry: Writer, input: &[u8], room: &mut [u8]) -> Written
-    ensures { filled result room.new ≡ outcome_of entry input.now room.old }
+fn call(entry: Writer, input: &[u8], room: &mut [u8]) -> Result<usize, Refusal>
+    ensures { filled (written result) room.new ≡ outcome_of entry input.now room.old }
 {
     match entry {
         Writer::Fold => folder::fold(Edition::First, input, room),
@@ -217,13 +218,10 @@ fn call(entry: Writer, input: &[u8], room: &mut [u8]) -> Written
 }
 
 // How many octets an entry wrote; 0 on a refusal.
-pub fn count_of(w: Written) -> usize
-    ensures { result ≡ count w }
+pub fn count_of(w: Result<usize, Refusal>) -> usize
+    ensures { result ≡ count (written w) }
 {
-    match w {
-        Written::Wrote(count) => count,
-        Written::Refused(_, _) => 0,
-    }
+    w.unwrap_or(0)
 }
 
 // Adds the entry's answer with this room.

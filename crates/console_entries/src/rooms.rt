@@ -12,11 +12,7 @@ pub const NUMBER_FILL: u32 = 2779096485;
 pub fn fill(room: &mut [u8])
     ensures { room.new ≡ replicate (length room.old) octet_fill }
 {
-    let mut i: usize = 0;
-    while i < room.len() {
-        room[i] = OCTET_FILL;
-        i += 1;
-    }
+    room.fill(OCTET_FILL);
 }
 
 // Whether the octets from a place on are as they were set.

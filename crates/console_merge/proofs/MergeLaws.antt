@@ -12,7 +12,7 @@ use Rattle.octets.specs.Slices.{part}
 use Rattle.program_output.specs.Pages.{Page, added}
 use Rattle.merge_sources.specs.declared.Source.{Source}
 use Rattle.merge.specs.Outcome.{plan_outcome, check_outcome}
-use Rattle.merge.specs.declared.Paired.{Paired}
+use Rattle.merge.specs.Paired.{Paired}
 use Rattle.console_answers.specs.Texts.{joined, room_end}
 use Rattle.console_entries.specs.Rooms.{number_fill, number_room, all}
 use Rattle.console_entries.proofs.RoomLaws.{less_none, part_whole}

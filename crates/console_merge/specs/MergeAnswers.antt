@@ -5,8 +5,7 @@ use Rattle.octets.specs.Ascii.{octets}
 use Rattle.octets.specs.Slices.{part}
 use Rattle.merge_sources.specs.declared.Source.{Source}
 use Rattle.merge.specs.Outcome.{Planned, plan_outcome, check_outcome}
-use Rattle.merge.specs.declared.Paired.{Paired}
-use Rattle.merge.specs.declared.Paired.TheVariants.{Pairs, Refused}
+use Rattle.merge.specs.Paired.{Paired, Pairs, Refused}
 use Rattle.console_answers.specs.Texts.{line_end, bad_line, done_text, refusal_text, joined, spaced, room_end}
 use Rattle.console_entries.specs.Rooms.{number_fill, number_room, most_room, all}
 use Rattle.console_parts.specs.Parts.{number_length, entry_length, most_lent, most_octets, part_of, whole, holds_edits, sources_up_to, numbers_from}

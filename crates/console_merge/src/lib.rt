@@ -6,12 +6,13 @@ ghost use Rattle.program_output.specs.Pages.{page, added};
 ghost use Rattle.console_answers.specs.Texts.{spaced};
 ghost use Rattle.console_entries.specs.Rooms.{most_room, number_room};
 ghost use Rattle.console_parts.specs.Parts.{most_octets};
+ghost use Rattle.merge.specs.Paired.{paired};
 ghost use Rattle.merge.specs.Outcome.{planned};
 ghost use Rattle.console_merge.specs.MergeAnswers.{paired_text, numbers_word, written_word, numbers_in, planned_by, planned_text, checked_text, plan_of, check_with, check_of, plan_answer, is_check, check_answer};
 
 use console_entries::rooms;
 use console_parts::{ENTRY, NUMBER};
-use merge::Paired;
+use numbers::refusal::Refusal;
 
 // The most numbers of room that a request may ask for.
 const ROOM: usize = 70000;
@@ -31,12 +32,12 @@ const PLAN_PARTS: usize = 4;
 const CHECK_PARTS: usize = 5;
 
 // Adds `ok PAIRS`, or the refusal.
-fn put_paired(out: &mut [u8], at: usize, p: Paired) -> usize
-    ensures { page result out.new ≡ added (paired_text p) (page at out.old) }
+fn put_paired(out: &mut [u8], at: usize, p: Result<usize, Refusal>) -> usize
+    ensures { page result out.new ≡ added (paired_text (paired p)) (page at out.old) }
 {
     match p {
-        Paired::Pairs(n) => console_answers::put_done(out, at, n),
-        Paired::Refused(number, place) => console_answers::put_refusal(out, at, number, place),
+        Ok(n) => console_answers::put_done(out, at, n),
+        Err(refusal) => console_answers::put_refusal(out, at, refusal),
     }
 }
 
@@ -51,20 +52,20 @@ fn put_numbers(out: &mut [u8], at: usize, s: &[u32]) -> usize
 }
 
 // Adds the numbers that the planner wrote; nothing on a refusal.
-fn put_written(out: &mut [u8], at: usize, p: Paired, s: &[u32]) -> usize
-    ensures { page result out.new ≡ added (written_word p s.now) (page at out.old) }
+fn put_written(out: &mut [u8], at: usize, p: Result<usize, Refusal>, s: &[u32]) -> usize
+    ensures { page result out.new ≡ added (written_word (paired p) s.now) (page at out.old) }
 {
     match p {
-        Paired::Pairs(_) => put_numbers(out, at, s),
-        Paired::Refused(_, _) => at,
+        Ok(_) => put_numbers(out, at, s),
+        Err(_) => at,
     }
 }
 
 // How many numbers so many pairs have, of at most so many; none on a refusal.
-fn numbers_in(p: Paired, most: usize) -> usize
-    ensures { result ≡ numbers_in p most }
+fn numbers_in(p: Result<usize, Refusal>, most: usize) -> usize
+    ensures { result ≡ numbers_in (paired p) most }
 {
-    let Paired::Pairs(n) = p else {
+    let Ok(n) = p else {
         return 0;
     };
     if n > most / PAIR {
@@ -74,8 +75,8 @@ fn numbers_in(p: Paired, most: usize) -> usize
 }
 
 // Adds the planner's answer, and what it left in its room.
-fn put_planned(out: &mut [u8], at: usize, p: Paired, room: &[u32]) -> usize
-    ensures { page result out.new ≡ added (planned_by p room.now (numbers_in p (length room.now))) (page at out.old) }
+fn put_planned(out: &mut [u8], at: usize, p: Result<usize, Refusal>, room: &[u32]) -> usize
+    ensures { page result out.new ≡ added (planned_by (paired p) room.now (numbers_in (paired p) (length room.now))) (page at out.old) }
 {
     let n = numbers_in(p, room.len());
     let word = put_paired(out, at, p);
@@ -84,9 +85,9 @@ fn put_planned(out: &mut [u8], at: usize, p: Paired, room: &[u32]) -> usize
 }
 
 // Calls the planner on these parts with this room.
-fn plan(s: &[u8], room: &mut [u32]) -> Paired
+fn plan(s: &[u8], room: &mut [u32]) -> Result<usize, Refusal>
     requires { length s.now ≤ most_octets }
-    ensures { planned result room.new ≡ plan_of s.now room.old }
+    ensures { planned (paired result) room.new ≡ plan_of s.now room.old }
 {
     let one = console_parts::part_of(s, 2);
     let other = console_parts::part_of(s, 3);

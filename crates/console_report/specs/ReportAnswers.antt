@@ -7,9 +7,7 @@ use Rattle.octets.specs.Room.{fill}
 use Rattle.report.specs.Steps.{fresh_report, take_step}
 use Rattle.report.specs.Text.{report_text}
 use Rattle.report.specs.declared.Report.{Report}
-use Rattle.report.specs.declared.Answer.{Answer}
-use Rattle.report.specs.declared.Answer.TheVariants.{Counted, Refused}
-use Rattle.report.specs.declared.Taken.{Taken}
+use Rattle.report.specs.Answer.{Answer, Counted, Refused, Taken}
 use Rattle.console_answers.specs.Texts.{line_end, bad_line, done_text, refusal_text}
 use Rattle.console_entries.specs.Rooms.{most_room, octet_room}
 use Rattle.console_entries.specs.Entries.{write_text}

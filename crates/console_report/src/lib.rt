@@ -6,13 +6,15 @@ ghost use Rattle.program_output.specs.Pages.{page, added};
 ghost use Rattle.console_entries.specs.Rooms.{most_room, octet_room};
 ghost use Rattle.console_entries.specs.Entries.{write_text};
 ghost use Rattle.octets.specs.Room.{fill};
+ghost use Rattle.report.specs.Answer.{answer};
 ghost use Rattle.report.specs.Text.{report_text};
 ghost use Rattle.console_report.specs.ReportAnswers.{kept_of, first, besides, taken_text, print_answer, fresh_answer, take_answer, prints_answer, place_past, place_named, count_answer};
 
 use console_desk::Console;
 use console_entries::{entries, rooms};
+use numbers::refusal::Refusal;
 use numbers::{count, limit};
-use report::{Answer, Report};
+use report::Report;
 
 // The most octets of room that a request may ask for.
 const ROOM: usize = 70000;
@@ -61,12 +63,12 @@ pub fn answer_fresh(k: Kept, out: &mut [u8]) -> Kept
 }
 
 // Adds `ok 0`, or the refusal, of a judgement that was handed in.
-fn put_taken(out: &mut [u8], at: usize, a: Answer) -> usize
-    ensures { page result out.new ≡ added (taken_text a) (page at out.old) }
+fn put_taken(out: &mut [u8], at: usize, a: Result<(), Refusal>) -> usize
+    ensures { page result out.new ≡ added (taken_text (answer a)) (page at out.old) }
 {
     match a {
-        Answer::Counted => console_answers::put_done(out, at, 0),
-        Answer::Refused(number, place) => console_answers::put_refusal(out, at, number, place),
+        Ok(()) => console_answers::put_done(out, at, 0),
+        Err(refusal) => console_answers::put_refusal(out, at, refusal),
     }
 }
 

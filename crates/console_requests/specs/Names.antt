@@ -1,13 +1,15 @@
 -- The requests, as the console's table lists them: the name, how many numbers stand after it, and whether octets stand after those.
 -- Assumes nothing.
-use Rattle.std.specs.Prelude.{ℕ, suc, ◌+◌, Bool, ◌&&◌, List, [], ◌∷◌, ◌++◌, eqb, length, get_or, take}
+use Rattle.std.specs.Prelude.{ℕ, ◌+◌, Bool, ◌&&◌, List, [], ◌∷◌, Option, Some, None, eqb}
+use Rattle.std.specs.Option.{option_map}
 use Prim.Native.String.{String}
 use Rattle.octets.specs.Pick.{pick}
 use Rattle.octets.specs.Ascii.{octets}
-use Rattle.octets.specs.Tables.{TableOf}
+use Rattle.octets.specs.Classes.{bit}
 use Rattle.program_numbers.specs.Alike.{alike}
 use Rattle.console_requests.specs.declared.Name.{Name}
-use Rattle.console_requests.specs.declared.Name.TheVariants.{ToEntry, ToDesk, ToReport, ToMerge, ToWatch, Bad}
+use Rattle.console_requests.specs.declared.Name.TheVariants.{ToEntry, ToDesk, ToReport, ToMerge, ToWatch}
+use Rattle.console_requests.specs.declared.names.Row.{Row as TableRow}
 use Rattle.console_requests.specs.declared.EntryCall.TheVariants.{Judge, Read, Fold, Escape, Unescape, Encode, Decode, FoldIn, Offset, JudgeIn, ReadIn, TakeIn, GiveOut}
 use Rattle.console_requests.specs.declared.DeskCall.TheVariants.{Desk, Open, Add, Check, Show, Held, Release, Pool, Next}
 use Rattle.console_requests.specs.declared.ReportCall.TheVariants.{Report, Take, Print, Count}
@@ -67,42 +69,22 @@ rows =
     row (ToWatch Claim) "claim" 1 alone ∷
     []
 
--- how many requests there are
-abbrev pub requests : ℕ
-requests = 33
+-- a row of the program's table, and one that it may have found
+abbrev pub listed : TableRow → Row
+listed r = record { name = r.0; spelling = r.1.now; numbers = r.2; octets = bit r.3 with_octets }
 
--- the rows of the table: those of the requests, and a last one for none
-abbrev pub table_rows : ℕ
-table_rows = suc requests
-
--- the most numbers after a name
-abbrev pub most_numbers : ℕ
-most_numbers = 3
-
--- no request: it has neither numbers nor octets
-abbrev pub no_row : Row
-no_row = row Bad "" 0 alone
-
-unfoldable pub row_at : ℕ → Row
-row_at n = get_or rows n no_row
+abbrev pub lists : Option TableRow → Option Row
+lists r = option_map listed r
 
 -- a request of this name with so many words after it
 unfoldable pub fits : List ℕ → ℕ → Row → Bool
 fits w k r = eqb (r.numbers + r.octets) k && alike w r.spelling
 
 -- the first row that fits
-unfoldable pub search : List ℕ → ℕ → List Row → Row
-search w k [] = no_row
-search w k (r ∷ rs) = pick (fits w k r) r (search w k rs)
+unfoldable pub search : List ℕ → ℕ → List Row → Option Row
+search w k [] = None
+search w k (r ∷ rs) = pick (fits w k r) (Some r) (search w k rs)
 
 -- the request that a first word names with so many words after it
-unfoldable pub row_of : List ℕ → ℕ → Row
+unfoldable pub row_of : List ℕ → ℕ → Option Row
 row_of w k = search w k rows
-
--- the thirteen entries that the table has for a row: its name, filled up to ten by points, the name's length, numbers, octets
-unfoldable pub entries : ℕ → List ℕ
-entries n = take 10 ((row_at n).spelling ++ octets "..........") ++ length (row_at n).spelling ∷ (row_at n).numbers ∷ (row_at n).octets ∷ []
-
--- a list is the table of requests, with a last row for none
-unfoldable pub Lists : List ℕ → Type 0
-Lists t = TableOf entries table_rows t

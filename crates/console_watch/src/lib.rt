@@ -175,7 +175,7 @@ fn put_arrived(out: &mut [u8], at: usize, a: Arrived, kept: bool) -> usize
     match a {
         Arrived::Next(_) => put_done_line(out, at, 0),
         Arrived::Refused(number, place) => {
-            let end = console_answers::put_refusal(out, at, number, place);
+            let end = console_answers::put_no(out, at, number, place);
             console_answers::put_room_end(out, end, kept)
         }
     }

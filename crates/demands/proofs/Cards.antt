@@ -13,7 +13,6 @@ use Rattle.reader.specs.Outcome.{Accepted, Refused}
 use Rattle.reader.proofs.ReadLaws.{read_refused, numbers_counted, read_13, read_14}
 use Rattle.folder_line.specs.Pieces.{folded_lines}
 use Rattle.folder_style_laws.specs.Capitals.{styled}
-use Rattle.folder_raising.specs.Walk.{written}
 use Rattle.folder_raising.specs.declared.Style.{Style}
 use Rattle.folder_raising.proofs.Kept.{styled_lines}
 use Rattle.folder.specs.Outcome.{fold_by, fold_in}

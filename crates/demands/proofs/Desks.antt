@@ -1,6 +1,6 @@
 -- What the desk's entries refuse. Assumes nothing.
 use Prim.Native.Nat.{ℕ, ◌+◌, ◌*◌, ◌<◌, ◌≤◌}
-use mathlib.Core.Path.{◌≡◌, refl, sym, ◌∙◌}
+use mathlib.Core.Path.{◌≡◌, refl, sym, ap, ◌∙◌}
 use mathlib.Core.Bool.{Bool, true, false, false≢true}
 use mathlib.Core.List.{List, []}
 use mathlib.Core.Logic.{◌⊎◌, inl, inr}
@@ -15,7 +15,7 @@ use Rattle.reader.specs.Outcome.{Refused as Unread}
 use Rattle.desk_entries.specs.Search.{first_at, lowest_at}
 use Rattle.desk_slots.specs.Sound.{state_at, tick_at, bounds}
 use Rattle.desk_slots.specs.Slots.{open_at, free_at, idle_at, idle_of, at_position}
-use Rattle.desk.specs.Steps.{Sound, sound, Turned, refuse, refused, fresh_desk, new_step, slot_of, seen, reclaim_in, open_in, open_step, add_in, add_step, release_in, release_step, octets_in, show_step, held_in, held_step, judge_in, judge_step}
+use Rattle.desk.specs.Steps.{Sound, sound, Turned, turned, refuse, refused, fresh_desk, new_step, slot_of, seen, reclaim_in, open_in, open_step, add_in, add_step, release_in, release_step, octets_in, show_step, held_in, held_step, judge_in, judge_step}
 use Rattle.desk_entries.specs.Search.{Position}
 use Rattle.desk_entries.specs.Search.{At, Nowhere, Barred}
 use Rattle.desk_entries.specs.declared.Session.{Session}
@@ -24,7 +24,8 @@ use Rattle.desk_entries.specs.declared.State.TheVariants.{Free, Open}
 use Rattle.desk_slots.specs.Slots.{Slot}
 use Rattle.desk_slots.specs.Slots.{Held, No}
 use Rattle.desk.specs.declared.Desk.{Desk}
-use Rattle.desk.specs.declared.Turn.{Turn}
+use Rattle.std.specs.Prelude.{Ok}
+use Rattle.numbers.specs.declared.refusal.Reason.TheVariants.{SlotCount}
 use Rattle.desk.specs.Answer.{Answer}
 use Rattle.desk.specs.Answer.{Done, Refused}
 use Rattle.desk_entries.proofs.Searches.{first_at_is, first_at_not, unbarred, LowestIs, lowest_at_is, lowest_at_not, lowest_unbarred}
@@ -52,11 +53,24 @@ done_no m n q e = clash cc
 
 -- ---- 26
 
-new_tells : Telling (λ (r : Turn). r.answer) (λ n q. refuse (fresh_desk 0) n q)
+-- a new desk, and a pool of no octets beside it
+started : ℕ → Turned
+started slots = pick (bounds slots 1) (record { answer = Done 0; desk = fresh_desk slots; pool = [] }) (refused (fresh_desk 0) [] 0 26)
+
+started_is : (slots : ℕ) → turned (new_step slots) [] ≡ started slots
+unfolding new_step started
+started_is slots = go (bounds slots 1)
+  where
+    go : (b : Bool) → turned (pick b (record { answer = Ok 0; desk = fresh_desk slots }) (refuse (fresh_desk 0) SlotCount 0)) []
+        ≡ pick b (record { answer = Done 0; desk = fresh_desk slots; pool = [] }) (refused (fresh_desk 0) [] 0 26)
+    go true = refl
+    go false = refl
+
+new_tells : Telling (λ (r : Turned). r.answer) (λ n q. refused (fresh_desk 0) [] q n)
 new_tells = record { number = refusal_number; place = refusal_place }
 
-new_told : (slots n q : ℕ) → (new_step slots).answer ≡ Refused n q → NewBy slots n q
-unfolding new_step
+new_told : (slots n q : ℕ) → (started slots).answer ≡ Refused n q → NewBy slots n q
+unfolding started
 new_told slots n q e =
     last new_tells (NewBy slots) (bounds slots 1) 26 0 n q _ e
     (λ b. range (out b (eqb slots 0) refl (ltb 40 slots) refl)) (λ b f. done_no 0 n q f)
@@ -66,16 +80,20 @@ new_told slots n q e =
     out e false a true c = inr (ltb-true 40 slots c)
     out e false a false c = absurd (false≢true (sym e ∙ in_bounds slots 1 (omega (arith, eqb-false slots 0 a)) (ltb-false 40 slots c) (omega arith)))
 
-new_so : (slots n q : ℕ) → NewBy slots n q → new_step slots ≡ refuse (fresh_desk 0) n q
-unfolding new_step
+new_so : (slots n q : ℕ) → NewBy slots n q → started slots ≡ refused (fresh_desk 0) [] q n
+unfolding started
 new_so slots n q (range h) = rw (not-true (bounds slots 1) (λ b. outside slots h (bounds_are slots 1 b)))
   where
     outside : (slots : ℕ) → (slots ≡ 0) ⊎ (40 < slots) → (1 ≤ slots) × (slots ≤ 40) × (1 ≤ 1) → ⊥
     outside slots (inl z) b = omega arith
     outside slots (inr z) b = omega arith
 
-pub new_exactly : (slots : ℕ) → Exactly (λ (r : Turn). r.answer) (new_step slots) (λ n q. refuse (fresh_desk 0) n q) (NewBy slots)
-new_exactly slots = record { only = new_told slots; unchanged = new_so slots }
+pub new_exactly : (slots : ℕ) → Turning (turned (new_step slots) []) (fresh_desk 0) [] (NewBy slots)
+new_exactly slots =
+    record {
+      only = λ n q e. new_told slots n q (ap (λ (r : Turned). r.answer) (sym (started_is slots)) ∙ e);
+      unchanged = λ n q b. started_is slots ∙ new_so slots n q b;
+    }
 
 module _ (d : Desk) (p : List ℕ) where
   pub turn_tells : Telling (λ (r : Turned). r.answer) (λ n q. refused d p q n)

@@ -26,7 +26,6 @@ use Rattle.reader.specs.Outcome.{Accepted, Refused}
 use Rattle.reader.proofs.AcceptLaws.{lines_few, lines_counted}
 use Rattle.reader.proofs.ReadLaws.{read_refused, numbers_counted, read_written, read_13, read_14}
 use Rattle.folder_line.specs.Pieces.{pieces, joined, folded_lines}
-use Rattle.folder_style_laws.specs.Capitals.{styled}
 use Rattle.folder_raising.specs.Walk.{written as in-style}
 use Rattle.folder_raising.specs.declared.Style.{Style}
 use Rattle.folder_raising.specs.declared.Style.TheVariants.{AsRead, Raised}
@@ -52,7 +51,7 @@ use Rattle.reader_grammar.specs.Cards.{Readable, card, Cards, none as no_cards, 
 use Rattle.reader_grammar.specs.Inputs.{InputIn, InputOf}
 use Rattle.reader_grammar.proofs.Accepted.{accepted_law, lines_law, one_reading}
 use Rattle.reader_grammar.proofs.RecordLaws.{copy_law, records_law}
-use Rattle.demands.specs.Demand1.{copied, folded, Fair}
+use Rattle.demands.specs.Demand1.{copied, Fair}
 use Rattle.report.specs.Text.{report_text}
 use Rattle.desk_ledger.specs.Answers.{counts, told, verdict, wrote as written_as}
 use Rattle.desk_ledger.proofs.AnswerLaws.{verdict_counts, wrote_told}

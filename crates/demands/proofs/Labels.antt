@@ -1,7 +1,7 @@
 -- What encode and decode refuse, and what they write. Assumes nothing.
-use Prim.Native.Nat.{ℕ, ◌<◌, ◌≤◌}
-use mathlib.Core.Path.{◌≡◌, refl, sym, ap, ◌∙◌}
-use mathlib.Core.Bool.{Bool, true, false}
+use Prim.Native.Nat.{ℕ, ◌≤◌}
+use mathlib.Core.Path.{◌≡◌, refl, ap, ◌∙◌}
+use mathlib.Core.Bool.{true}
 use mathlib.Core.List.{List}
 use native.Mathlib.Omega.{arith}
 use lib.Dec.{ltb}
@@ -20,7 +20,7 @@ use Rattle.label_carets.specs.declared.Rule.TheVariants.{Rfc6350, Rfc6868}
 use Rattle.label_carets.proofs.EncodeLaws.{old_encoded}
 use Rattle.label_carets.proofs.PairLaws.{old_decoded}
 use Rattle.label.specs.Outcomes.{writable, sayable, encode_outcome, decode_outcome}
-use Rattle.label_laws.specs.Reads.{Reads, Sayable, Unsaid}
+use Rattle.label_laws.specs.Reads.{Reads, Sayable}
 use Rattle.label_laws.proofs.ReadsLaws.{reads_so, reads_some, reads_once, caretless_reads, encoded_reads}
 use Rattle.label_laws.proofs.QuotedLaws.{new_says, old_says, says_old, first_unsaid, unsaid_first}
 use Rattle.label_laws.proofs.BackLaws.{same_outcome, run_le, wrote_encoded, wrote_decoded, written, back}

@@ -1,25 +1,19 @@
 -- What taking a judgement and printing a report refuse. Assumes nothing.
-use Prim.Native.Nat.{ℕ, ◌<◌, ◌≤◌}
-use mathlib.Core.Path.{◌≡◌, refl, sym, ap, ◌∙◌}
-use mathlib.Core.Bool.{Bool, true, false}
+use Prim.Native.Nat.{ℕ, ◌<◌}
+use mathlib.Core.Path.{◌≡◌, refl, sym, ◌∙◌}
 use mathlib.Core.List.{List}
-use native.Mathlib.Omega.{arith}
-use lib.Dec.{ltb}
 use lib.ListN.{length}
-use borrow.Author.Tests.{lt-ltb}
 use Rattle.octets.specs.Room.{fill}
 use Rattle.octets.proofs.RoomLaws.{fill_short}
 use Rattle.octets.specs.Room.{Refused as Unwritten}
-use Rattle.report_weights.specs.Counts.{Count}
 use Rattle.report.specs.Steps.{take_step}
 use Rattle.report.specs.Text.{report_text}
 use Rattle.report.specs.declared.Report.{Report}
-use Rattle.report.specs.declared.Answer.{Answer}
-use Rattle.report.specs.declared.Answer.TheVariants.{Counted, Refused}
-use Rattle.report.specs.declared.Taken.{Taken}
+use Rattle.report.specs.Answer.{Refused}
+use Rattle.report.specs.Answer.{Taken}
 use Rattle.report_laws.proofs.Totals.{only_full, to_count, take_refused}
 use Rattle.demands.specs.Demand1.{TakeBy, passes, PrintBy, print_room}
-use Rattle.demands.proofs.Refusing.{ByCase, FillingByCase, clash}
+use Rattle.demands.proofs.Refusing.{ByCase, FillingByCase}
 use Rattle.demands.proofs.Texts.{fill_told}
 
 pub take_exactly : (r : Report) (i : List ℕ) → ByCase (λ (t : Taken). t.answer) (take_step r i) (λ n p. record { answer = Refused n p; report = r }) (TakeBy r i)

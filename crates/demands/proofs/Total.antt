@@ -1,17 +1,16 @@
 -- Demand 1, whole. Assumes nothing.
 use Prim.Native.Nat.{ℕ}
 use mathlib.Core.Path.{◌≡◌, ap}
-use mathlib.Core.List.{List}
+use mathlib.Core.List.{List, []}
 use native.Mathlib.Omega.{arith}
 use Rattle.octets.specs.Room.{Filled, refuse}
 use Rattle.reader.specs.Outcome.{judge_of, Taken, took}
 use Rattle.reader.specs.Outcome.{Verdict}
 use Rattle.reader.specs.Outcome.{Refused as Unread}
-use Rattle.desk.specs.Steps.{Turned, refuse as refuse_new, fresh_desk}
+use Rattle.desk.specs.Steps.{Turned, turned, new_step, fresh_desk}
 use Rattle.desk.specs.Answer.{Answer}
 use Rattle.desk.specs.Answer.{Refused}
 use Rattle.desk.specs.declared.Desk.{Desk}
-use Rattle.desk.specs.declared.Turn.{Turn}
 use Rattle.desk_ledger.specs.Answers.{refused, verdict, wrote, said}
 use Rattle.desk_ledger.proofs.AnswerLaws.{verdict_refused, wrote_refused, said_refused}
 use Rattle.firmware.specs.Word.{verdict_word, Low, word_outcome}
@@ -27,9 +26,9 @@ use Rattle.demands.proofs.Texts.{escape_exactly, unescape_exactly}
 use Rattle.demands.proofs.Labels.{encode_exactly, decode_exactly}
 use Rattle.demands.proofs.Cards.{judge_exactly, read_exactly, fold_exactly}
 use Rattle.report.specs.declared.Report.{Report}
-use Rattle.report.specs.declared.Answer.{Answer as TakingAnswer}
-use Rattle.report.specs.declared.Answer.TheVariants.{Counted, Refused as Uncounted}
-use Rattle.report.specs.declared.Taken.{Taken as TakenIn}
+use Rattle.report.specs.Answer.{Answer as TakingAnswer}
+use Rattle.report.specs.Answer.{Counted, Refused as Uncounted}
+use Rattle.report.specs.Answer.{Taken as TakenIn}
 use Rattle.demands.proofs.Reports.{take_exactly, print_exactly}
 use Rattle.demands.proofs.Desks.{new_exactly, open_exactly, add_exactly, release_exactly, held_exactly, judge_held_exactly, shows_none, shows, counted, judged}
 use Rattle.property_table.specs.declared.Edition.TheVariants.{First}
@@ -93,12 +92,12 @@ module _ {By : ℕ → ℕ → Type 0} where
         unchanged = λ n p b. ap (λ (t : TakenIn). t.report) (e.unchanged n p b);
       }
 
-  starting_exactly : {r : Turn} → ByCase (λ (r : Turn). r.answer) r (λ n p. refuse_new (fresh_desk 0) n p) By → Exactly (said r.answer) (r.desk ≡ fresh_desk 0) By
+  starting_exactly : {r : Turned} → TurningByCase r (fresh_desk 0) [] By → Exactly (said r.answer) (r.desk ≡ fresh_desk 0) By
   starting_exactly {r} e =
       record {
         only = λ n p f. e.only n p (said_refused r.answer n p f);
-        answers = λ n p b. ap (λ (r : Turn). said r.answer) (e.unchanged n p b);
-        unchanged = λ n p b. ap (λ (r : Turn). r.desk) (e.unchanged n p b);
+        answers = λ n p b. ap (λ (r : Turned). said r.answer) (e.unchanged n p b);
+        unchanged = λ n p b. ap (λ (r : Turned). r.desk) (e.unchanged n p b);
       }
 
 pub demand1 : Demand1
@@ -112,7 +111,7 @@ demand1 =
       unescapes = λ t out. filling_exactly (unescape_exactly t out);
       encodes = λ r t out. filling_exactly (encode_exactly t out r);
       decodes = λ r t out. filling_exactly (decode_exactly t out r);
-      starts = λ slots. starting_exactly (new_exactly slots);
+      starts = λ slots. starting_exactly {r = turned (new_step slots) []} (new_exactly slots);
       opens = λ d pool m tick. turning_exactly (open_exactly d pool m tick);
       adds = λ d pool t chunk tick. turning_exactly (add_exactly d pool t chunk tick);
       releases = λ d pool t. turning_exactly (release_exactly d pool t);

@@ -4,7 +4,7 @@ use mathlib.Core.Path.{◌≡◌, ap}
 use mathlib.Core.List.{List}
 use mathlib.Core.Logic.{◌↔◌}
 use Rattle.octets.specs.Room.{Filled, refuse}
-use Rattle.desk_ledger.specs.Answers.{Reply, told, refused, wrote}
+use Rattle.desk_ledger.specs.Answers.{refused, wrote}
 use Rattle.version3_parameters.specs.declared.Way.TheVariants.{Inward}
 use Rattle.version3.specs.Outcome.{take_outcome, give_outcome}
 use Rattle.version3_laws.specs.Refusals.{RefusedIn, RefusedOut}

@@ -25,6 +25,7 @@ use Rattle.folder_raising.specs.declared.Style.{Style}
 use Rattle.folder.specs.Outcome.{fold_in, fold_outcome}
 use Rattle.desk_entries.specs.Ticks.{idle_ticks}
 use Rattle.desk_slots.specs.Sound.{state_at, tick_at}
+use Rattle.desk.specs.Answer.{answer as desk_answer}
 use Rattle.desk.specs.Steps.{Sound, seen, Turned, fresh_desk, new_step, open_step, add_step, release_step, octets_in, show_step, held_step, judge_step}
 use Rattle.desk_entries.specs.declared.Session.{Session}
 use Rattle.desk_entries.specs.declared.State.TheVariants.{Free, Open}
@@ -37,9 +38,9 @@ use Rattle.report_weights.specs.Parts.{part}
 use Rattle.report.specs.Steps.{take_step}
 use Rattle.report.specs.Text.{report_text}
 use Rattle.report.specs.declared.Report.{Report}
-use Rattle.report.specs.declared.Answer.{Answer}
-use Rattle.report.specs.declared.Answer.TheVariants.{Counted, Refused as Uncounted}
-use Rattle.report.specs.declared.Taken.{Taken as TakenIn}
+use Rattle.report.specs.Answer.{Answer}
+use Rattle.report.specs.Answer.{Counted, Refused as Uncounted}
+use Rattle.report.specs.Answer.{Taken as TakenIn}
 use Rattle.report_laws.specs.Totals.{place_of, count_in}
 use Rattle.reader_grammar.specs.Inputs.{InputIn}
 use Rattle.reader_grammar.specs.Refusals.{RefusedIn, RefusedBy, Judging}
@@ -213,7 +214,7 @@ pub record Demand1 : Type 0 where
   pub encodes : (r : Rule) (t out : List ℕ) → Filling (encode_outcome r t out) out (EncodeBy t out r)
   pub decodes : (r : Rule) (t out : List ℕ) → Filling (decode_outcome r t out) out (DecodeBy t out r)
   -- a refused desk has 0 slots
-  pub starts : (slots : ℕ) → Exactly (said (new_step slots).answer) ((new_step slots).desk ≡ fresh_desk 0) (NewBy slots)
+  pub starts : (slots : ℕ) → Exactly (said (desk_answer (new_step slots).answer)) ((new_step slots).desk ≡ fresh_desk 0) (NewBy slots)
   pub opens : (d : Desk) (pool : List ℕ) (m tick : ℕ) → Turning (open_step d pool m tick) d pool (OpenBy d pool tick)
   pub adds : (d : Desk) (pool : List ℕ) (t : ℕ) (chunk : List ℕ) (tick : ℕ) → Turning (add_step d pool t chunk tick) d pool (AddBy d pool t chunk)
   pub releases : (d : Desk) (pool : List ℕ) (t : ℕ) → Turning (release_step d pool t) d pool (TicketBy d pool t)

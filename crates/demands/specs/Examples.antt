@@ -14,6 +14,7 @@ use Rattle.report.specs.Steps.{fresh_report}
 use Rattle.report.specs.Text.{report_text}
 use Rattle.report_laws.specs.Totals.{after}
 use Rattle.desk_slots.specs.Sound.{state_at}
+use Rattle.desk.specs.Answer.{answer as desk_answer}
 use Rattle.desk.specs.Steps.{new_step}
 use Rattle.desk_entries.specs.declared.Session.{Session}
 use Rattle.desk_entries.specs.declared.State.TheVariants.{Open}
@@ -74,7 +75,7 @@ pub data Example : Type 0 where
 
 -- such a desk is granted; and with its proper pool, whatever this holds, the steps of the desk's contracts answer and end so
 pub record Turns (n : ℕ) (cs : List Ticked) (ns : List ℕ) (i : ℕ) (s : Session) : Type 0 where
-  pub granted : said (new_step n).answer ≡ told 0
+  pub granted : said (desk_answer (new_step n).answer) ≡ told 0
   pub answered : (p : List ℕ) → Proper n p → answers n p cs ≡ map told ns
   pub slot : (p : List ℕ) → Proper n p → state_at (world n p cs).desk.entries i ≡ Open s
 

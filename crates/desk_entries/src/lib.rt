@@ -32,7 +32,8 @@ pub struct Entry {
     pub state: State,
 }
 
-// Tells the ticket of an open entry, and 0 of a free one.
+// Tells the ticket of an open entry, and 0 of a free one. It stays a number: 0 is no ticket of a sound desk, and one that is not sound may have it in an
+// open entry, which `find_idle` passes over like a free one.
 pub fn ticket_of(e: Entry) -> u32
     ensures { result ≡ ticket_of e.state }
 {

@@ -14,8 +14,8 @@ ghost use Rattle.merge.specs.Outcome.{planned, plan_rows, check_rows, plan_outco
 
 use merge_partners::{Partners, Side};
 use merge_sources::{Row, Source};
-use numbers::refusal::{Reason, Refusal};
 use numbers::limit;
+use numbers::refusal::{Reason, Refusal};
 use octets::indices::wide_number;
 use property_table::Edition;
 

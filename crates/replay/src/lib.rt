@@ -45,7 +45,13 @@ fn run_all(desk: Desk, script: &[u8], pool: &mut [u8], log: &mut [u8]) -> usize
 }
 
 // Runs a script on a fresh desk, or refuses with 90, 91 or 92.
-fn play(slots: usize, desk: Desk, script: &[u8], pool: &mut [u8], log: &mut [u8]) -> Result<Run, Refusal>
+fn play(
+    slots: usize,
+    desk: Desk,
+    script: &[u8],
+    pool: &mut [u8],
+    log: &mut [u8],
+) -> Result<Run, Refusal>
     requires { (bounds slots 1 ≡ true) × (desk ≡ (new_step slots).desk) }
     ensures { replayed (answered result) pool.new log.new ≡ played slots pool.old log.old (decode script.now) }
 {

@@ -1,4 +1,4 @@
-// The octet that names each answer in a log.
+// The octet that names each answer in a log. They stay octets: a log holds them so, and nothing here reads one back.
 
 pub const REFUSED: u8 = 0;
 

@@ -1,4 +1,4 @@
-// The octet that names each call of a script, and the lengths of calls.
+// The octet that names each call of a script, and the lengths of calls. The names stay octets: a script holds them so, and the wrong ones too.
 
 pub const OPEN: u8 = 1;
 

@@ -17,7 +17,8 @@ pub struct Counted {
     pub shows: usize,
 }
 
-// Measures the call at the start of s in octets: 0 where it is unknown or cut off.
+// Measures the call at the start of s in octets: 0 where it is unknown or cut off. It stays a number, which `scan width` of the theorems adds up; and
+// `replay::run_all` measures only whole calls, so that an Option would give it an arm that never runs.
 pub fn width(s: &[u8]) -> usize
     ensures { result ≡ width s.now }
 {

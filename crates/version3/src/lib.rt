@@ -9,8 +9,8 @@ ghost use Rattle.version3.specs.Outcome.{concluded, convert_outcome, take_outcom
 
 mod sheet;
 
-use numbers::refusal::{Reason, Refusal};
 use numbers::limit;
+use numbers::refusal::{Reason, Refusal};
 use version3_judge::{Phase, Set};
 use version3_parameters::Way;
 

@@ -17,8 +17,8 @@ ghost use Rattle.watch.specs.Outcome.{Comes, lines_came, octets_came, chunk_came
 
 use card_state::tags::Tags;
 use card_state::{Card, Flaw, Step};
-use numbers::refusal::{Reason, Refusal};
 use numbers::limit;
+use numbers::refusal::{Reason, Refusal};
 use reader::Verdict;
 use watch_arrivals::{AFTER_CR, AFTER_CR_LF, AFTER_OTHER};
 

@@ -6,4 +6,3 @@ use Rattle.cabbook_morning.proofs.run_round.Given as goal
 
 abbrev pub invariant-loop-k : goal.invariant-loop-k
 invariant-loop-k l = length l.pool ≡ length l.initial.pool
-

@@ -5,4 +5,3 @@ use Rattle.cabbook_morning.proofs.run_rounds.Given as goal
 
 abbrev pub invariant-loop : goal.invariant-loop
 invariant-loop l = length l.pool ≡ length l.initial.pool
-

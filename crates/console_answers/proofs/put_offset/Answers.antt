@@ -28,4 +28,4 @@ returns-in-Minutes c =
 
 pub returns-in-Refused : goal.returns-in-Refused
 unfolding offset_text
-returns-in-Refused c = rw c.in-Refused.is c.put_refusal.ensures
+returns-in-Refused c = rw c.in-Refused.is c.put_no.ensures

@@ -13,7 +13,7 @@ returns-then-z-lt0 c =
     let z = c.args.z in
     let h = c.requires in
     let sign : lt_z z (pos 0) ≡ true = subst (λ (y : ℤ). lt_z y (pos 0) ≡ true) (back z h) c.if-z-lt0.true in
-    let size = c.magnitude-n.ensures ∙ ap nat_abs (back z h) in
+    let size = c.unsigned_abs-n.ensures.value ∙ ap nat_abs (back z h) in
     rw (sign, ← size) c.put_after.ensures
 
 pub returns : goal.returns
@@ -22,5 +22,5 @@ returns c =
     let z = c.args.z in
     let h = c.requires in
     let sign : lt_z z (pos 0) ≡ false = subst (λ (y : ℤ). lt_z y (pos 0) ≡ false) (back z h) c.if-z-lt0.false in
-    let size = c.magnitude-n.ensures ∙ ap nat_abs (back z h) in
+    let size = c.unsigned_abs-n.ensures.value ∙ ap nat_abs (back z h) in
     rw (sign, ← size) c.put_number.ensures

@@ -1,77 +1,34 @@
 -- `console_answers::put_spaced_numbers` meets its contract. Assumes nothing.
-use mathlib.Core.Path.{refl, sym, ◌∙◌}
+use mathlib.Core.Path.{◌≡◌, refl, sym, ◌∙◌}
 use mathlib.Core.List.{[], ◌∷◌, ◌++◌}
 use native.Mathlib.Omega.{arith}
-use lib.ListN.{get_or, drop}
+use borrow.Author.Rules.{rules}
 use Rattle.program_output.specs.Pages.{page}
 use Rattle.program_output.specs.Digits.{decimal}
 use Rattle.console_answers.specs.Texts.{further, others}
 use Rattle.program_output.proofs.PageLaws.{then, turn, stop}
-use Rattle.console_answers.proofs.Words.{others_cons, others_nil, joined_none, joined_some}
+use Rattle.console_answers.proofs.Words.{others_cons, others_nil, joined_none, joined_cons}
 use Rattle.console_answers.proofs.put_spaced_numbers.Goals as goal
 
-pub put-end-requires : goal.put-end-requires
-put-end-requires c = tt
+pub returns-in_default : goal.returns-in_default
+returns-in_default c = rw (joined_none c.args.s.now (search rules)) c.put-start.ensures
 
-pub returns-then-s-eq0 : goal.returns-then-s-eq0
-returns-then-s-eq0 c =
-    let put = c.put-end in
-    let a = c.args in
-    rw (joined_none a.s.now (omega arith)) put.ensures
+pub loop-n-init : goal.loop-n-init
+loop-n-init c = (refl, refl)
 
-pub bounds-s-0 : goal.bounds-s-0
-bounds-s-0 c = omega arith
-
-pub overflow_cast-s : goal.overflow_cast-s
-overflow_cast-s c = omega (arith, c.type_inv.s 0)
-
-pub put_number-end-requires : goal.put_number-end-requires
-put_number-end-requires c = tt
-
-pub loop-i-init : goal.loop-i-init
-loop-i-init c = (refl, refl)
-
-pub offset_bounds-s-i : goal.offset_bounds-s-i
-offset_bounds-s-i c = omega arith
-
-pub bounds-s-i : goal.bounds-s-i
-bounds-s-i c = omega arith
-
-pub overflow_cast-s-in-loop-i : goal.overflow_cast-s-in-loop-i
-overflow_cast-s-in-loop-i c = omega (arith, c.type_inv.s c.loop-i.i)
-
-pub put_after-end-requires : goal.put_after-end-requires
-put_after-end-requires c = tt
-
-pub overflow_add-i : goal.overflow_add-i
-overflow_add-i c = omega arith
-
-pub loop-i-smaller : goal.loop-i-smaller
-loop-i-smaller c = omega arith
-
-pub loop-i-preserved : goal.loop-i-preserved
-loop-i-preserved c =
-    let put-after = c.put_after-end in
-    let a = c.args in
-    let l = c.loop-i in (
-      omega arith,
-      turn further others others_cons a.s.now l.i (omega arith) (page l.end l.out) put-after.ensures ∙ l.invariant.1,
-    )
-
-pub shape_of-out : goal.shape_of-out
-shape_of-out c = omega arith
+pub loop-n-preserved : goal.loop-n-preserved
+loop-n-preserved c =
+    let l = c.loop-n in
+    (omega arith, turn further others others_cons c.in-Some.rest.now l.n-index c.loop-n-test.true (page l.end l.out) c.put_after-end.ensures ∙ l.invariant.1)
 
 pub returns : goal.returns
 returns c =
-    let put-number = c.put_number-end in
-    let if1 = c.if-s-eq0 in
-    let put = c.put-end in
     let a = c.args in
-    let s = a.s.now in
-    let l = c.loop-i in
-    let rest = others (drop 1 s) in
-    let first = decimal (get_or s 0 0) in
-    rw (joined_some s if1.false)
-    (sym (stop further others others_nil s l.i (omega arith) (page l.end l.out)) ∙ l.invariant.1
-    ∙ then (32 ∷ []) (first ++ rest) (page a.at a.out.now) put.ensures
-    (then first rest (page put.result put.new.room) put-number.ensures refl))
+    let l = c.loop-n in
+    let first = c.in-Some.first.now in
+    let rest = c.in-Some.rest.now in
+    let whole : a.s.now ≡ first ∷ rest = search rules in
+    rw (whole, joined_cons first rest)
+    (sym (stop further others others_nil rest l.n-index (omega arith) (page l.end l.out)) ∙ l.invariant.1
+    ∙ then (32 ∷ []) (decimal first ++ others rest) (page a.at a.out.now) c.put-start.ensures
+    (then (decimal first) (others rest) (page c.put-start.result c.put-start.new.room) c.put_number-end.ensures refl))

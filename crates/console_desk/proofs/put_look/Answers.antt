@@ -5,7 +5,7 @@ use Prim.Native.Nat.{ℕ}
 use Rattle.program_output.specs.Pages.{page, added}
 use Rattle.console_answers.specs.Texts.{verdict_text, answer_text, octets_word}
 use Rattle.reader.specs.Outcome.{Verdict}
-use Rattle.desk.specs.declared.Answer.{Answer}
+use Rattle.desk.specs.Answer.{Answer}
 use Rattle.console_desk.specs.DeskAnswers.{look_text}
 use Rattle.console_desk.proofs.put_look.Goals as goal
 

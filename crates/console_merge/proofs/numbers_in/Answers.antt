@@ -9,8 +9,8 @@ returns-in_default c = rw c.in_default.is
 
 pub returns-then-n-most : goal.returns-then-n-most
 unfolding numbers_in
-returns-then-n-most c = rw c.in-Pairs.is (omega arith)
+returns-then-n-most c = rw c.in-Ok.is (omega arith)
 
 pub returns : goal.returns
 unfolding numbers_in
-returns c = rw c.in-Pairs.is (omega arith)
+returns c = rw c.in-Ok.is (omega arith)

@@ -2,10 +2,10 @@
 use Rattle.console_merge.specs.MergeAnswers.{paired_text}
 use Rattle.console_merge.proofs.put_paired.Goals as goal
 
-pub returns-in-Pairs : goal.returns-in-Pairs
+pub returns-in-Ok : goal.returns-in-Ok
 unfolding paired_text
-returns-in-Pairs c = rw c.in-Pairs.is c.put_done.ensures
+returns-in-Ok c = rw c.in-Ok.is c.put_done.ensures
 
-pub returns-in-Refused : goal.returns-in-Refused
+pub returns-in-Err : goal.returns-in-Err
 unfolding paired_text
-returns-in-Refused c = rw c.in-Refused.is c.put_refusal.ensures
+returns-in-Err c = rw c.in-Err.is c.put_refusal.ensures

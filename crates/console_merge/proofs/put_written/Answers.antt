@@ -3,10 +3,10 @@ use Rattle.program_output.specs.Pages.{added}
 use Rattle.console_merge.specs.MergeAnswers.{written_word}
 use Rattle.console_merge.proofs.put_written.Goals as goal
 
-pub returns-in-Pairs : goal.returns-in-Pairs
+pub returns-in-Ok : goal.returns-in-Ok
 unfolding written_word
-returns-in-Pairs c = rw c.in-Pairs.is c.put_numbers.ensures
+returns-in-Ok c = rw c.in-Ok.is c.put_numbers.ensures
 
-pub returns-in-Refused : goal.returns-in-Refused
+pub returns-in-Err : goal.returns-in-Err
 unfolding written_word added
-returns-in-Refused c = rw c.in-Refused.is
+returns-in-Err c = rw c.in-Err.is

@@ -6,7 +6,7 @@ use Rattle.console_answers.specs.Texts.{line_end}
 use Rattle.console_report.proofs.KeptLaws.{kept_says}
 use mathlib.Core.Path.{refl}
 use mathlib.Core.List.{◌++◌}
-use Rattle.report.specs.declared.Taken.{Taken}
+use Rattle.report.specs.Answer.{Taken, answer}
 use Rattle.console_desk.specs.DeskAnswers.{state_of}
 use Rattle.console_report.specs.ReportAnswers.{taken_text, after_take, take_answer}
 use Rattle.console_report.proofs.answer_take.Goals as goal
@@ -16,7 +16,7 @@ unfolding take_answer
 returns c =
     let a = c.args in
     let t = c.take-t in
-    let text = taken_text t.result.answer in
+    let text = taken_text (answer t.result.answer) in
     kept_says a.k.console a.out.now (text ++ line_end) c.with_output.ensures
     (then text line_end (page a.k.console.at a.out.now) c.put_taken-end.ensures c.put_end-at.ensures) refl
     ∙ ap (λ (x : Taken). after_take x (state_of a.k.console a.out.now)) t.ensures

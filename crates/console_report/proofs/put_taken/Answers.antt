@@ -2,10 +2,10 @@
 use Rattle.console_report.specs.ReportAnswers.{taken_text}
 use Rattle.console_report.proofs.put_taken.Goals as goal
 
-pub returns-in-Counted : goal.returns-in-Counted
+pub returns-in-Ok : goal.returns-in-Ok
 unfolding taken_text
-returns-in-Counted c = rw c.in-Counted.is c.put_done.ensures
+returns-in-Ok c = rw c.in-Ok.is c.put_done.ensures
 
-pub returns-in-Refused : goal.returns-in-Refused
+pub returns-in-Err : goal.returns-in-Err
 unfolding taken_text
-returns-in-Refused c = rw c.in-Refused.is c.put_refusal.ensures
+returns-in-Err c = rw c.in-Err.is c.put_refusal.ensures

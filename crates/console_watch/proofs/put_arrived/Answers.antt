@@ -9,4 +9,4 @@ returns-in-Next c = rw c.in-Next.is c.put_done_line.ensures
 
 pub returns-in-Refused : goal.returns-in-Refused
 unfolding arrived_text
-returns-in-Refused c = rw c.in-Refused.is (then _ _ _ c.put_refusal-end.ensures c.put_room_end.ensures)
+returns-in-Refused c = rw c.in-Refused.is (then _ _ _ c.put_no-end.ensures c.put_room_end.ensures)

@@ -50,9 +50,3 @@ returns-in-ToMerge c =
 pub returns-in-ToWatch : goal.returns-in-ToWatch
 unfolding AnswerAny
 returns-in-ToWatch c = rw c.in-ToWatch.is (c.answer_watch.ensures, refl)
-
-pub returns-in-Bad : goal.returns-in-Bad
-unfolding AnswerAny
-returns-in-Bad c =
-    let a = c.args in
-    rw c.in-Bad.is (ap (λ (t : Watching). everything t a.buffer.now a.pool.now) c.answer_bad.ensures)

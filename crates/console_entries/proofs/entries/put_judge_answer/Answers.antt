@@ -2,7 +2,7 @@
 use mathlib.Core.Path.{ap, ◌∙◌}
 use Rattle.program_output.specs.Pages.{page, added}
 use Rattle.console_answers.specs.Texts.{line_end, verdict_text}
-use Rattle.reader.specs.Outcome.{Verdict}
+use Rattle.reader.specs.Outcome.{Verdict, verdict}
 use Rattle.program_output.proofs.PageLaws.{then}
 use Rattle.console_entries.specs.Entries.{judge_answer}
 use mathlib.Core.List.{◌++◌}
@@ -16,5 +16,5 @@ returns c =
     let judge = c.judge_as in
     let a = c.args in
     let o = page a.at a.out.now in
-    then (verdict_text judge.result) line_end o put-verdict.ensures put-end.ensures
+    then (verdict_text (verdict judge.result)) line_end o put-verdict.ensures put-end.ensures
     ∙ ap (λ (v : Verdict). added (verdict_text v ++ line_end) o) judge.ensures

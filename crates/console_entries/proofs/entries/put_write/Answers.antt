@@ -6,7 +6,7 @@ use Prim.Native.Nat.{ℕ}
 use lib.ListN.{drop}
 use Rattle.program_output.specs.Pages.{page, added}
 use Rattle.console_answers.specs.Texts.{written_text, room_end}
-use Rattle.octets.specs.Room.{Filled}
+use Rattle.octets.specs.Room.{Filled, written}
 use Rattle.program_output.proofs.PageLaws.{then}
 use Rattle.console_entries.specs.Rooms.{octet_fill, all}
 use Rattle.console_entries.specs.Entries.{write_text}
@@ -23,7 +23,7 @@ returns c =
     let a = c.args in
     let o = page a.at a.out.now in
     let room = call.new.room in
-    then (written_text call.result room) (room_end is-kept.result) o Put-written.ensures put-room-end.ensures
-    ∙ ap (λ (b : Bool). added (written_text call.result room ++ room_end b) o) is-kept.ensures
-    ∙ ap (λ (n : ℕ). added (written_text call.result room ++ room_end (all octet_fill (drop n room))) o) count_of.ensures
+    then (written_text (written call.result) room) (room_end is-kept.result) o Put-written.ensures put-room-end.ensures
+    ∙ ap (λ (b : Bool). added (written_text (written call.result) room ++ room_end b) o) is-kept.ensures
+    ∙ ap (λ (n : ℕ). added (written_text (written call.result) room ++ room_end (all octet_fill (drop n room))) o) count_of.ensures
     ∙ ap (λ (f : Filled). added (write_text f) o) call.ensures

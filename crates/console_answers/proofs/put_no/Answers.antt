@@ -1,11 +1,11 @@
--- `console_answers::put_refusal` meets its contract. Assumes nothing.
+-- `console_answers::put_no` meets its contract. Assumes nothing.
 use Rattle.program_output.specs.Pages.{page}
 use mathlib.Core.List.{◌++◌}
 use Rattle.octets.specs.Ascii.{octets}
 use Rattle.program_output.specs.Digits.{decimal}
 use Rattle.console_answers.specs.Texts.{spaced, refusal_text}
 use Rattle.program_output.proofs.PageLaws.{then}
-use Rattle.console_answers.proofs.put_refusal.Goals as goal
+use Rattle.console_answers.proofs.put_no.Goals as goal
 
 pub returns : goal.returns
 unfolding refusal_text octets
