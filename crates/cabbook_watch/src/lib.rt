@@ -35,7 +35,7 @@ fn put_known(room: &mut [u8], at: usize, w: Watch) -> usize {
         return put_all(room, at, b", no fault so far");
     }
     let start = put_all(room, at, b", refused ");
-    sentences::put_amount(room, start, w.fault as usize, b"")
+    sentences::put_amount(room, start, w.fault.number() as usize, b"")
 }
 
 // Writes over the line on standard error, where that is asked for: how many octets of a file came, and what is known of them.
