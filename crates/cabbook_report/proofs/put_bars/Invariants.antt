@@ -10,4 +10,3 @@ use Rattle.cabbook_report.proofs.put_bars.Given as goal
 
 abbrev pub invariant-loop-place : goal.invariant-loop-place
 invariant-loop-place l = (l.place ≤ 59) × (length l.room ≡ length l.initial.room) × (added (bars l.values (numbers_from 0 59)) (page 0 l.initial.room) ≡ added (bars l.values (left l.place)) (page l.at l.room))
-
