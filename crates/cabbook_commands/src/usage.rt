@@ -1,5 +1,5 @@
 // What to do: the help, and the few lines after a wrong use.
-ghost use Rattle.std.specs.Prelude.{◌≤◌, IfOk};
+ghost use Rattle.std.specs.Prelude.{◌≡◌, ◌≤◌, IfOk};
 ghost use Rattle.cabbook_output.specs.Ends.{Status};
 ghost use Rattle.cabbook_tables.specs.Statuses as status;
 
