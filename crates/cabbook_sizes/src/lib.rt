@@ -71,11 +71,14 @@ fn count_file(host: &mut Host, fd: i32, path: &[u8]) -> Size {
         cards: 0,
         met: 1,
     };
-    for _ in 0..u64::MAX {
+    // Kept as a count of turns: a wrong program takes the count away, which a `for` has not.
+    let mut left = u64::MAX;
+    while left > 0 {
         let Some(next) = count_some(host, now, fd, path) else {
             return now;
         };
         now = next;
+        left -= 1;
     }
     now
 }

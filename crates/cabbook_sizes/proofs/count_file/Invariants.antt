@@ -1,0 +1,8 @@
+-- `cabbook_sizes::count_file` is safe and ends. Assumes nothing.
+use Rattle.cabbook_sizes.proofs.count_file.Given as goal
+
+abbrev pub invariant-loop-left : goal.invariant-loop-left
+invariant-loop-left l = Unit {0}
+
+abbrev pub decreases-loop-left : goal.decreases-loop-left
+decreases-loop-left l = l.left
