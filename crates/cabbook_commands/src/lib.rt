@@ -145,7 +145,16 @@ fn check_of(w: Words) -> Task {
 fn run_morning(host: &mut Host, w: Words, count: usize) -> Ended
     ensures { IfOk result Status }
 {
-    let status = cabbook_morning::play(host, w, count);
+    let first = arguments::first_file(host, w, count);
+    let status = cabbook_morning::play(
+        host,
+        first,
+        w.dashes,
+        count,
+        w.value(Switch::Chunk),
+        w.value(Switch::Tick),
+        w.value(Switch::Slots),
+    );
     reporting::print_after(host, w, count, status)
 }
 
@@ -178,7 +187,10 @@ fn run(host: &mut Host, command: Command, w: Words, count: usize) -> Ended
         Command::V3in => apply_to_all(host, Task::Convert(Way::Inward), w, count),
         Command::V3out => apply_to_all(host, Task::Convert(Way::Outward), w, count),
         Command::Morning => run_morning(host, w, count),
-        Command::Watch => cabbook_watch::watch_files(host, w, count, w.value(Switch::Chunk)),
+        Command::Watch => {
+            let first = arguments::first_file(host, w, count);
+            cabbook_watch::watch_files(host, first, w.dashes, count, w.value(Switch::Chunk))
+        }
         Command::Merge => run_merge(host, w, count),
         Command::Report => reporting::report_files(host, w, count),
         Command::Help => usage::print_help(host, None),

@@ -1,3 +1,2 @@
 -- The laws that the proofs of `cabbook_messages` cite. Assumes nothing.
 pub mod WordLaws
-pub mod ReasonLaws

@@ -12,8 +12,6 @@ ghost use Rattle.cabbook_tables.specs.Statuses as status;
 ghost use Rattle.cabbook_morning.specs.Turns.{Begun, Finished, AddedTo, Taken, FedWith, Fed, Turns};
 
 use cabbook_options::arguments;
-use cabbook_options::names::Switch;
-use cabbook_options::words::Words;
 use depot::{Morning, Upload};
 use desk::Desk;
 use numbers::limit;
@@ -207,27 +205,27 @@ fn run_on(host: &mut Host, slots: usize, m: Morning, pool: &mut [u8]) -> Morning
     run_rounds(host, m, &mut pool[..n])
 }
 
-// Plays a morning with the files that the arguments name, on a desk of as many slots and in chunks and ticks as the options tell. Answers the exit status.
-pub fn play(host: &mut Host, w: Words, count: usize) -> u8
+// Plays a morning on a desk of so many slots with the files that the arguments from `first` on name, where options end at that argument, if they end; none or 0
+// for a number stands for the usual one. Answers the exit status.
+pub fn play(
+    host: &mut Host,
+    first: Option<usize>,
+    dashes: Option<usize>,
+    count: usize,
+    chunk: Option<usize>,
+    tick: Option<usize>,
+    slots: Option<usize>,
+) -> u8
     ensures { result ≤ status.failed }
 {
-    let first = arguments::first_file(host, w, count);
-    let width = options::widest(host, first, w.dashes, count);
+    let from = first.unwrap_or(count);
+    let width = options::widest(host, from, dashes, count);
     printing::print_titles(host, width);
     let mut pool = [0u8; limit::POOL];
-    let places = w
-        .value(Switch::Slots)
-        .unwrap_or(options::USUAL_SLOTS)
-        .min(limit::SLOTS);
-    let begun = depot::begin(
-        places,
-        depot::ticket_of(w.value(Switch::Tick).unwrap_or(options::USUAL_TICK)),
-        first.unwrap_or(count),
-        count,
-        w.dashes,
-        w.value(Switch::Chunk).unwrap_or(options::USUAL_CHUNK),
-        width,
-    );
+    let size = options::or_usual(chunk, options::USUAL_CHUNK);
+    let step = depot::ticket_of(options::or_usual(tick, options::USUAL_TICK));
+    let places = options::or_usual(slots, options::USUAL_SLOTS).min(limit::SLOTS);
+    let begun = depot::begin(places, step, from, count, dashes, size, width);
     let m = run_on(host, places, begun, &mut pool);
     printing::print_summary(
         host,

@@ -1,6 +1,6 @@
 // The numbers of `morning` that options set, and how wide the column of names has to be.
-ghost use Rattle.std.specs.Prelude.{◌≤◌, ◌<◌, IfSome};
-ghost use Rattle.cabbook_morning.specs.Options.{narrowest_column, widest_column};
+ghost use Rattle.std.specs.Prelude.{◌≡◌, ◌≤◌};
+ghost use Rattle.cabbook_morning.specs.Options.{or_usual, narrowest_column, widest_column};
 
 use cabbook_options::arguments;
 use program_host::Host;
@@ -20,6 +20,16 @@ pub(crate) const USUAL_TICK: usize = 1;
 // The slots of the desk where no others are named.
 pub(crate) const USUAL_SLOTS: usize = 40;
 
+// An option's number, or the usual one where it is 0 or the option is not named.
+pub(crate) fn or_usual(n: Option<usize>, usual: usize) -> usize
+    ensures { result ≡ or_usual usual n }
+{
+    match n {
+        None | Some(0) => usual,
+        Some(n) => n,
+    }
+}
+
 // How many cells argument i takes, up to the widest.
 fn width_of(host: &Host, i: usize) -> usize {
     let mut path = program_host::buffer();
@@ -28,20 +38,14 @@ fn width_of(host: &Host, i: usize) -> usize {
 }
 
 // How wide the column of names is: the most cells that a file's name takes from argument `first` on, between the narrowest and the widest.
-pub(crate) fn widest(
-    host: &Host,
-    first: Option<usize>,
-    dashes: Option<usize>,
-    count: usize,
-) -> usize
-    requires { IfSome first (λ i. i < count) }
+pub(crate) fn widest(host: &Host, first: usize, dashes: Option<usize>, count: usize) -> usize
     ensures { (narrowest_column ≤ result) × (result ≤ widest_column) }
 {
     let mut width: usize = NARROWEST;
-    let mut next = first;
-    while let Some(i) = next {
+    let mut i = first;
+    while i < count {
         width = width.max(width_of(host, i).min(WIDEST));
-        next = arguments::next_file(host, i + 1, dashes, count);
+        i = arguments::next_file(host, i + 1, dashes, count).unwrap_or(count);
     }
     width
 }

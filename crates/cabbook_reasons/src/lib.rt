@@ -182,7 +182,7 @@ fn put_order(room: &mut [u8], at: usize, s: &[u8], place: usize) -> usize
 }
 
 // Adds why octets are refused at a place, by what stands there, or in the words of the refusal.
-#[tactic(auto, using(cabbook_messages::proofs::ReasonLaws::other_reason), unfolding(crate::specs::Reasons::reason, octets::specs::Ascii::octets))]
+#[tactic(auto, using(numbers::proofs::Reasons::other_reason), unfolding(crate::specs::Reasons::reason, octets::specs::Ascii::octets))]
 pub fn put_reason(room: &mut [u8], at: usize, s: &[u8], r: Refusal) -> usize
     ensures { page result room.new ≡ added (reason s.now (number r.0) r.1) (page at room.old) }
 {

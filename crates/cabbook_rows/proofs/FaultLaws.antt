@@ -7,7 +7,7 @@ use borrow.Author.Tests.{lt-ltb, le-ltb, lt-leb}
 use Rattle.numbers.specs.Refusals.{number}
 use Rattle.numbers.specs.declared.refusal.Reason.{Reason}
 use Rattle.numbers.specs.declared.refusal.Reason.TheVariants.{Name, Parameter, Quote, NoColon}
-use Rattle.cabbook_messages.proofs.ReasonLaws.{same_reason}
+use Rattle.numbers.proofs.Reasons.{same_reason}
 use Rattle.cabbook_rows.specs.Faults.{is_fault}
 
 outside : (n : ℕ) → (n ≡ 40 → ⊥) → (n ≡ 41 → ⊥) → (n ≡ 42 → ⊥) → (n ≡ 43 → ⊥) → is_fault n ≡ false

@@ -98,7 +98,7 @@ fn put_colon(room: &mut [u8], at: usize, line: &[u8], w: AtFault) -> usize
 }
 
 // Adds what is wrong with a logical line that is refused with 40 to 43.
-#[tactic(auto, using(cabbook_messages::proofs::ReasonLaws::other_reason), unfolding(crate::specs::Faults::fault_words))]
+#[tactic(auto, using(numbers::proofs::Reasons::other_reason), unfolding(crate::specs::Faults::fault_words))]
 fn put_fault(room: &mut [u8], at: usize, line: &[u8], reason: Reason) -> usize
     ensures { page result room.new ≡ added (fault_words (number reason) line.now) (page at room.old) }
 {
@@ -135,7 +135,7 @@ fn put_raw(room: &mut [u8], at: usize, line: &[u8], reason: Reason) -> usize
 }
 
 // Adds why octets are refused: what is wrong with the line in which the place lies, what its value should be, or by what stands there.
-#[tactic(auto, using(cabbook_messages::proofs::ReasonLaws::other_reason), unfolding(crate::specs::Faults::why))]
+#[tactic(auto, using(numbers::proofs::Reasons::other_reason), unfolding(crate::specs::Faults::why))]
 pub fn put_why(room: &mut [u8], at: usize, s: &[u8], r: Refusal) -> usize
     ensures { page result room.new ≡ added (why s.now (number r.0) r.1) (page at room.old) }
 {

@@ -18,7 +18,7 @@ const BEFORE: usize = 72;
 const AFTER: usize = 48;
 
 // Where the part of a line that is shown ends: past a lone CR or LF where that is refused, else at the line's end.
-#[tactic(auto, using(cabbook_messages::proofs::ReasonLaws::other_reason), unfolding(crate::specs::Under::shown_end))]
+#[tactic(auto, using(numbers::proofs::Reasons::other_reason), unfolding(crate::specs::Under::shown_end))]
 fn shown_end(s: &[u8], r: Refusal, from: usize) -> usize
     requires { from ≤ length s.now }
     ensures { result ≡ shown_end s.now (number r.0) r.1 from }

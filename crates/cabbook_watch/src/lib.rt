@@ -6,7 +6,6 @@ ghost use Rattle.cabbook_output.specs.Ends.{Status};
 
 use cabbook_messages::sentences;
 use cabbook_options::arguments;
-use cabbook_options::words::Words;
 use cabbook_output::{Ended, File};
 use cabbook_tables::status;
 use numbers::limit;
@@ -153,16 +152,26 @@ fn watch_argument(host: &mut Host, i: usize, size: usize) -> Ended
     watch_file(host, &path[..n], size)
 }
 
-// Watches each file that the arguments name, as long as output can be written, in chunks of that size, if one is named. Answers the highest status.
-pub fn watch_files(host: &mut Host, w: Words, count: usize, chunk: Option<usize>) -> Ended
+// Watches each file that the arguments from `first` on name, as long as output can be written, where options end at that argument, if they end; none or 0 for a
+// size stands for the usual one. Answers the highest status.
+pub fn watch_files(
+    host: &mut Host,
+    first: Option<usize>,
+    dashes: Option<usize>,
+    count: usize,
+    chunk: Option<usize>,
+) -> Ended
     ensures { IfOk result Status }
 {
-    let size = chunk.unwrap_or(USUAL_CHUNK);
+    let size = match chunk {
+        None | Some(0) => USUAL_CHUNK,
+        Some(n) => n,
+    };
     let mut status: u8 = status::ACCEPTED;
-    let mut next = arguments::first_file(host, w, count);
-    while let Some(i) = next {
+    let mut i = first.unwrap_or(count);
+    while i < count {
         status = status.max(watch_argument(host, i, size)?);
-        next = arguments::next_file(host, i + 1, w.dashes, count);
+        i = arguments::next_file(host, i + 1, dashes, count).unwrap_or(count);
     }
     Ok(status)
 }

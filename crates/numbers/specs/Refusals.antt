@@ -1,7 +1,7 @@
 -- Refusals: the number of each, in the order of the table in docs/REFERENCE.md. Assumes nothing.
 use Rattle.std.specs.Prelude.{ℕ, List, [], ◌∷◌, ◌++◌}
 use Rattle.numbers.specs.declared.refusal.Reason.{Reason}
-use Rattle.numbers.specs.declared.refusal.Reason.TheVariants.{TooLong, Empty, LoneCrOrLf, NoEnd, BadOctet, Value, Laden, Order, Second, NoFn, Member, CopyRoom, RecordRoom, Room, FormTooLong, NoFreeSlot, TicketsUsedUp, NotOpen, SlotFull, PoolLength, Unsound, SlotCount, Escape, TextOctet, Name, Parameter, Quote, NoColon, NoLabel, BufferLength, Claim, NotTakenIn, NotGivenOut, NoPlan, MergeLimit, SourceRow, Plan, ReportFull, ReplayCall, ReplayPool, ReplayLog}
+use Rattle.numbers.specs.declared.refusal.Reason.TheVariants.{TooLong, Empty, LoneCrOrLf, NoEnd, BadOctet, Value, Laden, Order, Second, NoFn, Member, CopyRoom, RecordRoom, Room, FormTooLong, NoFreeSlot, TicketsUsedUp, NotOpen, SlotFull, PoolLength, Unsound, SlotCount, Escape, TextOctet, Name, Parameter, Quote, NoColon, NoLabel, BufferLength, Claim, NotTakenIn, NotGivenOut, NoPlan, MergeLimit, SourceRow, Plan, ReportFull, ReplayCall, ReplayPool, ReplayLog, Other}
 
 -- an input, a text, a value or a label of over 16,384 octets; at 16,384
 abbrev pub too_long : ℕ
@@ -226,3 +226,4 @@ number ReportFull = report_full
 number ReplayCall = replay_call
 number ReplayPool = replay_pool
 number ReplayLog = replay_log
+number (Other u) = u.number

@@ -7,3 +7,4 @@ pub mod kind;
 pub mod limit;
 pub mod property;
 pub mod refusal;
+pub mod unlisted;

@@ -20,21 +20,21 @@ const REFUSALS: usize = count::PROPERTIES - count::REFUSALS;
 
 // The refusals of a judgement, by number.
 const NUMBERS: [u32; REFUSALS] = [
-    Reason::TooLong as u32,
-    Reason::Empty as u32,
-    Reason::LoneCrOrLf as u32,
-    Reason::NoEnd as u32,
-    Reason::BadOctet as u32,
-    Reason::Value as u32,
-    Reason::Laden as u32,
-    Reason::Order as u32,
-    Reason::Second as u32,
-    Reason::NoFn as u32,
-    Reason::Member as u32,
-    Reason::Name as u32,
-    Reason::Parameter as u32,
-    Reason::Quote as u32,
-    Reason::NoColon as u32,
+    Reason::TooLong.number(),
+    Reason::Empty.number(),
+    Reason::LoneCrOrLf.number(),
+    Reason::NoEnd.number(),
+    Reason::BadOctet.number(),
+    Reason::Value.number(),
+    Reason::Laden.number(),
+    Reason::Order.number(),
+    Reason::Second.number(),
+    Reason::NoFn.number(),
+    Reason::Member.number(),
+    Reason::Name.number(),
+    Reason::Parameter.number(),
+    Reason::Quote.number(),
+    Reason::NoColon.number(),
 ];
 
 // The refusal that is counted at a place.

@@ -27,14 +27,14 @@ use Rattle.watch_lines.specs.Values.{values_from, buffers_from}
 use Rattle.watch_lines.specs.Taking.{kept, judgement, joined_line, Within, Went}
 use Rattle.watch_lines.proofs.RunLaws.{open_law}
 use Rattle.watch.specs.State.{quiet_state, open_state, stopped_state, claims, Sound}
-use Rattle.watch.specs.Outcome.{told, view_of, quiet_view, open_view, Came, came, count, cleared, new_lines, after_lines, lines_came, octets_came, chunk_came, begun, Comes, last_line, end_came}
+use Rattle.watch.specs.Outcome.{view_of, quiet_view, open_view, Came, came, count, cleared, new_lines, after_lines, lines_came, octets_came, chunk_came, begun, Comes, last_line, end_came}
 use Rattle.watch.specs.declared.Watch.{Watch}
 
 abbrev Stopped : KeptStep → Type 0
 Stopped j = (d : Kept) → j ≡ next d → ⊥
 
 -- a state that claims nothing, as it is read
-quiet_view_lem : (known : ℕ) (fault : Reason) (place n tail : ℕ) (b : List ℕ) → view_of (quiet_state known fault place n tail) b ≡ quiet_view known (told known fault) place n tail
+quiet_view_lem : (known : ℕ) (fault : Reason) (place n tail : ℕ) (b : List ℕ) → view_of (quiet_state known fault place n tail) b ≡ quiet_view known (number fault) place n tail
 unfolding view_of card_of places_of tag_at
 quiet_view_lem known fault place n tail b = refl
 
@@ -46,7 +46,7 @@ quiet_sound known fault place n tail h g l = record {
 }
 
 pub quiet_comes : (known : ℕ) (fault : Reason) (place n tail : ℕ) (r : Watch) (b : List ℕ) (o : Came) → Sound (quiet_state known fault place n tail) → r ≡ quiet_state known fault place n tail
-    → o ≡ came (quiet_view known (told known fault) place n tail) b → Comes r b o
+    → o ≡ came (quiet_view known (number fault) place n tail) b → Comes r b o
 quiet_comes known fault place n tail r b o s e f = record {
   sound = subst Sound (sym e) s;
   view = ap (λ (w : Watch). view_of w b) e ∙ quiet_view_lem known fault place n tail b ∙ sym (ap (λ (x : Came). x.view) f);

@@ -3,7 +3,6 @@ use Rattle.std.specs.Prelude.{ℕ, ◌+◌, ◌-◌, ◌<◌, ◌≤◌, ◌≡�
 use Rattle.numbers.specs.Limits as limit
 use Rattle.numbers.specs.Refusals as refusal
 use Rattle.numbers.specs.Refusals.{number}
-use Rattle.numbers.specs.declared.refusal.Reason.{Reason}
 use Rattle.octets.specs.Pick.{pick}
 use Rattle.property_table.specs.declared.Edition.TheVariants.{First}
 use Rattle.card_state.specs.State.{Card, Step, Next, Refused as Halted, Flawed, fresh_card}
@@ -33,14 +32,10 @@ pub record View : Type 0 where
   pub used : ℕ
   pub card : Card
 
--- the number of a fault that is known, else 0
-abbrev pub told : ℕ → Reason → ℕ
-told known r = pick (eqb known is_none) 0 (number r)
-
 unfoldable pub view_of : Watch → List ℕ → View
 view_of w b = record {
   known = w.known;
-  fault = told w.known w.fault;
+  fault = number w.fault;
   place = w.place;
   start = w.start;
   «open» = w.«open»;

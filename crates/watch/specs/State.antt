@@ -1,9 +1,10 @@
 -- The state of a watch: what it is after some octets. Assumes nothing.
-use Rattle.std.specs.Prelude.{ℕ, ◌+◌, ◌<◌, ◌≤◌, ◌≡◌, true, List, length}
+use Rattle.std.specs.Prelude.{ℕ, ◌+◌, ◌<◌, ◌≤◌, ◌≡◌, refl, true, List, length}
 use Rattle.numbers.specs.Limits as limit
 use Rattle.numbers.specs.Refusals.{number}
 use Rattle.numbers.specs.declared.refusal.Reason.{Reason}
-use Rattle.numbers.specs.declared.refusal.Reason.TheVariants.{Order}
+use Rattle.numbers.specs.declared.refusal.Reason.TheVariants.{Other}
+use Rattle.numbers.specs.Listed.{is_listed}
 use Rattle.card_state.specs.State.{Step, Next}
 use Rattle.card_state.specs.Kept.{fresh_kept, card_of}
 use Rattle.card_state.specs.declared.Card.{Card as Kept}
@@ -31,9 +32,10 @@ is_break = 2
 abbrev pub is_over : ℕ
 is_over = 3
 
--- the reason of a state with no fault known
+-- the reason of a state with no fault known, whose number 0 no refusal has
 abbrev pub no_reason : Reason
-no_reason = Order
+unfolding is_listed
+no_reason = Other (record { number = 0; unlisted = refl })
 
 -- a state that claims nothing of the buffer, after n octets
 abbrev pub quiet_state : ℕ → Reason → ℕ → ℕ → ℕ → Watch

@@ -19,6 +19,7 @@ use card_state::tags::Tags;
 use card_state::{Card, Flaw, Step};
 use numbers::limit;
 use numbers::refusal::{Reason, Refusal};
+use numbers::unlisted::Unlisted;
 use reader::Verdict;
 use watch_arrivals::{AFTER_CR, AFTER_CR_LF, AFTER_OTHER};
 
@@ -32,8 +33,8 @@ pub const LONE_BREAK: u32 = 2;
 
 pub const TOO_LONG: u32 = 3;
 
-// The reason of a state with no fault known.
-const NO_REASON: Reason = Reason::Order;
+// The reason of a state with no fault known, whose number 0 no refusal has.
+const NO_REASON: Reason = Reason::Other(Unlisted { number: 0 });
 
 // What is kept between two chunks, beside the buffer.
 #[derive(Clone, Copy)]

@@ -1,13 +1,9 @@
 -- `cabbook_morning::options::widest` meets its contract. Assumes nothing.
-use Rattle.std.proofs.Common.{ℕ, ◌-◌, ◌<◌, ◌≤◌, Option, Some, None, IfSome}
+use Rattle.std.proofs.Common.{◌-◌, ◌≤◌}
 use Rattle.cabbook_morning.proofs.options.widest.Given as goal
 
-abbrev left : ℕ → Option ℕ → ℕ
-left count (Some i) = count - i
-left count None = 0
+abbrev pub invariant-loop-i : goal.invariant-loop-i
+invariant-loop-i l = (4 ≤ l.width) × (l.width ≤ 40)
 
-abbrev pub invariant-loop-next : goal.invariant-loop-next
-invariant-loop-next l = (4 ≤ l.width) × (l.width ≤ 40) × IfSome l.next (λ i. i < l.count)
-
-abbrev pub decreases-loop-next : goal.decreases-loop-next
-decreases-loop-next l = left l.count l.next
+abbrev pub decreases-loop-i : goal.decreases-loop-i
+decreases-loop-i l = l.count - l.i
