@@ -1,16 +1,19 @@
 -- Digits at a place, and numbers digit by digit. Assumes nothing.
 use mathlib.Core.Path.{◌≡◌, refl, sym, ◌∙◌}
 use mathlib.Core.List.{List, [], ◌∷◌}
-use Prim.Native.Nat.{ℕ, ◌+◌, ◌<◌, ◌≤◌}
+use Prim.Native.Nat.{ℕ, ◌+◌, ◌-◌, ◌<◌, ◌≤◌}
 use native.Mathlib.Numerals.{add-one}
 use native.Mathlib.Omega.{arith}
-use lib.ListN.{length, get_or, take, drop, drop_of_length-le}
+use lib.Dec.{ltb}
+use lib.ListN.{length, get_or, take, drop, length-drop, drop_of_length-le}
 use lib.Seq.{drop-cons}
-use borrow.Author.Tests.{eq-eqb, ne_eqb, lt-ltb, le-ltb}
+use borrow.Author.Tests.{eq-eqb, ne_eqb, lt-ltb, le-ltb, ltb-lt}
 use Rattle.std.specs.Char.{is_ascii_digit}
 use Rattle.std.specs.List.{prefix_len}
+use Rattle.std.proofs.lemmas.List.{take_all}
 use Rattle.std.proofs.lemmas.List.Folds.{length-prefix_len}
 use Rattle.octets.proofs.Bools.{by}
+use Rattle.octets.specs.Slices.{part}
 use Rattle.octets.specs.Classes.{run, digit}
 use Rattle.line_parser.specs.Parse.{hd}
 use Rattle.line_parser.proofs.Steps.{look}
@@ -29,6 +32,13 @@ prefix_is (x ∷ xs) = rw (digit_is x) (by (digit x) (λ e. rw e (omega (arith, 
 -- how many octets at the start are digits
 pub run_is : (xs : List ℕ) → length (take (prefix_len is_ascii_digit xs) xs) ≡ run digit xs
 run_is xs = length-prefix_len is_ascii_digit xs ∙ prefix_is xs
+
+-- the part from a place to the end
+pub part_rest : (s : List ℕ) (a : ℕ) → part s a (length s) ≡ drop a s
+part_rest s a =
+    rw (le-ltb (length s) (length s) (omega arith))
+    (by (ltb (length s) a) (λ e. rw e (sym (drop_of_length-le s (omega (arith, ltb-lt (length s) a e)))))
+    (λ e. rw e (take_all (length s - a) (drop a s) (rw (length-drop a s) (omega arith)))))
 
 -- one turn of reading a number, and its end
 module _ (s : List ℕ) (n i : ℕ) where

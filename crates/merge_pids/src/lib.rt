@@ -11,6 +11,7 @@ ghost use Rattle.merge_pids.specs.Marks.{mark, marked, put_mark, put_all, value_
 use numbers::limit;
 use octets::classes;
 use octets::classes::ClassTable;
+use octets::slices::part;
 
 // How many numbers a mark has: its line, the PID's first number and its source number.
 pub const MARK: usize = 3;
@@ -34,9 +35,8 @@ struct Span {
 pub fn digits_end(s: &[u8], from: usize) -> usize
     ensures { result ≡ from + run digit (drop from s.now) }
 {
-    from + s
+    from + part(s, from, s.len())
         .iter()
-        .skip(from)
         .take_while(|b| b.is_ascii_digit())
         .count()
 }

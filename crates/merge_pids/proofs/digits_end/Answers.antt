@@ -3,18 +3,16 @@ use Rattle.std.proofs.Common.{◌+◌, ◌∙◌, ap, ℕ, drop, rules}
 use borrow.Author.Tests.{tests}
 use Rattle.std.specs.Char.{is_ascii_digit}
 use Rattle.std.proofs.lemmas.Iterator.{YieldsList-from_slice}
-use Rattle.std.proofs.lemmas.Iterator.Adapters.{YieldsList-from_skip}
 use Rattle.std.proofs.lemmas.Iterator.Consumers.{YieldsList-at, count_from_yields_List}
 use Rattle.std.proofs.lemmas.Iterator.Search.{YieldsList-from_take_while}
-use Rattle.merge_pids.proofs.NumberLaws.{run_is}
+use Rattle.merge_pids.proofs.NumberLaws.{part_rest, run_is}
 use Rattle.merge_pids.proofs.digits_end.Goals as goal
 
 pub returns : goal.returns
 returns c =
-    let s = c.args.s.now in
-    let rest = YieldsList-from_skip c.args.from (YieldsList-at c.skip.ensures.source (YieldsList-from_slice s (cc))) c.skip.ensures.count in
+    let rest = YieldsList-from_slice (drop c.args.from c.args.s.now) (c.part.ensures ∙ part_rest c.args.s.now c.args.from) in
     ap (λ (k : ℕ). c.args.from + k)
     (count_from_yields_List _ _ c.count.ensures.ran
     (YieldsList-from_take_while _ is_ascii_digit (YieldsList-at c.take_while.ensures.source rest) c.take_while.ensures.closure c.take_while.ensures.done
     (λ x b q k. search (rules, tests)))
-    ∙ run_is (drop c.args.from s))
+    ∙ run_is (drop c.args.from c.args.s.now))
