@@ -6,6 +6,7 @@ use Prim.Native.Nat.{ℕ, ◌+◌, ◌-◌, ◌<◌, ◌≤◌}
 use native.Mathlib.Numerals.{unary_clauses}
 use native.Mathlib.Omega.{arith}
 use lib.ListN.{length, get_or, take, drop, length-drop, length-append}
+use native.Mathlib.Nat.{add-zero}
 use lib.Seq.{get_or-drop, drop-drop, take-append_seam, drop-append_seam}
 use borrow.Author.Tests.{eq-eqb, ne_eqb}
 use Rattle.octets.specs.Ascii.{octets}
@@ -75,18 +76,25 @@ module _ {t w : List ℕ} {i : ℕ} where
   none [] s h = s.alike
   none (m ∷ ms) s h = absurd (omega (arith, length-drop i t, ap length s.rest))
 
+-- an option's name stops at `=`, and goes on at any other octet
+pub name_stops : (s : List ℕ) (i : ℕ) → get_or s i 0 ≡ 61 → name_step (drop i s) ≡ 0
+name_stops s i e = rw (get_or-drop i s 0 0, add-zero, eq-eqb _ _ e)
+
+pub name_goes : (s : List ℕ) (i : ℕ) → (get_or s i 0 ≡ 61 → ⊥) → name_step (drop i s) ≡ 1
+name_goes s i e = rw (get_or-drop i s 0 0, add-zero, ne_eqb _ _ e)
+
 -- an option's name ends at the first `=`, or at the word's end
 pub name_empty : name_length [] ≡ 0
 unfolding name_length scan
 name_empty = refl
 
-pub name_stops : (x : ℕ) (xs : List ℕ) → x ≡ 61 → name_length (x ∷ xs) ≡ 0
+pub length_stops : (x : ℕ) (xs : List ℕ) → x ≡ 61 → name_length (x ∷ xs) ≡ 0
 unfolding name_length scan
-name_stops x xs e = rw (eq-eqb x 61 e)
+length_stops x xs e = rw (eq-eqb x 61 e)
 
-pub name_goes : (x : ℕ) (xs : List ℕ) → (x ≡ 61 → ⊥) → name_length (x ∷ xs) ≡ name_length xs + 1
+pub length_goes : (x : ℕ) (xs : List ℕ) → (x ≡ 61 → ⊥) → name_length (x ∷ xs) ≡ name_length xs + 1
 unfolding name_length scan
-name_goes x xs e = rw (ne_eqb x 61 e) (omega arith)
+length_goes x xs e = rw (ne_eqb x 61 e) (omega arith)
 
 pub name_inside : (w : List ℕ) → name_length w ≤ length w
 unfolding name_length

@@ -10,13 +10,13 @@ use Rattle.program_numbers.specs.Alike.{alike}
 use Prim.Native.Nat.{ℕ, ◌+◌, ◌-◌, ◌<◌, ◌≤◌}
 use native.Mathlib.Omega.{arith}
 use lib.ListN.{length}
-use Rattle.std.specs.Prelude.{Option, Some}
+use Rattle.std.specs.Prelude.{Option, Some, None}
 use borrow.Author.Tests.{lt-ltb, le-ltb, eq-eqb, ne_eqb}
 use Rattle.console_words.specs.Words.{words_of, word_at}
 use Rattle.program_numbers.specs.Decimal.{number_of}
 use Rattle.program_numbers.specs.Hex.{Taken, taken, octets_of}
 use Rattle.console_requests.specs.Names.{Row, row_of}
-use Rattle.console_requests.specs.Requests.{requested, number_at, octets_at, make_request, read, read_named, request_of}
+use Rattle.console_requests.specs.Requests.{requested, number_at, octets_at, make_request, whole, read, read_named, request_of}
 
 -- a request by its row, once that is known
 pub of_row : (line room w : List ℕ) (k : ℕ) (r : Option Row) → w ≡ word_at line 0 → length (words_of line) ≡ k + 1 → r ≡ row_of w k
@@ -43,7 +43,30 @@ pub the_octets : (w : List ℕ) (o : ℕ) (room : List ℕ) → (o ≡ 0 → ⊥
 unfolding octets_at
 the_octets w o room h = rw (ne_eqb o 0 h)
 
--- a request by what its words are
+-- a request by what its words are; n is the row's count of numbers
+module _ (r : Row) (line room : List ℕ) (n : ℕ) (e : n ≡ r.numbers) where
+  read_at : read r line room
+      ≡ whole r.name (number_at (word_at line 1) 1 n) (number_at (word_at line 2) 2 n) (number_at (word_at line 3) 3 n) (octets_at (word_at line (n + 1)) r.octets room) room
+  read_at = rw e
+
+  -- x, y, v and z are what the words were read as
+  module _ (x : Option ℕ) (p : x ≡ number_at (word_at line 1) 1 n) where
+    pub first_bad : x ≡ None → read r line room ≡ requested None room
+    first_bad h = rw (read_at, sym p, h)
+
+    module _ (y : Option ℕ) (q : y ≡ number_at (word_at line 2) 2 n) (a : ℕ) (f : x ≡ Some a) where
+      pub second_bad : y ≡ None → read r line room ≡ requested None room
+      second_bad h = rw (read_at, sym p, f, sym q, h)
+
+      module _ (v : Option ℕ) (u : v ≡ number_at (word_at line 3) 3 n) (b : ℕ) (g : y ≡ Some b) where
+        pub third_bad : v ≡ None → read r line room ≡ requested None room
+        third_bad h = rw (read_at, sym p, f, sym q, g, sym u, h)
+
+        module _ (c o : ℕ) (k : v ≡ Some c) (d : o ≡ r.octets) (z : Option ℕ) (out : List ℕ) (s : taken z out ≡ octets_at (word_at line (n + 1)) o room) where
+          pub all_read : read r line room ≡ requested (make_request r.name a b c z) out
+          all_read = rw (read_at, sym p, f, sym q, g, sym u, k, sym d, sym s)
+
+-- the last word is the octets, or there are none
 pub octets_not : (t : Bool) → t ≡ false → (w room : List ℕ) → taken (Some 0) room ≡ octets_at w (bit t 1) room
 octets_not true e w room = cc
 octets_not false e w room = sym (no_octets w 0 room refl)

@@ -20,7 +20,7 @@ use Rattle.line_parser.specs.Parse.{Parse, got, bad}
 use Rattle.line_parser.specs.Grammar.{Line}
 use Rattle.line_parser.specs.Rule.{parse_line}
 use Rattle.property_table.specs.declared.Edition.TheVariants.{First}
-use Rattle.card_line.specs.Parts.{line_parts_by, line_parts_of}
+use Rattle.card_line.specs.Parts.{row_of_line, line_parts_by, line_parts_of}
 use Rattle.card_line.specs.declared.Parts.{Parts}
 use Rattle.card_line.specs.Parts.{fault}
 use Rattle.card_line.proofs.PartLaws.{Read}
@@ -143,6 +143,23 @@ unfolding folded pieces flatten
 folded_long l =
     let ps = first l 75 ∷ later l 75 in
     omega (arith, ap length (rejoin l 75), length-append (first l 75) (flatten (later l 75)), joined_long ps, length-append (joined ps) (13 ∷ 10 ∷ []))
+
+row_place : (row : ℕ) → turn_of_row row ≤ 2
+unfolding turn_of_row
+row_place row = go (eqb row 1) (eqb row 34)
+  where
+    go : (a b : Bool) → pick a 0 (pick b 1 2) ≤ 2
+    go true b = omega arith
+    go false true = omega arith
+    go false false = omega arith
+
+pub turn_place : (l : List ℕ) → turn_of l ≤ 2
+unfolding turn_of
+turn_place l = go (parse_line l)
+  where
+    go : (m : Parse Line) → turn_by m ≤ 2
+    go (got x k) = row_place (row_of_line First x)
+    go (bad e) = omega arith
 
 -- what is clear of a text stands at the start of room to which the text was written
 pub clear_taken : (l d : List ℕ) → take (length (clear l)) (overlay l d) ≡ clear l

@@ -5,18 +5,20 @@ use Prim.Native.Nat.{ℕ, ◌+◌, ◌-◌, ◌<◌, ◌≤◌}
 use native.Mathlib.Omega.{arith}
 use lib.ListN.{length, take, drop, length-append}
 use lib.Seq.{length-take-le}
+use Rattle.std.specs.Prelude.{Option, Some, None, Result}
 use borrow.Author.Tests.{eq-eqb, ne_eqb}
 use borrow.Rule.Slice.PartMut.{put_mid}
 use Rattle.octets.specs.Room.{overlay}
 use Rattle.octets.proofs.Writes.{Written}
 use Rattle.line_unfolding.proofs.PutLaws.{put_part}
+use Rattle.numbers.specs.declared.refusal.Refusal.{Refusal}
 use Rattle.line_folds.specs.Logical.{logical_lines}
 use Rattle.version3_parameters.specs.declared.Way.{Way}
 use Rattle.version3.specs.declared.sheet.Ends.{Ends}
 use Rattle.line_folds.specs.Folds.{line_length, unfolded}
 use Rattle.folder_line.specs.Pieces.{folded}
 use Rattle.version3.specs.Card.{turn_of, form_of, card_text}
-use Rattle.version3.specs.Places.{placed, share, Within, Lent, joined_by, Grown, Shared, Overfull, first_over, second_over, others_over, Sorted, Halfway, Narrow, first_narrow, second_narrow, others_narrow}
+use Rattle.version3.specs.Places.{placed, share, Within, Lent, joined_by, Grown, Shared, Overfull, first_over, second_over, others_over, Sorted, Halfway, Narrow, first_narrow, second_narrow, others_narrow, TriedBy, Attempt}
 use Rattle.version3.proofs.CardLaws.{card_places, places_turn, none_left, forms_none}
 
 share_own : (n turn : ℕ) (x : List ℕ) → turn ≡ n → share n turn x ≡ x
@@ -166,3 +168,8 @@ module _ {w : Way} {s a b c : List ℕ} {at : ℕ} {e : Ends} (h : Halfway w s a
 
 pub narrowed : {w : Way} {i : List ℕ} {a b c a' b' c' : ℕ} → Narrow w i a b c → a ≡ a' → b ≡ b' → c ≡ c' → Narrow w i a' b' c'
 narrowed n p q r = rw (← p, ← q, ← r) n
+
+pub attempted : (w : Way) (i : List ℕ) (a b c : ℕ) (before after : List ℕ) (r : Option (Result ℕ Refusal)) → TriedBy w i a b c before after r
+    → Attempt w i before after r
+attempted w i a b c before after (Some r) h = h
+attempted w i a b c before after None h = h.0

@@ -5,16 +5,24 @@ use mathlib.Core.List.{List, [], ◌∷◌}
 use Prim.Native.Nat.{ℕ, ◌+◌, ◌-◌, ◌<◌, ◌≤◌}
 use native.Mathlib.Numerals.{add-one}
 use native.Mathlib.Omega.{arith}
-use lib.Dec.{eqb}
+use lib.Dec.{eqb, leb}
 use lib.ListN.{length, get_or, take, drop, set, length-set, length-append, length-drop}
 use lib.Seq.{set-append_left, set_out}
-use borrow.Author.Tests.{lt-ltb, le-ltb, eq-eqb, ne_eqb, eqb-true, eqb-false}
+use borrow.Author.Tests.{lt-ltb, le-ltb, lt-leb, le-leb, eq-eqb, ne_eqb, eqb-true, eqb-false}
 use Rattle.std.specs.List.{starts_with}
 use Rattle.octets.specs.Ascii.{octets}
 use Rattle.octets.specs.Pick.{pick}
 use Rattle.octets.specs.Room.{overlay}
 use Rattle.octets.specs.Classes.{run, digit}
 use Rattle.version3_geo.specs.Floats.{digits, fraction, unsigned, sign, float, up_to, floats, swapped, schemed, new_geo, geo_text, made_new, made_old}
+
+pub digit_low : (b : ℕ) → b < 48 → false ≡ digit b
+unfolding digit
+digit_low b h = sym (rw (lt-leb 48 b h))
+
+pub digit_by : (b : ℕ) → 48 ≤ b → leb b 57 ≡ digit b
+unfolding digit
+digit_by b h = sym (rw (le-leb 48 b h))
 
 -- a digit is what no search for another octet finds
 pub digit_not : (b : ℕ) → digit b ≡ not (not (digit b))

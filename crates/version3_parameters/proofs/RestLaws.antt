@@ -231,6 +231,10 @@ unfolding piece
 piece_some true n v = omega arith
 piece_some false n v = omega arith
 
+pub left_start : (n : List ℕ) (vs : List Value) → left n 0 vs ≡ params_text (with_values n (kept vs))
+unfolding left
+left_start n vs = refl
+
 -- of a parameter that was read: its name, all that is left of it at first, and whether a value of it is pref
 abbrev pub name_by : Parse Param → List ℕ
 name_by (got p k) = p.name

@@ -23,6 +23,10 @@ put_cleared p e a to h g w =
     let y : e ≡ replicate (to - a) 0 = rw k at w in
     rw (y, length-replicate {A = ℕ} (to - a) 0)
 
+pub padded_length : (u : List ℕ) → length u ≤ 16384 → length (padded u) ≡ 16384
+unfolding padded
+padded_length u h = rw (length-append u (replicate (16384 - length u) 0), length-replicate {A = ℕ} (16384 - length u) 0) (omega arith)
+
 pub padded_front : (u : List ℕ) → take (length u) (padded u) ≡ u
 unfolding padded
 padded_front u = take-append_seam u (replicate (16384 - length u) 0)

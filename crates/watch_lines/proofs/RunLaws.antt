@@ -205,6 +205,12 @@ module _ (i c : List ℕ) where
   pub two_there : e < length c → 2 ≤ length o + e
   two_there h = omega (arith, next_least (o ++ c) (omega (arith, next_is, both)), next_is)
 
+  -- the line that ends, its CR LF and the rest
+  pub ends_size : e < length c → length (take (length o + e - 2) (o ++ c)) + 2 + length (drop e c) ≡ length (o ++ c)
+  ends_size h =
+      let n : length (take (length o + e - 2) (o ++ c)) ≡ length o + e - 2 = length-take-le (length o + e - 2) (o ++ c) (omega (arith, both)) in
+      omega (arith, n, length-drop e c, both, two_there h)
+
   -- the line that ends, by the octets that end it
   pub line_ends : e < length c → take (length o + e - 2) (o ++ take e c) ≡ take (length o + e - 2) (o ++ c)
   line_ends h =

@@ -8,7 +8,7 @@ use Rattle.line_folds.specs.Logical.{raw_lines}
 use Rattle.line_folds.proofs.LineLaws.{lines_end}
 use Rattle.line_folds.proofs.SpanLaws.{whole, part_length}
 use Rattle.version3_judge.specs.Judge.{Next, step, stopped, judge_lines}
-use Rattle.version3_judge.proofs.WalkLaws.{judged, stopped_step}
+use Rattle.version3_judge.proofs.WalkLaws.{judged, stopped_flaw}
 use Rattle.version3_judge.proofs.walk_in.Goals as goal
 
 pub loop-at-init : goal.loop-at-init
@@ -35,7 +35,7 @@ returns-in-Err c =
     let v = c.line_at-span in
     let l = c.loop-at in
     let here = take (v.result.end - l.at) (drop l.at c.args.s.now) in
-    c.settle.ensures ∙ sym (l.invariant.1 ∙ judged c.args.way c.args.s.now l.at v.result.end c.loop-at-test.true v.ensures.1 v.ensures.2 l.c (stopped c.in-Err.flaw) (sym (ap step c.in-Err.is) ∙ c.judge_span.ensures) ∙ stopped_step l.at here _ c.in-Err.flaw)
+    c.settle.ensures ∙ sym (l.invariant.1 ∙ judged c.args.way c.args.s.now l.at v.result.end c.loop-at-test.true v.ensures.1 v.ensures.2 l.c (stopped c.in-Err.flaw) (sym (ap step c.in-Err.is) ∙ c.judge_span.ensures) ∙ stopped_flaw l.at here _ c.in-Err.flaw)
 
 pub overflow_add-at : goal.overflow_add-at
 overflow_add-at c = omega (arith, c.line_at-span.ensures.2, c.requires.s_in_bounds)
