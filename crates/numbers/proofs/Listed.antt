@@ -1,7 +1,7 @@
 -- When a number is none that a refusal has. Assumes nothing.
-use Rattle.std.proofs.Common.{rules, ◌≡◌, refl, ℕ, ◌≤◌, Bool, true, false, leb}
+use Rattle.std.proofs.Common.{◌≡◌, ℕ, ◌≤◌, Bool, true, false}
 use native.Mathlib.Omega.{arith}
-use Rattle.numbers.specs.Listed.{or_else, within, within_by, is_listed}
+use Rattle.numbers.specs.Listed.{or_else, within, is_listed}
 
 neither : (x y : Bool) → x ≡ false → y ≡ false → or_else x y ≡ false
 neither false y e f = f

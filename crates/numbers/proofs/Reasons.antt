@@ -1,5 +1,5 @@
 -- Two reasons with one number are one reason. Assumes nothing.
-use Rattle.std.proofs.Common.{rules, ◌≡◌, ℕ, ◌≤◌, false}
+use Rattle.std.proofs.Common.{◌≡◌, ℕ, false}
 use Rattle.std.proofs.Math.Bool.{Bool-set}
 use native.Mathlib.Omega.{arith}
 use lib.Dec.{eqb}
