@@ -7,7 +7,7 @@ use native.Mathlib.Omega.{arith}
 use lib.Dec.{ltb}
 use lib.ListN.{length, get_or, take, drop, length-drop, drop_of_length-le}
 use lib.Seq.{drop-cons}
-use borrow.Author.Tests.{eq-eqb, ne_eqb, lt-ltb, le-ltb, ltb-lt}
+use borrow.Author.Tests.{eq-eqb, ne_eqb, lt-ltb, le-ltb, ltb-true, ltb-false}
 use Rattle.std.specs.Char.{is_ascii_digit}
 use Rattle.std.specs.List.{prefix_len}
 use Rattle.std.proofs.lemmas.List.{take_all}
@@ -37,8 +37,8 @@ run_is xs = length-prefix_len is_ascii_digit xs ∙ prefix_is xs
 pub part_rest : (s : List ℕ) (a : ℕ) → part s a (length s) ≡ drop a s
 part_rest s a =
     rw (le-ltb (length s) (length s) (omega arith))
-    (by (ltb (length s) a) (λ e. rw e (sym (drop_of_length-le s (omega (arith, ltb-lt (length s) a e)))))
-    (λ e. rw e (take_all (length s - a) (drop a s) (rw (length-drop a s) (omega arith)))))
+    (by (ltb (length s) a) (λ e. rw e (sym (drop_of_length-le s (omega (arith, ltb-true (length s) a e)))))
+    (λ e. rw e (take_all (length s - a) (drop a s) (rw (length-drop a s) (omega (arith, ltb-false (length s) a e))))))
 
 -- one turn of reading a number, and its end
 module _ (s : List ℕ) (n i : ℕ) where

@@ -93,53 +93,136 @@ pub enum Reason {
     Other(Unlisted),
 }
 
+// The number of each reason, under its name.
+pub const TOO_LONG: u32 = 1;
+
+pub const EMPTY: u32 = 2;
+
+pub const LONE_CR_OR_LF: u32 = 3;
+
+pub const NO_END: u32 = 4;
+
+pub const BAD_OCTET: u32 = 5;
+
+pub const VALUE: u32 = 7;
+
+pub const LADEN: u32 = 8;
+
+pub const ORDER: u32 = 9;
+
+pub const SECOND: u32 = 10;
+
+pub const NO_FN: u32 = 11;
+
+pub const MEMBER: u32 = 12;
+
+pub const COPY_ROOM: u32 = 13;
+
+pub const RECORD_ROOM: u32 = 14;
+
+pub const ROOM: u32 = 15;
+
+pub const FORM_TOO_LONG: u32 = 16;
+
+pub const NO_FREE_SLOT: u32 = 20;
+
+pub const TICKETS_USED_UP: u32 = 21;
+
+pub const NOT_OPEN: u32 = 22;
+
+pub const SLOT_FULL: u32 = 23;
+
+pub const POOL_LENGTH: u32 = 24;
+
+pub const UNSOUND: u32 = 25;
+
+pub const SLOT_COUNT: u32 = 26;
+
+pub const ESCAPE: u32 = 30;
+
+pub const TEXT_OCTET: u32 = 31;
+
+pub const NAME: u32 = 40;
+
+pub const PARAMETER: u32 = 41;
+
+pub const QUOTE: u32 = 42;
+
+pub const NO_COLON: u32 = 43;
+
+pub const NO_LABEL: u32 = 44;
+
+pub const BUFFER_LENGTH: u32 = 45;
+
+pub const CLAIM: u32 = 46;
+
+pub const NOT_TAKEN_IN: u32 = 50;
+
+pub const NOT_GIVEN_OUT: u32 = 51;
+
+pub const NO_PLAN: u32 = 70;
+
+pub const MERGE_LIMIT: u32 = 71;
+
+pub const SOURCE_ROW: u32 = 72;
+
+pub const PLAN: u32 = 73;
+
+pub const REPORT_FULL: u32 = 80;
+
+pub const REPLAY_CALL: u32 = 90;
+
+pub const REPLAY_POOL: u32 = 91;
+
+pub const REPLAY_LOG: u32 = 92;
+
 impl Reason {
     // The number by which a refusal is known.
-    pub const fn number(self) -> u32
+    pub fn number(self) -> u32
         ensures { result ≡ number self }
     {
         match self {
-            Reason::TooLong => 1,
-            Reason::Empty => 2,
-            Reason::LoneCrOrLf => 3,
-            Reason::NoEnd => 4,
-            Reason::BadOctet => 5,
-            Reason::Value => 7,
-            Reason::Laden => 8,
-            Reason::Order => 9,
-            Reason::Second => 10,
-            Reason::NoFn => 11,
-            Reason::Member => 12,
-            Reason::CopyRoom => 13,
-            Reason::RecordRoom => 14,
-            Reason::Room => 15,
-            Reason::FormTooLong => 16,
-            Reason::NoFreeSlot => 20,
-            Reason::TicketsUsedUp => 21,
-            Reason::NotOpen => 22,
-            Reason::SlotFull => 23,
-            Reason::PoolLength => 24,
-            Reason::Unsound => 25,
-            Reason::SlotCount => 26,
-            Reason::Escape => 30,
-            Reason::TextOctet => 31,
-            Reason::Name => 40,
-            Reason::Parameter => 41,
-            Reason::Quote => 42,
-            Reason::NoColon => 43,
-            Reason::NoLabel => 44,
-            Reason::BufferLength => 45,
-            Reason::Claim => 46,
-            Reason::NotTakenIn => 50,
-            Reason::NotGivenOut => 51,
-            Reason::NoPlan => 70,
-            Reason::MergeLimit => 71,
-            Reason::SourceRow => 72,
-            Reason::Plan => 73,
-            Reason::ReportFull => 80,
-            Reason::ReplayCall => 90,
-            Reason::ReplayPool => 91,
-            Reason::ReplayLog => 92,
+            Reason::TooLong => TOO_LONG,
+            Reason::Empty => EMPTY,
+            Reason::LoneCrOrLf => LONE_CR_OR_LF,
+            Reason::NoEnd => NO_END,
+            Reason::BadOctet => BAD_OCTET,
+            Reason::Value => VALUE,
+            Reason::Laden => LADEN,
+            Reason::Order => ORDER,
+            Reason::Second => SECOND,
+            Reason::NoFn => NO_FN,
+            Reason::Member => MEMBER,
+            Reason::CopyRoom => COPY_ROOM,
+            Reason::RecordRoom => RECORD_ROOM,
+            Reason::Room => ROOM,
+            Reason::FormTooLong => FORM_TOO_LONG,
+            Reason::NoFreeSlot => NO_FREE_SLOT,
+            Reason::TicketsUsedUp => TICKETS_USED_UP,
+            Reason::NotOpen => NOT_OPEN,
+            Reason::SlotFull => SLOT_FULL,
+            Reason::PoolLength => POOL_LENGTH,
+            Reason::Unsound => UNSOUND,
+            Reason::SlotCount => SLOT_COUNT,
+            Reason::Escape => ESCAPE,
+            Reason::TextOctet => TEXT_OCTET,
+            Reason::Name => NAME,
+            Reason::Parameter => PARAMETER,
+            Reason::Quote => QUOTE,
+            Reason::NoColon => NO_COLON,
+            Reason::NoLabel => NO_LABEL,
+            Reason::BufferLength => BUFFER_LENGTH,
+            Reason::Claim => CLAIM,
+            Reason::NotTakenIn => NOT_TAKEN_IN,
+            Reason::NotGivenOut => NOT_GIVEN_OUT,
+            Reason::NoPlan => NO_PLAN,
+            Reason::MergeLimit => MERGE_LIMIT,
+            Reason::SourceRow => SOURCE_ROW,
+            Reason::Plan => PLAN,
+            Reason::ReportFull => REPORT_FULL,
+            Reason::ReplayCall => REPLAY_CALL,
+            Reason::ReplayPool => REPLAY_POOL,
+            Reason::ReplayLog => REPLAY_LOG,
             Reason::Other(other) => other.number,
         }
     }
@@ -149,47 +232,47 @@ impl Reason {
         ensures { number result ≡ n }
     {
         match n {
-            1 => Reason::TooLong,
-            2 => Reason::Empty,
-            3 => Reason::LoneCrOrLf,
-            4 => Reason::NoEnd,
-            5 => Reason::BadOctet,
-            7 => Reason::Value,
-            8 => Reason::Laden,
-            9 => Reason::Order,
-            10 => Reason::Second,
-            11 => Reason::NoFn,
-            12 => Reason::Member,
-            13 => Reason::CopyRoom,
-            14 => Reason::RecordRoom,
-            15 => Reason::Room,
-            16 => Reason::FormTooLong,
-            20 => Reason::NoFreeSlot,
-            21 => Reason::TicketsUsedUp,
-            22 => Reason::NotOpen,
-            23 => Reason::SlotFull,
-            24 => Reason::PoolLength,
-            25 => Reason::Unsound,
-            26 => Reason::SlotCount,
-            30 => Reason::Escape,
-            31 => Reason::TextOctet,
-            40 => Reason::Name,
-            41 => Reason::Parameter,
-            42 => Reason::Quote,
-            43 => Reason::NoColon,
-            44 => Reason::NoLabel,
-            45 => Reason::BufferLength,
-            46 => Reason::Claim,
-            50 => Reason::NotTakenIn,
-            51 => Reason::NotGivenOut,
-            70 => Reason::NoPlan,
-            71 => Reason::MergeLimit,
-            72 => Reason::SourceRow,
-            73 => Reason::Plan,
-            80 => Reason::ReportFull,
-            90 => Reason::ReplayCall,
-            91 => Reason::ReplayPool,
-            92 => Reason::ReplayLog,
+            TOO_LONG => Reason::TooLong,
+            EMPTY => Reason::Empty,
+            LONE_CR_OR_LF => Reason::LoneCrOrLf,
+            NO_END => Reason::NoEnd,
+            BAD_OCTET => Reason::BadOctet,
+            VALUE => Reason::Value,
+            LADEN => Reason::Laden,
+            ORDER => Reason::Order,
+            SECOND => Reason::Second,
+            NO_FN => Reason::NoFn,
+            MEMBER => Reason::Member,
+            COPY_ROOM => Reason::CopyRoom,
+            RECORD_ROOM => Reason::RecordRoom,
+            ROOM => Reason::Room,
+            FORM_TOO_LONG => Reason::FormTooLong,
+            NO_FREE_SLOT => Reason::NoFreeSlot,
+            TICKETS_USED_UP => Reason::TicketsUsedUp,
+            NOT_OPEN => Reason::NotOpen,
+            SLOT_FULL => Reason::SlotFull,
+            POOL_LENGTH => Reason::PoolLength,
+            UNSOUND => Reason::Unsound,
+            SLOT_COUNT => Reason::SlotCount,
+            ESCAPE => Reason::Escape,
+            TEXT_OCTET => Reason::TextOctet,
+            NAME => Reason::Name,
+            PARAMETER => Reason::Parameter,
+            QUOTE => Reason::Quote,
+            NO_COLON => Reason::NoColon,
+            NO_LABEL => Reason::NoLabel,
+            BUFFER_LENGTH => Reason::BufferLength,
+            CLAIM => Reason::Claim,
+            NOT_TAKEN_IN => Reason::NotTakenIn,
+            NOT_GIVEN_OUT => Reason::NotGivenOut,
+            NO_PLAN => Reason::NoPlan,
+            MERGE_LIMIT => Reason::MergeLimit,
+            SOURCE_ROW => Reason::SourceRow,
+            PLAN => Reason::Plan,
+            REPORT_FULL => Reason::ReportFull,
+            REPLAY_CALL => Reason::ReplayCall,
+            REPLAY_POOL => Reason::ReplayPool,
+            REPLAY_LOG => Reason::ReplayLog,
             _ => Reason::Other(Unlisted { number: n }),
         }
     }

@@ -7,6 +7,7 @@ ghost use Rattle.report_weights.specs.Counts.{refusal_at, count_at, counts as al
 ghost use Rattle.report_weights.specs.Parts.{refused_part, accepted_part, weights};
 
 use numbers::count;
+use numbers::refusal;
 use numbers::refusal::{Reason, Refusal};
 use reader::Counts;
 use report_lines::LineCounts;
@@ -20,21 +21,21 @@ const REFUSALS: usize = count::PROPERTIES - count::REFUSALS;
 
 // The refusals of a judgement, by number.
 const NUMBERS: [u32; REFUSALS] = [
-    Reason::TooLong.number(),
-    Reason::Empty.number(),
-    Reason::LoneCrOrLf.number(),
-    Reason::NoEnd.number(),
-    Reason::BadOctet.number(),
-    Reason::Value.number(),
-    Reason::Laden.number(),
-    Reason::Order.number(),
-    Reason::Second.number(),
-    Reason::NoFn.number(),
-    Reason::Member.number(),
-    Reason::Name.number(),
-    Reason::Parameter.number(),
-    Reason::Quote.number(),
-    Reason::NoColon.number(),
+    refusal::TOO_LONG,
+    refusal::EMPTY,
+    refusal::LONE_CR_OR_LF,
+    refusal::NO_END,
+    refusal::BAD_OCTET,
+    refusal::VALUE,
+    refusal::LADEN,
+    refusal::ORDER,
+    refusal::SECOND,
+    refusal::NO_FN,
+    refusal::MEMBER,
+    refusal::NAME,
+    refusal::PARAMETER,
+    refusal::QUOTE,
+    refusal::NO_COLON,
 ];
 
 // The refusal that is counted at a place.
