@@ -1,4 +1,5 @@
 -- `cabbook_reasons::put_reason` meets its contract. Assumes nothing.
+use Rattle.std.proofs.Common.{rules}
 use Rattle.octets.specs.Ascii.{octets}
 use Rattle.numbers.specs.declared.refusal.Reason.TheVariants.{Order, LoneCrOrLf}
 use Rattle.numbers.proofs.Reasons.{other_reason}
@@ -11,4 +12,6 @@ returns-in_default c = rw (other_reason c.args.r.0 Order c.in_default.not-Order,
 
 pub returns-in_default-2 : goal.returns-in_default-2
 unfolding reason octets
-returns-in_default-2 c = rw (other_reason c.args.r.0 Order c.in_default-2.not-Order, ← c.is_utf16.ensures, c.if-is_utf16.false, other_reason c.args.r.0 LoneCrOrLf c.in_default-3.not-LoneCrOrLf) c.put_words.ensures
+returns-in_default-2 c =
+    let e = other_reason c.args.r.0 LoneCrOrLf (search rules) in
+    rw (other_reason c.args.r.0 Order c.in_default-2.not-Order, ← c.is_utf16.ensures, c.if-is_utf16.false, e) c.put_words.ensures
