@@ -6,9 +6,8 @@ ghost use Rattle.numbers.specs.Counts as places;
 ghost use Rattle.report_weights.specs.Counts.{refusal_at, count_at, counts as all_counts};
 ghost use Rattle.report_weights.specs.Parts.{refused_part, accepted_part, weights};
 
-use numbers::count;
-use numbers::refusal;
 use numbers::refusal::{Reason, Refusal};
+use numbers::{count, refusal};
 use reader::Counts;
 use report_lines::LineCounts;
 use std::array::from_fn;
