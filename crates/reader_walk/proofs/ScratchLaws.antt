@@ -1,16 +1,19 @@
 -- What a state keeps at the front of the scratch when a line was judged behind it, and octets moved down. Assumes nothing.
 use mathlib.Core.Path.{◌≡◌, refl, sym, ap, subst, ◌∙◌}
 use mathlib.Core.Bool.{Bool, true, false}
-use mathlib.Core.List.{List, [], ◌++◌, append-nil, append_assoc}
-use Prim.Native.Nat.{ℕ, ◌+◌, ◌-◌, ◌≤◌}
+use mathlib.Core.List.{List, [], ◌∷◌, ◌++◌, append-nil, append_assoc}
+use Prim.Native.Nat.{ℕ, suc, ◌+◌, ◌-◌, ◌<◌, ◌≤◌}
+use native.Mathlib.Numerals.{add-one}
 use native.Mathlib.Omega.{arith}
 use lib.Dec.{eqb}
-use lib.ListN.{length, take, drop, length-drop, length-append, take-append-drop, drop_of_length-le}
-use lib.Seq.{take-append-le, take-append_seam, drop-append_seam, drop-append-le, drop-append-add, length-take-le, take_all, drop-drop}
+use lib.ListN.{length, get_or, take, drop, set, length-drop, length-append, take-append-drop, drop_of_length-le}
+use lib.Seq.{take-append-le, take-append_seam, drop-append_seam, drop-append-le, drop-append-add, length-take-le, take_all, drop-cons, get_or-drop, drop-drop}
 use borrow.Rule.Slice.PartMut.{put_mid}
 use Rattle.std.specs.List.{copy_within}
 use Rattle.octets.specs.Pick.{pick}
 use Rattle.octets.specs.Room.{overlay}
+use Rattle.octets.proofs.Writes.{Written, finish}
+use Rattle.octets.proofs.PieceLaws.{put_one}
 use Rattle.card_state.specs.State.{Card}
 use Rattle.card_state.specs.Kept.{Lies, card_of, step_of}
 use Rattle.card_state.specs.declared.Card.{Card as Kept}
@@ -199,3 +202,48 @@ moved_down d to from n h =
     let k : from + n - from ≡ n = omega arith in
     let size : length (take n (drop from d)) ≡ n = length-take-le n (drop from d) (rw length-drop (omega arith)) in
     rw k (append_assoc (take to d) (take n (drop from d)) (drop (to + n) d) ∙ rw (size, drop-drop n to d))
+
+-- octets moved down one after the other
+module _ (b₀ : List ℕ) (to from n : ℕ) (down : to ≤ from) (room : from + n ≤ length b₀) where
+  abbrev whole : List ℕ
+  whole = take to b₀ ++ take n (drop from b₀)
+
+  abbrev Moved : List ℕ → ℕ → Type 0
+  Moved b i = Written whole (take (n - i) (drop (from + i) b₀)) b₀ b (to + i)
+
+  pub move_start : Moved b₀ 0
+  move_start =
+      let a : n - 0 ≡ n = omega arith in
+      let e : from + 0 ≡ from = omega arith in
+      let f : to + 0 ≡ to = omega arith in
+      rw (a, e, f) (record { done = refl; left = refl; same = refl; inside = omega arith })
+
+  pub move_turn : (b : List ℕ) (i : ℕ) → i < n → Moved b i → Moved (set b (to + i) (get_or b (from + i) 0)) (i + 1)
+  move_turn b i h m =
+      let there : (to + i) + (from - to) ≡ from + i = omega arith in
+      let read : get_or b (from + i) 0 ≡ get_or b₀ (from + i) 0 =
+      ap (λ (k : ℕ). get_or b k 0) (sym there)
+      ∙ sym (get_or-drop (to + i) b (from - to) 0)
+      ∙ ap (λ (x : List ℕ). get_or x (from - to) 0) m.left
+      ∙ get_or-drop (to + i) b₀ (from - to) 0
+      ∙ ap (λ (k : ℕ). get_or b₀ k 0) there in
+      let less : n - i ≡ suc (n - (i + 1)) = omega arith in
+      let on : suc (from + i) ≡ from + (i + 1) = omega arith in
+      let rest : take (n - i) (drop (from + i) b₀) ≡ (get_or b (from + i) 0 ∷ []) ++ take (n - (i + 1)) (drop (from + (i + 1)) b₀) =
+      ap (λ (x : List ℕ). take (n - i) x) (drop-cons b₀ (from + i) 0 (omega arith))
+      ∙ ap (λ (k : ℕ). take k (get_or b₀ (from + i) 0 ∷ drop (suc (from + i)) b₀)) less
+      ∙ rw (on, read) in
+      let fits : length whole ≤ length b₀ = rw (length-append (take to b₀) (take n (drop from b₀)), length-take-le to b₀ (omega arith), length-take-le n (drop from b₀) (rw length-drop (omega arith))) (omega arith) in
+      let up : to + i + 1 ≡ to + (i + 1) = omega arith in
+      rw (← up) (put_one m fits (take (n - (i + 1)) (drop (from + (i + 1)) b₀)) (get_or b (from + i) 0) rest)
+
+  pub move_end : (b : List ℕ) (i : ℕ) → n ≤ i → i ≤ n → Moved b i → b ≡ behind to (take n (drop from b₀)) b₀
+  unfolding behind
+  move_end b i g h m =
+      let all : i ≡ n = omega arith in
+      let none : n - n ≡ 0 = omega arith in
+      let last : Written whole [] b₀ b (to + n) = rw (all, none) at m in
+      let f = finish last in
+      let size : length (take n (drop from b₀)) ≡ n = length-take-le n (drop from b₀) (rw length-drop (omega arith)) in
+      f.1 ∙ append_assoc (take to b₀) (take n (drop from b₀)) (drop (to + n) b₀)
+      ∙ rw (size, drop-drop n to b₀)

@@ -25,5 +25,7 @@ pub fn move_down(scratch: &mut [u8], to: usize, from: usize, n: usize)
     requires { (to ≤ from) × (from + n ≤ length scratch.old) }
     ensures { scratch.new ≡ behind to (take n (drop from scratch.old)) scratch.old }
 {
-    scratch.copy_within(from..from + n, to);
+    for i in 0..n {
+        scratch[to + i] = scratch[from + i];
+    }
 }
