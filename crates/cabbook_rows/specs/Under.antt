@@ -10,6 +10,10 @@ use Rattle.cabbook_positions.specs.Positions.{back_to, opens, starts}
 use Rattle.program_visible.specs.Visible.{visible}
 use Rattle.cabbook_cells.specs.Cells.{blanks}
 
+-- past a lone CR or LF at the place, or the end of the logical line where the text has no such place
+abbrev pub break_end : List ℕ → ℕ → ℕ → ℕ
+break_end s place from = pick (ltb place (length s)) (place + 1) (from + line_length (drop from s))
+
 -- past a lone CR or LF where that is refused, else at the end of the logical line
 abbrev pub shown_end : List ℕ → ℕ → ℕ → ℕ → ℕ
 shown_end s number place from = pick (eqb number refusal.lone_cr_or_lf) (pick (ltb place (length s)) (place + 1) (from + line_length (drop from s))) (from + line_length (drop from s))

@@ -3,7 +3,7 @@ ghost use Rattle.std.specs.Prelude.{◌≡◌, ◌≤◌, length};
 ghost use Rattle.numbers.specs.Limits as limit;
 ghost use Rattle.numbers.specs.Refusals.{number};
 ghost use Rattle.program_output.specs.Pages.{page, added};
-ghost use Rattle.cabbook_rows.specs.Under.{shown_end, offending, cut, tail_at, last_part, last_blanks, rest_line, marked, under_lines};
+ghost use Rattle.cabbook_rows.specs.Under.{break_end, shown_end, offending, cut, tail_at, last_part, last_blanks, rest_line, marked, under_lines};
 
 use numbers::limit;
 use numbers::refusal::{Reason, Refusal};
@@ -17,14 +17,25 @@ const BEFORE: usize = 72;
 // The most octets of a line that are shown from a place on.
 const AFTER: usize = 48;
 
+// Where a lone CR or LF is past; the line's end where there is none at the place.
+fn break_end(s: &[u8], place: usize, from: usize) -> usize
+    requires { from ≤ length s.now }
+    ensures { result ≡ break_end s.now place from }
+{
+    if place < s.len() {
+        return place + 1;
+    }
+    line_folds::spans::line_end(s, from)
+}
+
 // Where the part of a line that is shown ends: past a lone CR or LF where that is refused, else at the line's end.
-#[tactic(auto, using(numbers::proofs::Reasons::other_reason), unfolding(crate::specs::Under::shown_end))]
 fn shown_end(s: &[u8], r: Refusal, from: usize) -> usize
     requires { from ≤ length s.now }
     ensures { result ≡ shown_end s.now (number r.0) r.1 from }
 {
-    match r {
-        Refusal(Reason::LoneCrOrLf, place) if place < s.len() => place + 1,
+    let Refusal(reason, place) = r;
+    match reason {
+        Reason::LoneCrOrLf => break_end(s, place, from),
         _ => line_folds::spans::line_end(s, from),
     }
 }

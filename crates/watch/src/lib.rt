@@ -12,14 +12,13 @@ ghost use Rattle.reader.specs.Outcome.{judge_of, verdict};
 ghost use Rattle.watch_arrivals.specs.Arrivals.{after_other, tail_from, lone_from, next_from};
 ghost use Rattle.watch_lines.specs.Taking.{Within, judgement};
 ghost use Rattle.watch.specs.Octets.{buffer_after};
-ghost use Rattle.watch.specs.State.{is_over, quiet_state, open_state, stopped_state, fresh_watch, claims, Counts, Sound, Live, Stands, After, Reached};
+ghost use Rattle.watch.specs.State.{is_over, quiet_state, open_state, stopped_state, fresh_watch, claims, Counts, Sound, Live, Stands, After, Reached, no_reason};
 ghost use Rattle.watch.specs.Outcome.{Comes, lines_came, octets_came, chunk_came, end_came, ChunkOf, EndOf};
 
 use card_state::tags::Tags;
 use card_state::{Card, Flaw, Step};
 use numbers::limit;
 use numbers::refusal::{Reason, Refusal};
-use numbers::unlisted::Unlisted;
 use reader::Verdict;
 use watch_arrivals::{AFTER_CR, AFTER_CR_LF, AFTER_OTHER};
 
@@ -32,9 +31,6 @@ pub const LINE_FAULT: u32 = 1;
 pub const LONE_BREAK: u32 = 2;
 
 pub const TOO_LONG: u32 = 3;
-
-// The reason of a state with no fault known, whose number 0 no refusal has.
-const NO_REASON: Reason = Reason::Other(Unlisted { number: 0 });
 
 // What is kept between two chunks, beside the buffer.
 #[derive(Clone, Copy)]
@@ -57,6 +53,13 @@ pub struct Watch {
 pub enum Arrived {
     Next(Watch),
     Refused(u32, usize),
+}
+
+// The reason of a state with no fault known, whose number 0 no refusal has.
+fn no_reason() -> Reason
+    ensures { result ≡ no_reason }
+{
+    Reason::of(0)
 }
 
 // The state once a fault is known, after n octets.
@@ -93,7 +96,7 @@ fn stopped(step: Step, n: usize, tail: u32) -> Watch
     ensures { result ≡ stopped_state step n tail }
 {
     match step {
-        Ok(_) => faulty(NO_FAULT, NO_REASON, 0, n, tail),
+        Ok(_) => faulty(NO_FAULT, no_reason(), 0, n, tail),
         Err(Flaw::Placed(reason, place)) => faulty(LINE_FAULT, reason, place, n, tail),
         Err(Flaw::Octet(reason, octet)) => faulty(LINE_FAULT, reason, octet, n, tail),
     }
@@ -206,7 +209,7 @@ fn go_on(w: Watch, buffer: &mut [u8], chunk: &[u8], tail: u32) -> Watch
     watch_buffer::append(buffer, used + w.open, chunk);
     Watch {
         known: NO_FAULT,
-        fault: NO_REASON,
+        fault: no_reason(),
         place: 0,
         start: w.start,
         open: w.open + chunk.len(),
@@ -247,7 +250,7 @@ fn take_lines_with(
     watch_buffer::append(buffer, card.used, &chunk[at..]);
     Watch {
         known: NO_FAULT,
-        fault: NO_REASON,
+        fault: no_reason(),
         place: 0,
         start: base + at,
         open: chunk.len() - at,
@@ -377,7 +380,7 @@ impl Watch {
     pub fn new() -> Watch
         ensures { result ≡ fresh_watch }
     {
-        faulty(NO_FAULT, NO_REASON, 0, 0, AFTER_OTHER)
+        faulty(NO_FAULT, no_reason(), 0, 0, AFTER_OTHER)
     }
 
     // Takes a chunk: the next state, or 45, then 46.
