@@ -2,6 +2,7 @@
 #![tactic(auto)]
 
 ghost use Rattle.std.specs.Prelude.{◌≡◌, IfOk, is_ok};
+ghost use Rattle.cabbook_tables.specs.Statuses as status;
 ghost use Rattle.cabbook_output.specs.Ends.{Status};
 
 use cabbook_tables::status;
@@ -39,7 +40,8 @@ pub fn send(host: &mut Host, to: i32, room: &[u8], n: usize) -> Result<(), Unwri
 
 // Writes the first n octets of a page on a file that is refused, and answers the exit status.
 fn refuse(host: &mut Host, to: i32, room: &[u8], n: usize) -> Ended
-    ensures { IfOk result Status }
+    ensures status { IfOk result Status }
+    ensures value { IfOk result (λ s. s ≡ status.refused) }
 {
     send(host, to, room, n)?;
     Ok(status::REFUSED)
