@@ -1,5 +1,5 @@
 -- The state of a watch: what it is after some octets. Assumes nothing.
-use Rattle.std.specs.Prelude.{ℕ, ◌+◌, ◌<◌, ◌≤◌, ◌≡◌, refl, true, List, length}
+use Rattle.std.specs.Prelude.{ℕ, ◌+◌, ◌<◌, ◌≤◌, ◌≡◌, refl, true, false, List, length}
 use Rattle.numbers.specs.Limits as limit
 use Rattle.numbers.specs.Refusals.{number}
 use Rattle.numbers.specs.declared.refusal.Reason.{Reason}
@@ -32,10 +32,14 @@ is_break = 2
 abbrev pub is_over : ℕ
 is_over = 3
 
--- the reason of a state with no fault known, whose number 0 no refusal has
-abbrev pub no_reason : Reason
+-- no refusal has the number 0
+none_has_0 : is_listed 0 ≡ false
 unfolding is_listed
-no_reason = Other (record { number = 0; unlisted = refl })
+none_has_0 = refl
+
+-- the reason of a state with no fault known, whose number is 0
+abbrev pub no_reason : Reason
+no_reason = Other (record { number = 0; unlisted = none_has_0 })
 
 -- a state that claims nothing of the buffer, after n octets
 abbrev pub quiet_state : ℕ → Reason → ℕ → ℕ → ℕ → Watch

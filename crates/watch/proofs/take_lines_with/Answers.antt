@@ -66,11 +66,12 @@ returns c =
     let b = g.new.buffer in
     let two = next_two_least a.w.tail a.chunk.now (subst (λ (k : ℕ). k < length a.chunk.now) p.next_value.0 p.next_value.1) in
     let f = c.in-Ok.card in
-    let put = subst (λ (x : List ℕ). c.append.new.buffer ≡ patch b f.used x) (rest g.result.at a.chunk.now) c.append.ensures in record {
+    let put = subst (λ (x : List ℕ). c.append.new.buffer ≡ patch b f.used x) (rest g.result.at a.chunk.now) c.append.ensures in
+    rw c.no_reason.ensures (record {
       by_index = λ i l h e.
           after_kept a.w a.buffer.now i a.chunk.now l h p.tail_bound.1 p.chunk_value a.next p.next_value.0 p.next_value.1 p.sound.1
           g.result.step b g.result.at g.ensures.went g.ensures.next_le_at.0 g.ensures.next_le_at.1 f c.in-Ok.is a.tail e c.append.new.buffer put;
       comes = (λ e.
           comes_kept a.w a.buffer.now a.chunk.now a.next p.next_value.0 p.tail_bound.0 p.sound.0.card p.tail_bound.1 p.sound.1 (omega (arith, two, p.tail_bound.0, p.next_value.0)) p.next_value.1 _ a.tail refl e
           g.result.step b g.result.at g.ensures.went f c.in-Ok.is g.ensures.next_le_at.0 g.ensures.next_le_at.1 (omega (arith, g, p.sound.1)) c.append.new.buffer put);
-    }
+    })
