@@ -33,7 +33,7 @@ abbrev pub is_over : ℕ
 is_over = 3
 
 -- no refusal has the number 0
-none_has_0 : is_listed 0 ≡ false
+pub none_has_0 : is_listed 0 ≡ false
 unfolding is_listed
 none_has_0 = refl
 
