@@ -193,7 +193,7 @@ fn run(host: &mut Host, command: Command, w: Words, count: usize) -> Ended
         }
         Command::Merge => run_merge(host, w, count),
         Command::Report => reporting::report_files(host, w, count),
-        Command::Help => usage::print_help(host, None),
+        Command::Help | Command::Other(_) => usage::print_help(host, None),
     }
 }
 
@@ -203,10 +203,10 @@ pub fn start(host: &mut Host) -> Ended
 {
     let count = host.arg_count();
     let w = arguments::read(host, count);
-    if w.wrong.is_none() && w.has(Switch::Help) {
+    if w.fault.is_none() && w.has(Switch::Help) {
         return usage::print_help(host, w.command);
     }
-    if w.wrong.is_none() && w.has(Switch::Version) {
+    if w.fault.is_none() && w.has(Switch::Version) {
         return usage::print_version(host);
     }
     let Some(command) = wrong::right_command(host, w) else {

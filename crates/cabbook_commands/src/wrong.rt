@@ -2,13 +2,13 @@
 use crate::usage;
 use cabbook_options::command::Command;
 use cabbook_options::names::{SWITCHES, Switch};
-use cabbook_options::words::{Fault, Words, Wrong};
+use cabbook_options::words::{Fault, Words};
 use program_host::Host;
 
-// Whether a command takes an option; `--help` and `--version` stand with any.
+// Whether a command takes an option; `--help`, `--version` and an option that this program has not stand with any.
 fn takes(command: Command, switch: Switch) -> bool {
     match switch {
-        Switch::Help | Switch::Version => true,
+        Switch::Help | Switch::Version | Switch::Other(_) => true,
         Switch::Edition => matches!(command, Command::Check | Command::Show | Command::Fold),
         Switch::All | Switch::Quiet | Switch::Json => command == Command::Check,
         Switch::AsRead => command == Command::Fold,
@@ -46,11 +46,11 @@ fn print_number(host: &mut Host, w: Words) {
 }
 
 // Says what is wrong with a word.
-fn print_fault(host: &mut Host, w: Words, wrong: Wrong) {
+fn print_fault(host: &mut Host, w: Words, fault: Fault) {
     let mut word = program_host::buffer();
-    let n = host.arg(wrong.argument, &mut word);
+    let n = host.arg(w.wrong, &mut word);
     let word = &word[..n];
-    match wrong.fault {
+    match fault {
         Fault::NoCommand => {
             usage::print_wrong(host, word, b": there is no such command", None);
         }
@@ -60,7 +60,7 @@ fn print_fault(host: &mut Host, w: Words, wrong: Wrong) {
         Fault::NoValue => {
             usage::print_wrong(host, word, b": this option takes no value", w.command);
         }
-        Fault::NoNumber => print_number(host, w),
+        Fault::NoNumber | Fault::Other(_) => print_number(host, w),
     }
 }
 
@@ -74,7 +74,12 @@ fn files_words(w: Words, command: Command) -> Option<&'static [u8]> {
         Command::Show | Command::Fold | Command::V3in | Command::V3out if w.files != 1 => {
             Some(b"this command takes one FILE")
         }
-        Command::Escape | Command::Unescape | Command::Encode | Command::Decode | Command::Help
+        Command::Escape
+        | Command::Unescape
+        | Command::Encode
+        | Command::Decode
+        | Command::Help
+        | Command::Other(_)
             if w.files > 1 => { Some(b"this command takes one FILE") }
         _ => None,
     }
@@ -90,8 +95,8 @@ fn wrong_words(w: Words, command: Command) -> Option<&'static [u8]> {
 
 // The command that is named, where nothing is wrong with the words; else says what is.
 pub(crate) fn right_command(host: &mut Host, w: Words) -> Option<Command> {
-    if let Some(wrong) = w.wrong {
-        print_fault(host, w, wrong);
+    if let Some(fault) = w.fault {
+        print_fault(host, w, fault);
         return None;
     }
     if w.waits.is_some() {

@@ -101,24 +101,25 @@ commands =
     command.Help ∷
     []
 
--- how many options there are
-abbrev pub options : ℕ
-options = 12
+-- more than the number of any option
+abbrev pub options_end : ℕ
+options_end = 13
 
--- an option's place among them
+-- an option's place among the values: its number, or 0 for one that the program has not
 abbrev pub place_of : Switch → ℕ
-place_of switch.Edition = 0
-place_of switch.Chunk = 1
-place_of switch.Tick = 2
-place_of switch.Slots = 3
-place_of switch.AsRead = 4
-place_of switch.Rfc6350 = 5
-place_of switch.Bars = 6
-place_of switch.All = 7
-place_of switch.Quiet = 8
-place_of switch.Json = 9
-place_of switch.Help = 10
-place_of switch.Version = 11
+place_of switch.Edition = 1
+place_of switch.Chunk = 2
+place_of switch.Tick = 3
+place_of switch.Slots = 4
+place_of switch.AsRead = 5
+place_of switch.Rfc6350 = 6
+place_of switch.Bars = 7
+place_of switch.All = 8
+place_of switch.Quiet = 9
+place_of switch.Json = 10
+place_of switch.Help = 11
+place_of switch.Version = 12
+place_of (switch.Other n) = 0
 
 -- what a number stands for
 unfoldable pub meaning : ℕ → Option Named
@@ -144,3 +145,4 @@ most_of switch.Quiet = None
 most_of switch.Json = None
 most_of switch.Help = None
 most_of switch.Version = None
+most_of (switch.Other n) = None

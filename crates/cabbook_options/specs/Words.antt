@@ -6,14 +6,13 @@ use Rattle.octets.specs.Ascii.{octets}
 use Rattle.octets.specs.Cases.{same}
 use Rattle.octets.specs.Slices.{part}
 use Rattle.program_numbers.specs.Decimal.{number_of as decimal_of}
-use Rattle.cabbook_options.specs.Names.{options, place_of, named, most_of}
+use Rattle.cabbook_options.specs.Names.{options_end, place_of, named, most_of}
 use Rattle.cabbook_options.specs.declared.names.Switch.{Switch}
 use Rattle.cabbook_options.specs.declared.names.Named.{Named}
 use Rattle.cabbook_options.specs.declared.names.Named.TheVariants.{AnOption, ACommand}
 use Rattle.cabbook_options.specs.declared.command.Command.{Command}
 use Rattle.cabbook_options.specs.declared.words.Fault.{Fault}
 use Rattle.cabbook_options.specs.declared.words.Fault.TheVariants.{NoCommand, NoOption, NoValue, NoNumber}
-use Rattle.cabbook_options.specs.declared.words.Wrong.{Wrong}
 use Rattle.cabbook_options.specs.declared.words.Words.{Words}
 
 -- before the first word nothing is said
@@ -25,8 +24,9 @@ begun =
       files = 0;
       dashes = None;
       waits = None;
-      wrong = None;
-      values = replicate options None;
+      fault = None;
+      wrong = 0;
+      values = replicate options_end None;
     }
 
 -- the number that an option is set to
@@ -63,7 +63,8 @@ wronged fault i w =
       files = w.files;
       dashes = w.dashes;
       waits = w.waits;
-      wrong = Some (record { fault = fault; argument = i });
+      fault = Some fault;
+      wrong = i;
       values = w.values;
     }
 
@@ -76,6 +77,7 @@ awaiting k w =
       files = w.files;
       dashes = w.dashes;
       waits = Some k;
+      fault = w.fault;
       wrong = w.wrong;
       values = w.values;
     }
@@ -89,6 +91,7 @@ set_to k n w =
       files = w.files;
       dashes = w.dashes;
       waits = None;
+      fault = w.fault;
       wrong = w.wrong;
       values = set w.values (place_of k) (Some n);
     }
@@ -98,8 +101,9 @@ abbrev pub numbered_by : Option ℕ → Switch → ℕ → Words → Words
 numbered_by (Some n) k i w = set_to k n w
 numbered_by None k i w = wronged NoNumber i (awaiting k w)
 
+-- a word is the number of an option; an option that the program has not goes on waiting
 unfoldable pub numbered : Switch → ℕ → List ℕ → Words → Words
-numbered k i word w = numbered_by (number_for k word) k i w
+numbered k i word w = pick (eqb (place_of k) 0) (awaiting k w) (numbered_by (number_for k word) k i w)
 
 -- one file more, as far as they are counted
 abbrev pub filed : Words → Words
@@ -110,6 +114,7 @@ filed w =
       files = pick (ltb w.files 3) (w.files + 1) w.files;
       dashes = w.dashes;
       waits = w.waits;
+      fault = w.fault;
       wrong = w.wrong;
       values = w.values;
     }
@@ -123,6 +128,7 @@ commanded k i w =
       files = w.files;
       dashes = w.dashes;
       waits = w.waits;
+      fault = w.fault;
       wrong = w.wrong;
       values = w.values;
     }
@@ -150,14 +156,15 @@ marked k w =
       files = w.files;
       dashes = w.dashes;
       waits = w.waits;
+      fault = w.fault;
       wrong = w.wrong;
       values = set w.values (place_of k) (Some 1);
     }
 
--- an option without a value: it waits for its number, or is set
+-- an option without a value: it waits for its number, or is set; one that the program has not changes nothing
 abbrev pub flagged_by : Option ℕ → Switch → Words → Words
 flagged_by (Some most) k w = awaiting k w
-flagged_by None k w = marked k w
+flagged_by None k w = pick (eqb (place_of k) 0) w (marked k w)
 
 unfoldable pub flagged : Switch → Words → Words
 flagged k w = flagged_by (most_of k) k w
@@ -178,15 +185,16 @@ optioned_by None n i word w = wronged NoOption i w
 unfoldable pub optioned : ℕ → List ℕ → Words → Words
 optioned i word w = optioned_by (named (part word 0 (name_length word))) (name_length word) i word w
 
--- the options are ended
+-- the options are ended; argument 0 ends none
 abbrev pub ended : ℕ → Words → Words
 ended i w =
     record {
       command = w.command;
       named_by = w.named_by;
       files = w.files;
-      dashes = Some i;
+      dashes = pick (eqb i 0) w.dashes (Some i);
       waits = w.waits;
+      fault = w.fault;
       wrong = w.wrong;
       values = w.values;
     }
@@ -202,11 +210,11 @@ awaited_by (Some k) i word w = numbered k i word w
 awaited_by None i word w = opened_by w.dashes i word w
 
 -- nothing is added to what is wrong
-abbrev pub took_by : Option Wrong → ℕ → List ℕ → Words → Words
-took_by (Some wrong) i word w = w
+abbrev pub took_by : Option Fault → ℕ → List ℕ → Words → Words
+took_by (Some fault) i word w = w
 took_by None i word w = awaited_by w.waits i word w
 
 -- one more word, argument i: nothing is added to what is wrong; an option that waits takes its number; after `--` and where it does not look like an option
 -- a word is plain
 unfoldable pub took : ℕ → List ℕ → Words → Words
-took i word w = took_by w.wrong i word w
+took i word w = took_by w.fault i word w

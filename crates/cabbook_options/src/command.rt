@@ -17,6 +17,8 @@ pub enum Command {
     Watch,
     Merge,
     Help,
+    // None that this program has, by a number.
+    Other(usize),
 }
 
 // The commands in the order of their numbers in the table of names.

@@ -1,6 +1,6 @@
 // The names of options and commands, searched in a table: of each its number, the length of its name, and the name.
 ghost use Rattle.std.specs.Prelude.{◌≡◌, ◌<◌};
-ghost use Rattle.cabbook_options.specs.Names.{names, number_of, table_of, options, place_of, meaning, named, most_of};
+ghost use Rattle.cabbook_options.specs.Names.{names, number_of, table_of, options_end, place_of, meaning, named, most_of};
 
 use crate::command::{COMMANDS, Command};
 use numbers::limit;
@@ -34,10 +34,15 @@ pub enum Switch {
     Help,
     // `--version`.
     Version,
+    // None that this program has, by a number.
+    Other(usize),
 }
 
 // How many options there are.
 pub const COUNT: usize = 12;
+
+// More than the number of any option.
+pub const OPTIONS: usize = 13;
 
 // The options in the order of their numbers in the table, from 1 on.
 pub const SWITCHES: [Switch; COUNT] = [
@@ -167,10 +172,24 @@ impl Switch {
         }
     }
 
-    // An option's place among all.
+    // An option's place among the values: its number in the table, or 0 for one that this program has not.
     pub(crate) fn place(self) -> usize
-        ensures { (result ≡ place_of self) × (result < options) }
+        ensures { (result ≡ place_of self) × (result < options_end) }
     {
-        self as usize
+        match self {
+            Switch::Edition => 1,
+            Switch::Chunk => 2,
+            Switch::Tick => 3,
+            Switch::Slots => 4,
+            Switch::AsRead => 5,
+            Switch::Rfc6350 => 6,
+            Switch::Bars => 7,
+            Switch::All => 8,
+            Switch::Quiet => 9,
+            Switch::Json => 10,
+            Switch::Help => 11,
+            Switch::Version => 12,
+            Switch::Other(_) => 0,
+        }
     }
 }

@@ -22,17 +22,13 @@ pub enum Fault {
     NoValue,
     // An option's number is none that it takes.
     NoNumber,
-}
-
-// What is wrong, and the argument.
-#[derive(Clone, Copy, Debug, PartialEq, Eq)]
-pub struct Wrong {
-    pub fault: Fault,
-    pub argument: usize,
+    // Something else, by a number.
+    Other(usize),
 }
 
 // What words say so far: the command, and the argument that names it, 0 before it; how many files are named, as far as they are counted; the argument that ends
-// the options; the option that waits for its number; what is wrong; and of each option that is named the number that it is set to, 1 where it takes none.
+// the options; the option that waits for its number; what is wrong, and the argument, 0 where nothing is; and of each option that is named, at its place, the
+// number that it is set to, 1 where it takes none.
 #[derive(Clone, Copy, Debug, PartialEq, Eq)]
 pub struct Words {
     pub command: Option<Command>,
@@ -40,8 +36,9 @@ pub struct Words {
     pub files: usize,
     pub dashes: Option<usize>,
     pub waits: Option<Switch>,
-    pub wrong: Option<Wrong>,
-    pub values: [Option<usize>; names::COUNT],
+    pub fault: Option<Fault>,
+    pub wrong: usize,
+    pub values: [Option<usize>; names::OPTIONS],
 }
 
 // Before the first word.
@@ -54,8 +51,9 @@ pub fn begin() -> Words
         files: 0,
         dashes: None,
         waits: None,
-        wrong: None,
-        values: [None; names::COUNT],
+        fault: None,
+        wrong: 0,
+        values: [None; names::OPTIONS],
     }
 }
 
@@ -96,7 +94,8 @@ fn name_end(word: &[u8]) -> usize
 fn blame(mut w: Words, fault: Fault, i: usize) -> Words
     ensures { result ≡ wronged fault i w }
 {
-    w.wrong = Some(Wrong { fault, argument: i });
+    w.fault = Some(fault);
+    w.wrong = i;
     w
 }
 
@@ -112,13 +111,16 @@ fn number_for(switch: Switch, word: &[u8]) -> Option<usize>
     Some(n)
 }
 
-// An option's number is this word.
+// An option's number is this word. An option that this program has not goes on waiting.
 #[tactic(auto, unfolding(crate::specs::Words::numbered))]
 fn take_number(mut w: Words, i: usize, switch: Switch, word: &[u8]) -> Words
     ensures { result ≡ numbered switch i word.now w }
 {
+    w.waits = Some(switch);
+    if let Switch::Other(_) = switch {
+        return w;
+    }
     let Some(n) = number_for(switch, word) else {
-        w.waits = Some(switch);
         return blame(w, Fault::NoNumber, i);
     };
     w.waits = None;
@@ -152,7 +154,7 @@ fn take_plain(mut w: Words, i: usize, word: &[u8]) -> Words
     w
 }
 
-// An option that is named without a value: it is set, or waits for its number.
+// An option that is named without a value: it is set, or waits for its number. An option that this program has not changes nothing.
 #[tactic(auto, unfolding(crate::specs::Words::flagged))]
 fn take_flag(mut w: Words, switch: Switch) -> Words
     ensures { result ≡ flagged switch w }
@@ -161,7 +163,9 @@ fn take_flag(mut w: Words, switch: Switch) -> Words
         w.waits = Some(switch);
         return w;
     }
-    w.values[switch.place()] = Some(1);
+    if switch.place() > 0 {
+        w.values[switch.place()] = Some(1);
+    }
     w
 }
 
@@ -188,7 +192,7 @@ fn take_option(w: Words, i: usize, word: &[u8]) -> Words
 pub fn take(mut w: Words, i: usize, word: &[u8]) -> Words
     ensures { result ≡ took i word.now w }
 {
-    if let Some(_) = w.wrong {
+    if let Some(_) = w.fault {
         return w;
     }
     if let Some(switch) = w.waits {
@@ -201,7 +205,9 @@ pub fn take(mut w: Words, i: usize, word: &[u8]) -> Words
         return take_plain(w, i, word);
     }
     if same_name(word, b"--") {
-        w.dashes = Some(i);
+        if i > 0 {
+            w.dashes = Some(i);
+        }
         return w;
     }
     take_option(w, i, word)
